@@ -1,4 +1,5 @@
--- An open side uses the N(R) of the frame in hand: V(A) is set to it, and the messages below it are acknowledged.
+-- An open side processes the N(R) of the frame in hand: it sets V(A) to it, and the messages below
+-- it are acknowledged.
 use Rattle.std.proofs.Common.{◌≡◌, ◌⊎◌, inl, inr, ℕ, zero, suc, ◌+◌, ◌-◌, ◌<◌, ◌≤◌, List, [], ◌∷◌, ◌++◌, Some, refl, sym, subst, arith}
 use Rattle.std.specs.List.{range_with_len}
 use Rattle.lapd_pair_laws.specs.Safe.{IsAmong}
@@ -23,7 +24,7 @@ acknowledging_sender nr s = record s {
 abbrev pub acknowledging : ℕ → Party → Party
 acknowledging nr x = record x { sends = acknowledging_sender nr x.sends }
 
--- a place of so many from `low` on
+-- a place among n places from `low` on
 pub among_range : (low n place : ℕ) → IsAmong place (range_with_len low n) → (i : ℕ) × (i < n) × (place ≡ low + i)
 among_range low zero place never = absurd never
 among_range low (suc n) place (inl here) = (0, omega arith, omega (arith, here))

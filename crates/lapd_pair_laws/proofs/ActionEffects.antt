@@ -1,4 +1,4 @@
--- The actions of the state table on what is seen of the acting side in mid-step: each has one of the effects that keep the
+-- The effects of the state table's actions on the acting side in mid-step. Each effect keeps the
 -- invariant.
 use Rattle.std.proofs.Common.{◌≡◌, ℕ, zero, suc, ◌+◌, ◌-◌, nat_lt, if◌then◌else◌, Bool, true, false, List, [], ◌∷◌, ◌++◌, refl, sym, ap, subst, ◌∙◌, arith}
 use Rattle.std.proofs.lemmas.Bool.Decides.{nat_tests}
@@ -25,7 +25,8 @@ use Rattle.lapd_pair_laws.proofs.MidSteps.{Mid}
 use Rattle.lapd_pair_laws.proofs.Polls.{IsSettled, answering, enquiring, recovering}
 use Rattle.lapd_pair_laws.proofs.SupervisoryFrames.{saying_status}
 
--- what a step begins with: the place of message number 0, the frame in hand, what the side saw, and its peer
+-- the context of a step: the place of message number 0, the frame in hand, the side's view, and its
+-- peer
 pub record Context : Type 0 where
   pub base : ℕ
   pub octets : List ℕ
@@ -39,7 +40,7 @@ story c s = story_after c.octets c.place c.view s
 abbrev pub occasion : Context → StepState → Occasion
 occasion c s = record { given = s.end.given; establishment = s.end.establishments; octets = c.octets; place = c.place }
 
--- the side, and the frames on their way from it
+-- the side, and the frames in transit from it
 abbrev pub seen : Context → StepState → Party
 seen c s = party_of c.base s.end (story c s).history
 
@@ -59,7 +60,7 @@ pub kinds_more : (fs : List Flight) (f : Flight) → kinds (fs ++ f ∷ []) ≡ 
 kinds_more [] f = refl
 kinds_more (g ∷ fs) f = ap (λ ks. kind g ∷ ks) (kinds_more fs f)
 
--- from what is told of an action to what is seen
+-- from the recorded outputs of an action to its effect
 pub moved : (c : Context) (t : StepState) (after : Story) (z : Party) (out now : List Kind) → story c t ≡ after → party_of c.base t.end after.history ≡ z → kinds after.line ≡ out → Mid z c.peer out now → Goes c now t
 moved c t after z out now told_so party_so line_so m =
     subst (λ st. Mid (party_of c.base t.end st.history) c.peer (kinds st.line) now) (sym told_so)
@@ -68,7 +69,7 @@ moved c t after z out now told_so party_so line_so m =
 pub quietly : (c : Context) (s t : StepState) (back : List Kind) → story c t ≡ story c s → party_of c.base t.end (story c s).history ≡ seen c s → Goes c back s → Goes c back t
 quietly c s t back told_so party_so m = moved c t (story c s) (seen c s) (line c s) back told_so party_so refl m
 
--- ---- Actions of which nothing is seen.
+-- ---- Actions without a visible effect.
 
 pub goes_rc : (c : Context) (n : ℕ) (s : StepState) (back : List Kind) → Goes c back s → Goes c back (rc_to n s)
 unfolding story_after rc_to
@@ -120,7 +121,7 @@ goes_ensure c s back m =
     quietly c s (ensure_t200 s) back
     (told_append _ (s.outs ++ stops) starts _ ∙ ap (λ t. told (occasion c s) starts t) (told_append _ s.outs stops _) ∙ sym (told_append (occasion c s) stops starts (story c s)) ∙ ensured s.end.t200 s.end.t203 (occasion c s) (story c s)) refl m
 
--- ---- Frames that say V(R).
+-- ---- Frames that carry V(R).
 
 status_of : (busy : Bool) (w : StateVariables) (pf : Bool) → w.own_busy ≡ busy → status_frame pf w ≡ (if busy then Rnr w.vr pf else Rr w.vr pf)
 unfolding status_frame
@@ -150,7 +151,7 @@ enquiry_kind w = by_busy w.own_busy refl
 pub one_behind : (fs : List Flight) (role : Role) (control : Control) (u : Kind) → kind_of role control [] 0 ≡ u → kinds (fs ++ without_info role control ∷ []) ≡ kinds fs ++ u ∷ []
 one_behind fs role control u is = kinds_more fs (without_info role control) ∙ ap (λ k. kinds fs ++ k ∷ []) is
 
--- the acknowledgement that is pending
+-- sends the pending acknowledgement
 pub goes_rr : (c : Context) (s : StepState) (back : List Kind) → Goes c back s → Goes c back (transmit_rr s)
 unfolding story_after transmit_rr without_ack_pending acknowledgement
 goes_rr c s back m =
@@ -166,7 +167,7 @@ goes_own_busy c on s back m =
     moved c (set_own_busy on s) (told (occasion c s) (Send Answer u ∷ []) (story c s)) (seen c s) (line c s ++ Status s.end.window.vr ∷ []) back
     (told_append _ s.outs (Send Answer u ∷ []) _) refl (one_behind (story c s).line Answer u (Status s.end.window.vr) (status_kind (with_own_busy on s.end.window))) (saying_status (seen c s) c.peer (line c s) back m)
 
--- a poll is answered
+-- answers a poll
 pub goes_response : (c : Context) (s : StepState) (nr : ℕ) (ks : List Kind) → Goes c (Enquiry nr ∷ ks) s → Goes c (Status nr ∷ ks) (enquiry_response s)
 unfolding story_after enquiry_response without_ack_pending
 goes_response c s nr ks m =

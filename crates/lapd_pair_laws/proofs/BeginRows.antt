@@ -1,4 +1,4 @@
--- Rows of the state table by which an establishment begins.
+-- Rows of the state table that begin an establishment.
 use Rattle.std.proofs.Common.{◌≡◌, ℕ, ◌+◌, ◌≤◌, nat_lt, ◌==◌, if◌then◌else◌, Bool, true, false, List, [], ◌∷◌, ◌++◌, length, append_assoc, refl, sym, ap, subst, ◌∙◌, arith}
 use Rattle.std.proofs.lemmas.Bool.Decides.{nat_tests}
 use Rattle.lapd_timers.specs.declared.timer.Timer.{Timer}
@@ -36,7 +36,7 @@ use Rattle.lapd_pair_laws.proofs.Receipts.{high_given}
 use Rattle.lapd_pair_laws.proofs.ClosedActions.{Seems, Ends, by_story, dropping, cleared, seems_put, seems_send, seems_start, seems_stop, seems_state, seems_clear, seems_discard}
 use Rattle.lapd_pair_laws.proofs.Steps.{ends_open}
 
--- ---- Outputs of which the number of the establishment makes no difference.
+-- ---- Outputs that do not depend on the number of the establishment.
 
 abbrev rebegun : List ℕ → Story → Story
 rebegun b t = record t { history = record (t.history) { begun = b } }
@@ -63,7 +63,7 @@ stop_blind false timer o u b t = refl
 abbrev zeroed : ℕ → Party → Party
 zeroed base p = record p { sends = record (p.sends) { base = base; era = p.sends.era + 1; vs = 0; va = 0 }; takes = record (p.takes) { vr = 0 } }
 
--- message number 0 stands at another place from now on
+-- message number 0 is at another place from now on
 abbrev rebased : ℕ → Context → Context
 rebased base c = record c { base = base }
 
@@ -76,13 +76,13 @@ seems_zero c base s p l blind w =
     (blind (occasion c s) (occasion c t) b (record { line = c.view.outgoing; history = with_beginning c.view.station.end.establishments s.end.establishments c.view.station.history }))
     (ap (λ q. zeroed base q) w.party) w.line
 
--- what a step ends in, where an establishment has begun in it
+-- the end of a step in which an establishment has begun
 ends_begun : (c : Context) (base : ℕ) (ks : List Kind) (t : StepState) (p : Party) (l : List Kind) → Seems (rebased base c) t p l → Mid p c.peer l ks → Ends c ks (end_step Whole t)
 ends_begun c base ks t p l w m =
     let e = ends_open (rebased base c) ks t (subst (λ q. Mid q c.peer (line (rebased base c) t) ks) (sym w.party) (subst (λ k. Mid p c.peer k ks) (sym w.line) m)) in
     record { base = e.base; both = e.both }
 
--- ---- Where V(S) = V(A) does not hold, all that waits is dropped.
+-- ---- If V(S) and V(A) differ, all waiting messages are dropped.
 
 abbrev discards_by : Bool → StepState → StepState
 discards_by none s = record {
@@ -158,14 +158,14 @@ put_blind : (s : StepState) (out : Out) → AreBlind (out ∷ []) → AreBlind s
 unfolding put
 put_blind s out one blind = blind_more s.outs (out ∷ []) blind one
 
--- in state 5, by what the invariant says there
+-- what the invariant states in state 5
 holding_in_5 : (state : State) (asked leaving : Bool) (s : Sender) → state ≡ AwaitingEstablishment → leaving ≡ false → asked ≡ false → IsKept state asked leaving s → IsHolding s
 holding_in_5 state asked leaving s is stays itself kept = subst (λ a. IsKept AwaitingEstablishment a false s) itself (subst (λ on. IsKept AwaitingEstablishment asked on s) stays (subst (λ st. IsKept st asked leaving s) is kept))
 
 empty_in_5 : (state : State) (asked leaving : Bool) (s : Sender) → state ≡ AwaitingEstablishment → leaving ≡ false → asked ≡ true → IsKept state asked leaving s → IsEmpty s
 empty_in_5 state asked leaving s is stays by_layer3 kept = subst (λ a. IsKept AwaitingEstablishment a false s) by_layer3 (subst (λ on. IsKept AwaitingEstablishment asked on s) stays (subst (λ st. IsKept st asked leaving s) is kept))
 
--- it was confirmed or indicated, and the link is established
+-- the establishment is confirmed or indicated, and the link is established
 pub ends_established : (c : Context) (ks : List Kind) (s : StepState) → s.end.state ≡ AwaitingEstablishment → s.end.release_pending ≡ false → AreBlind s.outs → Both (seen c s) c.peer (line c s) (Accepts ∷ ks)
     → Ends c ks (end_step Whole (s ▷ confirm_or_indicate ▷ zero_state_variables ▷ stop T200 ▷ start T203 ▷ state_to MultipleFrameEstablished))
 unfolding confirm_or_indicate
@@ -217,7 +217,7 @@ timers_blind : (d : StepState) → AreBlind d.outs → AreBlind (d ▷ stop T200
 unfolding stop start
 timers_blind d blind = blind_more (d.outs ++ out_where d.end.t200 (Stop T200)) (Start T203 ∷ []) (blind_more d.outs (out_where d.end.t200 (Stop T200)) blind (stop_blind d.end.t200 T200)) (λ o u b t. refl)
 
--- behind the outputs, in states 7 and 8
+-- after the outputs, in states 7 and 8
 begun_by_sabme : (c : Context) (ks : List Kind) (s d : StepState) (first next passed : ℕ) → is_7_or_8 s.end.state ≡ true → AreBlind d.outs
     → Seems c d (cleared (waiting_from first next passed (seen c s))) (line c s ++ Accepts ∷ []) → IsFresh first next passed (seen c s) c.peer → Both (seen c s) c.peer (line c s) (Asks ∷ ks)
     → Ends c ks (end_step Whole (d ▷ stop T200 ▷ start T203 ▷ zero_state_variables ▷ state_to MultipleFrameEstablished))

@@ -1,4 +1,4 @@
--- The rows by which an establishment begins, where a frame has just been delivered; and so a delivery, whatever is delivered.
+-- The rows that begin an establishment after a frame was delivered, and so every delivery.
 use Rattle.lapd_link_definition.specs.End.{begin}
 use Rattle.lapd_pair_laws.specs.Move.{Deliver}
 use Rattle.lapd_pair_laws.proofs.BeginRows.{none_is_blind, ends_established, ends_sabme_in_4, ends_sabme_in_7_8}
@@ -13,6 +13,5 @@ beginnings = record {
   in_7_or_8 = λ c ks opened b. ends_sabme_in_7_8 c ks (begin c.view.station.end) opened none_is_blind b;
 }
 
--- the first frame on its way is delivered
 pub keeps_delivery : Keeps Deliver
 keeps_delivery = keeps_deliver beginnings

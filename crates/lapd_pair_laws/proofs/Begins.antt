@@ -1,4 +1,5 @@
--- An establishment begins, over what is seen of the side: by the UA that answers its SABME, and by a SABME of the peer.
+-- An establishment begins, stated over the two sides: by the UA that answers the side's SABME, or
+-- by a SABME of the peer.
 use Rattle.std.proofs.Common.{◌≡◌, inl, inr, ℕ, ◌+◌, ◌≤◌, Bool, true, false, List, [], ◌∷◌, ◌++◌, length, Option, Some, refl, sym, ap, subst, arith}
 use Rattle.lapd_link_definition.specs.declared.state.State.{State}
 use Rattle.lapd_link_definition.specs.declared.state.State.TheVariants.{AwaitingEstablishment, MultipleFrameEstablished}
@@ -19,7 +20,7 @@ use Rattle.lapd_pair_laws.proofs.Parts.{part_whole, part_first}
 use Rattle.lapd_pair_laws.proofs.Runs.{run_is_order, climb_top}
 use Rattle.lapd_pair_laws.proofs.SupervisoryFrames.{exchange_said}
 
--- All numbers are 0, and message number 0 stands at the first place that waits; there nothing is sent.
+-- All numbers are 0, and message number 0 is the first waiting message; none from there on is sent.
 abbrev pub beginning_sender : ℕ → ℕ → ℕ → Sender → Sender
 beginning_sender first next passed s = record s { base = first; era = s.era + 1; vs = 0; va = 0; first = first; next = next; passed = passed }
 
@@ -32,7 +33,8 @@ beginning first next passed rejecting x = record {
   takes = record { vr = 0; rejecting = rejecting; received = x.takes.received };
 }
 
--- that place is among those given, and the peer received none from it on
+-- the first waiting place is at most the number of messages submitted, and the peer received no
+-- message from there on
 pub record IsFresh (first next passed : ℕ) (x y : Party) : Type 0 where
   pub unsent : next ≡ first
   pub gone : passed ≡ first
@@ -57,24 +59,23 @@ past_from first next passed s past place era sent = let earlier : era ≤ s.era 
 step_from : (first : ℕ) (received : List Receipt) → high received ≤ first → IsInStep first 0 received
 step_from first received above = record { below = omega (arith, above); level = λ some. absurd (omega (arith, some)); got = λ m less. absurd (omega (arith, less)) }
 
--- ---- By a UA: what was to come is heard.
+-- ---- By a UA: the frames that follow it are processed from now on.
 
 awaits_as : (state : State) (leaving : Bool) (now : Hearing) (back : List Kind) → state ≡ AwaitingEstablishment → leaving ≡ false → heard_in state leaving now (Accepts ∷ back) ≡ Some (hearing_to_come back)
 awaits_as state leaving now back is stays = rw (is, stays) refl
 
--- N(R) up to 0 acknowledge nothing
 known_of_none : (base low : ℕ) (received : List Receipt) (ns : List ℕ) → IsClimb low 0 ns → Each (λ nr. IsGot base nr received) ns
 known_of_none base low received [] climb = tt
 known_of_none base low received (n ∷ ns) climb = let none : n ≤ 0 = climb_top n 0 ns climb.1 in ((λ m less. absurd (omega (arith, less, none))), known_of_none base n received ns climb.1)
 
--- what an end in state 5 may say of polls and REJ holds of one that has just begun
+-- in state 5 the invariant excludes polls, finals and REJ
 none_asked : (state : State) (base : ℕ) (received : List Receipt) (out back : List Kind) → state ≡ AwaitingEstablishment → AreAsked state base received out back → NoneAsked out back
 none_asked state base received out back is w = subst (λ st. AreAsked st base received out back) is w
 
 none_rejected : (state : State) (vs base : ℕ) (received : List Receipt) (waiting : Option Hearing) (ns : List ℕ) → state ≡ AwaitingEstablishment → AreRejected state vs base received waiting ns → ns ≡ []
 none_rejected state vs base received waiting ns is w = subst (λ st. AreRejected st vs base received waiting ns) is w
 
--- the numbers under which the peer hears
+-- the peer will process frames with V(R) = V(A) = 0
 pub record AreZero (h : Hearing) : Type 0 where
   pub vr : h.vr ≡ 0
   pub va : h.va ≡ 0
@@ -88,7 +89,7 @@ heard_from_start x y out here back come h (inl now) =
     record { vr = omega (arith, top, vr); va = omega (arith, low, va) }
 heard_from_start x y out here back come h (inr later) = record { vr = later.vr; va = later.va }
 
--- a hearing of nothing with N(R)
+-- no message and no N(R) is to be processed
 silent_stream : (z y : Party) (first vr : ℕ) (rejecting : Bool) (ms : List Message) → ms ≡ [] → vr ≡ 0 → z.sends.base ≡ first → z.sends.va ≡ 0 → high y.takes.received ≤ first → IsStream true z.sends y.takes.received vr rejecting ms
 silent_stream z y first vr rejecting ms none zero_ base va above = rw (none, zero_) (record {
   placed = tt;
@@ -101,7 +102,7 @@ silent_stream z y first vr rejecting ms none zero_ base va above = rw (none, zer
 silent_acks : (z y : Party) (va vs : ℕ) (ns : List ℕ) → ns ≡ [] → va ≡ 0 → z.takes.vr ≡ 0 → AreAcknowledging true z.takes y.sends.base va vs ns
 silent_acks z y va vs ns none zero_ vr = rw none (record { climb = omega (arith, zero_); known = tt; top = λ _. (omega (arith, zero_), omega (arith, vr)) })
 
--- nothing is heard of a closed side
+-- no message of a closed side is processed
 closed_stream_of_none : (speaking : Bool) (s : Sender) (received : List Receipt) (rejecting : Bool) → speaking ≡ false → IsStream speaking s received 0 rejecting []
 closed_stream_of_none speaking s received rejecting closed = record {
   placed = tt;
@@ -166,7 +167,7 @@ module _ (x y : Party) (out back : List Kind) (first next passed : ℕ) (rejecti
         };
       }
 
-  -- ---- By a SABME, which is answered by a UA: nothing is to come yet.
+  -- ---- By a SABME, which the side answers by a UA: no frame follows it yet.
 
   pub by_asking : most_asks x.state ≡ 0 → Both x y out (Asks ∷ back) → Mid (beginning first next passed rejecting x) y (out ++ Accepts ∷ []) back
   by_asking none b =

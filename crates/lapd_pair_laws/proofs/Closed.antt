@@ -1,4 +1,5 @@
--- One lemma for all that leaves a side closed: rows of states 4, 5 and 6, and leaving states 7 and 8.
+-- One lemma for all steps that leave a side closed: rows of states 4, 5 and 6, and leaving states 7
+-- and 8.
 use Rattle.std.proofs.Common.{◌≡◌, inl, inr, ℕ, ◌+◌, ◌<◌, ◌≤◌, Bool, true, false, List, [], ◌∷◌, ◌++◌, Option, Some, None, option_map, refl, sym, ap, subst, ◌∙◌, arith}
 use Rattle.lapd_link_definition.specs.declared.state.State.{State}
 use Rattle.lapd_link_definition.specs.declared.state.State.TheVariants.{TeiAssigned, AwaitingEstablishment, AwaitingRelease, MultipleFrameEstablished, TimerRecovery}
@@ -14,7 +15,7 @@ use Rattle.lapd_pair_laws.proofs.Losses.{HearsLess, IsLess, asked_heard_less, re
 use Rattle.lapd_pair_laws.proofs.Parts.{Part, part_whole, part_nothing, part_numbers, part_tally, part_rejections, part_behind_ask, part_messages}
 use Rattle.lapd_pair_laws.proofs.SupervisoryFrames.{stream_said, acks_silent, asked_said, rejected_said}
 
--- ---- The side is still as it was, but for its state and what waits.
+-- ---- The side is unchanged, but for its state and its waiting messages.
 
 abbrev pub still_sender : ℕ → ℕ → ℕ → Sender → Sender
 still_sender first next passed s = record s { first = first; next = next; passed = passed }
@@ -28,7 +29,7 @@ still state asked leaving first next passed rejecting x = record {
   takes = record (x.takes) { rejecting = rejecting };
 }
 
--- ---- What it says: nothing; a frame without N(R), which is no answer by UA; or a UA to a peer that is closed.
+-- ---- It sends no frame, a frame without N(R) other than UA, or a UA to a closed peer.
 
 pub record IsQuiet (u : Kind) : Type 0 where
   pub no_acceptance : is_acceptance u ≡ false
@@ -53,7 +54,7 @@ refuses_is_quiet = record { no_acceptance = refl; no_message = refl; no_number =
 pub unnumbered_is_quiet : IsQuiet Unnumbered
 unnumbered_is_quiet = record { no_acceptance = refl; no_message = refl; no_number = refl; no_rejection = refl; no_poll = refl; no_final = refl; known = refl }
 
--- where no N(R) is on the line, no poll, final, message or REJ is
+-- if no N(R) is in transit, no poll, final, message or REJ is
 pub unsaid_polls : (ks : List Kind) → numbers ks ≡ [] → tally poll_of ks ≡ 0
 unsaid_polls [] none = refl
 unsaid_polls (Asks ∷ ks) none = let rest = unsaid_polls ks none in omega (arith, rest)
@@ -96,7 +97,7 @@ unsaid_rejections (Enquiry nr ∷ ks) none = cc
 unsaid_rejections (Final nr ∷ ks) none = cc
 unsaid_rejections (k ∷ ks) none = unsaid_rejections ks none
 
--- what is heard behind an answer is said behind it
+-- if no N(R) is on the line, none is to be processed
 heard_part_nothing : (state : State) (leaving : Bool) (now : Hearing) (ks : List Kind) → numbers now.frames ≡ [] → numbers ks ≡ [] → numbers (frames_heard (heard_in state leaving now ks)) ≡ []
 heard_part_nothing TeiAssigned leaving now ks none gone = refl
 heard_part_nothing AwaitingEstablishment true now ks none gone = refl
@@ -120,7 +121,7 @@ heard_part_nothing TimerRecovery leaving now ks none gone = none
 pub nothing_heard : (y : Party) (ks : List Kind) → numbers ks ≡ [] → numbers (frames_heard (hears y ks)) ≡ []
 nothing_heard y ks none = heard_part_nothing y.state y.leaving (hearing_now y ks) ks none none
 
--- ---- A UA behind all others, to a closed side that no answer is on its way to: it hears what is behind it, nothing.
+-- ---- A UA is appended for a closed side without an answer in transit: no frame follows it.
 
 behind_last : (ks : List Kind) → tally answer_of ks ≡ 0 → (behind_acceptance (ks ++ Accepts ∷ []) ≡ Some [])
 behind_last [] none = refl
@@ -142,7 +143,7 @@ accepted_in P TimerRecovery leaving now ks closed none p = cc
 pub nothing_behind_answer : (P : Hearing → Type 0) (y : Party) (ks : List Kind) → is_7_or_8 y.state ≡ false → tally answer_of ks ≡ 0 → P (hearing_to_come []) → OnHearing P (hears y (ks ++ Accepts ∷ []))
 nothing_behind_answer P y ks closed none p = accepted_in P y.state y.leaving (hearing_now y (ks ++ Accepts ∷ [])) ks closed none p
 
--- ---- What the peer hears of the closed side.
+-- ---- The frames of the closed side that the peer processes.
 
 closed_stream : (speaking : Bool) (first next passed : ℕ) (s : Sender) (received : List Receipt) (vr : ℕ) (rejecting : Bool) (ms : List Message) → IsStream speaking s received vr rejecting ms → IsStream false (still_sender first next passed s) received vr rejecting ms
 closed_stream speaking first next passed s received vr rejecting ms w = record {
@@ -175,7 +176,7 @@ heard_quiet z y here u h q i = record {
   rejected = rejected_said y.state y.sends.vs y.sends.base z.takes.received here u h.frames q.no_rejection i.rejected;
 }
 
--- nothing behind a UA, of a side that is closed
+-- no frame of a closed side follows a UA
 pub unasked : (state : State) (base : ℕ) (received : List Receipt) (out : List Kind) → is_7_or_8 state ≡ false → tally poll_of out ≡ 0 → AreAsked state base received out []
 unasked TeiAssigned base received out closed none = tt
 unasked AwaitingEstablishment base received out closed none = record { polls = none; finals = refl }
@@ -206,7 +207,7 @@ heard_said z y back out now closed (quietly u q) w =
 heard_said z y back out now closed (accepting its_closed unanswered gone) w =
     nothing_behind_answer (IsHeard z y (hears z back)) y out its_closed unanswered (heard_nothing z y (hears z back) closed its_closed (unsaid_polls (frames_heard (hears z back)) (nothing_heard z back gone)))
 
--- ---- What the closed side hears of the peer.
+-- ---- The frames of the peer that the closed side processes.
 
 polls_more : (u : Kind) (o : Option Hearing) → poll_of u ≡ 0 → tally poll_of (frames_heard o) ≡ 0 → tally poll_of (frames_heard (option_map (one_more u) o)) ≡ 0
 polls_more u None no_poll none = refl
@@ -264,7 +265,7 @@ exchange_closed most most_was state back back_was out now p (accepting its_close
 
 -- ---- The lemma.
 
--- what the closed side hears is no more than before in the same state, or nothing
+-- the closed side processes at most the earlier frames in the same state, or none
 pub data Less (state was_state : State) (now was : Option Hearing) : Type 0 where
   same : state ≡ was_state → HearsLess now was → Less state was_state now was
   deaf : now ≡ None → Less state was_state now was

@@ -24,7 +24,7 @@ use Rattle.lapd_pair_laws.specs.Parties.{Party, party_of}
 use Rattle.lapd_pair_laws.specs.Invariant.{Both}
 use Rattle.lapd_pair_laws.proofs.ActionEffects.{Context, story, occasion, seen, line, told_append, stop_told, one_behind}
 
--- what is seen of the side, and its line
+-- the side and its line
 pub record Seems (c : Context) (s : StepState) (p : Party) (l : List Kind) : Type 0 where
   pub party : seen c s ≡ p
   pub line : line c s ≡ l
@@ -32,7 +32,7 @@ pub record Seems (c : Context) (s : StepState) (p : Party) (l : List Kind) : Typ
 pub by_story : (c : Context) (t : StepState) (after : Story) (p : Party) (l : List Kind) → story c t ≡ after → party_of c.base t.end after.history ≡ p → kinds after.line ≡ l → Seems c t p l
 by_story c t after p l so q r = record { party = ap (λ st. party_of c.base t.end st.history) so ∙ q; line = ap (λ st. kinds st.line) so ∙ r }
 
--- ---- Outputs of which nothing is told.
+-- ---- Outputs that are not recorded.
 
 abbrev pub IsUntold : Out → Type 0
 IsUntold out = (o : Occasion) (t : Story) → tell o out t ≡ t
@@ -67,7 +67,7 @@ seems_stop c T201 s p l w = by_story c (stop T201 s) (story c s) p l (told_appen
 seems_stop c T202 s p l w = by_story c (stop T202 s) (story c s) p l (told_append _ s.outs (out_where (runs T202 s.end) (Stop T202)) _ ∙ stop_told (runs T202 s.end) T202 (occasion c s) (story c s)) w.party w.line
 seems_stop c T203 s p l w = by_story c (stop T203 s) (story c s) p l (told_append _ s.outs (out_where (runs T203 s.end) (Stop T203)) _ ∙ stop_told (runs T203 s.end) T203 (occasion c s) (story c s)) w.party w.line
 
--- ---- Actions of which something is seen.
+-- ---- Actions with a visible effect.
 
 pub seems_send : (c : Context) (role : Role) (control : Control) (u : Kind) (s : StepState) (p : Party) (l : List Kind) → kind_of role control [] 0 ≡ u → Seems c s p l → Seems c (put (Send role control) s) p (l ++ u ∷ [])
 unfolding story_after put
@@ -106,14 +106,14 @@ seems_clear c s p l w = record { party = ap (λ q. at q) w.party; line = w.line 
     at : Party → Party
     at q = cleared q
 
--- all that waits is dropped
+-- all waiting messages are dropped
 abbrev pub dropping : Party → Party
 dropping p = record p { sends = record (p.sends) { first = length p.sends.given; next = length p.sends.given; passed = p.sends.passed + (length p.sends.given - p.sends.first) } }
 
 abbrev dropped_history : ℕ → Story → Story
 dropped_history n t = record t { history = with_dropped n t.history }
 
--- but for the list of places dropped, which nothing reads
+-- equal but for the list of dropped places, which the invariant does not read
 abbrev pub SameStory : Story → Story → Type 0
 SameStory t u = (base : ℕ) (e : End) → (party_of base e t.history ≡ party_of base e u.history) × (t.line ≡ u.line)
 
@@ -165,7 +165,7 @@ pub seems_reestablish : (c : Context) (s : StepState) (p : Party) (l : List Kind
 unfolding reestablish_data_link
 seems_reestablish c s p l w = seems_establish c (layer3_initiated_to false s) (record p { asked = false }) l (seems_layer3 c false s p l w)
 
--- ---- The end of a step, where the side is closed.
+-- ---- The end of a step that leaves the side closed.
 
 not_established : (state : State) → is_7_or_8 state ≡ false → is_established state ≡ false
 not_established TeiAssigned closed = refl
@@ -185,7 +185,7 @@ pub closes_nothing : (s : StepState) → is_7_or_8 s.end.state ≡ false → end
 unfolding end_step
 closes_nothing s closed = ap (λ t. acknowledge_pending t) (sends_none Whole (unsent s.end) s (none_sent s closed)) ∙ none_pending s closed
 
--- ---- What a step ends in: the invariant, with some place of message number 0.
+-- ---- The end of a step: the invariant, with some place of message number 0.
 
 pub record Ends (c : Context) (back : List Kind) (s : StepState) : Type 0 where
   pub base : ℕ

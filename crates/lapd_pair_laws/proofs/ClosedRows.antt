@@ -29,12 +29,12 @@ use Rattle.lapd_pair_laws.proofs.ClosedActions.{Seems, IsUntold, Ends, ends_clos
 pub here : (c : Context) (s : StepState) → Seems c s (seen c s) (line c s)
 here c s = record { party = refl; line = refl }
 
--- ---- Nothing is said, and the side is as it was.
+-- ---- No frame is sent, and the side is unchanged.
 
 pub ends_as_it_was : (c : Context) (ks : List Kind) (s t : StepState) → is_7_or_8 s.end.state ≡ false → Seems c t (seen c s) (line c s) → Both (seen c s) c.peer (line c s) ks → Ends c ks (end_step Whole t)
 ends_as_it_was c ks s t closed w b = ends_closed c ks t (seen c s) (line c s) closed w b
 
--- the frame in hand is passed over
+-- the frame in hand is ignored
 pub passed_over : (c : Context) (k : Kind) (ks : List Kind) (s : StepState) → Both (seen c s) c.peer (line c s) (k ∷ ks) → Both (seen c s) c.peer (line c s) ks
 passed_over c k ks s b = both_less (seen c s) c.peer (part_whole (line c s)) (part_first k ks) b
 
@@ -54,7 +54,7 @@ ends_accepting c ks s closed b =
     (accepts x c.peer (line c s) ks s.end.state s.end.layer3_initiated s.end.release_pending x.sends.first x.sends.next x.sends.passed x.takes.rejecting b closed (omega (arith, b.mine.exchange.one)) b.mine.kept b.mine.passed (λ h. h)
     (same refl (hears_less x (part_first Asks ks))))
 
--- ---- Layer 3 asks for the link, or for its release.
+-- ---- Layer 3 requests establishment or release.
 
 -- in states 4, 7 and 8
 pub ends_establishing : (c : Context) (ks : List Kind) (s : StepState) → most_asks s.end.state ≡ 0 → Both (seen c s) c.peer (line c s) ks
@@ -124,7 +124,7 @@ ends_releasing c ks s opened b =
     (asking x c.peer l ks ks AwaitingRelease s.end.layer3_initiated s.end.release_pending n n (all_passed x.sends) x.takes.rejecting (part_whole ks) b refl refl (omega (arith, one, none)) (omega (arith, one, none))
     (empties n n (all_passed x.sends) x.sends refl refl) (passes_all x c.peer l ks b) (λ h. cc))
 
--- a DISC comes in states 7 and 8
+-- a DISC arrives in states 7 and 8
 pub ends_disconnected : (c : Context) (ks : List Kind) (s : StepState) → is_7_or_8 s.end.state ≡ true → Both (seen c s) c.peer (line c s) (Asks ∷ ks)
     → Ends c ks (end_step Whole (s ▷ discard_i_queue ▷ put (Send Answer (Ua true)) ▷ put Released ▷ stop T200 ▷ stop T203 ▷ state_to TeiAssigned))
 ends_disconnected c ks s opened b =
@@ -145,7 +145,7 @@ ends_disconnected c ks s opened b =
     (accepts x c.peer l ks TeiAssigned s.end.layer3_initiated s.end.release_pending n n (all_passed x.sends) x.takes.rejecting b refl (omega (arith, one, none))
     (empties n n (all_passed x.sends) x.sends refl refl) (passes_all x c.peer l (Asks ∷ ks) b) (λ h. cc) (deaf refl))
 
--- T200 expired in state 8 with RC = N200: the data link asks by itself
+-- T200 expired in state 8 with RC = N200: the data link establishes again by itself
 pub ends_reestablishing : (c : Context) (ks : List Kind) (s t : StepState) → is_7_or_8 s.end.state ≡ true → Seems c t (seen c s) (line c s) → Both (seen c s) c.peer (line c s) ks → Ends c ks (end_step Whole (reestablish_data_link t))
 ends_reestablishing c ks s t opened w b =
     let x = seen c s in
@@ -157,7 +157,7 @@ ends_reestablishing c ks s t opened w b =
     (asking x c.peer l ks ks AwaitingEstablishment false false x.sends.first x.sends.next x.sends.passed false (part_whole ks) b refl refl (omega (arith, one, none)) (omega (arith, one, none))
     (record { first = n.first; next = n.next; ordered = n.ordered; within = n.within }) b.mine.passed (λ h. open_holds s.end.state s.end.layer3_initiated s.end.release_pending opened))
 
--- ---- Answers come in states 5 and 6.
+-- ---- Answers arrive in states 5 and 6.
 
 one_at_most : (state : State) → state ≡ AwaitingEstablishment → most_asks state ≡ 1
 one_at_most state is = ap (λ st. most_asks st) is
@@ -187,7 +187,7 @@ ends_refused c ks s is b =
     (settling x c.peer l ks (Refuses ∷ ks) TeiAssigned s.end.layer3_initiated false n n (all_passed x.sends) x.takes.rejecting (part_first Refuses ks) b refl (omega (arith, one, most))
     (empties n n (all_passed x.sends) x.sends refl refl) (passes_all x c.peer l (Refuses ∷ ks) b) (λ h. cc) (deaf refl))
 
--- a UA in state 5, where a release waits: it goes out now
+-- a UA in state 5 while a release is pending: the DISC is sent now
 pub ends_released_by_ua : (c : Context) (ks : List Kind) (s : StepState) → s.end.state ≡ AwaitingEstablishment → s.end.release_pending ≡ true → Both (seen c s) c.peer (line c s) (Accepts ∷ ks)
     → Ends c ks (end_step Whole (s ▷ release_pending_to false ▷ rc_to 0 ▷ put (Send Command (Disc true)) ▷ start T200 ▷ state_to AwaitingRelease))
 ends_released_by_ua c ks s is pending b =
@@ -223,7 +223,7 @@ ends_released c k ks s is answers b =
     (settling x c.peer l ks (k ∷ ks) TeiAssigned s.end.layer3_initiated s.end.release_pending x.sends.first x.sends.next x.sends.passed x.takes.rejecting (part_first k ks) b refl (omega (arith, one, most, answers))
     kept b.mine.passed (λ h. cc) (deaf refl))
 
--- ---- T200 expires in states 5 and 6, where nothing of the exchange is under way.
+-- ---- T200 expires in states 5 and 6, with no frame of the exchange in transit.
 
 pub ends_asking_again : (c : Context) (ks : List Kind) (s t : StepState) → is_7_or_8 s.end.state ≡ false → most_asks s.end.state ≡ 1 → tally ask_of (line c s) ≡ 0 → tally answer_of ks ≡ 0 → Seems c t (seen c s) (line c s ++ Asks ∷ []) → Both (seen c s) c.peer (line c s) ks → Ends c ks (end_step Whole t)
 ends_asking_again c ks s t closed most no_ask no_answer w b =

@@ -1,4 +1,5 @@
--- The end of a step: messages go out while the window is open, and then the acknowledgement that is pending.
+-- The end of a step: messages are sent while the window is open, and then the pending
+-- acknowledgement.
 use Rattle.std.proofs.Common.{◌≡◌, ℕ, zero, suc, ◌+◌, ◌-◌, ◌<◌, ◌≤◌, nat_lt, ◌&&◌, Bool, true, false, List, [], ◌∷◌, ◌++◌, length, refl, ap, ◌∙◌, arith}
 use Rattle.lapd_timers.specs.declared.timer.Timer.TheVariants.{T200}
 use Rattle.lapd_frame.specs.declared.Control.TheVariants.{I}
@@ -29,7 +30,7 @@ in_state_7 AwaitingEstablishment is = cc
 in_state_7 AwaitingRelease is = cc
 in_state_7 TimerRecovery is = cc
 
--- a message goes out: its place is counted from the first that waits
+-- a message is sent: its place is counted from the first waiting message
 abbrev message_story : Occasion → ℕ → ℕ → ℕ → Bool → Story → Story
 message_story o at ns nr p t = record { line = t.line ++ message_frame o (I ns nr p) at ∷ []; history = with_sending at o.establishment t.history }
 
@@ -76,7 +77,7 @@ goes_close c s back m =
     let sent : Goes c back all = goes_send_all c (unsent s.end) s back m in
     by_test (λ (t : StepState). Goes c back t) (is_7_or_8 all.end.state && all.end.window.ack_pending) _ _ (λ _. goes_rr c all back sent) (λ _. sent)
 
--- the last message goes out again, with a poll
+-- the last message is retransmitted, with a poll
 pub goes_last : (c : Context) (s : StepState) (back : List Kind) → s.end.state ≡ MultipleFrameEstablished → s.end.window.va < s.end.window.vs → Goes c back s → Goes c back (state_to TimerRecovery (retransmit_last_i_frame Whole s))
 unfolding story_after retransmit_last_i_frame last_i_frame without_ack_pending state_to before
 goes_last c s back is some m =

@@ -1,4 +1,5 @@
--- The ways in which a side is left closed, over what is seen of it: it asks, it answers, or it says nothing.
+-- The ways in which a side is left closed, stated over the two sides: it requests, it answers, or
+-- it sends no frame.
 use Rattle.std.proofs.Common.{◌≡◌, ℕ, ◌+◌, ◌-◌, ◌<◌, ◌≤◌, Bool, true, false, List, [], ◌∷◌, ◌++◌, length, refl, arith}
 use Rattle.lapd_link_definition.specs.declared.state.State.{State}
 use Rattle.lapd_link_definition.specs.declared.state.State.TheVariants.{TeiAssigned, AwaitingEstablishment, AwaitingRelease, MultipleFrameEstablished, TimerRecovery}
@@ -13,7 +14,7 @@ use Rattle.lapd_pair_laws.proofs.Lists.{tally_more}
 use Rattle.lapd_pair_laws.proofs.Losses.{both_less}
 use Rattle.lapd_pair_laws.proofs.Parts.{Part, part_whole, part_first, part_tally}
 
--- ---- What waits.
+-- ---- Waiting messages.
 
 within_numbering : (s : Sender) → IsNumbering s → s.first ≤ length s.given
 within_numbering s n = omega (arith, n.first, n.next, n.ordered, n.within)
@@ -27,14 +28,15 @@ first_within AwaitingRelease asked leaving s k = omega (arith, k.first)
 first_within MultipleFrameEstablished asked leaving s k = within_numbering s k
 first_within TimerRecovery asked leaving s k = within_numbering s k
 
--- how many are acknowledged or dropped, where all are dropped
+-- how many messages are acknowledged or dropped, if all waiting ones are dropped
 abbrev pub all_passed : Sender → ℕ
 all_passed s = s.passed + (length s.given - s.first)
 
 pub passes_all : (x y : Party) (out back : List Kind) → Both x y out back → all_passed x.sends ≡ length x.sends.given
 passes_all x y out back b = let within : x.sends.first ≤ length x.sends.given = first_within x.state x.asked x.leaving x.sends b.mine.kept in omega (arith, within, b.mine.passed)
 
--- nothing waits in states 4 and 6, and in state 5 where a release waits or layer 3 asked
+-- no message waits in states 4 and 6, nor in state 5 if a release is pending or layer 3 initiated
+-- the establishment
 pub empties : (first next passed : ℕ) (s : Sender) → first ≡ length s.given → next ≡ length s.given → IsEmpty (still_sender first next passed s)
 empties first next passed s f n = record { first = f; next = n }
 
@@ -46,7 +48,7 @@ pub empty_where_leaving : (asked : Bool) (s : Sender) → IsKept AwaitingEstabli
 empty_where_leaving true s e = e
 empty_where_leaving false s e = e
 
--- ---- It asks: SABME or DISC goes out where nothing of the exchange is under way.
+-- ---- It requests: it sends SABME or DISC with no frame of the exchange in transit.
 
 module _ (x y : Party) (out back back_was : List Kind) (state : State) (asked leaving : Bool) (first next passed : ℕ) (rejecting : Bool) (part : Part back back_was) (b : Both x y out back_was) where
   pub asking : is_7_or_8 state ≡ false → most_asks state ≡ 1 → tally ask_of out ≡ 0 → tally answer_of back ≡ 0 → IsKept state asked leaving (still_sender first next passed x.sends) → passed ≡ first → (is_holding state asked leaving ≡ true → is_holding x.state x.asked x.leaving ≡ true)
@@ -60,7 +62,7 @@ module _ (x y : Party) (out back back_was : List Kind) (state : State) (asked le
       none : 0 < tally answer_of out → numbers back ≡ []
       none answer = (both_less x y (part_whole out) part b).its.exchange.before answer
 
-  -- it says nothing
+  -- it sends no frame
   pub settling : is_7_or_8 state ≡ false → tally ask_of out + tally answer_of back ≤ most_asks state → IsKept state asked leaving (still_sender first next passed x.sends) → passed ≡ first → (is_holding state asked leaving ≡ true → is_holding x.state x.asked x.leaving ≡ true)
       → Less state x.state (hears (still state asked leaving first next passed rejecting x) back) (hears x back_was) → Both (still state asked leaving first next passed rejecting x) y out back
   settling closed one kept passed_ holds less =
@@ -83,7 +85,8 @@ most_is_one AwaitingRelease = omega arith
 most_is_one MultipleFrameEstablished = omega arith
 most_is_one TimerRecovery = omega arith
 
--- what is known where a SABME or DISC is in hand: the peer is closed, it asks once, and says nothing behind it
+-- facts while a SABME or DISC is in hand: the peer is closed, sent one such command, and no N(R)
+-- after it
 pub record IsAsked (y : Party) (out back : List Kind) : Type 0 where
   pub closed : is_7_or_8 y.state ≡ false
   pub asks : tally ask_of back ≡ 0

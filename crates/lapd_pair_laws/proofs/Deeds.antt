@@ -1,4 +1,4 @@
--- What a side does, and what happens to it, but for what is delivered.
+-- The moves of a side other than deliveries.
 use Rattle.std.proofs.Common.{◌≡◌, ℕ, Bool, true, false, List, [], Option, Some, None, Result, refl, ap, ◌∙◌, arith}
 use Rattle.lapd_timers.specs.declared.timer.Timer.TheVariants.{T200, T203}
 use Rattle.lapd_frame.specs.declared.Side.TheVariants as side
@@ -39,7 +39,6 @@ use Rattle.lapd_pair_laws.proofs.Worlds.{Holds, Keeps, left_by}
 abbrev pub Before : Context → List Kind → StepState → Type 0
 Before c ks s = Both (seen c s) c.peer (line c s) ks
 
--- a row that does nothing
 pub ends_nothing : (c : Context) (ks : List Kind) (s : StepState) → Before c ks s → Ends c ks (end_step Whole s)
 ends_nothing c ks s b = ends_as_seen c ks s (seen c s) (line c s) (here c s) b
 
@@ -113,7 +112,7 @@ ends_t203 c ks s state is b = by_test (λ (t : StepState). Ends c ks (end_step W
 
 -- ---- From what the side sees.
 
--- the context of an input that brings no frame
+-- the context of an input without a frame
 abbrev at : (v : View) (peer : Station) → Holds v peer → Context
 at v peer h = context h.base [] 0 v v.incoming peer h.its_base
 
@@ -142,12 +141,12 @@ unless_so v peer (Some n) final outcome h f = h
 unless_so v peer None (Some n) outcome h f = h
 unless_so v peer None None outcome h f = f refl refl
 
--- T200 expires, and nothing is awaited
+-- T200 expires while no frame is awaited
 pub holds_after_t200 : (v : View) (peer : Station) → Holds v peer → awaited_in v ≡ 0 → Holds (left_by v (takes Whole (Expiry T200) [] v)) peer
 unfolding takes begin story_after
 holds_after_t200 v peer h none = by_refusal [] 0 v h.base h.its_base peer (Expiry T200) h (λ _. ends_t200 (at v peer h) (kinds v.incoming) (begin v.station.end) v.station.end.state refl none (started v peer h))
 
--- where no command with P=1 and no response with F=1 is on its way, nothing is
+-- if no command with P=1 and no response with F=1 is in transit, no frame is awaited
 pub none_awaited : (state : State) (out back : List Flight) → first_poll out ≡ None → first_final back ≡ None → awaited state (kinds out) (kinds back) ≡ 0
 none_awaited TeiAssigned out back poll final = refl
 none_awaited AwaitingEstablishment out back poll final = omega (arith, (none_under_way out poll).1, (none_answered back final).1)

@@ -1,4 +1,4 @@
--- A frame is delivered: by the state and the frame.
+-- A frame is delivered: cases by state and frame.
 use Rattle.std.proofs.Common.{◌≡◌, true, false, List, [], ◌∷◌, refl, ap, arith}
 use Rattle.lapd_timers.specs.declared.timer.Timer.TheVariants.{T200, T203}
 use Rattle.lapd_frame.specs.declared.Role.{Role}
@@ -37,21 +37,21 @@ use Rattle.lapd_pair_laws.proofs.Worlds.{Holds, Keeps, left_by}
 
 -- ---- Frames that change nothing.
 
--- the frame in hand is passed over
+-- the frame in hand is ignored
 pub ends_passed : (c : Context) (k : Kind) (ks : List Kind) (s : StepState) → Before c (k ∷ ks) s → Ends c ks (end_step Whole s)
 ends_passed c k ks s b = ends_nothing c ks s (passed_over c k ks s b)
 
 pub no_foreign : (c : Context) (ks : List Kind) (s : StepState) → Before c (Foreign ∷ ks) s → ⊥
 no_foreign c ks s b = let clean = b.its.exchange.clean in omega (arith, clean)
 
--- no answer comes to an open side
+-- no UA or DM arrives at an open side
 pub no_acceptance : (c : Context) (ks : List Kind) (s : StepState) → is_7_or_8 s.end.state ≡ true → Before c (Accepts ∷ ks) s → ⊥
 no_acceptance c ks s opened b = let one = b.mine.exchange.one in let none = open_asks_none s.end.state opened in omega (arith, one, none)
 
 pub no_refusal : (c : Context) (ks : List Kind) (s : StepState) → is_7_or_8 s.end.state ≡ true → Before c (Refuses ∷ ks) s → ⊥
 no_refusal c ks s opened b = let one = b.mine.exchange.one in let none = open_asks_none s.end.state opened in omega (arith, one, none)
 
--- unit data goes to layer 3
+-- unit data is delivered to layer 3
 seems_unit : (c : Context) (s : StepState) → Seems c (put UnitUp s) (seen c s) (line c s)
 unfolding story_after put
 seems_unit c s =

@@ -1,4 +1,4 @@
--- Each move by which a line settles takes one from what is still to come: a frame is delivered.
+-- Delivering a frame reduces the remaining work.
 use Rattle.std.proofs.Common.{◌≡◌, ℕ, ◌-◌, true, false, List, ◌∷◌, refl, sym, subst, arith}
 use Rattle.lapd_frame.specs.declared.Side.TheVariants as side
 use Rattle.lapd_frame.specs.declared.Role.{Role}
@@ -30,7 +30,7 @@ use Rattle.lapd_pair_laws.proofs.DrawRows as rows
 use Rattle.lapd_pair_laws.proofs.DrawCloses.{draws_close}
 use Rattle.lapd_pair_laws.proofs.Resting.{closed_step}
 
--- ---- What a side sees.
+-- ---- The view of a side.
 
 pub record Seen (n : ℕ) (v : View) (peer : Station) : Type 0 where
   pub flow : Flow v.station.end peer.end (kinds v.outgoing) (kinds v.incoming) n
@@ -77,7 +77,7 @@ not_unit (Rr nr pf) role plain unit = cc
 not_unit (Rej nr pf) role plain unit = cc
 not_unit control role plain unit = cc
 
--- what is seen after it
+-- the view after the step
 pub after_step : (octets : List ℕ) (place n : ℕ) (v : View) (peer : Station) (incoming : List Flight) (base its_base : ℕ) (s : StepState) → IsClosed s.end → is_7_or_8 s.end.state ≡ true → peer.end.window.own_busy ≡ false → AreReady incoming
     → Draws (context base octets place v incoming peer its_base) peer.end (kinds incoming) n s → Seen n (view_after octets place (record v { incoming = incoming }) s) peer
 unfolding view_after
@@ -91,7 +91,7 @@ after_step octets place n v peer incoming base its_base s closed opened its_idle
       coming = coming;
     }
 
--- and nothing is dropped by it
+-- and the step drops no message
 pub kept_after : (octets : List ℕ) (place n : ℕ) (v : View) (peer : Station) (incoming : List Flight) (base its_base : ℕ) (s : StepState)
     → Draws (context base octets place v incoming peer its_base) peer.end (kinds incoming) n s → (view_after octets place (record v { incoming = incoming }) s).station.history.dropped ≡ v.station.history.dropped
 unfolding view_after

@@ -1,4 +1,4 @@
--- After every run from a new world, on whole numbers and on tags.
+-- A quiet line drains after every run from a new world, on whole numbers and on tags.
 use Rattle.std.proofs.Common.{◌≡◌, ℕ, zero, suc, ◌+◌, ◌*◌, ◌≤◌, List, [], ◌∷◌, map, length, Option, Some, None, Result, Ok, Err, is_ok, refl, sym, ap, subst, ◌∙◌, arith}
 use Rattle.lapd_mod128.specs.Counting.{Reading, Whole, Tagged}
 use Rattle.lapd_supervision.specs.Tags.{tag_variables}

@@ -1,4 +1,4 @@
--- T200 expires, and nothing is on the line.
+-- T200 expires while the line is empty.
 use Rattle.std.proofs.Common.{◌≡◌, ℕ, ◌-◌, true, [], Result, refl, arith}
 use Rattle.lapd_timers.specs.declared.timer.Timer.TheVariants.{T200}
 use Rattle.lapd_frame.specs.declared.Side.TheVariants as side

@@ -1,4 +1,4 @@
--- The end of a step, and T200: what is still to come does not rise, and falls.
+-- The end of a step does not increase the remaining work, and expiry of T200 reduces it.
 use Rattle.std.proofs.Common.{◌≡◌, ℕ, zero, suc, ◌+◌, ◌-◌, ◌≤◌, ◌&&◌, nat_lt, Bool, true, false, List, [], ◌∷◌, ◌++◌, length, length-append, refl, sym, ap, subst, ◌∙◌, arith}
 use Rattle.lapd_timers.specs.declared.timer.Timer.TheVariants.{T200}
 use Rattle.lapd_frame.specs.declared.Role.TheVariants.{Command, Answer}
@@ -25,7 +25,7 @@ use Rattle.lapd_pair_laws.proofs.Draws.{with_pending, is_ready, ready_more, Draw
 use Rattle.lapd_pair_laws.proofs.Tells.{rr_tells, enquiry_tells, next_sent, next_tells, last_sent, last_tells, ensure_tells}
 use Rattle.lapd_pair_laws.proofs.DrawRows.{pending_messages}
 
--- ---- A message goes out, and with it what was pending.
+-- ---- A message is sent, and with it the pending acknowledgement.
 
 pending_polls : (pending : Bool) (vr : ℕ) (ks : List Kind) → tally poll_of (with_pending pending vr ks) ≡ tally poll_of ks
 pending_polls true vr ks = let more = tally_more poll_of (Status vr) ks in omega (arith, more)
@@ -110,7 +110,7 @@ module _ (c : Context) (peer : End) (ks : List Kind) (n : ℕ) where
       let sent : Draws c peer ks n all = draws_all (unsent s.end) s d in
       by_test (λ (t : StepState). Draws c peer ks n t) (is_7_or_8 all.end.state && all.end.window.ack_pending) _ _ (λ pending. draws_rr all (both_true (is_7_or_8 all.end.state) all.end.window.ack_pending pending).1 sent) (λ _. sent)
 
--- ---- T200 expires in state 7, and nothing is on the line.
+-- ---- T200 expires in state 7 while the line is empty.
 
 flow_polled : (x z y : End) (u : Kind) (nr n : ℕ) → x.t200 ≡ true → poll_of u ≡ 1 → rejection_of u ≡ [] → final_of u ≡ 0 → source z ≡ record (source x) { state = TimerRecovery; t200 = true } → sink z ≡ sink x
     → Flow x y [] [] n → Flow z y (u ∷ []) [] (n - 1)

@@ -1,4 +1,4 @@
--- Frames with N(R), in states 7 and 8, and the end of a step: each takes one from what is still to come.
+-- Frames with N(R) in states 7 and 8, and the end of the step: each reduces the remaining work.
 use Rattle.std.proofs.Common.{◌≡◌, ℕ, ◌+◌, ◌-◌, ◌≤◌, ◌==◌, if◌then◌else◌, Bool, true, false, List, [], ◌∷◌, length, refl, sym, subst, ◌∙◌, arith}
 use Rattle.std.proofs.lemmas.Bool.{eqb-true}
 use Rattle.lapd_timers.specs.declared.timer.Timer.TheVariants.{T200, T203}
@@ -35,12 +35,12 @@ use Rattle.lapd_pair_laws.proofs.Tells.{TellsNoFrame, then_no_frame, start_200_t
 other_number : (a b : ℕ) → (a == b) ≡ false → a ≡ b → ⊥
 other_number a b h same = grind (arith, h, same)
 
--- what is pending is no message
+-- a pending acknowledgement is no message
 pub pending_messages : (pending : Bool) (vr : ℕ) (ks : List Kind) → messages (with_pending pending vr ks) ≡ messages ks
 pending_messages true vr ks = messages_same (Status vr) ks refl
 pending_messages false vr ks = refl
 
--- the frame in hand is done with
+-- the frame in hand is processed
 pub flow_done : (x z y : End) (k : Kind) (ks out : List Kind) (n : ℕ) → message_of k ≡ [] → poll_of k ≡ 0 → sink z ≡ sink x
     → ((a : ℕ) → Stream (source x) (sink y) out (k ∷ ks) a → Stream (source z) (sink y) out ks a)
     → Flow x y out (k ∷ ks) n → Flow z y out ks (n - 1)
@@ -58,7 +58,7 @@ module _ (base its_base place : ℕ) (octets : List ℕ) (view : View) (peer : S
   abbrev c : Context
   c = record { base = base; octets = octets; place = place; view = view; peer = party its_base peer }
 
-  -- what is before and after
+  -- the facts before and after each action
   abbrev Hand : Kind → StepState → Type 0
   Hand k s = Draws c peer.end (k ∷ ks) n s
 
@@ -72,7 +72,7 @@ module _ (base its_base place : ℕ) (octets : List ℕ) (view : View) (peer : S
   when_valid : (nr : ℕ) (s x y : StepState) → Goes c (Status nr ∷ ks) s → Done x → Done (if is_valid_nr Whole nr s.end.window then x else y)
   when_valid nr s x y m done = by_test (λ (t : StepState). Done t) (is_valid_nr Whole nr s.end.window) x y (λ _. done) (λ no_. let yes_ : is_valid_nr Whole nr s.end.window ≡ true = valid c nr ks s m in cc)
 
-  -- all that is wanted comes, seen with what is pending
+  -- all missing messages are in transit, also with the pending acknowledgement appended
   coming_said : (s : StepState) (k : Kind) (top : ℕ) (d : Hand k s) → AllCome (seen c s) c.peer (line c s) ks top → IsComing peer.end.window.rejecting peer.end.window.vr top (messages (said_of s.end (kinds d.frames)))
   coming_said s k top d all =
       subst (λ ms. IsComing peer.end.window.rejecting peer.end.window.vr top ms) (sym (pending_messages s.end.window.ack_pending s.end.window.vr (kinds d.frames)))
@@ -153,7 +153,7 @@ module _ (base its_base place : ℕ) (octets : List ℕ) (view : View) (peer : S
   unfolding rr_nr
   draws_rr_nr nr s is free m d = when_valid nr s _ _ m (draws_timers nr s is free m d)
 
-  -- the peer is not busy any more
+  -- the peer is no longer busy
   draws_freed : (k : Kind) (s : StepState) → Hand k s → Hand k (set_peer_busy false s)
   unfolding story_after set_peer_busy with_peer_busy
   draws_freed k s d = record {
@@ -165,7 +165,7 @@ module _ (base its_base place : ℕ) (octets : List ℕ) (view : View) (peer : S
     ready = d.ready;
   }
 
-  -- ---- It goes back.
+  -- ---- The side sets V(S) back.
 
   as_back : (state : State) (busy : Bool) (nr u v : ℕ) (out : List Kind) (a : ℕ) → state ≡ MultipleFrameEstablished → busy ≡ false → u ≡ v
       → Stream (record { state = MultipleFrameEstablished; t200 = false; busy = false; vs = nr; va = nr; unsent = v }) (sink peer.end) out ks a
@@ -265,7 +265,7 @@ module _ (base its_base place : ℕ) (octets : List ℕ) (view : View) (peer : S
   unfolding timer_recovery i_frame_ns
   i_in_8 ns nr p s is none h = draws_i_nr_in_8 nr (i_frame_ns Whole ns p s) is (goes_ns c ns p nr ks s h.0) (draws_ns base its_base place octets view peer opened ns p nr ks n s none h.0 h.1)
 
-  -- a poll by RR: its N(R) is left
+  -- a poll by RR: its N(R) remains
   polled : (nr : ℕ) (s : StepState) → s.end.window.ack_pending ≡ false → Goes c (Enquiry nr ∷ ks) s → Hand (Enquiry nr) s → Goes c (Status nr ∷ ks) (enquiry_response (set_peer_busy false s)) × Hand (Status nr) (enquiry_response (set_peer_busy false s))
   unfolding set_peer_busy with_peer_busy
   polled nr s none m d =

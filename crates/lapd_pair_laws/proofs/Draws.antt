@@ -1,4 +1,4 @@
--- The actions of the state table on what is still to come, in mid-step.
+-- The effects of the state table's actions on the remaining work, in mid-step.
 use Rattle.std.proofs.Common.{◌≡◌, ◌⊎◌, inl, inr, ℕ, ◌+◌, ◌-◌, ◌<◌, ◌≤◌, if◌then◌else◌, Bool, true, false, List, [], ◌∷◌, ◌++◌, length, length-append, Some, None, refl, sym, ap, subst, ◌∙◌, arith}
 use Rattle.lapd_frame.specs.declared.Role.TheVariants.{Answer}
 use Rattle.lapd_frame.specs.declared.Control.{Control}
@@ -24,7 +24,7 @@ use Rattle.lapd_pair_laws.proofs.Speaks as speaks
 use Rattle.lapd_pair_laws.proofs.Facts.{taken_below, polled_by_8}
 use Rattle.lapd_pair_laws.proofs.Tells.{TellsFrame, unanswered_tells, answered_tells, response_tells}
 
--- ---- The line, and the acknowledgement that is pending behind it.
+-- ---- The line with the pending acknowledgement appended.
 
 abbrev pub with_pending : Bool → ℕ → List Kind → List Kind
 with_pending true vr ks = ks ++ Status vr ∷ []
@@ -33,7 +33,7 @@ with_pending false vr ks = ks
 abbrev pub said_of : End → List Kind → List Kind
 said_of e ks = with_pending e.window.ack_pending e.window.vr ks
 
--- no RNR, nor anything but what ends in states 7 and 8 send
+-- no RNR, and only frames that ends in states 7 and 8 send
 abbrev pub is_ready : Control → Bool
 is_ready (I ns nr p) = true
 is_ready (Rr nr pf) = true
@@ -48,7 +48,8 @@ pub ready_more : (fs : List Flight) (f : Flight) → is_ready f.control ≡ true
 ready_more [] f is ready = (is, tt)
 ready_more (g ∷ fs) f is ready = (ready.0, ready_more fs f is ready.1)
 
--- In mid-step, or between two steps: the frames on their way from the acting side, and what is still to come.
+-- In mid-step, or between two steps: the frames in transit from the acting side, and the remaining
+-- work.
 pub record Draws (c : Context) (peer : End) (ks : List Kind) (n : ℕ) (s : StepState) : Type 0 where
   pub frames : List Flight
   pub so : (story c s).line ≡ frames
@@ -57,12 +58,12 @@ pub record Draws (c : Context) (peer : End) (ks : List Kind) (n : ℕ) (s : Step
   pub idle : s.end.window.own_busy ≡ false
   pub ready : AreReady frames
 
--- ---- A Status in hand is what is left of a frame.
+-- ---- A Status in hand is the rest of a frame.
 
 less_one : (out ks : List Kind) (a b n : ℕ) → length out + (1 + length ks) + a + b ≤ n → length out + length ks + a + b ≤ n - 1
 less_one out ks a b n most = omega (arith, most)
 
--- An answer is put behind the frames on their way, and the other's stream is lighter by one.
+-- An answer is appended to the frames in transit, and the other stream is lighter by one.
 pub flow_replied : (x z y : End) (k u : Kind) (nr : ℕ) (ks out : List Kind) (n : ℕ) → source z ≡ source x
     → rejections (Status nr ∷ ks) ≡ rejections (k ∷ ks) → numbers (Status nr ∷ ks) ≡ numbers (k ∷ ks) → tally final_of (Status nr ∷ ks) ≡ tally final_of (k ∷ ks)
     → message_of u ≡ [] → poll_of u ≡ 0
@@ -80,7 +81,7 @@ flow_replied x z y k u nr ks out n same rs ns fs no_message no_poll lighter f =
       most = let len = length-append out (u ∷ []) in let le = f.most in let some = l.some in omega (arith, len, le, some);
     }
 
--- the same where nothing is answered
+-- the same without an answer
 pub flow_passed : (x z y : End) (k : Kind) (nr : ℕ) (ks out : List Kind) (n : ℕ) → source z ≡ source x
     → rejections (Status nr ∷ ks) ≡ rejections (k ∷ ks) → numbers (Status nr ∷ ks) ≡ numbers (k ∷ ks) → tally final_of (Status nr ∷ ks) ≡ tally final_of (k ∷ ks)
     → ((b : ℕ) → Stream (source y) (sink x) (k ∷ ks) out b → Stream (source y) (sink z) (Status nr ∷ ks) out b)
@@ -101,11 +102,11 @@ module _ (base its_base place : ℕ) (octets : List ℕ) (view : View) (peer : S
   abbrev c : Context
   c = record { base = base; octets = octets; place = place; view = view; peer = party its_base peer }
 
-  -- the flow where nothing is pending
+  -- the flow while no acknowledgement is pending
   told_flow : (s : StepState) (ks : List Kind) (n : ℕ) (d : Draws c peer.end ks n s) → s.end.window.ack_pending ≡ false → Flow s.end peer.end (kinds d.frames) ks n
   told_flow s ks n d told = subst (λ b. Flow s.end peer.end (with_pending b s.end.window.vr (kinds d.frames)) ks n) told d.flow
 
-  -- an answer is behind the others
+  -- an answer is appended
   replied : (s t : StepState) (k u : Kind) (control : Control) (nr : ℕ) (ks : List Kind) (n : ℕ) (d : Draws c peer.end (k ∷ ks) n s) → t.end.window.ack_pending ≡ false → t.end.window.own_busy ≡ false → is_ready control ≡ true → kind_of Answer control [] 0 ≡ u
       → TellsFrame c (without_info Answer control) s t → Flow t.end peer.end (kinds d.frames ++ u ∷ []) (Status nr ∷ ks) n → Draws c peer.end (Status nr ∷ ks) n t
   replied s t k u control nr ks n d told idle plain is tells f = record {
@@ -231,7 +232,6 @@ module _ (base its_base place : ℕ) (octets : List ℕ) (view : View) (peer : S
       by_case true r (inr other) = draws_discarded ns p nr ks n s other r m none_pending d
       by_case false r (inr other) = draws_rejected ns p nr ks n s other r m none_pending d
 
-  -- a poll is answered
   pub draws_response : (nr : ℕ) (ks : List Kind) (n : ℕ) (s : StepState) → s.end.window.ack_pending ≡ false → Goes c (Enquiry nr ∷ ks) s → Draws c peer.end (Enquiry nr ∷ ks) n s → Draws c peer.end (Status nr ∷ ks) n (enquiry_response s)
   unfolding enquiry_response without_ack_pending
   draws_response nr ks n s none_pending m d =

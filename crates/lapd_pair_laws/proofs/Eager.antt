@@ -1,4 +1,4 @@
--- Eager moves: where they are admitted; and they keep the invariant too.
+-- Eager moves: when they are admitted, and that they keep the invariant too.
 use Rattle.std.proofs.Common.{◌≡◌, ◌≤◌, ◌==◌, ◌&&◌, ℕ, Bool, true, false, List, [], ◌∷◌, if◌then◌else◌, Option, Some, None, Result, Ok, Err, refl, arith}
 use Rattle.std.proofs.lemmas.Bool.Decides.{nat_tests}
 use Rattle.lapd_timers.specs.declared.timer.Timer.TheVariants.{T200}
@@ -19,7 +19,7 @@ use Rattle.lapd_pair_laws.proofs.Moves.{side_keeps}
 use Rattle.lapd_pair_laws.proofs.EndsKept.{taken}
 use Rattle.lapd_pair_laws.proofs.Whole.{each_move_keeps, each_report_is_expected, own_so, in_world_so}
 
--- ---- What the invariant has of either side.
+-- ---- The invariant of either side.
 
 pub small_by_invariant : (who : Side) (w : World) → IsInvariant w → (view_of who w).station.end.parameters.k ≤ 127
 small_by_invariant side.User w i = i.user_window
@@ -35,12 +35,13 @@ none_by_test : (running : Bool) (n : ℕ) → (running && (n == 0)) ≡ true →
 none_by_test true n test = grind (arith, test, nat_tests)
 none_by_test false n test = cc
 
--- what holds of T200 where nothing is awaited, and of the move as it is, holds of the eager one
+-- a predicate that holds of T200 without awaited frames, and of the ordinary move, holds of the
+-- eager move
 by_expiry : (P : Result Turn Refusal → Type 0) (who : Side) (v : View) → (awaited_in v ≡ 0 → P (takes Whole (Expiry T200) [] v)) → P (expires_200 Whole who v) → P (expires_eagerly Whole who v)
 unfolding expires_eagerly
 by_expiry P who v none before = by_test P (v.station.end.t200 && (awaited_in v == 0)) _ _ (λ test. none (none_by_test v.station.end.t200 (awaited_in v) test)) (λ _. before)
 
--- what holds of each deed as it is
+-- the same for each kind of move
 by_deed : (P : Result Turn Refusal → Type 0) (who : Side) (deed : Deed) (v : View) → (awaited_in v ≡ 0 → P (takes Whole (Expiry T200) [] v)) → P (acts Whole who deed v) → P (acts_eagerly Whole who deed v)
 unfolding acts
 by_deed P who Expire200 v none before = by_expiry P who v none before
@@ -72,7 +73,7 @@ pub eager_reports : (moves : List Move) (w : World) → IsInvariant w → AllRep
 eager_reports [] w i = tt
 eager_reports (move ∷ moves) w i = (eager_report_is_expected move w i, eager_reports moves (world_after w (happens_eagerly Whole move w)) (eager_move_keeps move w i))
 
--- ---- Where a move is admitted.
+-- ---- When a move is admitted.
 
 same_expiry : (s : Side) (w : World) (happened : Happened) (running none : Bool) (poll final : Option ℕ) (outcome : Result Turn Refusal) → in_world s w (if running then unless_under_way s poll final outcome else Err NotRunning) ≡ Ok happened
     → in_world s w (if running && none then outcome else (if running then unless_under_way s poll final outcome else Err NotRunning)) ≡ Ok happened

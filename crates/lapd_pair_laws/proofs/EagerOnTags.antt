@@ -1,4 +1,4 @@
--- An eager run on tags is the one on whole numbers, each number in its tag.
+-- An eager run on tags equals the one on whole numbers with each number replaced by its tag.
 use Rattle.std.proofs.Common.{◌≡◌, ◌≤◌, ◌==◌, ◌&&◌, ℕ, if◌then◌else◌, Bool, true, false, List, [], ◌∷◌, map, Result, refl, arith}
 use Rattle.lapd_timers.specs.declared.timer.Timer.TheVariants.{T200}
 use Rattle.lapd_frame.specs.declared.Role.{Role}
@@ -24,9 +24,9 @@ use Rattle.lapd_pair_laws.specs.Eager.{awaited, awaited_in, expires_eagerly, act
 use Rattle.lapd_pair_laws.proofs.Eager.{small_by_invariant, sound_by_invariant, eager_move_keeps}
 use Rattle.lapd_pair_laws.proofs.Nearness.{within_by_invariant}
 
--- ---- What is awaited.
+-- ---- Awaited frames.
 
--- both ask, answer, poll and are finals alike
+-- both count alike as requests, answers, polls and finals
 abbrev IsCountedAs : Kind → Kind → Type 0
 IsCountedAs k l = (ask_of k ≡ ask_of l) × (answer_of k ≡ answer_of l) × (poll_of k ≡ poll_of l) × (final_of k ≡ final_of l)
 
@@ -60,7 +60,7 @@ awaited_alike TimerRecovery out back = omega (arith, tally_alike poll_of (λ fra
 awaited_on_tags : (v : View) → awaited_in (tag_view v) ≡ awaited_in v
 awaited_on_tags v = awaited_alike v.station.end.state v.outgoing v.incoming
 
--- ---- What a side does.
+-- ---- The moves of a side.
 
 either_on_tags : (test : Bool) (x y : Result Turn Refusal) (u v : Result Turn Refusal) → x ≡ tag_acted u → y ≡ tag_acted v → (if test then x else y) ≡ tag_acted (if test then u else v)
 either_on_tags true x y u v one other = one

@@ -1,4 +1,4 @@
--- Places and parameters of an end, after each deed: by the laws of the state table.
+-- Places and parameters of an end after each move, from the laws of the state table.
 use Rattle.std.proofs.Common.{◌≡◌, ℕ, ◌≤◌, nat_lt, List, [], ◌∷◌, length, Option, Some, None, Result, Ok, Err, refl, arith}
 use Rattle.lapd_timers.specs.declared.timer.Timer.TheVariants.{T200, T203}
 use Rattle.lapd_frame.specs.declared.Side.TheVariants as side

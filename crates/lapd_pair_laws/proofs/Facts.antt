@@ -1,4 +1,4 @@
--- What the invariant tells of an open side and its open peer, while a frame is in hand.
+-- Facts from the invariant about an open side and its open peer, while a frame is in hand.
 use Rattle.std.proofs.Common.{◌≡◌, inl, inr, ℕ, zero, suc, ◌+◌, ◌<◌, ◌≤◌, Bool, true, false, List, [], ◌∷◌, Some, refl, sym, subst, arith}
 use Rattle.lapd_link_definition.specs.declared.state.State.{State}
 use Rattle.lapd_link_definition.specs.declared.state.State.TheVariants.{TeiAssigned, AwaitingEstablishment, AwaitingRelease, MultipleFrameEstablished, TimerRecovery}
@@ -13,7 +13,7 @@ use Rattle.lapd_pair_laws.proofs.MidSteps.{Mid}
 use Rattle.lapd_pair_laws.proofs.Runs.{NonePolls, awaited_begins_run, run_below, climb_top}
 use Rattle.lapd_pair_laws.proofs.Flow.{IsWhole, IsJunkThenWhole, IsComing}
 
--- what the open peer hears of x
+-- the frames of x that the open peer will process
 pub heard_open : {x y : Party} {out back : List Kind} → is_7_or_8 y.state ≡ true → Mid x y out back → IsHeard x y (Some (hearing_now x back)) (hearing_now y out)
 heard_open {x = x} {y = y} {out = out} {back = back} opened m = from_open (IsHeard x y (Some (hearing_now x back))) y out opened m.mine.heard
 
@@ -29,7 +29,7 @@ number_open {x = x} {y = y} nr rest back is opened m =
 
 -- ---- The message in hand.
 
--- the one awaited is below V(S) of its sender
+-- the awaited number is below V(S) of its sender
 pub taken_below : {x y : Party} {out : List Kind} (m : Message) (nr : ℕ) (ks : List Kind) → m.number ≡ x.takes.vr → Mid x y out (Numbered m nr ∷ ks) → x.takes.vr < y.sends.vs
 taken_below {x = x} {y = y} m nr ks is mid =
     subst (λ n. n < y.sends.vs) is (run_below x.takes.vr y.sends.vs m (messages ks) (awaited_begins_run x.takes.rejecting x.takes.vr y.sends.vs m (messages ks) is mid.its.heard.stream.order))
@@ -63,7 +63,7 @@ coming_of_order : (rejecting : Bool) (low end : ℕ) (ms : List Message) → low
 coming_of_order false low end ms same none order = whole_of_run low end ms same none order
 coming_of_order true low end ms same none order = junk_of_order low end ms same none order
 
--- the peer hears no poll of x in state 7
+-- no poll of x is in transit in state 7
 unpolled_in_7 : {x y : Party} {out back : List Kind} → x.state ≡ MultipleFrameEstablished → is_7_or_8 y.state ≡ true → Mid x y out back → tally poll_of out ≡ 0
 unpolled_in_7 {x = x} {y = y} {out = out} {back = back} is opened m =
     subst (λ o. tally poll_of (frames_heard o) ≡ 0) (open_hears y out opened) (none_asked_in_7 x y out back is m).polls

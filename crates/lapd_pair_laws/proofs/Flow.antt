@@ -1,4 +1,4 @@
--- What is still to come, on the way from one side to the other: the measure that falls with each move.
+-- The remaining work from one side to the other: the measure that each move reduces.
 use Rattle.std.proofs.Common.{◌≡◌, ◌⊎◌, ℕ, ◌+◌, ◌-◌, ◌*◌, ◌<◌, ◌≤◌, Bool, true, false, List, [], ◌∷◌, length}
 use Rattle.lapd_link_definition.specs.declared.state.State.{State}
 use Rattle.lapd_link_definition.specs.declared.state.State.TheVariants.{MultipleFrameEstablished, TimerRecovery}
@@ -6,7 +6,8 @@ use Rattle.lapd_link_definition.specs.End.{End}
 use Rattle.lapd_pair_laws.specs.Safe.{IsAmong}
 use Rattle.lapd_pair_laws.specs.Kinds.{Message, Kind, messages, numbers, rejections, tally, poll_of, final_of}
 
--- a side as it sends: whether T200 runs, whether it thinks the peer busy, V(S), V(A), and how many messages are unsent
+-- a side as a sender: whether T200 runs, whether it takes the peer to be busy, V(S), V(A), and how
+-- many messages are unsent
 pub record Source : Type 0 where
   pub state : State
   pub t200 : Bool
@@ -15,7 +16,7 @@ pub record Source : Type 0 where
   pub va : ℕ
   pub unsent : ℕ
 
--- a side as it receives
+-- a side as a receiver
 pub record Sink : Type 0 where
   pub vr : ℕ
   pub rejecting : Bool
@@ -26,14 +27,14 @@ source e = record { state = e.state; t200 = e.t200; busy = e.window.peer_busy; v
 abbrev pub sink : End → Sink
 sink e = record { vr = e.window.vr; rejecting = e.window.rejecting }
 
--- ---- All that is wanted is on its way.
+-- ---- All missing messages are in transit.
 
 -- all numbers from `low` on below `end`, and nothing else
 abbrev pub IsWhole : ℕ → ℕ → List Message → Type 0
 IsWhole low end [] = low ≡ end
 IsWhole low end (m ∷ ms) = (m.number ≡ low) × IsWhole (low + 1) end ms
 
--- in front of them some above `low`
+-- stale messages above `low` may precede them
 abbrev pub IsJunkThenWhole : ℕ → ℕ → List Message → Type 0
 IsJunkThenWhole low end [] = low ≡ end
 IsJunkThenWhole low end (m ∷ ms) = IsWhole low end (m ∷ ms) ⊎ ((low < m.number) × IsJunkThenWhole low end ms)
@@ -42,7 +43,8 @@ abbrev pub IsComing : Bool → ℕ → ℕ → List Message → Type 0
 IsComing false low end ms = IsWhole low end ms
 IsComing true low end ms = IsJunkThenWhole low end ms
 
--- x needs no recovery: what y wants is on its way up to V(S), no REJ comes, and T200, where it runs, will be stopped
+-- x needs no recovery: the messages that y awaits are in transit up to V(S), no REJ is, and T200
+-- will be stopped if it runs
 pub record IsClean (x : Source) (y : Sink) (out back : List Kind) : Type 0 where
   pub in_7 : x.state ≡ MultipleFrameEstablished
   pub free : x.busy ≡ false
@@ -51,7 +53,8 @@ pub record IsClean (x : Source) (y : Sink) (out back : List Kind) : Type 0 where
   pub timed : x.t200 ≡ false → x.vs ≡ x.va
   pub stopped : x.t200 ≡ true → (y.vr < x.vs) ⊎ IsAmong x.vs (numbers back)
 
--- how x stands: it needs no recovery; it waits for T200, or for a REJ; its poll is on its way; the answer is
+-- the stage of x: it needs no recovery; it waits for T200, or for a REJ; its poll is in transit;
+-- the answer is
 pub data Stage : Type 0 where
   Clean : Stage
   Waiting : Stage
@@ -64,7 +67,7 @@ IsAt Waiting x y out back = (x.state ≡ MultipleFrameEstablished) × (x.t200 �
 IsAt Polling x y out back = (x.state ≡ TimerRecovery) × (tally poll_of out ≡ 1)
 IsAt Answered x y out back = (x.state ≡ TimerRecovery) × (tally final_of back ≡ 1)
 
--- a REJ may still come
+-- counts a REJ that may still be sent
 abbrev pub fresh : Bool → ℕ
 fresh true = 0
 fresh false = 1
@@ -83,7 +86,7 @@ pub record Stream (x : Source) (y : Sink) (out back : List Kind) (n : ℕ) : Typ
   pub so : IsAt stage x y out back
   pub most : weight stage x y ≤ n
 
--- both directions, with the frames that are on their way
+-- both directions, with the frames in transit
 pub record Flow (x y : End) (out back : List Kind) (n : ℕ) : Type 0 where
   pub a : ℕ
   pub b : ℕ
@@ -91,7 +94,7 @@ pub record Flow (x y : End) (out back : List Kind) (n : ℕ) : Type 0 where
   pub its : Stream (source y) (sink x) back out b
   pub most : length out + length back + a + b ≤ n
 
--- less than that is still to come
+-- the weight of the stream has fallen from n by this much
 pub record Lighter (by : ℕ) (x : Source) (y : Sink) (out back : List Kind) (n : ℕ) : Type 0 where
   pub some : by ≤ n
   pub stream : Stream x y out back (n - by)

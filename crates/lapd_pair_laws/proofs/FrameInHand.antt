@@ -1,4 +1,5 @@
--- Of the frame in hand a part is done with: what is left of it stands in its place, until its N(R) is used too.
+-- A part of the frame in hand is processed: its rest replaces it on the line, until its N(R) is
+-- processed too.
 use Rattle.std.proofs.Common.{◌≡◌, ℕ, ◌<◌, ◌≤◌, Bool, true, false, List, ◌∷◌, Some, refl, sym, subst, ◌∙◌, arith}
 use Rattle.lapd_link_definition.specs.declared.state.State.{State}
 use Rattle.lapd_link_definition.specs.declared.state.State.TheVariants.{TeiAssigned, AwaitingEstablishment, AwaitingRelease, MultipleFrameEstablished, TimerRecovery}
@@ -12,7 +13,7 @@ use Rattle.lapd_pair_laws.proofs.Losses.{stream_less, rejected_map, rejected_par
 use Rattle.lapd_pair_laws.proofs.MidSteps.{Mid}
 use Rattle.lapd_pair_laws.proofs.Parts.{Part, part_whole, part_first, part_nothing, part_each}
 
--- the same N(R), and of all else no more
+-- the same N(R), and no more of anything else
 pub record IsTurned (now was : List Kind) : Type 0 where
   pub numbers : numbers now ≡ numbers was
   pub messages : Part (messages now) (messages was)
@@ -26,7 +27,7 @@ pub record IsTurned (now was : List Kind) : Type 0 where
   pub behind_poll : NoneBehindPoll was → NoneBehindPoll now
   pub names : (base top : ℕ) → FinalsNameAll base top was → FinalsNameAll base top now
 
--- the peer's asking, of what this side hears
+-- the peer's polls, over the frames that this side processes
 asked_out : (state : State) (base : ℕ) (received : List Receipt) (now was back : List Kind) → IsTurned now was → AreAsked state base received was back → AreAsked state base received now back
 asked_out TeiAssigned base received now was back t w = tt
 asked_out AwaitingEstablishment base received now was back t w = record { polls = omega (arith, t.polls, w.polls); finals = w.finals }
@@ -39,7 +40,7 @@ asked_out TimerRecovery base received now was back t w = record {
   names = w.names;
 }
 
--- this side's own
+-- this side's own polls
 asked_back : (state : State) (base : ℕ) (received : List Receipt) (out now was : List Kind) → IsTurned now was → AreAsked state base received out was → AreAsked state base received out now
 asked_back TeiAssigned base received out now was t w = tt
 asked_back AwaitingEstablishment base received out now was t w = record { polls = w.polls; finals = omega (arith, t.finals, w.finals) }
@@ -102,9 +103,9 @@ turned x y out now was t m = record {
   };
 }
 
--- ---- What is left of a frame.
+-- ---- The rest of a frame.
 
--- of a poll that is answered, of a final, and of a REJ: the N(R)
+-- after a poll is answered, or a final or REJ processed: the N(R)
 pub enquiry_left : (nr : ℕ) (ks : List Kind) → IsTurned (Status nr ∷ ks) (Enquiry nr ∷ ks)
 enquiry_left nr ks = record {
   numbers = refl;
@@ -150,7 +151,7 @@ rejection_left nr ks = record {
   names = λ base top names. names;
 }
 
--- of an I frame whose message is used: a poll where it polls, else the N(R)
+-- after the message of an I frame is processed: a poll if it polls, otherwise the N(R)
 abbrev pub left_of : Bool → ℕ → Kind
 left_of true nr = Enquiry nr
 left_of false nr = Status nr

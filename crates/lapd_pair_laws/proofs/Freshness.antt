@@ -1,4 +1,4 @@
--- What comes is fresh, by the invariant.
+-- Messages in transit are fresh, by the invariant.
 use Rattle.std.proofs.Common.{◌≡◌, ℕ, true, List, [], ◌∷◌, ◌++◌, map}
 use Rattle.lapd_frame.specs.declared.Role.{Role}
 use Rattle.lapd_frame.specs.declared.Role.TheVariants.{Command}
@@ -21,7 +21,7 @@ each_part : (P : Message → Type 0) (xs ys : List Message) → Each P (xs ++ ys
 each_part P [] ys e = (tt, e)
 each_part P (x ∷ xs) ys e = let rest = each_part P xs ys e.1 in ((e.0, rest.0), rest.1)
 
--- a message that is placed was sent so
+-- a message that is placed (`IsPlaced`) was last sent in the present establishment
 frame_fresh : (base : ℕ) (x : Station) (role : Role) (control : Control) (info : List ℕ) (place : ℕ) → Each (IsPlaced (sender_of base x.end x.history)) (message_of (kind_of role control info place)) → IsFresh x role control place
 frame_fresh base x Command (I ns nr p) info place placed = placed.0.sent
 frame_fresh base x role control info place placed = tt

@@ -1,4 +1,5 @@
--- Layer 3 gives a message: it is refused, it waits for an establishment, or it goes out while the window is open.
+-- Layer 3 submits a message: it is refused, it waits for an establishment, or it is sent while the
+-- window is open.
 use Rattle.std.proofs.Common.{◌≡◌, ℕ, ◌+◌, ◌≤◌, ◌==◌, nat_lt, if◌then◌else◌, Bool, true, false, List, [], ◌∷◌, ◌++◌, length, Option, Some, None, refl, sym, subst, length-append, arith}
 use Rattle.lapd_frame.specs.Frame.{n201}
 use Rattle.lapd_mod128.specs.Counting.{Whole}
@@ -29,7 +30,7 @@ use Rattle.lapd_pair_laws.proofs.Steps.{context, begun, by_refusal}
 use Rattle.lapd_pair_laws.proofs.Units.{ends_as_seen}
 use Rattle.lapd_pair_laws.proofs.Worlds.{Keeps}
 
--- ---- The states in which a message is taken.
+-- ---- The states in which a message is accepted.
 
 pub data Takes : State → Bool → Bool → Type 0 where
   in_5 : Takes AwaitingEstablishment false false
@@ -49,7 +50,7 @@ not_too_long : (long : Bool) (other : Option LinkFault) → (if long then Some T
 not_too_long true other none = cc
 not_too_long false other none = none
 
--- ---- One more message behind all others that were given.
+-- ---- One more message is appended to those submitted.
 
 abbrev pub giving_sender : List ℕ → Sender → Sender
 giving_sender message s = record s { given = s.given ++ message ∷ [] }
@@ -92,7 +93,7 @@ module _ (message : List ℕ) where
       rejected = i.rejected;
     }
 
-    -- and what it hears itself
+    -- and the frames that the side itself processes
     hears_giving : (there : Option Hearing) (h : Hearing) → IsHeard y x there h → IsHeard y (giving message x) there h
     hears_giving there h i = record { stream = i.stream; acks = i.acks; asked = i.asked; rejected = i.rejected }
 
@@ -134,7 +135,7 @@ queues AwaitingEstablishment false true message s none = elim none [ ]
 queues AwaitingEstablishment true leaving message s none = elim none [ ]
 queues AwaitingRelease asked leaving message s none = elim none [ ]
 
--- it is queued first of all
+-- queueing it is the first action
 seems_queued : (c : Context) (message : List ℕ) (e : End) → Seems c (queue_up message (begin e)) (giving message (seen c (begin e))) (line c (begin e))
 unfolding story_after queue_up begin
 seems_queued c message e = record { party = refl; line = refl }
@@ -149,7 +150,7 @@ ends_given c ks message e takes b =
 pub taken_where : (message : List ℕ) (e : End) → refused (input.Give message) e ≡ None → Takes e.state e.layer3_initiated e.release_pending
 taken_where message e none = takes_where e.state e.layer3_initiated e.release_pending (waiting e == e.parameters.room) (not_too_long (nat_lt n201 (length message)) _ none)
 
--- the deed, taken or refused
+-- the move, accepted or refused
 pub keeps_give : (message : List ℕ) → Keeps (Give message)
 unfolding acts takes
 keeps_give message v peer small h =

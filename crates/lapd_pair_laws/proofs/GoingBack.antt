@@ -1,4 +1,4 @@
--- An open side goes back: V(S) is set to V(A), and all that waits is to be sent again.
+-- An open side sets V(S) back to V(A), and will retransmit all waiting messages.
 use Rattle.std.proofs.Common.{◌≡◌, inl, ℕ, zero, suc, ◌+◌, ◌<◌, ◌≤◌, Bool, true, false, List, [], ◌∷◌, Option, Some, None, refl, sym, subst, arith}
 use Rattle.lapd_link_definition.specs.declared.state.State.{State}
 use Rattle.lapd_link_definition.specs.declared.state.State.TheVariants.{TeiAssigned, AwaitingEstablishment, AwaitingRelease, MultipleFrameEstablished, TimerRecovery}
@@ -29,7 +29,7 @@ placed_backing nr s m p = record { place = p.place; same = p.same; sent = p.sent
 awaits_backing : (x : Party) (nr : ℕ) (back : List Kind) (n : ℕ) → IsAwaiting n (hearing_now x back) → IsAwaiting n (hearing_now (backing nr x) back)
 awaits_backing x nr back n w = record { rejecting = w.rejecting; at = w.at; above = w.above }
 
--- numbers that the speaker knows are below what it received
+-- if none of the rising numbers exceeds `limit`, they rise from `low` to at most `limit`
 climb_within : (low top limit : ℕ) (ns : List ℕ) → low ≤ limit → Each (λ n. n ≤ limit) ns → IsClimb low top ns → IsClimb low limit ns
 climb_within low top limit [] le each climb = le
 climb_within low top limit (n ∷ ns) le each climb = (climb.0, climb_within n top limit ns each.0 each.1 climb.1)
@@ -38,7 +38,7 @@ known_below : (base limit n : ℕ) (received : List Receipt) → IsRow 0 0 recei
 known_below base limit zero received row names got = omega arith
 known_below base limit (suc n) received row names got = let last : base + n < high received = place_below 0 0 (base + n) received row (got n (omega arith)) in omega (arith, last, names)
 
--- no REJ of the peer is in hand or behind it, where this side is in state 7 afterwards
+-- if no REJ is in transit, the condition on REJ holds
 pub no_rejections : (state : State) (vs base : ℕ) (received : List Receipt) (waiting : Option Hearing) (ns : List ℕ) → ns ≡ [] → AreRejected state vs base received waiting ns
 no_rejections TeiAssigned vs base received waiting ns none = tt
 no_rejections AwaitingEstablishment vs base received waiting ns none = none
@@ -46,7 +46,8 @@ no_rejections AwaitingRelease vs base received waiting ns none = tt
 no_rejections MultipleFrameEstablished vs base received waiting ns none = subst (λ l. AtMostOne (IsSentBack vs base received waiting) l) (sym none) tt
 no_rejections TimerRecovery vs base received waiting ns none = tt
 
--- All that the peer received is named, and what it still hears is in order up to V(A): then this side may go back.
+-- The N(R) acknowledges all that the peer received, and the messages it will process are in order
+-- up to V(A): then this side may set V(S) back.
 pub keeps_backing : (x y : Party) (out back : List Kind) (nr : ℕ) → x.sends.va ≡ nr → high y.takes.received ≤ x.sends.base + nr → rejections back ≡ []
     → OnHearing (λ h. IsInOrder h.rejecting h.vr nr (messages h.frames)) (hears y out) → Mid x y out back → Mid (backing nr x) y out back
 keeps_backing x y out back nr at names none order m =
@@ -120,7 +121,7 @@ keeps_backing x y out back nr at names none order m =
 
 -- ---- By a REJ with F=0, in state 7.
 
--- none of the messages on their way polls, where nothing is asked
+-- no message in transit polls if no poll is
 pub none_polls : (ks : List Kind) → tally poll_of ks ≡ 0 → NonePolls (messages ks)
 none_polls [] none = tt
 none_polls (Numbered m nr ∷ ks) none = (by_bit m.polled (omega (arith, none)), none_polls ks (omega (arith, none)))
@@ -136,7 +137,8 @@ pub polls_heard : (P : List Kind → Type 0) (o : Option Hearing) → P (frames_
 polls_heard P None p = tt
 polls_heard P (Some h) p = p
 
--- what the peer hears is junk, above the number that it awaits
+-- the messages that the peer will process are stale, above the number that it awaits, and so in
+-- order
 all_junk : (nr : ℕ) (h : Hearing) → IsAwaiting nr h → tally poll_of h.frames ≡ 0 → IsInOrder h.rejecting h.vr nr (messages h.frames)
 all_junk nr h w none = subst (λ b. IsInOrder b h.vr nr (messages h.frames)) (sym w.rejecting)
     (all_is_junk h.vr nr (messages h.frames) (none_polls h.frames none) (subst (λ v. Each (λ m. m.polled ≡ false → v < m.number) (messages h.frames)) (sym w.at) w.above))

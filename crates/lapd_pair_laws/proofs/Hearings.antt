@@ -1,4 +1,4 @@
--- What a side hears, and how it changes with the line.
+-- The frames that a side will process, and how they change with the line.
 use Rattle.std.proofs.Common.{◌≡◌, ◌⊎◌, inl, inr, Bool, true, false, List, [], ◌∷◌, ◌++◌, Option, Some, None, option_map, refl, sym, ap, subst, ◌∙◌, arith}
 use Rattle.lapd_link_definition.specs.declared.state.State.{State}
 use Rattle.lapd_link_definition.specs.declared.state.State.TheVariants.{TeiAssigned, AwaitingEstablishment, AwaitingRelease, MultipleFrameEstablished, TimerRecovery}
@@ -6,7 +6,7 @@ use Rattle.lapd_link_definition.specs.EndOfStep.{is_7_or_8}
 use Rattle.lapd_pair_laws.specs.Kinds.{Kind, Accepts, Asks, tally, answer_of, is_acceptance}
 use Rattle.lapd_pair_laws.specs.Parties.{Party, Hearing, behind, behind_acceptance, hearing_now, hearing_to_come, heard_in, hears, OnHearing}
 
--- ---- Facts of what is heard.
+-- ---- Facts of the frames that will be processed.
 
 pub on_map : (P Q : Hearing → Type 0) (o : Option Hearing) → ((h : Hearing) → P h → Q h) → OnHearing P o → OnHearing Q o
 on_map P Q None f p = tt
@@ -20,7 +20,7 @@ pub on_mapped : (P : Hearing → Type 0) (f : Hearing → Hearing) (o : Option H
 on_mapped P f None p = tt
 on_mapped P f (Some h) p = p
 
--- ---- An open side hears all.
+-- ---- An open side processes all frames.
 
 open_in : (state : State) (leaving : Bool) (now : Hearing) (ks : List Kind) → is_7_or_8 state ≡ true → heard_in state leaving now ks ≡ Some now
 open_in MultipleFrameEstablished leaving now ks opened = refl
@@ -35,7 +35,7 @@ open_hears y ks opened = open_in y.state y.leaving (hearing_now y ks) ks opened
 pub from_open : (Q : Hearing → Type 0) (y : Party) (ks : List Kind) → is_7_or_8 y.state ≡ true → OnHearing Q (hears y ks) → Q (hearing_now y ks)
 from_open Q y ks opened q = subst (λ o. OnHearing Q o) (open_hears y ks opened) q
 
--- ---- Where no answer is on its way, only an open side hears.
+-- ---- With no answer in transit, only an open side processes frames.
 
 not_acceptance : (k : Kind) → answer_of k ≡ 0 → is_acceptance k ≡ false
 not_acceptance Accepts none = absurd (omega (arith, none))
@@ -57,7 +57,7 @@ open_only Q TimerRecovery leaving now ks none q = q refl
 pub by_open : (Q : Hearing → Type 0) (y : Party) (ks : List Kind) → tally answer_of ks ≡ 0 → (is_7_or_8 y.state ≡ true → Q (hearing_now y ks)) → OnHearing Q (hears y ks)
 by_open Q y ks none q = open_only Q y.state y.leaving (hearing_now y ks) ks none q
 
--- a closed side hears nothing then
+-- a closed side processes no frame then
 closed_in : (state : State) (leaving : Bool) (now : Hearing) (ks : List Kind) → is_7_or_8 state ≡ false → tally answer_of ks ≡ 0 → heard_in state leaving now ks ≡ None
 closed_in TeiAssigned leaving now ks closed none = refl
 closed_in AwaitingEstablishment true now ks closed none = refl
@@ -69,7 +69,7 @@ closed_in TimerRecovery leaving now ks closed none = cc
 pub closed_hears_nothing : (y : Party) (ks : List Kind) → is_7_or_8 y.state ≡ false → tally answer_of ks ≡ 0 → hears y ks ≡ None
 closed_hears_nothing y ks closed none = closed_in y.state y.leaving (hearing_now y ks) ks closed none
 
--- ---- What is heard is under an open side's numbers, or under 0 in what is to come.
+-- ---- The state variables: those of an open side, or 0 in an establishment that is about to begin.
 
 pub record IsToCome (state : State) (h : Hearing) : Type 0 where
   pub state_5 : state ≡ AwaitingEstablishment
@@ -96,7 +96,7 @@ heard_as_in TimerRecovery leaving now ks = inl (refl, refl)
 pub heard_as : (y : Party) (ks : List Kind) → OnHearing (IsHeardAs y ks) (hears y ks)
 heard_as y ks = heard_as_in y.state y.leaving (hearing_now y ks) ks
 
--- ---- One more frame behind all others, which is no UA.
+-- ---- One more frame is appended that is not UA.
 
 abbrev pub one_more : Kind → Hearing → Hearing
 one_more u h = record h { frames = h.frames ++ u ∷ [] }

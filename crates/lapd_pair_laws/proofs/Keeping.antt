@@ -1,4 +1,4 @@
--- Every move keeps what a world keeps.
+-- Every move keeps `IsKeptWorld`.
 use Rattle.std.proofs.Common.{◌≡◌, ◌⊎◌, inl, inr, ℕ, zero, suc, ◌+◌, ◌-◌, ◌≤◌, ◌==◌, nat_lt, if◌then◌else◌, Bool, true, false, List, [], ◌∷◌, ◌++◌, length, length-append, Option, Some, None, Result, Ok, Err, refl, subst, arith}
 use Rattle.std.specs.List.{remove}
 use Rattle.std.proofs.lemmas.Bool.Decides.{nat_tests}
@@ -41,7 +41,7 @@ use Rattle.lapd_pair_laws.proofs.Telling.{AreUnsentFrom, settled_alike, told_the
 
 -- ---- A step of a side.
 
--- the first message that waits is not behind the last
+-- the first waiting message is not past the end of the list
 awaiting_within : (r : Reading) (asked leaving : Bool) (first next given va vs : ℕ) → AreAwaiting r asked leaving first next given va vs → first ≤ given
 awaiting_within r true leaving first next given va vs h = omega (arith, h.places, h.within)
 awaiting_within r false true first next given va vs h = omega (arith, h.places, h.within)
@@ -97,7 +97,7 @@ still_unsent few many sent_in more unsent place beyond = unsent place (omega (ar
 more_given : (r : Reading) (input : Input) (e : End) (s : StepState) → step r input e ≡ Ok s → length e.given ≤ length s.end.given
 more_given r input e s done = let more = given_after r input e s done in rw more (omega (arith, length-append e.given (messages_of input)))
 
--- ---- What a side sees.
+-- ---- The view of a side.
 
 pub record IsKeptView (r : Reading) (v : View) : Type 0 where
   pub station : IsKept r v.station

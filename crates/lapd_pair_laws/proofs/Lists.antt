@@ -1,4 +1,4 @@
--- Lists taken from the kinds of frames, when one more frame is behind all others.
+-- Lists derived from the kinds of frames, when one more frame is appended.
 use Rattle.std.proofs.Common.{◌≡◌, ◌⊎◌, ◌<◌, ℕ, zero, suc, if◌then◌else◌, ◌+◌, Bool, true, false, List, [], ◌∷◌, ◌++◌, slice_get, Some, append_assoc, append-nil, refl, sym, ap, ◌∙◌, arith}
 use Rattle.lapd_pair_laws.specs.Kinds.{Kind, message_of, messages, number_of, numbers, rejection_of, rejections, tally}
 use Rattle.lapd_pair_laws.specs.Conjuncts.{Each}
@@ -15,7 +15,7 @@ pub rejections_append : (xs ys : List Kind) → rejections (xs ++ ys) ≡ reject
 rejections_append [] ys = refl
 rejections_append (x ∷ xs) ys = ap (λ l. rejection_of x ++ l) (rejections_append xs ys) ∙ sym (append_assoc (rejection_of x) (rejections xs) (rejections ys))
 
--- one more of which nothing is taken
+-- one more frame that adds no entry
 pub messages_same : (u : Kind) (ks : List Kind) → message_of u ≡ [] → messages (ks ++ u ∷ []) ≡ messages ks
 messages_same u ks no_message = messages_append ks (u ∷ []) ∙ ap (λ l. messages ks ++ (l ++ [])) no_message ∙ append-nil (messages ks)
 
@@ -25,7 +25,7 @@ numbers_same u ks no_number = numbers_append ks (u ∷ []) ∙ ap (λ l. numbers
 pub rejections_same : (u : Kind) (ks : List Kind) → rejection_of u ≡ [] → rejections (ks ++ u ∷ []) ≡ rejections ks
 rejections_same u ks no_rejection = rejections_append ks (u ∷ []) ∙ ap (λ l. rejections ks ++ (l ++ [])) no_rejection ∙ append-nil (rejections ks)
 
--- one more of which one is taken
+-- one more frame that adds one entry
 pub numbers_more : (u : Kind) (ks : List Kind) (nr : ℕ) → number_of u ≡ nr ∷ [] → numbers (ks ++ u ∷ []) ≡ numbers ks ++ nr ∷ []
 numbers_more u ks nr is = numbers_append ks (u ∷ []) ∙ ap (λ l. numbers ks ++ (l ++ [])) is
 
@@ -53,7 +53,7 @@ get_more [] ys place x is = cc
 get_more (y ∷ xs) ys zero x is = is
 get_more (y ∷ xs) ys (suc place) x is = get_more xs ys place x is
 
--- ---- A test, both ways.
+-- ---- Both results of a test.
 
 pub by_test : {A : Type 0} (P : A → Type 0) (test : Bool) (x y : A) → (test ≡ true → P x) → (test ≡ false → P y) → P (if test then x else y)
 by_test P true x y one other = one refl

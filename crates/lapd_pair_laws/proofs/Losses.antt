@@ -1,4 +1,4 @@
--- A frame is lost, in any state of both sides: what is left of each line keeps the invariant.
+-- A frame is lost, in any state of both sides: the remaining line keeps the invariant.
 use Rattle.std.proofs.Common.{◌≡◌, ◌⊎◌, inl, inr, ℕ, ◌<◌, Bool, true, false, List, [], ◌∷◌, Option, Some, None, option_map, refl, arith}
 use Rattle.lapd_link_definition.specs.declared.state.State.{State}
 use Rattle.lapd_link_definition.specs.declared.state.State.TheVariants.{TeiAssigned, AwaitingEstablishment, AwaitingRelease, MultipleFrameEstablished, TimerRecovery}
@@ -10,9 +10,9 @@ use Rattle.lapd_pair_laws.specs.Conjuncts.{IsPlaced, IsNearTo, IsGot, HasSome, I
 use Rattle.lapd_pair_laws.specs.Invariant.{IsSpeaking, Both}
 use Rattle.lapd_pair_laws.proofs.Parts.{Part, ended, taken, lost, part_messages, part_numbers, part_rejections, part_tally, part_nothing, part_each, part_some, order_part, part_climb, part_behind_poll, part_behind_ask, part_names, part_one}
 
--- ---- What is heard of a part.
+-- ---- The frames of a part that will be processed.
 
--- of what was heard, a part is heard now, under the same numbers, or nothing
+-- a part of the earlier frames will be processed, with the same state variables, or none
 pub record IsLess (now was : Hearing) : Type 0 where
   pub vs : now.vs ≡ was.vs
   pub va : now.va ≡ was.va
@@ -28,7 +28,7 @@ HearsLess (Some now) (Some was) = IsLess now was
 less_to_come : {xs ys : List Kind} → Part xs ys → IsLess (hearing_to_come xs) (hearing_to_come ys)
 less_to_come p = record { vs = refl; va = refl; vr = refl; rejecting = refl; part = p }
 
--- the first UA may be lost, or one behind it be the first now
+-- the first UA may be lost, and a later one become the first
 abbrev BehindLess : Option (List Kind) → List Kind → Type 0
 BehindLess None ys = Unit {0}
 BehindLess (Some xs) ys = Part xs ys
@@ -79,7 +79,7 @@ on_less P None was less f p = tt
 on_less P (Some n) None less f p = absurd less
 on_less P (Some n) (Some w) less f p = f n w less p
 
--- ---- Each conjunct of a part.
+-- ---- Each conjunct for a part.
 
 pub stream_less : (speaking : Bool) (s : Sender) (received : List Receipt) (vr : ℕ) (rejecting : Bool) {xs ys : List Message} → Part xs ys → IsStream speaking s received vr rejecting ys → IsStream speaking s received vr rejecting xs
 stream_less speaking s received vr rejecting p w = record {
@@ -119,7 +119,7 @@ asked_less AwaitingRelease base received p q w = tt
 asked_less MultipleFrameEstablished base received p q w = none_less p q w
 asked_less TimerRecovery base received p q w = one_less base received p q w
 
--- what one hears nothing of
+-- if none of the sender's frames will be processed
 none_at_all : (out : List Kind) {back back_was : List Kind} → Part back back_was → NoneAsked out back_was → NoneAsked [] back
 none_at_all out q w = let finals = part_tally final_of q in record { polls = refl; finals = omega (arith, w.finals, finals) }
 
@@ -139,7 +139,7 @@ asked_heard_less state base received None was less q w = asked_unheard state bas
 asked_heard_less state base received (Some n) None less q w = absurd less
 asked_heard_less state base received (Some n) (Some h) less q w = asked_less state base received less.part q w
 
--- who waits still waits
+-- an end that waits still waits
 pub awaiting_less : (nr : ℕ) (n w : Hearing) → IsLess n w → IsAwaiting nr w → IsAwaiting nr n
 awaiting_less nr n w less h = record {
   rejecting = rw less.rejecting h.rejecting;
@@ -190,7 +190,7 @@ exchange_less most p q w = let asks = part_tally ask_of p in let answers = part_
   clean = omega (arith, w.clean, foreign);
 }
 
--- ---- One who speaks, and both.
+-- ---- One direction, and both.
 
 pub speaking_less : (x y : Party) {out out_was back back_was : List Kind} (here here_was there there_was : Option Hearing) → Part out out_was → Part back back_was → HearsLess here here_was → HearsLess there there_was
     → IsSpeaking x y out_was back_was here_was there_was → IsSpeaking x y out back here there

@@ -1,4 +1,5 @@
--- In the middle of a step, where the acting side is open: it hears all frames on their way to it, the one in hand first.
+-- In the middle of a step of an open side: it processes all frames in transit to it, the one in
+-- hand first.
 use Rattle.std.proofs.Common.{◌≡◌, inl, inr, ℕ, zero, suc, ◌≤◌, Bool, true, List, ◌∷◌, Some, refl, sym, subst, arith}
 use Rattle.lapd_link_definition.specs.declared.state.State.{State}
 use Rattle.lapd_link_definition.specs.declared.state.State.TheVariants.{TeiAssigned, AwaitingEstablishment, AwaitingRelease, MultipleFrameEstablished, TimerRecovery}
@@ -29,7 +30,7 @@ leave x y out back m = record {
   its = subst (λ o. IsSpeaking y x back out (hears y out) o) (sym (open_hears x back m.opened)) m.its;
 }
 
--- the frame in hand is done with
+-- the frame in hand is processed
 pub put_away : (x y : Party) (out : List Kind) (k : Kind) (back : List Kind) → Mid x y out (k ∷ back) → Mid x y out back
 put_away x y out k back m =
     let less : IsLess (hearing_now x back) (hearing_now x (k ∷ back)) = record { vs = refl; va = refl; vr = refl; rejecting = refl; part = part_first k back } in
@@ -39,7 +40,7 @@ put_away x y out k back m =
       its = speaking_less y x _ _ _ _ (part_first k back) (part_whole out) (hears_less y (part_whole out)) less m.its;
     }
 
--- ---- What is known of an open side.
+-- ---- Facts about an open side.
 
 pub open_numbering : (state : State) (asked leaving : Bool) (s : Sender) → is_7_or_8 state ≡ true → IsKept state asked leaving s → IsNumbering s
 open_numbering MultipleFrameEstablished asked leaving s opened kept = kept
@@ -72,7 +73,7 @@ open_asks_none TeiAssigned opened = cc
 open_asks_none AwaitingEstablishment opened = cc
 open_asks_none AwaitingRelease opened = cc
 
--- what the peer hears was received by this side up to its V(R)
+-- if the peer will process frames, this side received all its messages up to V(R)
 pub got_where_heard : {x y : Party} {out back : List Kind} → Mid x y out back → OnHearing (λ h. IsGot y.sends.base x.takes.vr x.takes.received) (hears y out)
 got_where_heard {x = x} {y = y} {out = out} {back = back} m =
     on_both (IsHeardAs y out) (IsHeard x y (Some (hearing_now x back))) (λ h. IsGot y.sends.base x.takes.vr x.takes.received) (hears y out) (λ h so i. got h so i) (heard_as y out) m.mine.heard
@@ -81,7 +82,8 @@ got_where_heard {x = x} {y = y} {out = out} {back = back} m =
     got h (inl now) i = (m.its.heard.stream.step (inl now.0)).got
     got h (inr come) i = let top : x.takes.vr ≤ h.vs = (i.acks.top m.opened).1 in let zero_ : h.vs ≡ 0 = come.vs in λ n less. absurd (omega (arith, less, top, zero_))
 
--- where a frame with N(R) is in hand, no answer is on its way to the peer: it hears where it is open, and else nothing
+-- if a frame with N(R) is in hand, no answer is in transit to the peer, so the peer processes
+-- frames only if it is open
 pub no_answer_out : {x y : Party} {out back : List Kind} (nr : ℕ) (rest : List ℕ) → numbers back ≡ nr ∷ rest → Mid x y out back → tally answer_of out ≡ 0
 no_answer_out {out = out} nr rest is m = none (tally answer_of out) refl
   where

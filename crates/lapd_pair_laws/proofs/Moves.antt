@@ -31,7 +31,7 @@ after_by_network : (w : World) (r : Result Turn Refusal) → world_after w (in_w
 after_by_network w (Ok acted) = refl
 after_by_network w (Err refusal) = refl
 
--- what a side does keeps the invariant of what it sees
+-- a move of a side keeps the invariant of its view
 abbrev pub KeepsSeen : Side → World → Result Turn Refusal → Type 0
 KeepsSeen who w r = (peer : Station) → Holds (view_of who w) peer → Holds (left_by (view_of who w) r) peer
 
@@ -52,7 +52,7 @@ pub side_keeps : (who : Side) (w : World) (r : Result Turn Refusal) → IsInvari
 side_keeps side.User w r i keeps sound = user_keeps w r i keeps sound
 side_keeps side.Network w r i keeps sound = rw (after_by_network w r) (exchanged (world_after (swapped w) (in_world side.User (swapped w) r)) (user_keeps (swapped w) r (exchanged w i) keeps sound))
 
--- a deed of the user, and of the network
+-- a move of the user, and one of the network
 user_deed_keeps : (deed : Deed) → Keeps deed → (w : World) → IsInvariant w → IsInvariant (world_after w (happens Whole (record { side = side.User; deed = deed }) w))
 unfolding happens
 user_deed_keeps deed keeps w i = let v = view_of side.User w in user_keeps w (acts Whole side.User deed v) i (λ peer h. keeps v peer i.user_window h) (stays_sound v i.user_window i.user_sound deed)

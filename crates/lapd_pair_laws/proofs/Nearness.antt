@@ -1,5 +1,5 @@
--- The first frame on its way to each side, where it is heard in states 7 and 8, has numbers within those of that side: so each
--- move is near, and does on tags what it does on whole numbers.
+-- In states 7 and 8, the first frame in transit to each side has numbers within bounds of that
+-- side's. So each move is near, and has the same effect on tags as on whole numbers.
 use Rattle.std.proofs.Common.{◌≡◌, ℕ, true, false, List, [], ◌∷◌, arith}
 use Rattle.lapd_frame.specs.declared.Role.{Role}
 use Rattle.lapd_frame.specs.declared.Role.TheVariants.{Command, Answer}

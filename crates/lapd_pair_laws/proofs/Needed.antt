@@ -1,4 +1,4 @@
--- Each premise is needed: without it a message that was never received is acknowledged.
+-- Each premise is needed: without it, a message that was never received is acknowledged.
 use Rattle.std.proofs.Common.{◌≡◌, inl, inr, ℕ, zero, suc, List, [], ◌∷◌, map, slice_get, Option, Some, refl, subst, arith}
 use Rattle.lapd_mod128.specs.Counting.{after, steps, lies_within}
 use Rattle.lapd_supervision.specs.StateVariables.{initial_variables, without_exceptions, with_zero_counters, status_frame, acknowledgement, without_ack_pending, poll_response, is_accepted, is_rejected, after_i_frame, i_frame_response, is_valid_nr, with_va, acknowledged_count, acknowledges_all, with_vs, may_send, next_i_frame, after_sending, with_own_busy, with_peer_busy}

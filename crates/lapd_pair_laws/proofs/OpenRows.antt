@@ -1,4 +1,4 @@
--- Frames with N(R) that come in states 7 and 8.
+-- Frames with N(R) that arrive in states 7 and 8.
 use Rattle.std.proofs.Common.{◌≡◌, ℕ, ◌-◌, ◌≤◌, nat_le, ◌==◌, if◌then◌else◌, Bool, true, false, List, ◌∷◌, refl, ◌∙◌, arith}
 use Rattle.std.proofs.lemmas.Bool.Decides.{nat_tests}
 use Rattle.lapd_timers.specs.declared.timer.Timer.TheVariants.{T200, T203}
@@ -83,12 +83,12 @@ goes_rej_nr c nr ks s is m =
     let t : Goes c (Status nr ∷ ks) s = turned (seen c s) c.peer (line c s) (Status nr ∷ ks) (Rejection nr ∷ ks) (rejection_left nr ks) m in
     when_valid c nr ks s _ _ t (goes_start c T203 (stop T200 back) ks (goes_stop c T200 back ks (goes_back c nr ks s is m)))
 
--- a final does not come in state 7
+-- no final arrives in state 7
 pub no_final_in_7 : (c : Context) (nr : ℕ) (ks : List Kind) (s : StepState) → s.end.state ≡ MultipleFrameEstablished → Goes c (Final nr ∷ ks) s → ⊥
 no_final_in_7 c nr ks s is m = let none : NoneAsked (frames_heard (hears c.peer (line c s))) (Final nr ∷ ks) = none_asked_in_7 (seen c s) c.peer (line c s) (Final nr ∷ ks) is m in
     let finals : tally final_of (Final nr ∷ ks) ≡ 0 = none.finals in omega (arith, finals)
 
--- a frame that no end sends does not come
+-- a frame that no end sends does not arrive
 pub no_foreign : (c : Context) (ks : List Kind) (s : StepState) → Goes c (Foreign ∷ ks) s → ⊥
 no_foreign c ks s m = let clean = m.its.exchange.clean in omega (arith, clean)
 
@@ -134,7 +134,7 @@ goes_rnr_nr_in_8 : (c : Context) (nr : ℕ) (ks : List Kind) (s : StepState) →
 unfolding rnr_nr_in_recovery
 goes_rnr_nr_in_8 c nr ks s m = when_valid c nr ks s _ _ m (goes_acknowledge c nr s ks m)
 
--- the answer to the enquiry comes, and the recovery ends
+-- the answer to the enquiry arrives, and the recovery ends
 goes_recovered : (c : Context) (nr : ℕ) (ks : List Kind) (s : StepState) → s.end.state ≡ TimerRecovery → Goes c (Final nr ∷ ks) s → Goes c ks (state_to MultipleFrameEstablished (invoke_retransmission nr (acknowledge Whole nr s)))
 unfolding story_after acknowledge invoke_retransmission with_va with_vs acknowledged_count steps state_to
 goes_recovered c nr ks s is m =
@@ -145,7 +145,7 @@ goes_recovered c nr ks s is m =
 final_status : (c : Context) (nr : ℕ) (ks : List Kind) (s : StepState) → Goes c (Final nr ∷ ks) s → Goes c (Status nr ∷ ks) s
 final_status c nr ks s m = turned (seen c s) c.peer (line c s) (Status nr ∷ ks) (Final nr ∷ ks) (final_left nr ks) m
 
--- timers do not matter to the order in which the state is set
+-- the order of timer and state changes does not matter
 with_timers : (c : Context) (ks : List Kind) (t : StepState) → Goes c ks (state_to MultipleFrameEstablished t) → Goes c ks (state_to MultipleFrameEstablished (start T203 (stop T200 t)))
 unfolding state_to start stop
 with_timers c ks t m = goes_start c T203 (stop T200 (state_to MultipleFrameEstablished t)) ks (goes_stop c T200 (state_to MultipleFrameEstablished t) ks m)

@@ -1,4 +1,4 @@
--- Timers that expire in states 7 and 8, and own receiver busy.
+-- Timers expire in states 7 and 8, and the own busy condition changes.
 use Rattle.std.proofs.Common.{◌≡◌, ℕ, ◌<◌, ◌≤◌, nat_lt, ◌==◌, ◌&&◌, not, Bool, true, false, List, refl, sym, ap, subst, arith}
 use Rattle.std.proofs.lemmas.Bool.Decides.{nat_tests}
 use Rattle.lapd_timers.specs.declared.timer.Timer.TheVariants.{T200, T203}
@@ -28,7 +28,7 @@ use Rattle.lapd_pair_laws.proofs.Polls.{IsSettled, settled_in_7}
 use Rattle.lapd_pair_laws.proofs.ClosedActions.{Ends, seems_put, seems_expired}
 use Rattle.lapd_pair_laws.proofs.Steps.{ends_open}
 
--- ---- Own receiver busy.
+-- ---- Own busy condition.
 
 pub goes_busy_on : (c : Context) (s : StepState) (back : List Kind) → Goes c back s → Goes c back (busy_on s)
 unfolding busy_on
@@ -40,7 +40,7 @@ goes_busy_off c s back m = by_test (λ (t : StepState). Goes c back t) s.end.win
 
 -- ---- In state 7.
 
--- RC is set between the enquiry and the state, which does not matter
+-- the order of setting RC and the state does not matter
 enquiry_in_order : (c : Context) (n : ℕ) (s : StepState) (back : List Kind) → Goes c back (state_to TimerRecovery (transmit_enquiry s)) → Goes c back (s ▷ transmit_enquiry ▷ rc_to n ▷ state_to TimerRecovery)
 unfolding rc_to state_to
 enquiry_in_order c n s back m = goes_rc c n (state_to TimerRecovery (transmit_enquiry s)) back m
@@ -74,9 +74,9 @@ goes_t203_in_7 c s back is m =
     let after : Goes c back t = goes_rc c 0 (expired T203 s) back (goes_expired c T203 s back m) in
     goes_enquiry c t back (settled_in_7 (seen c t) c.peer (line c t) back is after) after
 
--- ---- In state 8, where no poll and no final is under way.
+-- ---- In state 8, with no poll and no final in transit.
 
--- the state is set to what it is
+-- the state is set to its present value
 in_8_still : (c : Context) (s : StepState) (back : List Kind) → s.end.state ≡ TimerRecovery → Goes c back (state_to TimerRecovery (transmit_enquiry s)) → Goes c back (transmit_enquiry s)
 unfolding state_to transmit_enquiry
 in_8_still c s back is m = subst (λ (t : StepState). Goes c back t) (ap (λ st. at st) (sym is)) m

@@ -1,4 +1,4 @@
--- A part of a list, in the same order: what is left of a line where frames are lost or taken off.
+-- A part of a list, in the same order: the rest of a line after frames are lost or removed.
 use Rattle.std.proofs.Common.{◌≡◌, inl, inr, ℕ, zero, suc, ◌+◌, ◌≤◌, Bool, true, false, List, [], ◌∷◌, ◌++◌, refl, sym, subst, arith}
 use Rattle.lapd_pair_laws.specs.Line.{Flight, without_lost}
 use Rattle.lapd_pair_laws.specs.Kinds.{Message, Kind, Final, Numbered, kinds, message_of, messages, number_of, numbers, rejection_of, rejections, tally}
@@ -14,7 +14,7 @@ pub part_whole : {A : Type 0} (xs : List A) → Part xs xs
 part_whole [] = ended
 part_whole (x ∷ xs) = taken (part_whole xs)
 
--- the first is off
+-- the first is removed
 pub part_first : {A : Type 0} (x : A) (xs : List A) → Part xs (x ∷ xs)
 part_first x xs = lost (part_whole xs)
 
@@ -33,7 +33,7 @@ part_lost (suc at) [] = ended
 part_lost zero (f ∷ fs) = lost (part_whole (kinds fs))
 part_lost (suc at) (f ∷ fs) = taken (part_lost at fs)
 
--- ---- Lists taken from the kinds.
+-- ---- Lists derived from the kinds.
 
 pub part_messages : {xs ys : List Kind} → Part xs ys → Part (messages xs) (messages ys)
 part_messages ended = ended
@@ -105,7 +105,7 @@ climb_part low lower top (lost {y = n} p) le climb = climb_part n lower top p (o
 pub part_climb : (low top : ℕ) {xs ys : List ℕ} → Part xs ys → IsClimb low top ys → IsClimb low top xs
 part_climb low top p climb = climb_part low low top p (omega arith) climb
 
--- ---- What stands behind what.
+-- ---- Which frames follow which.
 
 pub part_behind_poll : {xs ys : List Kind} → Part xs ys → NoneBehindPoll ys → NoneBehindPoll xs
 part_behind_poll ended none = tt
@@ -127,7 +127,7 @@ part_names base top ended names = tt
 part_names base top (taken {x = k} p) names = (names_part k base top p names.0, part_names base top p names.1)
 part_names base top (lost p) names = part_names base top p names.1
 
--- at most one, with a fact of it
+-- at most one entry, which satisfies a predicate
 one_alone : (P : ℕ → Type 0) (n : ℕ) {xs ys : List ℕ} → Part xs ys → AtMostOne P (n ∷ ys) → AtMostOne P (n ∷ xs)
 one_alone P n ended one = one
 one_alone P n (taken p) one = absurd one

@@ -1,4 +1,4 @@
--- Safe, shown by the places that stand beside the messages received.
+-- Safety, shown by the places that are recorded with the messages received.
 use Rattle.std.proofs.Common.{◌≡◌, ℕ, ◌+◌, ◌<◌, ◌≤◌, List, [], ◌∷◌, map, slice_get, Option, Some, refl}
 use Rattle.lapd_pair_laws.specs.Histories.{Receipt}
 use Rattle.lapd_pair_laws.specs.Safe.{RiseFrom, IsAmong, AreNeighboursAfter, AreNeighbours, IsSafe}
@@ -6,12 +6,13 @@ use Rattle.lapd_pair_laws.specs.Safe.{RiseFrom, IsAmong, AreNeighboursAfter, Are
 abbrev pub places_of : List Receipt → List ℕ
 places_of received = map (λ message. message.place) received
 
--- each message is what was given at its place
+-- each message is the one submitted at its place
 abbrev pub AreGiven : List (List ℕ) → List Receipt → Type 0
 AreGiven given [] = Unit {0}
 AreGiven given (message ∷ received) = (slice_get given message.place ≡ Some message.octets) × AreGiven given received
 
--- the places rise strictly from `next` on, and one that was received in `establishment`, as the one before it, is `next`
+-- the places rise strictly from `next` on; a message received in `establishment`, as was the one
+-- before it, is at `next`
 abbrev pub IsRow : ℕ → ℕ → List Receipt → Type 0
 IsRow next establishment [] = Unit {0}
 IsRow next establishment (message ∷ received) =

@@ -15,12 +15,12 @@ use Rattle.lapd_pair_laws.proofs.FrameInHand.{turned, enquiry_left}
 
 -- ---- A poll is answered.
 
--- all that was received by this side is named by its V(R), where the peer hears
+-- its V(R) acknowledges all that this side received, if the peer processes frames
 pub named_where_heard : {x y : Party} {out back : List Kind} → Mid x y out back → OnHearing (λ h. is_7_or_8 y.state ≡ true → high x.takes.received ≤ y.sends.base + x.takes.vr) (hears y out)
 named_where_heard {x = x} {y = y} {out = out} {back = back} m =
     on_map (IsHeard x y (Some (hearing_now x back))) _ (hears y out) (λ h i opened. (m.its.heard.stream.step (inl opened)).below) m.mine.heard
 
--- the poll in hand is the one that was under way: a final may answer it
+-- the poll in hand is the only one in transit: a final may answer it
 answered : (state : State) (base nr vr : ℕ) (received : List Receipt) (ks back : List Kind) → (is_7_or_8 state ≡ true → high received ≤ base + vr)
     → AreAsked state base received (Enquiry nr ∷ ks) back → AreAsked state base received (Status nr ∷ ks) (back ++ Final vr ∷ [])
 answered TeiAssigned base nr vr received ks back named w = tt
@@ -53,12 +53,12 @@ answering x y out nr ks w =
 
 -- ---- This side polls.
 
--- no poll of its own, and no answer to one, is under way
+-- no poll of its own, and no answer to one, is in transit
 pub record IsSettled (x y : Party) (out back : List Kind) : Type 0 where
   pub polls : tally poll_of (frames_heard (hears y out)) ≡ 0
   pub finals : tally final_of back ≡ 0
 
--- in state 7 none ever is
+-- in state 7 there is never one
 pub settled_in_7 : (x y : Party) (out back : List Kind) → x.state ≡ MultipleFrameEstablished → Mid x y out back → IsSettled x y out back
 settled_in_7 x y out back is m =
     let none : NoneAsked (frames_heard (hears y out)) back = subst (λ s. AreAsked s x.sends.base y.takes.received (frames_heard (hears y out)) back) is m.its.heard.asked in
@@ -79,7 +79,7 @@ settled_asks base received out back polls finals = record {
 abbrev pub recovering : Party → Party
 recovering x = record x { state = TimerRecovery }
 
--- to state 8, with nothing said
+-- to state 8, without a frame
 pub to_recovery : (x y : Party) (out back : List Kind) → IsSettled x y out back → Mid x y out back → Mid (recovering x) y out back
 to_recovery x y out back settled m =
     let was = Some (hearing_now x back) in
@@ -119,7 +119,7 @@ to_recovery x y out back settled m =
       };
     }
 
--- the poll goes out
+-- the poll is sent
 asked_once : (base : ℕ) (received : List Receipt) (u : Kind) (there : Option Hearing) (back : List Kind) → message_of u ≡ [] → poll_of u ≡ 1 → tally poll_of (frames_heard there) ≡ 0 → tally final_of back ≡ 0
     → OneAsked base received (frames_heard (option_map (one_more u) there)) back
 asked_once base received u None back no_message poll polls finals = settled_asks base received [] back refl finals
@@ -145,7 +145,7 @@ enquiring x y out back settled w =
     (on_map Heard _ (hears y out) (λ h i. rejected_said y.state y.sends.vs y.sends.base x.takes.received (Some (hearing_now z back)) u h.frames refl i.rejected) m.mine.heard)
     (asked_once x.sends.base y.takes.received u (hears y out) back refl refl settled.polls settled.finals) m
 
--- ---- The answer comes: to state 7, where nothing is asked any more.
+-- ---- The answer arrives: to state 7, with no poll outstanding.
 
 abbrev pub established : Party → Party
 established x = record x { state = MultipleFrameEstablished }

@@ -1,4 +1,5 @@
--- What holds after every run of moves from a new world, and after every eager one, on whole numbers and on tags.
+-- Facts that hold after every run of moves from a new world, and after every eager run, on whole
+-- numbers and on tags.
 use Rattle.std.proofs.Common.{◌≡◌, ◌≤◌, List, [], ◌∷◌, map, Result, Ok, Err, sym, ap, subst, ◌∙◌, arith}
 use Rattle.lapd_mod128.specs.Counting.{Reading, Whole, Tagged}
 use Rattle.lapd_link_definition.specs.declared.state.State.TheVariants.{AwaitingEstablishment}
@@ -132,7 +133,7 @@ every_run_is_fresh r user network u n moves = fresh_in (λ r. run r moves (new_w
 pub every_run_asks_one : (r : Reading) (user network : Parameters) → user.k ≤ 127 → network.k ≤ 127 → (moves : List Move) → AskOneAtATime (run r moves (new_world user network))
 every_run_asks_one r user network u n moves = one_in (λ r. run r moves (new_world user network)) (reached_tags user network u n moves) (reached user network u n moves) r
 
--- ---- Eagerly.
+-- ---- Eager runs.
 
 pub every_eager_run_safe : (r : Reading) (user network : Parameters) → user.k ≤ 127 → network.k ≤ 127 → (moves : List Move) → AreSafe (run_eagerly r moves (new_world user network))
 every_eager_run_safe r user network u n moves = safe_in (λ r. run_eagerly r moves (new_world user network)) (eager_tags user network u n moves) (eagerly_reached user network u n moves) r

@@ -1,4 +1,4 @@
--- Messages received, when one more comes.
+-- Messages received, when one more arrives.
 use Rattle.std.proofs.Common.{◌≡◌, ◌⊎◌, inl, inr, ℕ, ◌+◌, ◌<◌, ◌≤◌, List, [], ◌∷◌, ◌++◌, length, slice_get, Some, refl, arith}
 use Rattle.std.proofs.lemmas.Option.{slice_get_within}
 use Rattle.lapd_pair_laws.specs.Histories.{Receipt}
@@ -22,7 +22,7 @@ pub place_comes : (rs : List Receipt) (r : Receipt) → HasPlace r.place (rs ++ 
 place_comes [] r = inl refl
 place_comes (s ∷ rs) r = inr (place_comes rs r)
 
--- a place received was received before, or is that of the new one
+-- a place received was received before, or is that of the new message
 pub place_either : (place : ℕ) (rs : List Receipt) (r : Receipt) → HasPlace place (rs ++ r ∷ []) → HasPlace place rs ⊎ (r.place ≡ place)
 place_either place [] r (inl here) = inr here
 place_either place [] r (inr never) = absurd never
@@ -33,7 +33,7 @@ high_rises : (low era : ℕ) (rs : List Receipt) → IsRow low era rs → low �
 high_rises low era [] row = omega arith
 high_rises low era (s ∷ rs) row = let up : s.place + 1 ≤ high_from (s.place + 1) rs = high_rises (s.place + 1) s.establishment rs row.2 in let here : low ≤ s.place = row.0 in omega (arith, up, here)
 
--- all places are below the high one
+-- all places are below `high`
 pub place_below : (low era place : ℕ) (rs : List Receipt) → IsRow low era rs → HasPlace place rs → place < high_from low rs
 place_below low era place [] row h = absurd h
 place_below low era place (s ∷ rs) row (inl here) = let up : s.place + 1 ≤ high_from (s.place + 1) rs = high_rises (s.place + 1) s.establishment rs row.2 in omega (arith, here, up)
@@ -48,12 +48,12 @@ pub given_more : (given : List (List ℕ)) (rs : List Receipt) (r : Receipt) →
 given_more given [] r are is = (is, tt)
 given_more given (s ∷ rs) r are is = (are.0, given_more given rs r are.1 is)
 
--- where more is given
+-- if another message is submitted
 pub given_grows : (given : List (List ℕ)) (message : List ℕ) (rs : List Receipt) → AreGiven given rs → AreGiven (given ++ message ∷ []) rs
 given_grows given message [] are = tt
 given_grows given message (s ∷ rs) are = (get_more given (message ∷ []) s.place s.octets are.0, given_grows given message rs are.1)
 
--- all places received are given ones
+-- all places received are places of submitted messages
 pub high_given : (low : ℕ) (given : List (List ℕ)) (rs : List Receipt) → low ≤ length given → AreGiven given rs → high_from low rs ≤ length given
 high_given low given [] within are = within
 high_given low given (s ∷ rs) within are = let here : s.place < length given = slice_get_within given s.place s.octets are.0 in high_given (s.place + 1) given rs (omega (arith, here)) are.1

@@ -1,4 +1,5 @@
--- The N(S) of an I frame in hand: the message is taken, rejected or discarded, and its poll answered.
+-- The N(S) of an I frame in hand: the message is accepted, rejected or discarded, and a poll is
+-- answered.
 use Rattle.std.proofs.Common.{◌≡◌, ◌⊎◌, inl, inr, ℕ, ◌+◌, ◌&&◌, not, Bool, true, false, List, [], ◌∷◌, ◌++◌, Option, Some, None, refl, sym, ap, subst, ◌∙◌}
 use Rattle.lapd_frame.specs.declared.Role.TheVariants.{Answer}
 use Rattle.lapd_frame.specs.declared.Control.{Control}
@@ -23,7 +24,7 @@ use Rattle.lapd_pair_laws.proofs.Takes.{taking, keeps_taking, discarding}
 abbrev pub in_hand : Context → ℕ → Bool → Message
 in_hand c ns p = record { number = ns; polled = p; place = c.place; octets = c.octets }
 
--- what is left after it, by the case
+-- the step state after it, by the case
 abbrev pub left : StepState → StateVariables → Bool → Option Control → StepState
 left s w accepted answer = record { end = record (s.end) { window = w }; outs = s.outs ++ out_where accepted Up ++ response_of answer }
 
@@ -36,7 +37,7 @@ pub told_both : (c : Context) (s : StepState) (w : StateVariables) (accepted : B
 unfolding story_after
 told_both c s w accepted answer = told_append _ (s.outs ++ out_where accepted Up) (response_of answer) _ ∙ ap (λ t. told (occasion c s) (response_of answer) t) (told_append _ s.outs (out_where accepted Up) _)
 
--- ---- It is the next one.
+-- ---- It is the awaited message.
 
 abbrev with_up : Context → StepState → Story
 with_up c s = record (story c s) { history = with_receipt (record { octets = c.octets; establishment = s.end.establishments; place = c.place }) (story c s).history }

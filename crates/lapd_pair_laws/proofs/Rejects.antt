@@ -1,4 +1,5 @@
--- An open side rejects the message in hand: it is not the one awaited, and this side is not yet rejecting.
+-- An open side rejects the message in hand: it is not the awaited one, and this side is not yet
+-- rejecting.
 use Rattle.std.proofs.Common.{◌≡◌, inr, ℕ, zero, suc, ◌+◌, ◌<◌, ◌≤◌, Bool, true, false, List, [], ◌∷◌, ◌++◌, Option, Some, refl, sym, subst, arith}
 use Rattle.lapd_link_definition.specs.declared.state.State.{State}
 use Rattle.lapd_link_definition.specs.declared.state.State.TheVariants.{TeiAssigned, AwaitingEstablishment, AwaitingRelease, MultipleFrameEstablished, TimerRecovery}
@@ -64,9 +65,9 @@ begin_rejecting x y out back m =
       };
     }
 
--- ---- The REJ goes out, with F=0.
+-- ---- The REJ is sent, with F=0.
 
--- the message in hand is one of a run, with a number above the one awaited
+-- the message in hand belongs to a run, and its number is above the awaited one
 first_above : (rejecting polled : Bool) (low end : ℕ) (m : Message) (ms : List Message) → rejecting ≡ false → m.polled ≡ polled → polled ≡ false → (m.number ≡ low → ⊥) → IsInOrder rejecting low end (m ∷ ms)
     → (low < m.number) × (m.number < end) × IsRun (m.number + 1) end ms
 first_above true polled low end m ms fresh is no_poll other order = cc
@@ -78,7 +79,7 @@ first_above false false low end m ms fresh is no_poll other order =
     strictly : (a b : ℕ) → a ≤ b → (b ≡ a → ⊥) → a < b
     strictly a b le other = grind (arith, le, other)
 
--- where a message is in hand, no final is heard
+-- if a message is in hand, no final is in transit
 rejected_asked : (state : State) (base vr nr : ℕ) (received : List Receipt) (m : Message) (n : ℕ) (ks back : List Kind)
     → AreAsked state base received (Numbered m n ∷ ks) back → AreAsked state base received (Status n ∷ ks) back → AreAsked state base received (Status n ∷ ks) (back ++ Rejection vr ∷ [])
 rejected_asked TeiAssigned base vr nr received m n ks back w t = tt
@@ -95,7 +96,7 @@ rejected_asked TimerRecovery base vr nr received m n ks back w t =
     no_final zero same = same
     no_final (suc f) same = let gone = w.alone (omega (arith, same)) in cc
 
--- this side was not rejecting, so no REJ of its own was heard; now this one is
+-- this side was not rejecting, so none of its REJ was in transit; now this one is
 first_rejection : (state : State) (vs base vr : ℕ) (received : List Receipt) (was now : Option Hearing) (ks : List Kind) → is_7_or_8 state ≡ true
     → ((nr : ℕ) → IsSentBack vs base received was nr → ⊥) → (state ≡ MultipleFrameEstablished → IsSentBack vs base received now vr)
     → AreRejected state vs base received was (rejections ks) → AreRejected state vs base received now (rejections (ks ++ Rejection vr ∷ []))

@@ -1,4 +1,4 @@
--- A side starts anew, in any state of both: it is closed, and nothing is on the line in either direction.
+-- A side restarts, in any state of both: it is closed, and the line is empty in both directions.
 use Rattle.std.proofs.Common.{◌≡◌, inl, inr, ℕ, ◌+◌, ◌-◌, ◌≤◌, Bool, true, false, List, [], length, Option, None, refl, arith}
 use Rattle.lapd_supervision.specs.StateVariables.{initial_variables}
 use Rattle.lapd_link_definition.specs.declared.state.State.{State}
@@ -12,7 +12,7 @@ use Rattle.lapd_pair_laws.specs.Invariant.{Both}
 use Rattle.lapd_pair_laws.proofs.Closings.{passes_all}
 use Rattle.lapd_pair_laws.proofs.Worlds.{Keeps}
 
--- ---- Nothing on the line.
+-- ---- The line is empty.
 
 nothing_in_order : (rejecting : Bool) (low end : ℕ) → IsInOrder rejecting low end []
 nothing_in_order true low end = tt
@@ -35,7 +35,7 @@ nothing_rejected TimerRecovery vs base received waiting = tt
 nothing_exchanged : (most : ℕ) → IsExchange most [] []
 nothing_exchanged most = record { one = omega arith; behind = tt; before = λ answer. refl; clean = refl }
 
--- ---- What the other side hears, where it is open: nothing.
+-- ---- If the other side is open, it processes no frame.
 
 module _ (x y : Party) (is : x.state ≡ TeiAssigned) where
   silence : y.sends.va ≤ y.sends.vs → IsHeard x y None (hearing_now y [])
@@ -54,7 +54,7 @@ silent_in P AwaitingRelease asked leaving s now kept p = tt
 silent_in P MultipleFrameEstablished asked leaving s now kept p = p kept.ordered
 silent_in P TimerRecovery asked leaving s now kept p = p kept.ordered
 
--- ---- The side that starts anew.
+-- ---- The side that restarts.
 
 abbrev pub restarting_sender : Sender → Sender
 restarting_sender s = record s { vs = 0; va = 0; first = length s.given; next = length s.given; passed = s.passed + (length s.given - s.passed) }
@@ -88,7 +88,6 @@ restarts_both x y out back b = let z = restarting x in record {
   };
 }
 
--- the deed
 pub keeps_restart : Keeps Restart
 unfolding acts restarts initial_variables
 keeps_restart v peer small h =

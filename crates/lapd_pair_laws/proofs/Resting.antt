@@ -1,4 +1,5 @@
--- After each step nothing more may go out; and so after each move of either side, and after each run, with the timers.
+-- After each step every message that may be sent has been sent; so too after each move of either
+-- side, and after each run, with the timers.
 use Rattle.std.proofs.Common.{◌≡◌, ℕ, zero, suc, ◌≤◌, ◌&&◌, nat_lt, Option, Some, None, Result, Ok, Err, Bool, true, false, List, [], ◌∷◌, length, subst, refl, arith}
 use Rattle.std.proofs.lemmas.Bool.Decides.{nat_tests}
 use Rattle.lapd_timers.specs.declared.timer.Timer.TheVariants.{T200, T203}
@@ -63,7 +64,7 @@ pub closed_step : (what : Input) (e : End) (s : StepState) → step Whole what e
 unfolding step begin
 closed_step what e s done = let F : StepState → Type 0 = λ d. IsClosed d.end in subst F (taken (refused what e) _ s done).1 (closed_close (row Whole e.state what (begin e)))
 
--- ---- What a side does.
+-- ---- The moves of a side.
 
 abbrev Left : View → Result Turn Refusal → Type 0
 Left v r = IsRested (left_by v r).station.end

@@ -1,4 +1,4 @@
--- The order of messages that are heard, and of the N(R).
+-- The order of the messages, and of the N(R), that a side will process.
 use Rattle.std.proofs.Common.{◌≡◌, ◌⊎◌, inl, inr, ℕ, ◌+◌, ◌<◌, ◌≤◌, Bool, true, false, List, [], ◌∷◌, ◌++◌, refl, sym, subst, arith}
 use Rattle.lapd_pair_laws.specs.Kinds.{Message}
 use Rattle.lapd_pair_laws.specs.Conjuncts.{Each, IsNext, IsRun, IsJunkThenRun, IsInOrder, IsNearTo, IsClimb}
@@ -14,7 +14,7 @@ pub run_lower : (low lower end : ℕ) (ms : List Message) → lower ≤ low → 
 run_lower low lower end [] le run = tt
 run_lower low lower end (m ∷ ms) le run = next_lower m.polled low lower end m.number ms (IsRun (m.number + 1) end ms) le run
 
--- behind the first of a run is a run
+-- the rest of a run is a run
 next_rest : (polled : Bool) (low end number : ℕ) (rest : List Message) → IsNext polled low end number rest (IsRun (number + 1) end rest) → IsRun (number + 1) end rest
 next_rest true low end number rest next = subst (λ l. IsRun (number + 1) end l) (sym next.1) tt
 next_rest false low end number rest next = next.2
@@ -22,7 +22,7 @@ next_rest false low end number rest next = next.2
 pub run_rest : (low end : ℕ) (m : Message) (ms : List Message) → IsRun low end (m ∷ ms) → IsRun (m.number + 1) end ms
 run_rest low end m ms run = next_rest m.polled low end m.number ms run
 
--- a message that polls, or has a number below `end`, is below it
+-- the first number of a run is below `end`, whether its message polls or not
 next_below : (polled : Bool) (low end number : ℕ) (rest : List Message) (Run : Type 0) → IsNext polled low end number rest Run → number < end
 next_below true low end number rest Run next = omega (arith, next.0)
 next_below false low end number rest Run next = next.1
@@ -30,17 +30,17 @@ next_below false low end number rest Run next = next.1
 pub run_below : (low end : ℕ) (m : Message) (ms : List Message) → IsRun low end (m ∷ ms) → m.number < end
 run_below low end m ms run = next_below m.polled low end m.number ms (IsRun (m.number + 1) end ms) run
 
--- the first of a run is not below where it begins, unless it polls
+-- the first of a run is not below its start, unless it polls
 next_from : (polled : Bool) (low end number : ℕ) (rest : List Message) (Run : Type 0) → IsNext polled low end number rest Run → low ≤ number ⊎ (number + 1 ≡ end)
 next_from true low end number rest Run next = inr next.0
 next_from false low end number rest Run next = inl next.0
 
--- ---- One more message, where none polls.
+-- ---- One more message, if none polls.
 
 abbrev pub NonePolls : List Message → Type 0
 NonePolls ms = Each (λ m. m.polled ≡ false) ms
 
--- a run goes on up to a later end
+-- a run continues up to a later end
 next_more : (polled : Bool) (low end number : ℕ) (rest more : List Message) (Run More : Type 0) → polled ≡ false → (Run → More) → IsNext polled low end number rest Run → IsNext polled low (end + 1) number more More
 next_more true low end number rest more Run More no_poll f next = cc
 next_more false low end number rest more Run More no_poll f next = (next.0, omega (arith, next.1), f next.2)
@@ -61,7 +61,7 @@ pub order_more : (rejecting : Bool) (low end : ℕ) (ms : List Message) (m : Mes
 order_more true low end ms m le is no_poll none order = junk_more low end ms m le is no_poll none order
 order_more false low end ms m le is no_poll none order = run_more low end ms m le is no_poll none order
 
--- ---- The last message again, with a poll.
+-- ---- The last message is retransmitted, with a poll.
 
 next_again : (polled : Bool) (low end number : ℕ) (rest more : List Message) (Run More : Type 0) → polled ≡ false → (Run → More) → IsNext polled low end number rest Run → IsNext polled low end number more More
 next_again true low end number rest more Run More no_poll f next = cc
@@ -82,7 +82,7 @@ pub order_again : (rejecting : Bool) (low end : ℕ) (ms : List Message) (m : Me
 order_again true low end ms m is polls none order = junk_again low end ms m is polls none order
 order_again false low end ms m is polls none order = run_again low end ms m is polls none order
 
--- a run is in order for each hearer
+-- a run is in order for any hearer
 pub run_is_junk : (low end : ℕ) (ms : List Message) → IsRun low end ms → IsJunkThenRun low end ms
 run_is_junk low end [] run = tt
 run_is_junk low end (m ∷ ms) run = inl run
@@ -91,18 +91,18 @@ pub run_is_order : (rejecting : Bool) (low end : ℕ) (ms : List Message) → Is
 run_is_order true low end ms run = run_is_junk low end ms run
 run_is_order false low end ms run = run
 
--- ---- The first message is gone.
+-- ---- The first message is removed.
 
 first_gone : (polled : Bool) (low end number : ℕ) (rest : List Message) → IsNext polled low end number rest (IsRun (number + 1) end rest) → IsRun low end rest
 first_gone true low end number rest next = subst (λ l. IsRun low end l) (sym next.1) tt
 first_gone false low end number rest next = run_lower (number + 1) low end rest (omega (arith, next.0)) next.2
 
--- a hearer that begins to reject
+-- messages in order for a hearer stay in order when it begins to reject
 pub order_is_junk : (rejecting : Bool) (low end : ℕ) (ms : List Message) → IsInOrder rejecting low end ms → IsJunkThenRun low end ms
 order_is_junk true low end ms order = order
 order_is_junk false low end ms order = run_is_junk low end ms order
 
--- ---- The first message has the number that is awaited: it is the first of a run.
+-- ---- The first message has the awaited number: it is the first of a run.
 
 pub awaited_begins_run : (rejecting : Bool) (low end : ℕ) (m : Message) (ms : List Message) → m.number ≡ low → IsInOrder rejecting low end (m ∷ ms) → IsRun low end (m ∷ ms)
 awaited_begins_run false low end m ms is run = run
@@ -122,7 +122,7 @@ near_after low end k (m ∷ ms) less run near =
     let here : IsNearTo (low + 1) k m = elim from [ inl later ↦ (omega (arith, later), omega (arith, up)) | inr last ↦ (omega (arith, last, less), omega (arith, up)) ] in
     (here, near_after low end k ms less (run_lower (m.number + 1) (low + 1) end ms (next_floor m.polled (low + 1) end m.number ms (omega (arith, less)) run) (run_rest (low + 1) end m ms run)) near.1)
 
--- ---- Going back: what was on its way is junk, above the number that is sent next.
+-- ---- V(S) is set back: the messages in transit become stale, above the number to be sent next.
 
 pub all_is_junk : (low end : ℕ) (ms : List Message) → NonePolls ms → Each (λ m. m.polled ≡ false → low < m.number) ms → IsJunkThenRun low end ms
 all_is_junk low end [] none above = tt
@@ -132,7 +132,7 @@ next_above : (polled : Bool) (low at end number : ℕ) (rest : List Message) (Ru
 next_above true low at end number rest Run less next no_poll = cc
 next_above false low at end number rest Run less next no_poll = omega (arith, less, next.0)
 
--- where the first is not the awaited one, all of a run are above it, but for one that polls
+-- if the first is not the awaited one, all of a run are above it, unless they poll
 pub run_above : (low at end : ℕ) (ms : List Message) → at < low → IsRun low end ms → Each (λ m. m.polled ≡ false → at < m.number) ms
 run_above low at end [] less run = tt
 run_above low at end (m ∷ ms) less run = (next_above m.polled low at end m.number ms (IsRun (m.number + 1) end ms) less run, run_above low at end ms less (first_gone m.polled low end m.number ms run))

@@ -1,13 +1,13 @@
--- Histories that are safe, and histories that are not.
+-- Safe and unsafe histories.
 use Rattle.std.proofs.Common.{◌≡◌, inl, inr, ℕ, zero, suc, ◌+◌, ◌<◌, ◌==◌, if◌then◌else◌, List, [], ◌∷◌, map, slice_get, Option, Some, None, refl, sym, subst, arith}
 use Rattle.lapd_link_definition.specs.Parameters.{Parameters}
 use Rattle.lapd_pair_laws.specs.Safe.{RiseFrom, IsAmong, AreNeighbours, IsSafe, AreSafe}
 use Rattle.lapd_pair_laws.specs.Schedule.{receipt, one_message, two_messages, three_messages, in_first, in_first_but}
 use Rattle.lapd_pair_laws.specs.World.{new_world}
 
--- ---- Safe.
+-- ---- Safe histories.
 
--- where nothing was received and nothing acknowledged
+-- no message received, and none acknowledged
 nothing_is_safe : (given : List (List ℕ)) (sent_in : ℕ → Option ℕ) → IsSafe given sent_in [] []
 nothing_is_safe given sent_in = record {
   places = [];
@@ -59,7 +59,7 @@ network_is_safe = record {
   acknowledged = λ place among. among;
 }
 
--- ---- Not safe.
+-- ---- Unsafe histories.
 
 -- one message, received twice
 twice_at : (places : List ℕ) → RiseFrom 0 places → map (λ place. slice_get one_message place) places ≡ Some (1 ∷ []) ∷ Some (1 ∷ []) ∷ [] → ⊥
@@ -72,7 +72,7 @@ twice_at (suc place ∷ places) rising same = cc
 pub twice_is_not_safe : IsSafe one_message in_first [] (receipt 0 1 (1 ∷ []) ∷ receipt 0 2 (1 ∷ []) ∷ []) → ⊥
 twice_is_not_safe safe = twice_at safe.places safe.rising safe.same
 
--- two messages, received in the other order
+-- two messages, received in the wrong order
 swapped_at : (places : List ℕ) → RiseFrom 0 places → map (λ place. slice_get two_messages place) places ≡ Some (2 ∷ []) ∷ Some (1 ∷ []) ∷ [] → ⊥
 swapped_at [] rising same = cc
 swapped_at (zero ∷ places) rising same = grind (arith, same)
@@ -100,7 +100,7 @@ skipped_at (suc (suc (suc place)) ∷ places) neighbours same = cc
 pub skipped_is_not_safe : IsSafe three_messages (in_first_but 1) [] (receipt 0 1 (1 ∷ []) ∷ receipt 2 1 (3 ∷ []) ∷ []) → ⊥
 skipped_is_not_safe safe = skipped_at safe.places safe.neighbours safe.same
 
--- one missing of those that were sent in the sender's establishment
+-- one missing from the sender's establishment
 missing_at : (places : List ℕ) → ((place smaller : ℕ) → IsAmong place places → smaller < place → in_first smaller ≡ in_first place → IsAmong smaller places)
     → map (λ place. slice_get two_messages place) places ≡ Some (2 ∷ []) ∷ [] → ⊥
 missing_at [] prefix same = cc
@@ -120,7 +120,7 @@ unreceived_at (place ∷ places) among same = cc
 pub unreceived_is_not_safe : IsSafe one_message in_first (0 ∷ []) [] → ⊥
 unreceived_is_not_safe safe = unreceived_at safe.places (safe.acknowledged 0 (inl refl)) safe.same
 
--- other octets than those given
+-- other octets than those submitted
 altered_at : (places : List ℕ) → map (λ place. slice_get one_message place) places ≡ Some (2 ∷ []) ∷ [] → ⊥
 altered_at [] same = cc
 altered_at (zero ∷ places) same = grind (arith, same)

@@ -24,7 +24,7 @@ use Rattle.lapd_pair_laws.specs.Schedule.{figures, of_user, of_network, establis
 use Rattle.lapd_pair_laws.specs.World.{happens, run, left}
 use Rattle.lapd_pair_laws.proofs.Safety.{user_is_safe, network_is_safe}
 
--- the enquiry is on its way
+-- the enquiry is in transit
 pub recovering_user : (r : Reading) → figures (run r (establishing ++ losing) worked.start).user ≡ worked.user_in_recovery
 unfolding story_after view_after hears takes delivers loses expires_200 expires_203 restarts acts happens begin put state_to rc_to increment_rc layer3_initiated_to release_pending_to start stop expired clear_exception_conditions zero_state_variables set_peer_busy set_own_busy enquiry_response transmit_enquiry queue_up discard_i_queue acknowledge invoke_retransmission i_frame_ns discard_unacknowledged transmit_i_frame ensure_t200 transmit_rr establish_data_link reestablish_data_link end_establishment tei_assigned confirm_or_indicate ua_final awaiting_establishment_t200 awaiting_establishment confirm_release awaiting_release_t200 awaiting_release acknowledge_with_timers nr_error_recovery i_frame_nr i_frame_nr_in_recovery poll_or_final poll rr_nr rej_nr rnr_nr rr_nr_in_recovery rnr_nr_in_recovery timer_recovery_t200 busy_on busy_off in_7_and_8 established_t200 multiple_frame_established timer_recovery by_state report_fault row send_all acknowledge_pending end_step step initial_variables without_exceptions with_zero_counters status_frame acknowledgement without_ack_pending poll_response is_accepted is_rejected after_i_frame i_frame_response is_valid_nr with_va acknowledged_count acknowledges_all with_vs may_send next_i_frame after_sending with_own_busy with_peer_busy after steps lies_within
 recovering_user Whole = refl
@@ -42,7 +42,7 @@ unfolding story_after view_after hears takes delivers loses expires_200 expires_
 ending_network Whole = refl
 ending_network Tagged = refl
 
--- nothing is on the line
+-- the line is empty
 pub ending_lines : (r : Reading) → (run r schedule worked.start).to_user ++ (run r schedule worked.start).to_network ≡ []
 unfolding story_after view_after hears takes delivers loses expires_200 expires_203 restarts acts happens begin put state_to rc_to increment_rc layer3_initiated_to release_pending_to start stop expired clear_exception_conditions zero_state_variables set_peer_busy set_own_busy enquiry_response transmit_enquiry queue_up discard_i_queue acknowledge invoke_retransmission i_frame_ns discard_unacknowledged transmit_i_frame ensure_t200 transmit_rr establish_data_link reestablish_data_link end_establishment tei_assigned confirm_or_indicate ua_final awaiting_establishment_t200 awaiting_establishment confirm_release awaiting_release_t200 awaiting_release acknowledge_with_timers nr_error_recovery i_frame_nr i_frame_nr_in_recovery poll_or_final poll rr_nr rej_nr rnr_nr rr_nr_in_recovery rnr_nr_in_recovery timer_recovery_t200 busy_on busy_off in_7_and_8 established_t200 multiple_frame_established timer_recovery by_state report_fault row send_all acknowledge_pending end_step step initial_variables without_exceptions with_zero_counters status_frame acknowledgement without_ack_pending poll_response is_accepted is_rejected after_i_frame i_frame_response is_valid_nr with_va acknowledged_count acknowledges_all with_vs may_send next_i_frame after_sending with_own_busy with_peer_busy after steps lies_within
 ending_lines Whole = refl
@@ -120,13 +120,13 @@ unfolding story_after view_after hears takes delivers loses expires_200 expires_
 waiting_left Whole = refl
 waiting_left Tagged = refl
 
--- a message given
+-- a submitted message
 pub message_goes_out : (r : Reading) → (run r (establishing ++ of_user (Give (8 ∷ 1 ∷ [])) ∷ []) worked.start).to_network ≡ record { role = Command; control = I 0 0 false; info = 8 ∷ 1 ∷ []; place = 0 } ∷ []
 unfolding story_after view_after hears takes delivers loses expires_200 expires_203 restarts acts happens begin put state_to rc_to increment_rc layer3_initiated_to release_pending_to start stop expired clear_exception_conditions zero_state_variables set_peer_busy set_own_busy enquiry_response transmit_enquiry queue_up discard_i_queue acknowledge invoke_retransmission i_frame_ns discard_unacknowledged transmit_i_frame ensure_t200 transmit_rr establish_data_link reestablish_data_link end_establishment tei_assigned confirm_or_indicate ua_final awaiting_establishment_t200 awaiting_establishment confirm_release awaiting_release_t200 awaiting_release acknowledge_with_timers nr_error_recovery i_frame_nr i_frame_nr_in_recovery poll_or_final poll rr_nr rej_nr rnr_nr rr_nr_in_recovery rnr_nr_in_recovery timer_recovery_t200 busy_on busy_off in_7_and_8 established_t200 multiple_frame_established timer_recovery by_state report_fault row send_all acknowledge_pending end_step step initial_variables without_exceptions with_zero_counters status_frame acknowledgement without_ack_pending poll_response is_accepted is_rejected after_i_frame i_frame_response is_valid_nr with_va acknowledged_count acknowledges_all with_vs may_send next_i_frame after_sending with_own_busy with_peer_busy after steps lies_within
 message_goes_out Whole = refl
 message_goes_out Tagged = refl
 
--- of two messages on the line the first is lost
+-- the first of two messages in transit is lost
 pub first_is_lost : (r : Reading) → (run r (establishing ++ of_user (Give (8 ∷ 1 ∷ [])) ∷ of_user (Give (8 ∷ 2 ∷ [])) ∷ of_network (Lose 0) ∷ []) worked.start).to_network ≡ record { role = Command; control = I 1 0 false; info = 8 ∷ 2 ∷ []; place = 1 } ∷ []
 unfolding story_after view_after hears takes delivers loses expires_200 expires_203 restarts acts happens begin put state_to rc_to increment_rc layer3_initiated_to release_pending_to start stop expired clear_exception_conditions zero_state_variables set_peer_busy set_own_busy enquiry_response transmit_enquiry queue_up discard_i_queue acknowledge invoke_retransmission i_frame_ns discard_unacknowledged transmit_i_frame ensure_t200 transmit_rr establish_data_link reestablish_data_link end_establishment tei_assigned confirm_or_indicate ua_final awaiting_establishment_t200 awaiting_establishment confirm_release awaiting_release_t200 awaiting_release acknowledge_with_timers nr_error_recovery i_frame_nr i_frame_nr_in_recovery poll_or_final poll rr_nr rej_nr rnr_nr rr_nr_in_recovery rnr_nr_in_recovery timer_recovery_t200 busy_on busy_off in_7_and_8 established_t200 multiple_frame_established timer_recovery by_state report_fault row send_all acknowledge_pending end_step step initial_variables without_exceptions with_zero_counters status_frame acknowledgement without_ack_pending poll_response is_accepted is_rejected after_i_frame i_frame_response is_valid_nr with_va acknowledged_count acknowledges_all with_vs may_send next_i_frame after_sending with_own_busy with_peer_busy after steps lies_within
 first_is_lost Whole = refl
@@ -150,7 +150,7 @@ unfolding story_after view_after hears takes delivers loses expires_200 expires_
 rnr_goes_out Whole = refl
 rnr_goes_out Tagged = refl
 
--- and no longer
+-- and no longer busy
 pub rr_goes_out : (r : Reading) → (run r (establishing ++ of_user (Busy true) ∷ of_user (Busy false) ∷ []) worked.start).to_network ≡ without_info Answer (Rnr 0 false) ∷ without_info Answer (Rr 0 false) ∷ []
 unfolding story_after view_after hears takes delivers loses expires_200 expires_203 restarts acts happens begin put state_to rc_to increment_rc layer3_initiated_to release_pending_to start stop expired clear_exception_conditions zero_state_variables set_peer_busy set_own_busy enquiry_response transmit_enquiry queue_up discard_i_queue acknowledge invoke_retransmission i_frame_ns discard_unacknowledged transmit_i_frame ensure_t200 transmit_rr establish_data_link reestablish_data_link end_establishment tei_assigned confirm_or_indicate ua_final awaiting_establishment_t200 awaiting_establishment confirm_release awaiting_release_t200 awaiting_release acknowledge_with_timers nr_error_recovery i_frame_nr i_frame_nr_in_recovery poll_or_final poll rr_nr rej_nr rnr_nr rr_nr_in_recovery rnr_nr_in_recovery timer_recovery_t200 busy_on busy_off in_7_and_8 established_t200 multiple_frame_established timer_recovery by_state report_fault row send_all acknowledge_pending end_step step initial_variables without_exceptions with_zero_counters status_frame acknowledgement without_ack_pending poll_response is_accepted is_rejected after_i_frame i_frame_response is_valid_nr with_va acknowledged_count acknowledges_all with_vs may_send next_i_frame after_sending with_own_busy with_peer_busy after steps lies_within
 rr_goes_out Whole = refl
@@ -162,7 +162,7 @@ unfolding story_after view_after hears takes delivers loses expires_200 expires_
 ui_goes_out Whole = refl
 ui_goes_out Tagged = refl
 
--- P3, by the enquiry behind a message
+-- P3, by the enquiry that follows a message
 pub enquiry_behind_message : (r : Reading) → happens r (of_user Expire200) (run r (establishing ++ of_user (Give (8 ∷ 1 ∷ [])) ∷ of_user Expire200 ∷ []) worked.start) ≡ Err (NotYet side.Network 1)
 unfolding story_after view_after hears takes delivers loses expires_200 expires_203 restarts acts happens begin put state_to rc_to increment_rc layer3_initiated_to release_pending_to start stop expired clear_exception_conditions zero_state_variables set_peer_busy set_own_busy enquiry_response transmit_enquiry queue_up discard_i_queue acknowledge invoke_retransmission i_frame_ns discard_unacknowledged transmit_i_frame ensure_t200 transmit_rr establish_data_link reestablish_data_link end_establishment tei_assigned confirm_or_indicate ua_final awaiting_establishment_t200 awaiting_establishment confirm_release awaiting_release_t200 awaiting_release acknowledge_with_timers nr_error_recovery i_frame_nr i_frame_nr_in_recovery poll_or_final poll rr_nr rej_nr rnr_nr rr_nr_in_recovery rnr_nr_in_recovery timer_recovery_t200 busy_on busy_off in_7_and_8 established_t200 multiple_frame_established timer_recovery by_state report_fault row send_all acknowledge_pending end_step step initial_variables without_exceptions with_zero_counters status_frame acknowledgement without_ack_pending poll_response is_accepted is_rejected after_i_frame i_frame_response is_valid_nr with_va acknowledged_count acknowledges_all with_vs may_send next_i_frame after_sending with_own_busy with_peer_busy after steps lies_within
 enquiry_behind_message Whole = refl

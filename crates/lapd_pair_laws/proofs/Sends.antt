@@ -188,7 +188,7 @@ repeating x = record x { state = TimerRecovery; sends = repeating_sender x.sends
 abbrev pub last_message : Sender → Message
 last_message s = record { number = s.vs - 1; polled = true; place = s.next - 1; octets = get_or s.given (s.next - 1) [] }
 
--- it was sent in this establishment before
+-- it was already sent in this establishment
 same_sender : (s : Sender) → IsNumbering s → s.va < s.vs → repeating_sender s ≡ s
 same_sender s n some = ap (λ f. sender f) (fun_ext same)
   where
@@ -213,7 +213,7 @@ polled_once base received m vr (Some h) back polls none finals =
     let once : poll_of (Numbered m vr) ≡ 1 = ap bit polls in
     record { one = omega (arith, more, none, finals, once); behind = no_poll_before h.frames m vr none; alone = λ final. absurd (omega (arith, final, finals)); names = no_finals base (high received) back finals }
 
--- in state 8, with nothing under way
+-- in state 8, with no poll and no final in transit
 module _ (x y : Party) (out back : List Kind) (is : x.state ≡ TimerRecovery) (some : x.sends.va < x.sends.vs) (settled : IsSettled x y out back) (m : Mid x y out back) where
   stream_repeating : (h : Hearing) → tally poll_of h.frames ≡ 0 → IsHeard x y (Some (hearing_now x back)) h
       → IsStream (is_7_or_8 x.state) x.sends y.takes.received h.vr h.rejecting (messages (h.frames ++ Numbered (last_message x.sends) x.takes.vr ∷ []))

@@ -32,6 +32,6 @@ unsettled_in acked dropped passed first zero settled = omega arith
 unsettled_in acked dropped passed first (suc n) settled =
     rw (neither _ _ _ (settled first)) (counted_on (nat_lt first passed) first n passed _ refl (unsettled_in acked dropped passed (first + 1) n settled))
 
--- what is left is all that was given but what is acknowledged or dropped
+-- the messages left are those submitted, less those acknowledged or dropped
 pub left_settled : (s : Station) → AreSettled s.history → left_of s ≡ length s.end.given - s.history.passed
 left_settled s are = let left = unsettled_in s.history.acked s.history.dropped s.history.passed 0 (length s.end.given) are.settled in left ∙ omega arith

@@ -47,7 +47,7 @@ user_drains n deed w d s = record {
 network_drains : (n : ℕ) (deed : Deed) (w : World) → Drains (n - 1) (world_after (swapped w) (happens Whole (user_move deed) (swapped w))) → Drains (n - 1) (world_after w (happens Whole (network_move deed) w))
 network_drains n deed w d = rw (network_alike Whole deed w) (drains_swapped (n - 1) (world_after (swapped w) (happens Whole (user_move deed) (swapped w))) d)
 
--- what was dropped
+-- the same messages were dropped
 pub record SameDropped (w v : World) : Type 0 where
   pub user : v.user.history.dropped ≡ w.user.history.dropped
   pub network : v.network.history.dropped ≡ w.network.history.dropped
@@ -62,7 +62,7 @@ user_kept deed w same = rw (after_by_user w (acts Whole side.User deed (view_of 
 network_kept : (deed : Deed) (w : World) → SameDropped (swapped w) (world_after (swapped w) (happens Whole (user_move deed) (swapped w))) → SameDropped w (world_after w (happens Whole (network_move deed) w))
 network_kept deed w same = rw (network_alike Whole deed w) (record { user = same.network; network = same.user })
 
--- what a settling line comes to: a move is made, or none is possible, and then T200 runs nowhere and nothing is on the line
+-- one settling move, if any is possible; else no T200 runs and the line is empty
 pub record MovesOn (n : ℕ) (w : World) : Type 0 where
   pub move : Move
   pub is : next_move Whole w ≡ Some move
@@ -96,7 +96,7 @@ module _ (n : ℕ) (user network : Station) where
   expired : user.end.t200 ≡ true → Drains n (at [] []) → Drains (n - 1) (world_after (at [] []) (happens Whole (user_move Expire200) (at [] [])))
   expired on d = user_drains n Expire200 (at [] []) d (seen_expired user network n on d.sees)
 
--- where T200 runs and nothing is on the line, something is still to come
+-- if T200 runs and the line is empty, work remains
 some_at : (x : Source) (y : Sink) (a : ℕ) → x.t200 ≡ true → Stream x y [] [] a → 1 ≤ a
 some_at x y a on s = by_stage s.stage s.so s.most
   where
@@ -151,7 +151,7 @@ progress n user network [] [] d = by_timers user.end.t200 network.end.t200 refl 
 
 -- ---- All its moves.
 
--- where it ends
+-- the world in which settling ends
 pub record Ends (begun w : World) : Type 0 where
   pub n : ℕ
   pub drains : Drains n w
@@ -178,7 +178,7 @@ settles (suc fuel) n w few d = elim (progress n w.user w.network w.to_user w.to_
   | inr stands ↦ stood (suc fuel) n w d stands
 ]
 
--- each takes one of what is still to come, so there are at most as many
+-- each move reduces the remaining work, which bounds their number
 pub few_moves : (fuel n : ℕ) (w : World) → Drains n w → length (settling Whole fuel w) ≤ n
 few_moves zero n w d = omega arith
 few_moves (suc fuel) n w d = elim (progress n w.user w.network w.to_user w.to_network d) [
@@ -189,7 +189,7 @@ few_moves (suc fuel) n w d = elim (progress n w.user w.network w.to_user w.to_ne
   | inr stands ↦ rw stands.is (omega arith)
 ]
 
--- ---- Where nothing more happens, nothing is left.
+-- ---- If no move is possible, no message is left.
 
 none_unsent : (k next given : ℕ) (m : StateVariables) → 1 ≤ k → m.vs ≡ m.va → m.peer_busy ≡ false → (may_send Whole k m && nat_lt next given) ≡ false → given ≤ next
 unfolding may_send steps
@@ -198,7 +198,7 @@ none_unsent k next given m some same free sent =
     let none : nat_lt next given ≡ false = rw (free, room) at sent in
     grind (arith, nat_tests, none)
 
--- a side's unsent and unacknowledged messages: none
+-- a side has no unsent or unacknowledged message
 side_done : (x y : End) (a : ℕ) → Stream (source x) (sink y) [] [] a → x.t200 ≡ false → IsRested x → (length x.given ≤ x.next) × (x.window.vs ≡ x.window.va)
 unfolding begin
 side_done x y a s off rested = by_stage s.stage s.so
@@ -234,7 +234,7 @@ nothing_left begun w kept e =
     let network = user_empty e.n (swapped w) (drains_swapped e.n w e.drains) (record { to_user = stands.to_network; to_network = stands.to_user; user = stands.network; network = stands.user }) kept.network.settled in
     omega (arith, user, network)
 
--- ---- How much is still to come of a quiet line.
+-- ---- The remaining work of a quiet line.
 
 stream_begins : (x : Source) (y : Sink) → x.state ≡ MultipleFrameEstablished → x.va ≤ y.vr → y.vr ≤ x.vs → (x.t200 ≡ false → (x.vs ≡ x.va) × (x.busy ≡ false)) → Stream x y [] [] (3 * (x.unsent + (x.vs - x.va)) + 4)
 stream_begins x y is low high timed = by_timer x.t200 refl
@@ -261,7 +261,7 @@ stream_begins x y is low high timed = by_timer x.t200 refl
 in_7 : (e : End) → e.state ≡ MultipleFrameEstablished → IsTimedIn e.state e.t200 e.window.vs e.window.va e.window.peer_busy → e.t200 ≡ false → (e.window.vs ≡ e.window.va) × (e.window.peer_busy ≡ false)
 in_7 e is timed = let t : IsTimedIn MultipleFrameEstablished e.t200 e.window.vs e.window.va e.window.peer_busy = rw is at timed in t
 
--- what is left of a side
+-- the messages of a side that are left
 side_left : (s : Station) (base : ℕ) → IsNumbering (party base s).sends → s.history.passed ≡ s.end.first → AreSettled s.history → left_of s ≡ (length s.end.given - s.end.next) + (s.end.window.vs - s.end.window.va)
 side_left s base num passed settled =
     let first : s.end.first ≡ base + s.end.window.va = num.first in
@@ -270,7 +270,7 @@ side_left s base num passed settled =
     let within : s.end.next ≤ length s.end.given = num.within in
     left_settled s settled ∙ omega (arith, passed, first, next, ordered, within)
 
--- two sides in state 7, with nothing between them
+-- two sides in state 7, with an empty line
 module _ (user network : Station) (i : IsInvariant (record { user = user; network = network; to_user = []; to_network = [] })) (rested : AreRested (record { user = user; network = network; to_user = []; to_network = [] }))
     (user_settled : AreSettled user.history) (network_settled : AreSettled network.history)
     (user_in_7 : user.end.state ≡ MultipleFrameEstablished) (network_in_7 : network.end.state ≡ MultipleFrameEstablished)

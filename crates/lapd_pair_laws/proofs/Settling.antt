@@ -1,4 +1,4 @@
--- Places that are acknowledged or dropped are those before the first that waits.
+-- The places acknowledged or dropped are those before the first waiting message.
 use Rattle.std.proofs.Common.{◌≡◌, ℕ, ◌+◌, ◌==◌, ◌&&◌, ◌||◌, nat_le, nat_lt, Bool, true, false, length-append, arith}
 use Rattle.std.specs.List.{range_with_len}
 use Rattle.std.proofs.lemmas.Bool.Decides.{nat_tests}

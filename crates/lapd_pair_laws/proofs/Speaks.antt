@@ -1,4 +1,4 @@
--- A side sends: what becomes of its own stream.
+-- A side sends: the effect on its own stream.
 use Rattle.std.proofs.Common.{◌≡◌, ◌⊎◌, inl, inr, ℕ, ◌+◌, ◌-◌, ◌*◌, ◌<◌, ◌≤◌, Bool, true, false, List, [], ◌∷◌, ◌++◌, refl, sym, subst, ◌∙◌, arith}
 use Rattle.lapd_link_definition.specs.declared.state.State.TheVariants.{MultipleFrameEstablished, TimerRecovery}
 use Rattle.lapd_pair_laws.specs.Safe.{IsAmong}
@@ -7,7 +7,7 @@ use Rattle.lapd_pair_laws.proofs.Lists.{messages_append}
 use Rattle.lapd_pair_laws.proofs.Flow.{Source, Sink, IsWhole, IsJunkThenWhole, IsComing, IsClean, Stage, Clean, Waiting, Polling, Answered, IsAt, weight, Stream, Lighter}
 use Rattle.lapd_pair_laws.proofs.StreamReceipts.{coming_ordered}
 
--- One more message is on its way.
+-- One more message is in transit.
 whole_more : (low end : ℕ) (ms : List Message) (m : Message) → m.number ≡ end → IsWhole low end ms → IsWhole low (end + 1) (ms ++ m ∷ [])
 whole_more low end [] m is w = (is ∙ sym w, omega (arith, w))
 whole_more low end (n ∷ ms) m is w = (w.0, whole_more (low + 1) end ms m is w.1)
@@ -21,7 +21,7 @@ coming_more : (rejecting : Bool) (low end : ℕ) (ms : List Message) (m : Messag
 coming_more false low end ms m is c = whole_more low end ms m is c
 coming_more true low end ms m is c = junk_more low end ms m is c
 
--- What is said of it is the same.
+-- A stream depends on the line only through messages, polls, REJ, N(R) and finals.
 pub as_said : (x : Source) (y : Sink) (out back now left : List Kind) (a : ℕ) → messages now ≡ messages out → tally poll_of now ≡ tally poll_of out → rejections left ≡ rejections back → numbers left ≡ numbers back → tally final_of left ≡ tally final_of back
     → Stream x y out back a → Stream x y now left a
 as_said x y out back now left a same_messages polls same_rejections same_numbers finals s = by_stage s.stage s.so s.most
@@ -92,7 +92,7 @@ module _ (x : Source) (y : Sink) (out : List Kind) (nr : ℕ) (ks : List Kind) (
       by_stage Polling w most = let in_8 = w.0 in cc
       by_stage Answered w most = let in_8 = w.0 in cc
 
-  -- in an I frame, while the peer is thought busy: T200 goes on
+  -- in an I frame, while the side takes the peer to be busy: T200 keeps running
   pub acked_busy : x.busy ≡ true → Stream x y out hand a → Stream (record x { va = nr }) y out ks a
   acked_busy busy s = by_stage s.stage s.so s.most
     where
@@ -102,7 +102,7 @@ module _ (x : Source) (y : Sink) (out : List Kind) (nr : ℕ) (ks : List Kind) (
       by_stage Polling w most = record { stage = Polling; so = w; most = most }
       by_stage Answered w most = record { stage = Answered; so = (w.0, omega (arith, w.1)); most = most }
 
--- in state 8 it acknowledges, in whatever frame but a final
+-- in state 8 it acknowledges, in any frame but a final
 pub acked_in_8 : (x : Source) (y : Sink) (out : List Kind) (k : Kind) (nr : ℕ) (ks : List Kind) (a : ℕ) → x.state ≡ TimerRecovery → final_of k ≡ 0 → Stream x y out (k ∷ ks) a → Stream (record x { va = nr }) y out ks a
 acked_in_8 x y out k nr ks a in_8 no_final s = by_stage s.stage s.so s.most
   where
@@ -112,7 +112,7 @@ acked_in_8 x y out k nr ks a in_8 no_final s = by_stage s.stage s.so s.most
     by_stage Polling w most = record { stage = Polling; so = w; most = most }
     by_stage Answered w most = record { stage = Answered; so = (w.0, omega (arith, w.1, no_final)); most = most }
 
--- ---- It goes back, by a REJ or a final: then it needs no recovery any more.
+-- ---- V(S) is set back, by a REJ or a final: then it needs no recovery any more.
 
 abbrev pub back_at : ℕ → Source → Source
 back_at nr x = record { state = MultipleFrameEstablished; t200 = false; busy = false; vs = nr; va = nr; unsent = x.unsent + (x.vs - nr) }
@@ -131,7 +131,7 @@ goes_back x y out k nr ks a dirty at below coming none s = record {
     by_stage Polling w most = omega (arith, most, at, below)
     by_stage Answered w most = omega (arith, most, at, below)
 
--- the peer is not busy any more
+-- the peer is no longer busy
 pub freed : (x : Source) (y : Sink) (out back : List Kind) (a : ℕ) → Stream x y out back a → Stream (record x { busy = false }) y out back a
 freed x y out back a s = by_stage s.stage s.so s.most
   where
@@ -141,7 +141,7 @@ freed x y out back a s = by_stage s.stage s.so s.most
     by_stage Polling w most = record { stage = Polling; so = w; most = most }
     by_stage Answered w most = record { stage = Answered; so = w; most = most }
 
--- ---- A message goes out.
+-- ---- A message is sent.
 
 pub sends : (x : Source) (y : Sink) (out back : List Kind) (m : Message) (n u a : ℕ) → x.state ≡ MultipleFrameEstablished → x.unsent ≡ u + 1 → m.number ≡ x.vs → Stream x y out back a
     → Lighter 1 (record x { vs = x.vs + 1; unsent = u; t200 = true }) y (out ++ Numbered m n ∷ []) back a
@@ -172,7 +172,7 @@ sends x y out back m n u a in_7 one_more is s = by_stage s.stage s.so s.most
     by_stage Polling w most = let in_8 = w.0 in cc
     by_stage Answered w most = let in_8 = w.0 in cc
 
--- ---- T200 expires, and nothing is on the line.
+-- ---- T200 expires while the line is empty.
 
 coming_none : (rejecting : Bool) (low end : ℕ) → IsComing rejecting low end [] → low ≡ end
 coming_none false low end c = c

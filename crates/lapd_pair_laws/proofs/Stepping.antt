@@ -1,4 +1,4 @@
--- The moves by which a line settles, one after another.
+-- The settling moves, one after another.
 use Rattle.std.proofs.Common.{◌≡◌, ◌⊎◌, inl, inr, ℕ, zero, suc, ◌≤◌, true, false, List, [], ◌∷◌, ◌++◌, length, Option, Some, None, refl, sym, ap, ◌∙◌, arith}
 use Rattle.lapd_frame.specs.declared.Side.TheVariants as side
 use Rattle.lapd_mod128.specs.Counting.{Reading}
@@ -8,7 +8,7 @@ use Rattle.lapd_pair_laws.specs.Move.{Deed, Deliver, Expire200, Move, Station, h
 use Rattle.lapd_pair_laws.specs.World.{World, world_after, happens, run}
 use Rattle.lapd_pair_laws.specs.Settle.{next_move, settling}
 
--- ---- Which move is the next.
+-- ---- The next move.
 
 abbrev pub user_move : Deed → Move
 user_move deed = record { side = side.User; deed = deed }
@@ -61,7 +61,7 @@ module _ (r : Reading) where
   stops zero w none = refl
   stops (suc n) w none = rw none refl
 
-  -- what is so of the moves that are made is so of the first and those after it
+  -- the first settling move and the rest lead to the same next move as all of them
   behind : (n : ℕ) (w : World) (first : Move) (o : Option Move) → next_move r w ≡ Some first → next_move r (run r (settling r (suc n) w) w) ≡ o → next_move r (run r (settling r n (then_ first w)) (then_ first w)) ≡ o
   behind n w first o some is = ap (λ l. next_move r (run r l w)) (sym (first_is n w first some)) ∙ is
 

@@ -1,4 +1,4 @@
--- A side receives: what becomes of the other's stream.
+-- A side receives: the effect on the other side's stream.
 use Rattle.std.proofs.Common.{◌≡◌, ◌⊎◌, inl, inr, ℕ, ◌+◌, ◌<◌, ◌≤◌, Bool, true, false, List, [], ◌∷◌, ◌++◌, refl, sym, ap, subst, ◌∙◌, arith}
 use Rattle.lapd_link_definition.specs.declared.state.State.TheVariants.{TimerRecovery}
 use Rattle.lapd_pair_laws.specs.Safe.{IsAmong}
@@ -30,13 +30,13 @@ among_more n m [] a = absurd a
 among_more n m (x ∷ ns) (inl same) = inl same
 among_more n m (x ∷ ns) (inr rest) = inr (among_more n m ns rest)
 
--- the next one is taken
+-- the awaited message is accepted
 whole_taken : (rejecting : Bool) (low end : ℕ) (m : Message) (ms : List Message) → m.number ≡ low → IsComing rejecting low end (m ∷ ms) → IsWhole (low + 1) end ms
 whole_taken false low end m ms is c = c.1
 whole_taken true low end m ms is (inl w) = w.1
 whole_taken true low end m ms is (inr j) = let above = j.0 in absurd (omega (arith, above, is))
 
--- another is passed over
+-- any other is discarded
 junk_passed : (low end : ℕ) (m : Message) (ms : List Message) → (m.number ≡ low → ⊥) → IsComing true low end (m ∷ ms) → IsComing true low end ms
 junk_passed low end m ms other (inl w) = absurd (other w.0)
 junk_passed low end m ms other (inr j) = j.1
@@ -68,7 +68,8 @@ module _ (y : Source) (x : Sink) (m : Message) (nr : ℕ) (ks out : List Kind) w
   abbrev left : List Kind
   left = Status nr ∷ ks
 
-  -- It is taken, and what says so is put behind the frames on their way back: an RR or an I frame to come, or a final.
+  -- The message is accepted, and its acknowledgement is appended: a Status (an RR or an I frame
+  -- that will be sent) or a final.
   clean_taken : (u : Kind) → number_of u ≡ (x.vr + 1) ∷ [] → rejection_of u ≡ [] → m.number ≡ x.vr → IsClean y x back out → IsClean y (taking x) left (out ++ u ∷ [])
   clean_taken u says mild is c =
       let rest = whole_taken x.rejecting x.vr y.vs m (messages ks) is c.coming in
@@ -100,7 +101,7 @@ module _ (y : Source) (x : Sink) (m : Message) (nr : ℕ) (ks out : List Kind) w
       by_stage Polling w most = record { some = omega (arith, most); stream = record { stage = Polling; so = (w.0, let p = w.1 in rw no_poll at p); most = omega (arith, most) } }
       by_stage Answered w most = let more = tally_more final_of (Rejection x.vr) out in record { some = omega (arith, most); stream = record { stage = Answered; so = (w.0, omega (arith, more, w.1)); most = omega (arith, most) } }
 
-  -- it is passed over, by a side that rejects
+  -- it is discarded, by a side that rejects
   pub discarded : (b : ℕ) → (m.number ≡ x.vr → ⊥) → x.rejecting ≡ true → m.polled ≡ false → Stream y x back out b → Stream y x left out b
   discarded b other rejects no_poll s = by_stage s.stage s.so s.most
     where
@@ -132,7 +133,7 @@ answered y x z k nr n ks out b in_8 none less s = by_stage s.stage s.so s.most
     by_stage Polling w most = let more = tally_more final_of (Final n) out in record { some = omega (arith, most, less); stream = record { stage = Answered; so = (in_8, omega (arith, more, none)); most = omega (arith, most, less) } }
     by_stage Answered w most = absurd (omega (arith, w.1, none))
 
--- The frame in hand is done with, which is no message and no poll.
+-- The frame in hand, neither a message nor a poll, is processed.
 pub done : (y : Source) (x : Sink) (k : Kind) (ks out : List Kind) (b : ℕ) → message_of k ≡ [] → poll_of k ≡ 0 → Stream y x (k ∷ ks) out b → Stream y x ks out b
 done y x k ks out b no_message no_poll s = by_stage s.stage s.so s.most
   where
@@ -149,7 +150,7 @@ done y x k ks out b no_message no_poll s = by_stage s.stage s.so s.most
     by_stage Polling w most = record { stage = Polling; so = (w.0, omega (arith, w.1, no_poll)); most = most }
     by_stage Answered w most = record { stage = Answered; so = w; most = most }
 
--- More is said by the receiving side, or as much.
+-- The receiving side sends more N(R), but no more REJ and finals.
 pub said_more : (y : Source) (x : Sink) (back out more : List Kind) (b : ℕ) → rejections more ≡ rejections out → ((n : ℕ) → IsAmong n (numbers out) → IsAmong n (numbers more)) → tally final_of more ≡ tally final_of out
     → Stream y x back out b → Stream y x back more b
 said_more y x back out more b same_rejections among finals s = by_stage s.stage s.so s.most

@@ -1,4 +1,4 @@
--- An open side sends a frame that is no message.
+-- An open side sends a frame without a message.
 use Rattle.std.proofs.Common.{◌≡◌, ℕ, ◌<◌, Bool, true, false, List, [], ◌∷◌, ◌++◌, Option, Some, None, option_map, refl, sym, subst, ◌∙◌, arith}
 use Rattle.lapd_link_definition.specs.declared.state.State.{State}
 use Rattle.lapd_link_definition.specs.declared.state.State.TheVariants.{TeiAssigned, AwaitingEstablishment, AwaitingRelease, MultipleFrameEstablished, TimerRecovery}
@@ -14,7 +14,7 @@ use Rattle.lapd_pair_laws.proofs.Losses.{rejected_map}
 use Rattle.lapd_pair_laws.proofs.MidSteps.{Mid, got_where_heard, open_asks_none}
 use Rattle.lapd_pair_laws.proofs.Runs.{climb_more, climb_to}
 
--- ---- Each conjunct, with one more frame behind all others.
+-- ---- Each conjunct, with one more frame appended.
 
 pub stream_said : (speaking : Bool) (s : Sender) (received : List Receipt) (vr : ℕ) (rejecting : Bool) (u : Kind) (ks : List Kind) → message_of u ≡ []
     → IsStream speaking s received vr rejecting (messages ks) → IsStream speaking s received vr rejecting (messages (ks ++ u ∷ []))
@@ -49,12 +49,12 @@ not_final (Final nr) base top ks none = absurd (omega (arith, none))
 not_final (Status nr) base top ks none = tt
 not_final u base top ks none = tt
 
--- where no final is on its way, none names
+-- if no final is in transit, the condition on finals holds
 pub no_finals : (base top : ℕ) (ks : List Kind) → tally final_of ks ≡ 0 → FinalsNameAll base top ks
 no_finals base top [] none = tt
 no_finals base top (k ∷ ks) none = (not_final k base top ks (omega (arith, none)), no_finals base top ks (omega (arith, none)))
 
--- the peer's asking, where what this side says is no final
+-- the peer's polls, if this side sends no final
 none_said : (out : List Kind) (u : Kind) (ks : List Kind) → final_of u ≡ 0 → NoneAsked out ks → NoneAsked out (ks ++ u ∷ [])
 none_said out u ks no_final w = let more = tally_more final_of u ks in record { polls = w.polls; finals = omega (arith, w.finals, more, no_final) }
 
@@ -76,7 +76,7 @@ asked_said TimerRecovery base received out u ks no_final no_rejection w = one_sa
 pub rejected_said : (state : State) (vs base : ℕ) (received : List Receipt) (waiting : Option Hearing) (u : Kind) (ks : List Kind) → rejection_of u ≡ [] → AreRejected state vs base received waiting (rejections ks) → AreRejected state vs base received waiting (rejections (ks ++ u ∷ []))
 rejected_said state vs base received waiting u ks no_rejection w = subst (λ ns. AreRejected state vs base received waiting ns) (sym (rejections_same u ks no_rejection)) w
 
--- this side's own asking, where what it says is no poll
+-- this side's own polls, if it sends no poll
 pub behind_more : (u : Kind) (ks : List Kind) → message_of u ≡ [] → NoneBehindPoll ks → NoneBehindPoll (ks ++ u ∷ [])
 behind_more u [] no_message none = ((λ _. refl), tt)
 behind_more u (k ∷ ks) no_message none = ((λ poll. messages_same u ks no_message ∙ none.0 poll), behind_more u ks no_message none.1)
@@ -137,7 +137,7 @@ exchange_heard most u out back no_answer w = let answers = tally_more answer_of 
 
 -- ---- The frame is sent.
 
--- no message, and nothing of SABME, DISC and their answers
+-- no message, SABME, DISC or answer to them
 pub record IsSupervisory (u : Kind) : Type 0 where
   pub no_acceptance : is_acceptance u ≡ false
   pub no_message : message_of u ≡ []
@@ -202,7 +202,6 @@ say x y out back u plain acks asked rejected polls m =
 
 -- ---- Frames that only acknowledge, and UI.
 
--- an RR or RNR that neither polls nor answers a poll
 pub saying_status : (x y : Party) (out back : List Kind) → Mid x y out back → Mid x y (out ++ Status x.takes.vr ∷ []) back
 saying_status x y out back m =
     let u = Status x.takes.vr in

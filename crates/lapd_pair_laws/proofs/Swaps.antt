@@ -1,4 +1,5 @@
--- The two sides are alike: a move of the network is that move of the user, with the sides exchanged before and after.
+-- The two sides are alike: a move of the network equals that of the user with the sides exchanged
+-- before and after.
 use Rattle.std.proofs.Common.{◌≡◌, ℕ, Option, Some, None, Result, Ok, Err, Bool, true, false, List, [], ◌∷◌, ◌++◌, if◌then◌else◌, refl}
 use Rattle.lapd_timers.specs.declared.timer.Timer.TheVariants.{T200}
 use Rattle.lapd_frame.specs.declared.Side.{Side}
@@ -11,12 +12,12 @@ use Rattle.lapd_pair_laws.specs.Line.{first_poll, first_final}
 use Rattle.lapd_pair_laws.specs.Move.{Deed, Expire200, View, Turn, Refusal, unless_under_way, takes, expires_200, acts}
 use Rattle.lapd_pair_laws.specs.World.{World, swapped, view_of, with_view, in_world, world_after, happens}
 
--- what a side sees after its deed
+-- the view of a side after its move
 abbrev pub view_left : View → Result Turn Refusal → View
 view_left v (Ok acted) = acted.view
 view_left v (Err refusal) = v
 
--- the world after a move, by what its side sees
+-- the world after a move, from its side's view
 pub after_by_view : (who : Side) (w : World) (outcome : Result Turn Refusal) → world_after w (in_world who w outcome) ≡ with_view who (view_left (view_of who w) outcome) w
 after_by_view side.User w (Ok acted) = refl
 after_by_view side.User w (Err refusal) = refl
@@ -33,7 +34,7 @@ runs_alike : (running : Bool) (v : View) (x y z : Result Turn Refusal) → view_
 runs_alike true v x y z alike = alike
 runs_alike false v x y z alike = refl
 
--- but for the side that a refusal names, a deed does not depend on whose it is
+-- a move does not depend on its side, but for the side that a refusal names
 acts_alike : (r : Reading) (deed : Deed) (v : View) → view_left v (acts r side.Network deed v) ≡ view_left v (acts r side.User deed v)
 unfolding acts expires_200
 acts_alike r Expire200 v = runs_alike v.station.end.t200 v _ _ _ (under_way_alike (first_poll v.outgoing) (first_final v.incoming) v (takes r (input.Expiry T200) [] v))
@@ -52,7 +53,7 @@ network_alike r deed w =
     = acts_alike r deed (view_of side.Network w) in
     rw (here, there, alike) refl
 
--- outputs are told one part after another
+-- outputs may be recorded in two parts
 pub told_append : (o : Occasion) (xs ys : List Out) (t : Story) → told o (xs ++ ys) t ≡ told o ys (told o xs t)
 told_append o [] ys t = refl
 told_append o (out ∷ xs) ys t = told_append o xs ys (tell o out t)

@@ -1,4 +1,5 @@
--- A move on tags does what it does on whole numbers, where these lie near each other; and so does a run of moves.
+-- A move on tags has the same effect as on whole numbers if the numbers are near each other; and so
+-- has a run of moves.
 use Rattle.std.proofs.Common.{◌≡◌, ◌↔◌, ℕ, zero, suc, ◌+◌, ◌≤◌, nat_lt, if◌then◌else◌, Bool, true, false, List, [], ◌∷◌, map, length, Option, Some, None, Result, Ok, Err, refl, ap, ◌∙◌}
 use Rattle.std.specs.List.{position, position_or_len, remove}
 use Rattle.std.proofs.lemmas.List.{map-append, length-map}
@@ -37,7 +38,7 @@ use Rattle.lapd_pair_laws.proofs.Keeping.{run_kept}
 abbrev AsksAlike : Flight → Type 0
 AsksAlike frame = (is_poll (tag_flight frame) ≡ is_poll frame) × (is_final (tag_flight frame) ≡ is_final frame)
 
--- a tag leaves P and F alone
+-- tagging does not change P and F
 asks_alike : (role : Role) (control : Control) (info : List ℕ) (place : ℕ) → AsksAlike (record { role = role; control = control; info = info; place = place })
 unfolding tag_control
 asks_alike role (I ns nr p) info place = (refl, refl)
@@ -71,7 +72,7 @@ without_on_tags (suc at) [] = refl
 without_on_tags zero (frame ∷ frames) = refl
 without_on_tags (suc at) (frame ∷ frames) = ap (λ rest. tag_flight frame ∷ rest) (without_on_tags at frames)
 
--- ---- What is told.
+-- ---- The recorded outputs.
 
 abbrev tag_story : Story → Story
 tag_story t = record { line = map tag_flight t.line; history = t.history }
@@ -113,7 +114,7 @@ unfolding tag_step_state
 stepped_on_tags octets place v (Ok s) = rw (view_after_on_tags octets place v s) refl
 stepped_on_tags octets place v (Err fault) = refl
 
--- ---- The deeds.
+-- ---- The moves of a side.
 
 module _ (who : Side) (v : View) (small : v.station.end.parameters.k ≤ 127) (sound : IsSound Whole v.station.end) where
   hears_on_tags : (frame : Flight) (rest : List Flight) → IsFirstNear (frame ∷ rest) v.station.end
@@ -128,7 +129,7 @@ module _ (who : Side) (v : View) (small : v.station.end.parameters.k ≤ 127) (s
   delivers_on_tags [] near = refl
   delivers_on_tags (frame ∷ rest) near = hears_on_tags frame rest near
 
-  -- a request or an expiry
+  -- a request or an expired timer
   pub takes_on_tags : (what : Input) (octets : List ℕ) → IsHeardNear what v.station.end.window → takes Tagged (tag_input what) octets (tag_view v) ≡ tag_acted (takes Whole what octets v)
   unfolding takes
   takes_on_tags what octets near =
@@ -218,7 +219,7 @@ outcomes_on_tags [] w kept near = refl
 outcomes_on_tags (move ∷ moves) w kept near =
     rw (move_on_tags move w kept near.0, after_on_tags w (happens Whole move w), outcomes_on_tags moves (world_after w (happens Whole move w)) (run_kept Whole (move ∷ []) w kept) near.1) refl
 
--- ---- Where moves are near.
+-- ---- When moves are near.
 
 pub first_near : (k : ℕ) (frames : List Flight) (e : End) → k ≤ 127 → IsSound Whole e → IsFirstWithin k frames e → IsFirstNear frames e
 first_near k [] e small sound within = tt
@@ -235,7 +236,8 @@ deed_near deed v near = tt
 pub move_near : (move : Move) (w : World) → IsKeptWorld Whole w → AreFirstWithin w → IsNearMove move w
 move_near move w kept within = deed_near move.deed (view_of move.side w) (incoming_near move.side w kept within)
 
--- all moves are near where a predicate holds at the start under which each is near, and which each keeps
+-- all moves are near if a predicate holds at the start that implies nearness and that each move
+-- keeps
 pub near_by_invariant : (Inv : World → Type 0) → ((w : World) → Inv w → (move : Move) → IsNearMove move w × Inv (world_after w (happens Whole move w)))
     → (moves : List Move) (w : World) → Inv w → AreNearMoves moves w
 near_by_invariant Inv keeps [] w inv = tt
@@ -243,7 +245,7 @@ near_by_invariant Inv keeps (move ∷ moves) w inv =
     let now = keeps w inv move in
     (now.0, near_by_invariant Inv keeps moves (world_after w (happens Whole move w)) now.1)
 
--- ---- What a reader of the histories sees.
+-- ---- What the histories show.
 
 pub safe_on_tags : (w : World) → AreSafe (tag_world w) ↔ AreSafe w
 safe_on_tags w = (λ safe. safe, λ safe. safe)

@@ -1,4 +1,4 @@
--- An open side takes the message in hand, discards it, or rejects it.
+-- An open side accepts the message in hand, discards it, or rejects it.
 use Rattle.std.proofs.Common.{◌≡◌, inl, inr, ℕ, zero, suc, ◌+◌, ◌-◌, ◌<◌, ◌≤◌, Bool, true, false, List, [], ◌∷◌, ◌++◌, Option, Some, refl, sym, ap, subst, ◌∙◌, arith}
 use Rattle.lapd_link_definition.specs.declared.state.State.{State}
 use Rattle.lapd_link_definition.specs.declared.state.State.TheVariants.{TeiAssigned, AwaitingEstablishment, AwaitingRelease, MultipleFrameEstablished, TimerRecovery}
@@ -15,12 +15,12 @@ use Rattle.lapd_pair_laws.proofs.Runs.{climb_to, awaited_begins_run, run_rest, r
 use Rattle.lapd_pair_laws.proofs.SupervisoryFrames.{no_finals}
 use Rattle.lapd_pair_laws.proofs.FrameInHand.{turned, message_left, left_of, messages_left}
 
--- ---- The message is done with, and nothing else.
+-- ---- The message is processed, without other effects.
 
 pub discarding : (x y : Party) (out : List Kind) (m : Message) (nr : ℕ) (ks : List Kind) → Mid x y out (Numbered m nr ∷ ks) → Mid x y out (left_of m.polled nr ∷ ks)
 discarding x y out m nr ks w = turned x y out (left_of m.polled nr ∷ ks) (Numbered m nr ∷ ks) (message_left m nr ks) w
 
--- ---- It is the next one: it is received.
+-- ---- It is the awaited message: it is received.
 
 abbrev pub receipt_of : ℕ → Message → Receipt
 receipt_of era m = record { octets = m.octets; establishment = era; place = m.place }
@@ -31,7 +31,8 @@ taking_receiver era m r = record { vr = r.vr + 1; rejecting = false; received = 
 abbrev pub taking : Message → Party → Party
 taking m x = record x { takes = taking_receiver x.sends.era m x.takes }
 
--- while a message is in hand, the peer hears no final and no REJ that would name what was received without it
+-- while a message is in hand, the peer processes no final and no REJ that acknowledges only what
+-- was received before it
 with_message_asked : (state : State) (base : ℕ) (received after : List Receipt) (m : Message) (nr : ℕ) (ks back : List Kind)
     → AreAsked state base received (Numbered m nr ∷ ks) back → AreAsked state base received (left_of m.polled nr ∷ ks) back → AreAsked state base after (left_of m.polled nr ∷ ks) back
 with_message_asked TeiAssigned base received after m nr ks back w t = tt

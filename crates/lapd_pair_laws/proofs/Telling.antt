@@ -1,4 +1,4 @@
--- What each output leaves when it is told.
+-- The facts that remain after recording each output.
 use Rattle.std.proofs.Common.{◌≡◌, ℕ, zero, suc, ◌+◌, ◌<◌, ◌≤◌, ◌==◌, nat_lt, if◌then◌else◌, false, List, [], ◌∷◌, length, get_or, Option, Some, None, refl, arith}
 use Rattle.std.proofs.lemmas.Bool.Decides.{nat_tests}
 use Rattle.lapd_frame.specs.declared.Control.{Control}
@@ -41,7 +41,7 @@ begun_then o Up t = refl
 begun_then o UnitUp t = refl
 begun_then o out t = refl
 
--- ---- The outputs that are left.
+-- ---- The remaining outputs.
 
 pub in_order_then : (e : End) (o : Occasion) (out : Out) (outs : List Out) (t : Story) → AreInOrder e t.history.passed (out ∷ outs) → AreInOrder e (tell o out t).history.passed outs
 in_order_then e o (Acknowledged n) outs t order = record { first = omega (arith, order.first); counted = order.counted; spoken = order.spoken.1; placed = order.placed.1 }
@@ -49,11 +49,11 @@ in_order_then e o (Dropped n) outs t order = record { first = omega (arith, orde
 in_order_then e o (SendMessage n control) outs t order = record { first = order.first; counted = order.counted.1; spoken = order.spoken.1; placed = order.placed.1 }
 in_order_then e o out outs t order = record { first = order.first; counted = order.counted; spoken = order.spoken.1; placed = order.placed.1 }
 
--- a message that goes out stands among those that were given
+-- a message that is sent is one of those submitted
 pub message_is_given : (e : End) (passed n : ℕ) (control : Control) (outs : List Out) → AreInOrder e passed (SendMessage n control ∷ outs) → passed + n < length e.given
 message_is_given e passed n control outs order = omega (arith, order.first, order.counted.0, order.placed.0)
 
--- ---- What was not given was never sent.
+-- ---- No message was sent that was not submitted.
 
 abbrev pub AreUnsentFrom : ℕ → (ℕ → Option ℕ) → Type 0
 AreUnsentFrom given sent_in = (place : ℕ) → given ≤ place → sent_in place ≡ None
@@ -118,7 +118,7 @@ carried_then r o out outs t numbered carried = carried
 
 -- ---- All of them.
 
--- what holds while outputs are told
+-- the facts that hold while outputs are recorded
 pub record IsTelling (r : Reading) (e : End) (begun : List ℕ) (t : Story) : Type 0 where
   pub settled : AreSettled t.history
   pub begins : t.history.begun ≡ begun

@@ -1,4 +1,5 @@
--- What each action tells: which frame it puts behind those on their way, if any; and nothing is dropped by any of them.
+-- The recorded effect of each action: which frame it appends to the line, if any. No action drops a
+-- message.
 use Rattle.std.proofs.Common.{◌≡◌, ℕ, ◌+◌, ◌-◌, if◌then◌else◌, Bool, true, false, [], ◌∷◌, ◌++◌, Some, None, sym, ap, ◌∙◌}
 use Rattle.lapd_timers.specs.declared.timer.Timer.TheVariants.{T200, T203}
 use Rattle.lapd_frame.specs.declared.Role.TheVariants.{Command, Answer}
@@ -15,12 +16,12 @@ use Rattle.lapd_pair_laws.specs.Move.{story_after}
 use Rattle.lapd_pair_laws.proofs.ActionEffects.{Context, story, occasion, told_append, stop_told, acked_told, ensured}
 use Rattle.lapd_pair_laws.proofs.Receives.{left, told_both}
 
--- from one mid-step to another: no frame is put on the line
+-- from one mid-step to another: no frame is sent
 pub record TellsNoFrame (c : Context) (s t : StepState) : Type 0 where
   pub line : (story c t).line ≡ (story c s).line
   pub dropped : (story c t).history.dropped ≡ (story c s).history.dropped
 
--- this one is
+-- this frame is sent
 pub record TellsFrame (c : Context) (frame : Flight) (s t : StepState) : Type 0 where
   pub line : (story c t).line ≡ (story c s).line ++ frame ∷ []
   pub dropped : (story c t).history.dropped ≡ (story c s).history.dropped
@@ -28,7 +29,7 @@ pub record TellsFrame (c : Context) (frame : Flight) (s t : StepState) : Type 0 
 pub then_no_frame : {c : Context} {s t u : StepState} → TellsNoFrame c s t → TellsNoFrame c t u → TellsNoFrame c s u
 then_no_frame a b = record { line = b.line ∙ a.line; dropped = b.dropped ∙ a.dropped }
 
--- where all that is told is known
+-- an action that leaves line and history unchanged sends no frame
 by_story : (c : Context) (s t : StepState) → story c t ≡ story c s → TellsNoFrame c s t
 by_story c s t same = record { line = ap (λ u. u.line) same; dropped = ap (λ u. u.history.dropped) same }
 
@@ -36,7 +37,7 @@ abbrev with_frame : Flight → Story → Story
 with_frame frame t = record t { line = t.line ++ frame ∷ [] }
 
 module _ (c : Context) (s : StepState) where
-  -- ---- Timers, and what is acknowledged.
+  -- ---- Timers, and acknowledgements.
 
   pub start_200_tells : TellsNoFrame c s (start T200 s)
   unfolding story_after start
@@ -66,7 +67,7 @@ module _ (c : Context) (s : StepState) where
 
   -- ---- Frames.
 
-  -- where what is told is all that was told, and a frame
+  -- an action that only appends this frame to the line sends this frame
   frame_by_story : (t : StepState) (frame : Flight) → story c t ≡ with_frame frame (story c s) → TellsFrame c frame s t
   frame_by_story t frame same = record { line = ap (λ u. u.line) same; dropped = ap (λ u. u.history.dropped) same }
 
@@ -88,7 +89,7 @@ module _ (c : Context) (s : StepState) where
   unfolding story_after transmit_enquiry without_ack_pending
   enquiry_tells = frame_by_story (transmit_enquiry s) enquiry_sent (told_append _ s.outs (Send Command (status_frame true s.end.window) ∷ Start T200 ∷ []) _)
 
-  -- the I frame that goes out next, and the last one again
+  -- the I frame that is sent next, and the last one again
   abbrev pub next_sent : Flight
   next_sent = message_frame (occasion c s) (I s.end.window.vs s.end.window.vr false) ((story c s).history.passed + (s.end.next - s.end.first))
 

@@ -1,4 +1,4 @@
--- T200 runs where it is to, after each step: row by row.
+-- T200 runs when it must, after each step: row by row.
 use Rattle.std.proofs.Common.{◌≡◌, ℕ, zero, suc, ◌==◌, ◌&&◌, nat_lt, Ok, if◌then◌else◌, Bool, true, false, subst, refl, sym}
 use Rattle.std.proofs.lemmas.Bool.{eqb-true}
 use Rattle.lapd_timers.specs.declared.timer.Timer.TheVariants.{T200, T203}
@@ -144,7 +144,7 @@ timed_7_t203 : (s : StepState) → After (multiple_frame_established Whole (Expi
 unfolding multiple_frame_established begin put state_to rc_to increment_rc layer3_initiated_to release_pending_to start stop expired clear_exception_conditions zero_state_variables set_peer_busy set_own_busy enquiry_response transmit_enquiry queue_up discard_i_queue acknowledge invoke_retransmission i_frame_ns discard_unacknowledged transmit_i_frame ensure_t200 transmit_rr without_exceptions with_zero_counters without_ack_pending after_i_frame with_va acknowledged_count with_vs after_sending with_own_busy with_peer_busy
 timed_7_t203 s = tt
 
--- an end whose state and marks are those of s
+-- an end whose state and variables are those of s
 in_state : (state : State) (s : StepState) → s.end.state ≡ state → IsTimedIn state s.end.t200 s.end.window.vs s.end.window.va s.end.window.peer_busy → After s
 in_state state s q h = let F : State → Type 0 = λ st. IsTimedIn st s.end.t200 s.end.window.vs s.end.window.va s.end.window.peer_busy in subst F (sym q) h
 
@@ -251,7 +251,7 @@ timed_close : (s : StepState) → After s → After (end_step Whole s)
 unfolding end_step acknowledge_pending transmit_rr without_ack_pending
 timed_close s t = let all = send_all Whole (unsent s.end) s in let done = timed_send_all (unsent s.end) s t in by_test After (is_7_or_8 all.end.state && all.end.window.ack_pending) _ _ (λ _. done) (λ _. done)
 
--- each step keeps it, whatever happens
+-- each step keeps it, for every input
 pub timed_step : (input : Input) (e : End) (s : StepState) → IsTimed e → step Whole input e ≡ Ok s → IsTimed s.end
 unfolding step begin
 timed_step input e s t done = let F : StepState → Type 0 = λ d. After d in subst F (taken (refused input e) _ s done).1 (timed_close (row Whole e.state input (begin e)) (timed_row e.state input (begin e) refl t))

@@ -1,4 +1,4 @@
--- The premise of T200, read of the kinds of frames: nothing that it waits for is on its way.
+-- The premise of T200, over the kinds of frames: no frame that it waits for is in transit.
 use Rattle.std.proofs.Common.{◌≡◌, ℕ, suc, ◌+◌, ◌≤◌, nat_lt, cond, not, ◌&&◌, Bool, true, false, List, [], ◌∷◌, length, position, option_map, Option, Some, None, refl, arith}
 use Rattle.std.proofs.lemmas.Bool.Decides.{nat_tests}
 use Rattle.std.specs.List.{position_or_len}
@@ -15,7 +15,7 @@ use Rattle.lapd_pair_laws.specs.Kinds.{Kind, kind, kind_of, kinds, tally, ask_of
 use Rattle.lapd_pair_laws.specs.Parties.{Party, Hearing, behind, behind_acceptance, hearing_now, hearing_to_come, heard_in, hears, frames_heard}
 use Rattle.lapd_pair_laws.specs.Conjuncts.{Each}
 
--- ---- Where no position is found, none passes.
+-- ---- If no position is found, no frame passes the test.
 
 at_front : (b : Bool) (n m : ℕ) → suc n ≤ cond (not b) (1 + m) 0 → (b ≡ false) × (n ≤ m)
 at_front true n m le = absurd (omega (arith, le))
@@ -111,7 +111,7 @@ none_under_way fs none = both_none poll_of ask_of is_poll fs (λ x no_poll. quie
 pub none_answered : (fs : List Flight) → first_final fs ≡ None → (tally final_of (kinds fs) ≡ 0) × (tally answer_of (kinds fs) ≡ 0)
 none_answered fs none = both_none final_of answer_of is_final fs (λ x no_final. quiet_final x.role x.control x.info x.place no_final) (unless_found is_final fs none)
 
--- ---- What is heard has no poll where the line has none.
+-- ---- If the line has no poll, no frame to be processed polls.
 
 pick_polls : (test : Bool) (l : List Kind) (o : Option (List Kind)) → tally poll_of l ≡ 0 → tally poll_of (frames_heard (option_map hearing_to_come o)) ≡ 0 → tally poll_of (frames_heard (option_map hearing_to_come (behind test l o))) ≡ 0
 pick_polls true l o here later = here

@@ -1,4 +1,4 @@
--- Unit data goes out, and is heard, in every state, and changes nothing of the link.
+-- Unit data is sent and received in every state, and leaves the link unchanged.
 use Rattle.std.proofs.Common.{◌≡◌, ◌⊎◌, inl, inr, ℕ, Bool, true, false, List, [], ◌∷◌, ◌++◌, length, refl, sym, subst, arith}
 use Rattle.lapd_mod128.specs.Counting.{Whole}
 use Rattle.lapd_link_definition.specs.declared.out.Out.TheVariants.{SendUnit}
@@ -39,7 +39,7 @@ ends_as_seen c back s p l w b = elim (open_or_closed (is_7_or_8 p.state)) [
   | inr closed ↦ ends_closed c back s p l closed w b
 ]
 
--- ---- Unit data goes out.
+-- ---- Unit data is sent.
 
 -- a side that is closed
 unit_from_closed : (x y : Party) (out back : List Kind) → is_7_or_8 x.state ≡ false → Both x y out back → Both x y (out ++ Unnumbered ∷ []) back
@@ -63,7 +63,7 @@ pub ends_unit_sent : (c : Context) (ks : List Kind) (len : ℕ) (s : StepState) 
 unfolding row
 ends_unit_sent c ks len s b = ends_as_seen c ks (put SendUnit s) (seen c s) (line c s ++ Unnumbered ∷ []) (seems_unit_sent c s) (unit_said (seen c s) c.peer (line c s) ks b)
 
--- the deed, taken or refused
+-- the move, accepted or refused
 pub keeps_unit_data : (octets : List ℕ) → Keeps (UnitData octets)
 unfolding acts takes begin
 keeps_unit_data octets v peer small h =

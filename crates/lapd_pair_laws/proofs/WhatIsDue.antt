@@ -1,4 +1,4 @@
--- What comes is due: the N(R) of the first frame on its way to a side is valid, and no response comes unasked.
+-- The first frame is due: its N(R) is valid, and no response arrives unsolicited.
 use Rattle.std.proofs.Common.{◌≡◌, ℕ, ◌+◌, ◌≤◌, ◌&&◌, Bool, true, false, List, [], ◌∷◌, map, refl, ap, arith}
 use Rattle.lapd_frame.specs.declared.Role.{Role}
 use Rattle.lapd_frame.specs.declared.Role.TheVariants.{Command, Answer}
@@ -39,8 +39,8 @@ only_in_7 AwaitingRelease f none = refl
 only_in_7 MultipleFrameEstablished f none = none refl
 only_in_7 TimerRecovery f none = refl
 
--- one that comes was asked for: a UA or DM by a SABME or DISC that is under way, a final by an enquiry; and a UA or DM with
--- F=0, or a FRMR, is never sent
+-- A response in transit was solicited: a UA or DM by a SABME or DISC that is outstanding, a final
+-- by an enquiry. A UA or DM with F=0, or a FRMR, is never sent.
 asked_for : (control : Control) (state : State) (info : List ℕ) (place : ℕ) → answer_of (kind_of Answer control info place) ≤ most_asks state → foreign_of (kind_of Answer control info place) ≡ 0
     → (state ≡ MultipleFrameEstablished → final_of (kind_of Answer control info place) ≡ 0) → is_unasked control state ≡ false
 asked_for (Ua true) TeiAssigned info place most clean final = absurd (omega (arith, most))
@@ -64,7 +64,7 @@ asked_for (Rej nr true) state info place most clean final = only_in_7 state true
 asked_for (Rej nr false) state info place most clean final = only_in_7 state false (λ is. refl)
 asked_for control state info place most clean final = refl
 
--- no final comes in state 7
+-- no final arrives in state 7
 no_final : (x y : Party) (out : List Kind) (k : Kind) (ks : List Kind) → Both x y out (k ∷ ks) → x.state ≡ MultipleFrameEstablished → final_of k ≡ 0
 no_final x y out k ks b is =
     let none : NoneAsked (frames_heard (hears y out)) (k ∷ ks) = none_asked_in_7 x y out (k ∷ ks) is (enter x y out (k ∷ ks) (ap (λ st. is_7_or_8 st) is) b) in

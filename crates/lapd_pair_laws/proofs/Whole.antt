@@ -1,4 +1,4 @@
--- Every deed keeps the invariant, and reports nothing but F, G, H and I; hence every run.
+-- Every move keeps the invariant, and reports only F, G, H and I; hence every run.
 use Rattle.std.proofs.Common.{◌≡◌, ℕ, nat_lt, Bool, true, false, List, [], ◌∷◌, length, Option, Some, None, Result, Ok, Err, refl}
 use Rattle.lapd_timers.specs.declared.timer.Timer.TheVariants.{T200, T203}
 use Rattle.lapd_frame.specs.declared.Side.{Side}
@@ -26,7 +26,7 @@ use Rattle.lapd_pair_laws.proofs.Restarts.{keeps_restart}
 use Rattle.lapd_pair_laws.proofs.Units.{keeps_unit_data}
 use Rattle.lapd_pair_laws.proofs.Worlds.{Keeps}
 
--- ---- All deeds.
+-- ---- All moves.
 
 pub each_deed_keeps : (deed : Deed) → Keeps deed
 each_deed_keeps (Give message) = keeps_give message
@@ -48,12 +48,12 @@ each_run_keeps moves w i = run_keeps each_deed_keeps moves w i
 
 -- ---- Reports.
 
--- of what a side does
+-- of a move of a side
 abbrev pub Expected : Result Turn Refusal → Type 0
 Expected (Ok acted) = AreExpected acted.outs
 Expected (Err refusal) = Unit {0}
 
--- a step of an input that is due
+-- a step on an input that is due
 stepped_so : (octets : List ℕ) (place : ℕ) (v : View) (what : Input) (r : Result StepState LinkFault) → step Whole what v.station.end ≡ r → IsDue Whole what v.station.end → Expected (stepped octets place v r)
 stepped_so octets place v what (Ok s) is due = due_is_expected Whole what v.station.end s due is
 stepped_so octets place v what (Err fault) is due = tt

@@ -1,4 +1,4 @@
--- Worked worlds settle as was written down, computed in both readings.
+-- Worked worlds settle as expected, computed in both readings.
 use Rattle.std.proofs.Common.{◌≡◌, refl}
 use Rattle.lapd_link_definition.specs.declared.recovery.Recovery.TheVariants.{Enquiry, LastMessage}
 use Rattle.lapd_mod128.specs.Counting.{Reading, Whole, Tagged, after, steps, lies_within}

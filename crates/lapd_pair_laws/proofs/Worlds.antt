@@ -1,4 +1,5 @@
--- From what one side sees to the whole world: a deed of one side, a move of either, and a run of moves.
+-- From one side's view to the whole world: a move of one side, a move of either, and a run of
+-- moves.
 use Rattle.std.proofs.Common.{ℕ, ◌+◌, ◌≤◌, List, ◌∷◌, [], Result, Ok, Err, refl, arith}
 use Rattle.lapd_frame.specs.declared.Side.TheVariants as side
 use Rattle.lapd_mod128.specs.Counting.{Whole}
@@ -15,20 +16,20 @@ use Rattle.lapd_pair_laws.specs.Parties.{party}
 use Rattle.lapd_pair_laws.specs.Conjuncts.{AreGiven, IsRow, AreHistories}
 use Rattle.lapd_pair_laws.specs.Invariant.{Half, Both, IsInvariant}
 
--- ---- What a side sees.
+-- ---- The view of a side.
 
--- the invariant of what one side sees, and of the other side
+-- the invariant of one side's view, and of the other side
 pub record Holds (v : View) (peer : Station) : Type 0 where
   pub base : ℕ
   pub its_base : ℕ
   pub both : Both (party base v.station) (party its_base peer) (kinds v.outgoing) (kinds v.incoming)
 
--- what is left to see after a deed
+-- the view after a move
 abbrev pub left_by : View → Result Turn Refusal → View
 left_by v (Ok acted) = acted.view
 left_by v (Err refusal) = v
 
--- a deed keeps the invariant
+-- a move keeps the invariant
 abbrev pub Keeps : Deed → Type 0
 Keeps deed = (v : View) (peer : Station) → v.station.end.parameters.k ≤ 127 → Holds v peer → Holds (left_by v (acts Whole side.User deed v)) peer
 

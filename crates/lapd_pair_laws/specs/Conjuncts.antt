@@ -1,5 +1,6 @@
--- The conjuncts of the invariant, each over the values that it reads. One side speaks and the other hears; all that is said
--- here is said of both sides.
+-- The conjuncts of the invariant. Each is stated over the values that it reads, with one side as
+-- speaker (it sends) and the other as hearer (it receives). All of them hold in both directions. A
+-- side is open in states 7 and 8, and closed otherwise.
 use Rattle.std.specs.Prelude.{◌≡◌, ◌⊎◌, ℕ, ◌+◌, ◌<◌, ◌≤◌, Bool, true, false, List, [], ◌∷◌, length, map, slice_get, Option, Some}
 use Rattle.lapd_link_definition.specs.declared.state.State.{State}
 use Rattle.lapd_link_definition.specs.declared.state.State.TheVariants.{TeiAssigned, AwaitingEstablishment, AwaitingRelease, MultipleFrameEstablished, TimerRecovery}
@@ -15,7 +16,8 @@ Each P (x ∷ xs) = P x × Each P xs
 
 -- ---- Messages received.
 
--- one past the last place received, and the establishment in which it came; from these where none is
+-- one past the last place received, and the establishment in which it was received; the first
+-- argument if no message was received
 abbrev pub high_from : ℕ → List Receipt → ℕ
 high_from low [] = low
 high_from low (r ∷ rs) = high_from (r.place + 1) rs
@@ -34,13 +36,13 @@ latest rs = era_from 0 rs
 abbrev pub places_of : List Receipt → List ℕ
 places_of received = map (λ message. message.place) received
 
--- each message received is what was given at its place
+-- each message received is the message submitted at its place
 abbrev pub AreGiven : List (List ℕ) → List Receipt → Type 0
 AreGiven given [] = Unit {0}
 AreGiven given (message ∷ received) = (slice_get given message.place ≡ Some message.octets)
     × AreGiven given received
 
--- the places rise from `next` on, and one that was received in the same establishment as the one before it is the very next
+-- the places rise from `next` on, and within one establishment of the receiver no place is skipped
 abbrev pub IsRow : ℕ → ℕ → List Receipt → Type 0
 IsRow next establishment [] = Unit {0}
 IsRow next establishment (message ∷ received) =
@@ -57,8 +59,9 @@ IsGot base n rs = (m : ℕ) → m < n → HasPlace (base + m) rs
 
 -- ---- A side by itself.
 
--- In an open link, message number n of the establishment stands at place base + n: the first that waits has number V(A), the
--- first that is not sent V(S), and all before that were sent in this establishment; at most k are outstanding.
+-- In states 7 and 8, message number n of the establishment is at place base + n. The first waiting
+-- message has number V(A), the first unsent one V(S). All messages from the base up to the first
+-- unsent one were last sent in this establishment. At most k are outstanding.
 pub record IsNumbering (s : Sender) : Type 0 where
   pub first : s.first ≡ s.base + s.va
   pub next : s.next ≡ s.base + s.vs
@@ -67,14 +70,14 @@ pub record IsNumbering (s : Sender) : Type 0 where
   pub within : s.next ≤ length s.given
   pub since : (place : ℕ) → s.base ≤ place → place < s.next → s.sent_in place ≡ Some s.era
 
--- what waits of the establishment before still stands so
+-- the messages left over from the previous establishment keep their numbering
 pub record IsHolding (s : Sender) : Type 0 where
   pub first : s.first ≡ s.base + s.va
   pub next : s.next ≡ s.base + s.vs
   pub ordered : s.va ≤ s.vs
   pub within : s.next ≤ length s.given
 
--- nothing waits
+-- no message waits
 pub record IsEmpty (s : Sender) : Type 0 where
   pub first : s.first ≡ length s.given
   pub next : s.next ≡ length s.given
@@ -88,31 +91,34 @@ IsKept AwaitingRelease asked leaving s = IsEmpty s
 IsKept MultipleFrameEstablished asked leaving s = IsNumbering s
 IsKept TimerRecovery asked leaving s = IsNumbering s
 
--- whether what waits was sent, or may have been, in the last establishment
+-- whether waiting messages were sent, or may have been sent, in the last establishment
 abbrev pub is_holding : State → Bool → Bool → Bool
 is_holding AwaitingEstablishment false false = true
 is_holding MultipleFrameEstablished asked leaving = true
 is_holding TimerRecovery asked leaving = true
 is_holding state asked leaving = false
 
--- a place was sent in no later establishment than the present, and in the present one not below its base
+-- no place was sent in a later establishment than the present one, nor in the present one below its
+-- base
 abbrev pub IsPast : Sender → Type 0
 IsPast s = (place era : ℕ) → s.sent_in place ≡ Some era
     → (era ≤ s.era) × (era ≡ s.era → s.base ≤ place)
 
--- ---- The messages that are heard.
+-- ---- Messages in transit that the hearer will process.
 
--- a message with number n stands at place base + n, was sent last in the present establishment, and has the octets given
+-- a message with number n is at place base + n, was last sent in the present establishment, and has
+-- the octets submitted
 pub record IsPlaced (s : Sender) (m : Message) : Type 0 where
   pub place : m.place ≡ s.base + m.number
   pub same : slice_get s.given m.place ≡ Some m.octets
   pub sent : s.sent_in m.place ≡ Some s.era
 
--- its number is near V(R) of the hearer, so that both are equal only where their tags are
+-- its number is near the hearer's V(R), so that their tags are equal only if the numbers are
 abbrev pub IsNearTo : ℕ → ℕ → Message → Type 0
 IsNearTo vr k m = (vr ≤ m.number + 1) × (m.number < vr + k)
 
--- Numbers rise, from `low` on and below `end`; but one that polls repeats the last number, with none behind it.
+-- Numbers rise, from `low` on and below `end`. A message that polls repeats the last number, and no
+-- message follows it.
 abbrev pub IsNext : Bool → ℕ → ℕ → ℕ → List Message → Type 0 → Type 0
 IsNext true low end number rest Run = (number + 1 ≡ end) × (rest ≡ [])
 IsNext false low end number rest Run = (low ≤ number) × (number < end) × Run
@@ -121,18 +127,19 @@ abbrev pub IsRun : ℕ → ℕ → List Message → Type 0
 IsRun low end [] = Unit {0}
 IsRun low end (m ∷ ms) = IsNext m.polled low end m.number ms (IsRun (m.number + 1) end ms)
 
--- before these there may be some above `low`, which were on their way when the sender went back
+-- stale messages above `low` may precede the run: they were in transit when the sender set V(S)
+-- back
 abbrev pub IsJunkThenRun : ℕ → ℕ → List Message → Type 0
 IsJunkThenRun low end [] = Unit {0}
 IsJunkThenRun low end (m ∷ ms) = IsRun low end (m ∷ ms)
     ⊎ ((low < m.number) × (m.polled ≡ false) × IsJunkThenRun low end ms)
 
--- a hearer that is rejecting may hear such
+-- only a rejecting hearer may receive stale messages
 abbrev pub IsInOrder : Bool → ℕ → ℕ → List Message → Type 0
 IsInOrder false low end ms = IsRun low end ms
 IsInOrder true low end ms = IsJunkThenRun low end ms
 
--- all places from the base up to V(R) of the hearer were received, and none above
+-- the hearer received every place from the base up to its V(R), and no later one
 pub record IsInStep (base vr : ℕ) (received : List Receipt) : Type 0 where
   pub below : high received ≤ base + vr
   pub level : 0 < vr → high received ≡ base + vr
@@ -142,7 +149,7 @@ abbrev pub HasSome : List Message → Type 0
 HasSome [] = ⊥
 HasSome (m ∷ ms) = Unit {0}
 
--- the messages that are heard, under V(R) and the reject condition of the hearer
+-- the messages that the hearer will process with this V(R) and reject condition
 pub record IsStream (speaking : Bool) (s : Sender) (received : List Receipt) (vr : ℕ)
     (rejecting : Bool) (ms : List Message) : Type 0 where
   pub placed : Each (IsPlaced s) ms
@@ -151,32 +158,33 @@ pub record IsStream (speaking : Bool) (s : Sender) (received : List Receipt) (vr
   pub step : (speaking ≡ true) ⊎ HasSome ms → IsInStep s.base vr received
   pub between : speaking ≡ true → (s.va ≤ vr) × (vr ≤ s.vs)
 
--- ---- The N(R) that are heard.
+-- ---- N(R) in transit that the hearer will process.
 
--- they do not fall, from `low` up to `top`
+-- they do not decrease, from `low` up to `top`
 abbrev pub IsClimb : ℕ → ℕ → List ℕ → Type 0
 IsClimb low top [] = low ≤ top
 IsClimb low top (n ∷ ns) = (low ≤ n) × IsClimb n top ns
 
--- from V(A) to V(S) of the hearer; the speaker has received all that they acknowledge; an open speaker's go up to its V(R)
+-- they lie between the hearer's V(A) and V(S); the speaker has received all messages that they
+-- acknowledge; those of an open speaker do not exceed its V(R)
 pub record AreAcknowledging (speaking : Bool) (r : Receiver) (base va vs : ℕ) (ns : List ℕ) :
     Type 0 where
   pub climb : IsClimb va vs ns
   pub known : Each (λ nr. IsGot base nr r.received) ns
   pub top : speaking ≡ true → IsClimb va r.vr ns × (r.vr ≤ vs)
 
--- ---- Polls of the hearer and their answers. `out` is what the speaker hears of the hearer's, `back` what the hearer hears.
+-- ---- Polls of the hearer and their answers: `out` is in transit to the speaker, `back` back.
 
 pub record NoneAsked (out back : List Kind) : Type 0 where
   pub polls : tally poll_of out ≡ 0
   pub finals : tally final_of back ≡ 0
 
--- behind a poll is no message
+-- no message follows a poll
 abbrev pub NoneBehindPoll : List Kind → Type 0
 NoneBehindPoll [] = Unit {0}
 NoneBehindPoll (k ∷ ks) = (0 < poll_of k → messages ks ≡ []) × NoneBehindPoll ks
 
--- a final names all that was received, and no REJ is behind it
+-- a final acknowledges all messages received, and no REJ follows it
 abbrev pub NamesAll : Kind → ℕ → ℕ → List Kind → Type 0
 NamesAll (Final nr) base top ks = (top ≤ base + nr) × (rejections ks ≡ [])
 NamesAll k base top ks = Unit {0}
@@ -185,7 +193,7 @@ abbrev pub FinalsNameAll : ℕ → ℕ → List Kind → Type 0
 FinalsNameAll base top [] = Unit {0}
 FinalsNameAll base top (k ∷ ks) = NamesAll k base top ks × FinalsNameAll base top ks
 
--- at most one poll or final is on its way; beside a final there is no message
+-- at most one poll or final is in transit; beside a final no message is in transit
 pub record OneAsked (base : ℕ) (received : List Receipt) (out back : List Kind) : Type 0 where
   pub one : tally poll_of out + tally final_of back ≤ 1
   pub behind : NoneBehindPoll out
@@ -199,9 +207,10 @@ AreAsked AwaitingRelease base received out back = Unit {0}
 AreAsked MultipleFrameEstablished base received out back = NoneAsked out back
 AreAsked TimerRecovery base received out back = OneAsked base received out back
 
--- ---- The REJ with F=0 that are heard.
+-- ---- REJ with F=0 in transit that the hearer will process.
 
--- the speaker rejects all but this number, and of the messages that it hears all have greater numbers
+-- the speaker rejects all numbers but this one, and every message it will process has a greater
+-- number
 pub record IsAwaiting (nr : ℕ) (h : Hearing) : Type 0 where
   pub rejecting : h.rejecting ≡ true
   pub at : h.vr ≡ nr
@@ -226,7 +235,7 @@ AreRejected MultipleFrameEstablished vs base received waiting ns =
     AtMostOne (IsSentBack vs base received waiting) ns
 AreRejected TimerRecovery vs base received waiting ns = Unit {0}
 
--- ---- All that y hears of x, where `waiting` is what x hears of y.
+-- ---- All that y receives from x; `waiting` is what x receives from y.
 
 pub record IsHeard (x y : Party) (waiting : Option Hearing) (h : Hearing) : Type 0 where
   pub stream : IsStream (is_7_or_8 x.state) x.sends y.takes.received h.vr h.rejecting
@@ -238,26 +247,26 @@ pub record IsHeard (x y : Party) (waiting : Option Hearing) (h : Hearing) : Type
 
 -- ---- SABME and DISC, and their answers.
 
--- in states 5 and 6 one may be under way
+-- only in states 5 and 6, one SABME, DISC or response to it may be in transit
 abbrev pub most_asks : State → ℕ
 most_asks AwaitingEstablishment = 1
 most_asks AwaitingRelease = 1
 most_asks state = 0
 
--- behind a SABME or DISC is no N(R)
+-- no N(R) follows a SABME or DISC
 abbrev pub NoneBehindAsk : List Kind → Type 0
 NoneBehindAsk [] = Unit {0}
 NoneBehindAsk (k ∷ ks) = (0 < ask_of k → numbers ks ≡ []) × NoneBehindAsk ks
 
--- of the speaker's SABME and DISC and the answers to them at most one is on its way; while an answer is, no N(R) of
--- the speaker is
+-- at most one of the speaker's SABME and DISC commands and their answers is in transit; while an
+-- answer is, no N(R) of the speaker is
 pub record IsExchange (most : ℕ) (out back : List Kind) : Type 0 where
   pub one : tally ask_of out + tally answer_of back ≤ most
   pub behind : NoneBehindAsk out
   pub before : 0 < tally answer_of back → numbers out ≡ []
   pub clean : tally foreign_of out ≡ 0
 
--- ---- The histories of a sender and a receiver, from which they are safe.
+-- ---- Histories of a sender and a receiver, from which safety follows.
 
 pub record AreHistories (given : List (List ℕ)) (sent_in : ℕ → Option ℕ) (acked : List ℕ)
     (received : List Receipt) : Type 0 where

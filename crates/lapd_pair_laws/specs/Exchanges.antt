@@ -1,5 +1,6 @@
--- A side asks for the link, or for its release, one question at a time: of its SABME and DISC commands and the UA and DM
--- responses to them, at most one is on its way, and that in states 5 and 6 alone (Q.921 5.5.1, 5.5.3).
+-- A side has at most one establishment or release outstanding. Of its SABME and DISC commands and
+-- the UA and DM responses to them, at most one is in transit, and only in states 5 and 6 (Q.921
+-- 5.5.1, 5.5.3).
 use Rattle.std.specs.Prelude.{ℕ, ◌+◌, ◌≤◌}
 use Rattle.lapd_frame.specs.declared.Side.TheVariants.{User, Network}
 use Rattle.lapd_pair_laws.specs.Move.{View}
@@ -7,7 +8,7 @@ use Rattle.lapd_pair_laws.specs.World.{World, view_of}
 use Rattle.lapd_pair_laws.specs.Conjuncts.{most_asks}
 use Rattle.lapd_pair_laws.specs.Kinds.{kinds, tally, ask_of, answer_of}
 
--- how many are on their way
+-- how many of these frames are in transit
 abbrev pub exchanges_of : View → ℕ
 exchanges_of v = tally ask_of (kinds v.outgoing) + tally answer_of (kinds v.incoming)
 

@@ -1,6 +1,7 @@
--- What is written down of a side while the two ends run: which messages it received, which of its own were acknowledged or
--- dropped, in which establishment each was sent, and when its establishments began. It is fixed by what the moves put out
--- and by the number of establishments alone; no state, timer or counter of the link is read.
+-- The history of a side: which messages it received, which of its own were acknowledged or dropped,
+-- in which establishment each was sent, and when its establishments began. The outputs of the moves
+-- and the number of establishments alone determine it; it reads no state, timer or counter of the
+-- link.
 use Rattle.std.specs.Prelude.{ℕ, ◌+◌, ◌-◌, ◌==◌, if◌then◌else◌, false, List, [], ◌∷◌, ◌++◌, length, get_or, Option, Some, None}
 use Rattle.std.specs.List.{range_with_len}
 use Rattle.lapd_frame.specs.declared.Role.TheVariants.{Command}
@@ -10,18 +11,19 @@ use Rattle.lapd_link_definition.specs.declared.out.Out.{Out}
 use Rattle.lapd_link_definition.specs.declared.out.Out.TheVariants.{Send, SendMessage, SendUnit, Up, UnitUp, Acknowledged, Dropped}
 use Rattle.lapd_pair_laws.specs.Line.{Flight, without_info, sent_behind}
 
--- A message as layer 3 received it: its octets, and the number of the receiver's establishment in which it came, from 1.
--- The place at which it stands among the messages that the other side was given is kept beside it for the proofs.
+-- A message as layer 3 received it: its octets, and the receiver's establishment in which it
+-- arrived, counted from 1. For the proofs it also records the message's place among the messages
+-- submitted at the other side.
 pub record Receipt : Type 0 where
   pub octets : List ℕ
   pub establishment : ℕ
   pub place : ℕ
 
--- The history of a side; the messages that it was given stand in its end. Places are those of its own messages, counted
--- from 0: of each, the number of the establishment in which it was last sent, none if it never was; the places that were
--- acknowledged, those that were dropped, and how many these are together, so that the first message that still waits
--- stands at `passed`. Of the other side: the messages received, and the unit data received. For each establishment, how
--- many messages had been received before it.
+-- The history of a side. Its end stores the messages submitted to it; a place is the index of one
+-- of them, from 0. `sent_in`: the establishment in which each was last sent, `None` if it never
+-- was. `acked`, `dropped`: the places acknowledged and dropped; `passed` counts both, so the first
+-- waiting message is at place `passed`. `received`, `units`: messages and unit data received from
+-- the other side. `begun`: for each establishment, how many messages had been received before it.
 pub record History : Type 0 where
   pub sent_in : ℕ → Option ℕ
   pub acked : List ℕ
@@ -31,7 +33,6 @@ pub record History : Type 0 where
   pub units : List (List ℕ)
   pub begun : List ℕ
 
--- as a side begins
 abbrev pub new_history : History
 new_history = record {
   sent_in = λ place. None;
@@ -43,9 +44,9 @@ new_history = record {
   begun = [];
 }
 
--- ---- What is written down.
+-- ---- Entries of a history.
 
--- the message at this place goes out in this establishment
+-- the message at this place is sent in this establishment
 abbrev pub with_sending : ℕ → ℕ → History → History
 with_sending at establishment h = record h {
   sent_in = λ place.
@@ -63,37 +64,38 @@ with_dropped n h = record h {
   passed = h.passed + n;
 }
 
--- of so many messages given, all that were neither acknowledged nor dropped are dropped
+-- of so many messages submitted, all that were neither acknowledged nor dropped are dropped
 abbrev pub with_rest_dropped : ℕ → History → History
 with_rest_dropped given h = with_dropped (given - h.passed) h
 
--- a message came
+-- a message is received
 abbrev pub with_receipt : Receipt → History → History
 with_receipt message h = record h { received = h.received ++ message ∷ [] }
 
--- unit data came
+-- unit data is received
 abbrev pub with_unit : List ℕ → History → History
 with_unit octets h = record h { units = h.units ++ octets ∷ [] }
 
--- where the number of establishments is another than before, an establishment begins
+-- if the number of establishments changed, an establishment begins
 abbrev pub with_beginning : ℕ → ℕ → History → History
 with_beginning before now h = record h {
   begun = if before == now then h.begun
       else h.begun ++ length h.received ∷ [];
 }
 
--- ---- The outputs of a step are told, one after another.
+-- ---- Recording the outputs of a step, one after another.
 
--- What they are told with: the messages that the side was ever given and the number of its establishments, both after the
--- step; and the frame just delivered, by the octets of its information and its place. Where unit data is to be sent, the
--- octets are these.
+-- The context of a step's outputs. `given`: all messages ever submitted at the side, and
+-- `establishment`: the number of its establishments, both after the step. `octets`, `place`: the
+-- information and the place of the frame just delivered. If unit data is to be sent, `octets` are
+-- that data.
 pub record Occasion : Type 0 where
   pub given : List (List ℕ)
   pub establishment : ℕ
   pub octets : List ℕ
   pub place : ℕ
 
--- what is told: the frames on their way to the other side, and this side's history
+-- what the outputs change: the frames in transit to the other side, and this side's history
 pub record Story : Type 0 where
   pub line : List Flight
   pub history : History
@@ -111,8 +113,9 @@ message_frame o control at = record {
 abbrev pub unit_frame : List ℕ → Flight
 unit_frame octets = record { role = Command; control = Ui false; info = octets; place = 0 }
 
--- One output. A frame goes out, with the message that it names, counted from the first that waits; a message or unit data
--- goes up; messages are acknowledged or dropped. No other output is written down.
+-- Records one output. It may send a frame, whose message is counted from the first waiting one;
+-- deliver a message or unit data to layer 3; or acknowledge or drop messages. No other output is
+-- recorded.
 abbrev pub tell : Occasion → Out → Story → Story
 tell o (Send role control) t = record t { line = sent_behind t.line (without_info role control) }
 tell o (SendMessage n control) t = record {
@@ -130,7 +133,7 @@ tell o (Acknowledged n) t = record t { history = with_acked n t.history }
 tell o (Dropped n) t = record t { history = with_dropped n t.history }
 tell o out t = t
 
--- all of them, in order
+-- records all outputs, in order
 abbrev pub told : Occasion → List Out → Story → Story
 told o [] t = t
 told o (out ∷ outs) t = told o outs (tell o out t)

@@ -1,5 +1,5 @@
--- The invariant of two ends and the line between them, over whole numbers. It holds between two moves, and in the middle of
--- a step too.
+-- The invariant of two ends and the line between them, over whole numbers. It holds between two
+-- moves, and also in the middle of a step.
 use Rattle.std.specs.Prelude.{◌≡◌, ℕ, ◌+◌, ◌<◌, ◌≤◌, true, List, Option}
 use Rattle.lapd_mod128.specs.Counting.{Whole}
 use Rattle.lapd_link_definition.specs.EndOfStep.{is_7_or_8}
@@ -9,7 +9,8 @@ use Rattle.lapd_pair_laws.specs.Kinds.{Kind, kinds}
 use Rattle.lapd_pair_laws.specs.Parties.{Party, Hearing, hears, OnHearing, party}
 use Rattle.lapd_pair_laws.specs.Conjuncts.{high, latest, is_holding, IsKept, IsPast, IsHeard, most_asks, IsExchange, AreHistories}
 
--- What is said of x as it speaks to y: `out` is on its way to y and `back` to x, of which y hears `there` and x `here`.
+-- The invariant of x as the sender to y. `out` is in transit to y and `back` to x; of these y will
+-- process `there` and x `here`.
 pub record IsSpeaking (x y : Party) (out back : List Kind) (here there : Option Hearing) :
     Type 0 where
   pub kept : IsKept x.state x.asked x.leaving x.sends
@@ -26,12 +27,13 @@ pub record IsSpeaking (x y : Party) (out back : List Kind) (here there : Option 
 abbrev pub Half : Party → Party → List Kind → List Kind → Type 0
 Half x y out back = IsSpeaking x y out back (hears x back) (hears y out)
 
--- both as they speak
+-- both directions
 pub record Both (x y : Party) (out back : List Kind) : Type 0 where
   pub mine : Half x y out back
   pub its : Half y x back out
 
--- of a world, with the place of message number 0 of the present establishment of each side
+-- The invariant of a world, for some place of message number 0 of each side's present
+-- establishment.
 pub record IsInvariant (w : World) : Type 0 where
   pub user_base : ℕ
   pub network_base : ℕ

@@ -1,4 +1,4 @@
--- What every world keeps, and what holds of the outputs of a step while they are told one after another.
+-- Facts that hold in every world, and of a step's outputs while they are recorded one by one.
 use Rattle.std.specs.Prelude.{◌≡◌, ℕ, ◌+◌, ◌-◌, ◌≤◌, ◌==◌, ◌||◌, nat_lt, Bool, true, false, List, [], ◌∷◌, length, None}
 use Rattle.std.specs.List.{list_any}
 use Rattle.lapd_frame.specs.Frame.{content_fault}
@@ -19,16 +19,17 @@ use Rattle.lapd_pair_laws.specs.World.{World}
 abbrev pub is_one_of : List ℕ → ℕ → Bool
 is_one_of places place = list_any (λ p. p == place) places
 
--- places acknowledged or dropped are those before `passed`, each once
+-- the places acknowledged or dropped are those before `passed`, each once
 pub record AreSettled (h : History) : Type 0 where
   pub counted : h.passed ≡ length h.acked + length h.dropped
   pub settled : (place : ℕ) → (is_one_of h.acked place || is_one_of h.dropped place)
       ≡ nat_lt place h.passed
 
--- Of a side: its sent messages are outstanding, its window has at most 127 places, its numbers are those of the reading, and
--- its messages have at most N201 octets. Its history agrees with its end: the place of the first message that waits, and the
--- number of establishments; what was acknowledged or dropped are the places before that first one; and what was not given
--- was never sent.
+-- Of a side: the places of its waiting and unsent messages agree with V(A) and V(S), its window is
+-- at most 127, its numbers are those of the reading, and its messages have at most N201 octets. Its
+-- history agrees with its end in the first waiting message and the number of establishments. The
+-- places acknowledged or dropped are those before that message. No message was sent that was not
+-- submitted.
 pub record IsKept (r : Reading) (s : Station) : Type 0 where
   pub sound : IsSound r s.end
   pub window : s.end.parameters.k ≤ 127
@@ -39,7 +40,7 @@ pub record IsKept (r : Reading) (s : Station) : Type 0 where
   pub begun : length s.history.begun ≡ s.end.establishments
   pub unsent : (place : ℕ) → length s.end.given ≤ place → s.history.sent_in place ≡ None
 
--- each is a frame of the control table, with as much information as it may have (Q.921 Table 5)
+-- each is a frame of the control table, with no more information than it may have (Q.921 Table 5)
 abbrev pub AreProper : List Flight → Type 0
 AreProper [] = Unit {0}
 AreProper (frame ∷ frames) = (content_fault frame.role frame.control (length frame.info) ≡ None)
@@ -59,16 +60,17 @@ pub record IsKeptWorld (r : Reading) (w : World) : Type 0 where
   pub numbers_to_user : CarryNumbers r w.to_user
   pub numbers_to_network : CarryNumbers r w.to_network
 
--- Outputs of a step that are still to be told, of an end after the step and a history that has come to `passed`: what they
--- tell to be acknowledged or dropped leads to the first message that waits, and comes before any message goes out; what they
--- send is in the grammar; and the messages that they send are there.
+-- The outputs of a step that remain to be recorded, for the end after the step and a history with
+-- this `passed`. Their acknowledgements and drops lead to the first waiting message, and precede
+-- every message sent. The frames they send are in the control table, and the messages they send
+-- exist.
 pub record AreInOrder (e : End) (passed : ℕ) (outs : List Out) : Type 0 where
   pub first : passed + leaving outs ≡ e.first
   pub counted : AreCountedFirst outs
   pub spoken : AreSpoken outs
   pub placed : ArePlaced (length e.given - e.first) outs
 
--- a frame is heard
+-- the input is a received frame
 abbrev pub is_heard : Input → Bool
 is_heard (Heard control role) = true
 is_heard input = false

@@ -1,5 +1,6 @@
--- What the invariant reads of the frames on their way. Each frame is read once, as one of ten kinds, and no conjunct sees a
--- control field again; what a conjunct speaks of is a list or a number taken from the kinds.
+-- The kinds of frames in transit that the invariant distinguishes. Each frame is classified once,
+-- as one of ten kinds. The conjuncts read no control fields, only lists and numbers derived from
+-- the kinds.
 use Rattle.std.specs.Prelude.{ℕ, ◌+◌, Bool, true, false, List, [], ◌∷◌, ◌++◌, map}
 use Rattle.lapd_frame.specs.declared.Role.{Role}
 use Rattle.lapd_frame.specs.declared.Role.TheVariants.{Command, Answer}
@@ -7,15 +8,17 @@ use Rattle.lapd_frame.specs.declared.Control.{Control}
 use Rattle.lapd_frame.specs.declared.Control.TheVariants.{I, Rr, Rnr, Rej, Sabme, Dm, Ui, Disc, Ua}
 use Rattle.lapd_pair_laws.specs.Line.{Flight}
 
--- a message on its way: its N(S), whether its frame polls, its place among those given to the sender, and its octets
+-- a message in transit: its N(S), whether its frame polls, its place among the sender's messages,
+-- and its octets
 pub record Message : Type 0 where
   pub number : ℕ
   pub polled : Bool
   pub place : ℕ
   pub octets : List ℕ
 
--- An I frame, with its N(R); RR or RNR that neither polls nor answers a poll; REJ with F=0; RR or RNR with P=1; a
--- supervisory response with F=1; SABME or DISC with P=1; UA, and DM, with F=1; UI; and all that no end sends.
+-- In this order: an I frame, with its N(R); RR or RNR that neither polls nor answers a poll; REJ
+-- with F=0; RR or RNR with P=1; a supervisory response with F=1; SABME or DISC with P=1; UA with
+-- F=1; DM with F=1; UI; and any frame that no end sends.
 pub data Kind : Type 0 where
   Numbered : (message : Message) → (nr : ℕ) → Kind
   Status : (nr : ℕ) → Kind
@@ -53,7 +56,7 @@ kind f = kind_of f.role f.control f.info f.place
 abbrev pub kinds : List Flight → List Kind
 kinds line = map kind line
 
--- ---- Lists taken from the kinds.
+-- ---- Lists derived from the kinds.
 
 -- the messages
 abbrev pub message_of : Kind → List Message
@@ -86,13 +89,13 @@ abbrev pub rejections : List Kind → List ℕ
 rejections [] = []
 rejections (k ∷ ks) = rejection_of k ++ rejections ks
 
--- ---- How many of them are of a sort.
+-- ---- How many frames are of some kinds.
 
 abbrev pub tally : (Kind → ℕ) → List Kind → ℕ
 tally f [] = 0
 tally f (k ∷ ks) = f k + tally f ks
 
--- those that ask for an establishment or a release, and those that answer it
+-- commands that request an establishment or a release, and responses to them
 abbrev pub ask_of : Kind → ℕ
 ask_of Asks = 1
 ask_of k = 0
@@ -102,7 +105,7 @@ answer_of Accepts = 1
 answer_of Refuses = 1
 answer_of k = 0
 
--- those that poll, and those that answer a poll
+-- frames that poll, and frames that answer a poll
 abbrev pub bit : Bool → ℕ
 bit true = 1
 bit false = 0
@@ -116,7 +119,7 @@ abbrev pub final_of : Kind → ℕ
 final_of (Final nr) = 1
 final_of k = 0
 
--- those that no end sends
+-- frames that no end sends
 abbrev pub foreign_of : Kind → ℕ
 foreign_of Foreign = 1
 foreign_of k = 0

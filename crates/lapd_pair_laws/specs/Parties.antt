@@ -1,4 +1,5 @@
--- What the invariant reads of a side, and what a side hears of the frames on their way to it.
+-- The values of a side that the invariant reads, and the frames in transit that a side will
+-- process.
 use Rattle.std.specs.Prelude.{ℕ, Bool, true, false, List, [], ◌∷◌, Option, Some, None, option_map}
 use Rattle.lapd_link_definition.specs.declared.state.State.{State}
 use Rattle.lapd_link_definition.specs.declared.state.State.TheVariants.{TeiAssigned, AwaitingEstablishment, AwaitingRelease, MultipleFrameEstablished, TimerRecovery}
@@ -7,9 +8,10 @@ use Rattle.lapd_pair_laws.specs.Histories.{History, Receipt}
 use Rattle.lapd_pair_laws.specs.Move.{Station}
 use Rattle.lapd_pair_laws.specs.Kinds.{Kind, is_acceptance}
 
--- A side as it sends: its window k; the place of message number 0 of its present establishment, and how many
--- establishments it has had; V(S) and V(A); its messages, of these the first that waits, the first that is not sent, and
--- how many are acknowledged or dropped; and in which establishment each was last sent, and which were acknowledged.
+-- A side as a sender. `base`: the place of message number 0 of its present establishment; `era`:
+-- how many establishments it has had. `first`, `next`: the places of the first waiting and of the
+-- first unsent of its messages; `passed`: how many are acknowledged or dropped. `sent_in`: the
+-- establishment in which each was last sent; `acked`: which were acknowledged.
 pub record Sender : Type 0 where
   pub k : ℕ
   pub base : ℕ
@@ -23,13 +25,14 @@ pub record Sender : Type 0 where
   pub sent_in : ℕ → Option ℕ
   pub acked : List ℕ
 
--- a side as it receives: V(R), the reject condition, and the messages received
+-- a side as a receiver: V(R), the reject condition, and the messages received
 pub record Receiver : Type 0 where
   pub vr : ℕ
   pub rejecting : Bool
   pub received : List Receipt
 
--- a side: its state, whether layer 3 initiated the establishment and whether a release waits, and both of these
+-- a side: its state, whether layer 3 initiated the establishment, whether a release is pending, and
+-- its two roles
 pub record Party : Type 0 where
   pub state : State
   pub asked : Bool
@@ -55,7 +58,8 @@ sender_of base e h = record {
 abbrev pub receiver_of : End → History → Receiver
 receiver_of e h = record { vr = e.window.vr; rejecting = e.window.rejecting; received = h.received }
 
--- the party of an end with its history, where message number 0 of the present establishment stands at place `base`
+-- the values of an end and its history, if message number 0 of the present establishment is at
+-- place `base`
 abbrev pub party_of : ℕ → End → History → Party
 party_of base e h = record {
   state = e.state;
@@ -68,9 +72,9 @@ party_of base e h = record {
 abbrev pub party : ℕ → Station → Party
 party base s = party_of base s.end s.history
 
--- ---- Hearing.
+-- ---- The frames in transit that a side will process.
 
--- the frames that a side will take under numbers that are known now, with these numbers: V(S), V(A), V(R), rejecting
+-- the frames that a side will process with state variables that are known now, and these variables
 pub record Hearing : Type 0 where
   pub vs : ℕ
   pub va : ℕ
@@ -78,7 +82,7 @@ pub record Hearing : Type 0 where
   pub rejecting : Bool
   pub frames : List Kind
 
--- what stands behind the first UA
+-- the frames that follow the first UA
 abbrev pub behind : Bool → List Kind → Option (List Kind) → Option (List Kind)
 behind true ks later = Some ks
 behind false ks later = later
@@ -87,7 +91,7 @@ abbrev pub behind_acceptance : List Kind → Option (List Kind)
 behind_acceptance [] = None
 behind_acceptance (k ∷ ks) = behind (is_acceptance k) ks (behind_acceptance ks)
 
--- in an open link, all frames under its numbers
+-- in states 7 and 8: all frames, with the present variables
 abbrev pub hearing_now : Party → List Kind → Hearing
 hearing_now y ks = record {
   vs = y.sends.vs;
@@ -97,12 +101,12 @@ hearing_now y ks = record {
   frames = ks;
 }
 
--- in an establishment that is about to begin, with all numbers at 0
+-- in an establishment that is about to begin: all variables are 0
 abbrev pub hearing_to_come : List Kind → Hearing
 hearing_to_come ks = record { vs = 0; va = 0; vr = 0; rejecting = false; frames = ks }
 
--- In states 7 and 8 a side hears all frames on their way to it; in state 5, where no release waits, those behind the UA;
--- else nothing.
+-- In states 7 and 8 a side will process all frames in transit to it. In state 5, if no release is
+-- pending, it will process those that follow the UA; otherwise none.
 abbrev pub heard_in : State → Bool → Hearing → List Kind → Option Hearing
 heard_in TeiAssigned leaving now ks = None
 heard_in AwaitingEstablishment true now ks = None
@@ -114,12 +118,12 @@ heard_in TimerRecovery leaving now ks = Some now
 abbrev pub hears : Party → List Kind → Option Hearing
 hears y ks = heard_in y.state y.leaving (hearing_now y ks) ks
 
--- a fact of what is heard, where anything is
+-- a fact of the frames that will be processed, if there are any
 abbrev pub OnHearing : (Hearing → Type 0) → Option Hearing → Type 0
 OnHearing P None = Unit {0}
 OnHearing P (Some h) = P h
 
--- the frames that are heard
+-- the frames that will be processed
 abbrev pub frames_heard : Option Hearing → List Kind
 frames_heard None = []
 frames_heard (Some h) = h.frames

@@ -1,4 +1,4 @@
--- Moves without the premises under which runs are safe, and a schedule for each premise by which it is seen to be needed.
+-- Moves without the premises of safety, and for each premise a schedule that shows the need for it.
 use Rattle.std.specs.Prelude.{ℕ, if◌then◌else◌, List, [], ◌∷◌, ◌++◌, map, slice_get, Option, Some, None, Result, Err}
 use Rattle.lapd_timers.specs.declared.timer.Timer.TheVariants.{T200}
 use Rattle.lapd_frame.specs.declared.Side.{Side}
@@ -10,8 +10,9 @@ use Rattle.lapd_pair_laws.specs.Move.{Move, View, Turn, Refusal, Give, Establish
 use Rattle.lapd_pair_laws.specs.Schedule.{of_user, of_network, establishing}
 use Rattle.lapd_pair_laws.specs.World.{World, Happened, view_of, in_world, world_after, happens}
 
--- A move as it is admitted; T200 expires where it runs, whatever is still on its way; a side starts anew, and what is on the
--- line stays there; the frame at a position is delivered before those in front of it.
+-- In this order: an admitted move; T200 expires whenever it runs, whatever is in transit; a side
+-- restarts, and the frames in transit stay; the frame at a position is delivered before those in
+-- front of it.
 pub data Free : Type 0 where
   Admitted : (move : Move) → Free
   Expires : (side : Side) → Free
@@ -41,20 +42,20 @@ run_freely (move ∷ moves) w = run_freely moves (world_after w (freely move w))
 abbrev pub admitted : List Move → List Free
 admitted moves = map (λ move. Admitted move) moves
 
--- T200 expires while the answer to the SABME is on its way: the second SABME begins another establishment of the network,
--- and the user takes the message of the first for the message of the second
+-- T200 expires while the answer to the SABME is in transit. The second SABME begins another
+-- establishment of the network, and the user takes the message of the first for that of the second.
 abbrev pub hasty : List Free
 hasty = admitted (of_user Establish ∷ of_network Deliver ∷ of_network (Give (1 ∷ [])) ∷ [])
     ++ Expires side.User ∷ admitted (of_network Deliver ∷ of_user Deliver
     ∷ of_network (Give (2 ∷ [])) ∷ of_user Deliver ∷ of_network Deliver ∷ [])
 
--- the network starts anew, and the answer to its SABME from before comes
+-- the network restarts, and then the answer to its earlier SABME arrives
 abbrev pub stale : List Free
 stale = admitted (of_network Establish ∷ of_user Deliver ∷ []) ++ StartsAnew side.Network
     ∷ admitted (of_network Establish ∷ of_user (Give (1 ∷ [])) ∷ of_user Deliver
     ∷ of_user (Give (2 ∷ [])) ∷ of_network Deliver ∷ of_network Deliver ∷ of_user Deliver ∷ [])
 
--- a SABME of the network overtakes its acknowledgement
+-- a SABME of the network overtakes the RR that the network sent before it
 abbrev pub overtaken : List Free
 overtaken = admitted (establishing ++ of_user (Give (1 ∷ [])) ∷ of_network Deliver
     ∷ of_network Establish ∷ []) ++ Overtakes side.User 1

@@ -1,4 +1,4 @@
--- What a move reports, and what comes (Q.921 Appendix II).
+-- The reports of a move, and the frames that arrive (Q.921 Appendix II).
 use Rattle.std.specs.Prelude.{List, [], ◌∷◌, Result, Ok, Err}
 use Rattle.lapd_mod128.specs.Counting.{Reading}
 use Rattle.lapd_link_definition.specs.End.{End}
@@ -8,17 +8,18 @@ use Rattle.lapd_pair_laws.specs.Line.{Flight}
 use Rattle.lapd_pair_laws.specs.Move.{Refusal}
 use Rattle.lapd_pair_laws.specs.World.{World, Happened}
 
--- no report but F, G, H and I is among the outputs of a move
+-- a move reports only F, G, H and I
 abbrev pub ReportsExpected : Result Happened Refusal → Type 0
 ReportsExpected (Ok happened) = AreExpected happened.outs
 ReportsExpected (Err refusal) = Unit {0}
 
--- nor among those of a list of moves
+-- and so does a list of moves
 abbrev pub AllReportsExpected : List (Result Happened Refusal) → Type 0
 AllReportsExpected [] = Unit {0}
 AllReportsExpected (outcome ∷ outcomes) = ReportsExpected outcome × AllReportsExpected outcomes
 
--- the first of these frames is due to this end: a valid N(R), and no response that comes unasked
+-- the first of these frames is due to this end: its N(R) is valid, and it is no unsolicited
+-- response
 abbrev pub IsFirstDue : Reading → List Flight → End → Type 0
 IsFirstDue r [] e = Unit {0}
 IsFirstDue r (frame ∷ rest) e = IsDue r (Heard frame.control frame.role) e

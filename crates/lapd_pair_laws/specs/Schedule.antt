@@ -1,4 +1,4 @@
--- A worked schedule of moves, and histories that are not safe, by which the definitions are tried.
+-- A worked schedule of moves, and unsafe histories, which try the definitions.
 use Rattle.std.specs.Prelude.{ℕ, ◌==◌, if◌then◌else◌, List, [], ◌∷◌, ◌++◌, Option, Some, None}
 use Rattle.lapd_frame.specs.declared.Side.TheVariants as side
 use Rattle.lapd_link_definition.specs.declared.recovery.Recovery.TheVariants.{Enquiry}
@@ -15,26 +15,26 @@ of_user deed = record { side = side.User; deed = deed }
 abbrev pub of_network : Deed → Move
 of_network deed = record { side = side.Network; deed = deed }
 
--- a window of two, N200 of three, and room for four messages, on both sides
+-- a window of 2, N200 = 3, and room for four messages, on both sides
 abbrev pub parameters : Parameters
 parameters = record { k = 2; n200 = 3; room = 4; recovery = Enquiry }
 
 abbrev pub start : World
 start = new_world parameters parameters
 
--- the user establishes, and the network answers
+-- the user establishes the link, and the network answers
 abbrev pub establishing : List Move
 establishing = of_user Establish ∷ of_network Deliver ∷ of_user Deliver ∷ []
 
--- the user gives a message, which is lost, and T200 expires
+-- the user submits a message, which is lost, and T200 expires
 abbrev pub losing : List Move
 losing = of_user (Give (8 ∷ 1 ∷ [])) ∷ of_network (Lose 0) ∷ of_user Expire200 ∷ []
 
--- the enquiry is answered, the message is sent again, and it is received and acknowledged
+-- the enquiry is answered; the message is retransmitted, received and acknowledged
 abbrev pub recovering : List Move
 recovering = of_network Deliver ∷ of_user Deliver ∷ of_network Deliver ∷ of_user Deliver ∷ []
 
--- the network gives a message, which is received and acknowledged
+-- the network submits a message, which is received and acknowledged
 abbrev pub answering : List Move
 answering = of_network (Give (5 ∷ [])) ∷ of_user Deliver ∷ of_network Deliver ∷ []
 
@@ -49,7 +49,7 @@ giving = of_user (Give (8 ∷ 3 ∷ [])) ∷ of_network Deliver ∷ of_user Deli
 abbrev pub schedule : List Move
 schedule = establishing ++ losing ++ recovering ++ answering ++ establishing_again ++ giving
 
--- what is looked at of a side
+-- the values of a side that the laws compare
 pub record Figures : Type 0 where
   pub state : State
   pub vs : ℕ
@@ -75,7 +75,6 @@ figures s = record {
       ∷ [];
 }
 
--- a message received, at a place
 abbrev pub receipt : ℕ → ℕ → List ℕ → Receipt
 receipt place establishment octets = record {
   octets = octets;
@@ -83,7 +82,6 @@ receipt place establishment octets = record {
   place = place;
 }
 
--- one message, two, and three, of one octet each
 abbrev pub one_message : List (List ℕ)
 one_message = (1 ∷ []) ∷ []
 
@@ -93,7 +91,7 @@ two_messages = (1 ∷ []) ∷ (2 ∷ []) ∷ []
 abbrev pub three_messages : List (List ℕ)
 three_messages = (1 ∷ []) ∷ (2 ∷ []) ∷ (3 ∷ []) ∷ []
 
--- all but this place were sent in the sender's first establishment, and it was never sent
+-- all messages but the one at this place were sent in the sender's first establishment
 abbrev pub in_first_but : ℕ → ℕ → Option ℕ
 in_first_but unsent place = if place == unsent then None else Some 1
 
@@ -101,9 +99,9 @@ in_first_but unsent place = if place == unsent then None else Some 1
 abbrev pub in_first : ℕ → Option ℕ
 in_first place = Some 1
 
--- ---- What the schedule comes to.
+-- ---- Results of the schedule.
 
--- while the enquiry is on its way
+-- while the enquiry is in transit
 abbrev pub user_in_recovery : Figures
 user_in_recovery = record {
   state = TimerRecovery;
@@ -144,7 +142,7 @@ network_at_end = record {
   sent_in = Some 1 ∷ None ∷ None ∷ None ∷ [];
 }
 
--- the user starts anew while its message is on the way
+-- the user restarts while its message is in transit
 abbrev pub restarting : List Move
 restarting = establishing ++ of_user (Give (8 ∷ 1 ∷ [])) ∷ of_user Restart ∷ []
 

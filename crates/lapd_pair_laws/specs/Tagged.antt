@@ -1,5 +1,5 @@
--- The world on tags that stands for a world on whole numbers: each number that a frame carries, or that is a state variable,
--- in its tag (Q.921 3.5.2.1). Histories and places have none.
+-- The world on tags that represents a world on whole numbers. Each number that a frame carries, and
+-- each state variable, becomes its tag (Q.921 3.5.2.1). Histories and places do not change.
 use Rattle.std.specs.Prelude.{◌≡◌, ℕ, true, List, [], ◌∷◌, map, Result, Ok, Err}
 use Rattle.lapd_mod128.specs.Counting.{Whole}
 use Rattle.lapd_supervision.specs.Tags.{tag_control}
@@ -24,7 +24,7 @@ tag_world w = record {
   to_network = map tag_flight w.to_network;
 }
 
--- what an admitted move leaves and puts out; a refusal names no number
+-- the world and outputs of an admitted move; a refusal contains no numbers to tag
 abbrev pub tag_outcome : Result Happened Refusal → Result Happened Refusal
 tag_outcome (Ok happened) = Ok (record {
   world = tag_world happened.world;
@@ -32,14 +32,14 @@ tag_outcome (Ok happened) = Ok (record {
 })
 tag_outcome (Err refusal) = Err refusal
 
--- ---- Where a move on tags does what it does on whole numbers.
+-- ---- When a move on tags has the same effect as on whole numbers.
 
--- the first of these frames, where it is heard in states 7 and 8, carries numbers near those of the end
+-- in states 7 and 8, the first of these frames carries numbers near those of the end
 abbrev pub IsFirstNear : List Flight → End → Type 0
 IsFirstNear [] e = Unit {0}
 IsFirstNear (frame ∷ rest) e = is_7_or_8 e.state ≡ true → HasNearNumbers frame.control e.window
 
--- only a frame that is delivered brings numbers
+-- only delivery of a frame introduces numbers
 abbrev pub IsNearDeed : Deed → View → Type 0
 IsNearDeed Deliver v = IsFirstNear v.incoming v.station.end
 IsNearDeed deed v = Unit {0}
@@ -47,16 +47,15 @@ IsNearDeed deed v = Unit {0}
 abbrev pub IsNearMove : Move → World → Type 0
 IsNearMove move w = IsNearDeed move.deed (view_of move.side w)
 
--- each of these moves, one after another
 abbrev pub AreNearMoves : List Move → World → Type 0
 AreNearMoves [] w = Unit {0}
 AreNearMoves (move ∷ moves) w = IsNearMove move w
     × AreNearMoves moves (world_after w (happens Whole move w))
 
--- ---- Bounds by which each move is near.
+-- ---- Bounds from which each move is near.
 
--- the first of these frames, where it is heard in states 7 and 8, has numbers within those of the end; k is the window of
--- its sender
+-- in states 7 and 8, the numbers of the first of these frames are within the bounds of the end's; k
+-- is the window of the sender
 abbrev pub IsFirstWithin : ℕ → List Flight → End → Type 0
 IsFirstWithin k [] e = Unit {0}
 IsFirstWithin k (frame ∷ rest) e = is_7_or_8 e.state ≡ true

@@ -1,4 +1,4 @@
--- Worked worlds, by which the moves of a settling line are tried.
+-- Worked worlds that try the settling moves.
 use Rattle.std.specs.Prelude.{ℕ, Bool, true, false, List, [], ◌∷◌, ◌++◌, length, is_none}
 use Rattle.lapd_mod128.specs.Counting.{Reading}
 use Rattle.lapd_link_definition.specs.declared.recovery.Recovery.{Recovery}
@@ -10,8 +10,9 @@ use Rattle.lapd_pair_laws.specs.Schedule.{of_user, of_network, establishing}
 use Rattle.lapd_pair_laws.specs.World.{World, new_world, run, left}
 use Rattle.lapd_pair_laws.specs.Settle.{next_move, settling, bound}
 
--- What a line settles to: how many moves were made, whether none is possible any more, how many messages are left; how many
--- the network received, and the user had acknowledged; and the states of both.
+-- The result of settling. `moves`: how many were made; `rest`: whether no move is possible; `left`:
+-- how many messages are left; `received`: how many the network received; `acked`: how many of the
+-- user's are acknowledged; then both states.
 pub record Outcome : Type 0 where
   pub moves : ℕ
   pub rest : Bool
@@ -38,7 +39,7 @@ after_moves r moves w = looked_at r (length moves) (run r moves w)
 abbrev pub outcome_of : Reading → World → Outcome
 outcome_of r w = after_moves r (settling r (bound w) w) w
 
--- both ends alike, with this window
+-- both ends have the same parameters, with this window
 abbrev pub with_window : ℕ → Recovery → Parameters
 with_window k recovery = record { k = k; n200 = 3; room = 4; recovery = recovery }
 
@@ -92,7 +93,7 @@ recovered = record {
   network = MultipleFrameEstablished;
 }
 
--- the user asks again and again, is answered that the network is busy, and the bound is reached
+-- the user polls again and again, the network answers that it is busy, and the bound is reached
 abbrev pub held_up : Outcome
 held_up = record {
   moves = 40;

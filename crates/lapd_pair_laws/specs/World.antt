@@ -1,4 +1,5 @@
--- The world: the two ends of a data link with their histories, and the line between them in two directions; and its runs.
+-- The world: the two ends of a data link with their histories, the line between them in both
+-- directions, and the runs of moves over them.
 use Rattle.std.specs.Prelude.{ℕ, ◌+◌, ◌==◌, not, ◌&&◌, List, [], ◌∷◌, length, Result, Ok, Err}
 use Rattle.std.specs.List.{filter, list_any, range_with_len}
 use Rattle.lapd_frame.specs.declared.Side.{Side}
@@ -17,7 +18,7 @@ pub record World : Type 0 where
   pub to_user : List Flight
   pub to_network : List Flight
 
--- both ends as they are made, and nothing on the line
+-- new ends, and an empty line
 abbrev pub new_station : Parameters → Station
 new_station parameters = record { end = new_end parameters; history = new_history }
 
@@ -38,7 +39,7 @@ swapped w = record {
   to_network = w.to_user;
 }
 
--- what a side sees of it
+-- what a side sees of the world
 abbrev pub view_of : Side → World → View
 view_of side.User w = record { station = w.user; incoming = w.to_user; outgoing = w.to_network }
 view_of side.Network w = record {
@@ -47,7 +48,7 @@ view_of side.Network w = record {
   outgoing = w.to_user;
 }
 
--- the world with what a side sees changed to this
+-- replaces what a side sees of the world
 abbrev pub with_view : Side → View → World → World
 with_view side.User v w = record {
   user = v.station;
@@ -62,7 +63,7 @@ with_view side.Network v w = record {
   to_network = v.incoming;
 }
 
--- the world after an admitted move, and what the move put out
+-- the world after an admitted move, and its outputs
 pub record Happened : Type 0 where
   pub world : World
   pub outs : List Out
@@ -71,7 +72,7 @@ abbrev pub in_world : Side → World → Result Turn Refusal → Result Happened
 in_world who w (Ok acted) = Ok (record { world = with_view who acted.view w; outs = acted.outs })
 in_world who w (Err refusal) = Err refusal
 
--- one move: it is admitted, and changes what its side sees, or it is refused
+-- makes one move, or refuses it
 unfoldable pub happens : Reading → Move → World → Result Happened Refusal
 happens r move w = in_world move.side w (acts r move.side move.deed (view_of move.side w))
 
@@ -85,7 +86,7 @@ abbrev pub run : Reading → List Move → World → World
 run r [] w = w
 run r (move ∷ moves) w = run r moves (world_after w (happens r move w))
 
--- what each of them comes to, in turn
+-- the outcome of each move
 abbrev pub outcomes : Reading → List Move → World → List (Result Happened Refusal)
 outcomes r [] w = []
 outcomes r (move ∷ moves) w = happens r move w ∷ outcomes r moves (world_after w (happens r move w))
@@ -95,6 +96,5 @@ abbrev pub left_of : Station → ℕ
 left_of s = length (filter (λ place. not (list_any (λ p. p == place) s.history.acked)
     && not (list_any (λ p. p == place) s.history.dropped)) (range_with_len 0 (length s.end.given)))
 
--- of both sides
 abbrev pub left : World → ℕ
 left w = left_of w.user + left_of w.network

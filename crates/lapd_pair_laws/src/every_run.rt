@@ -1,4 +1,4 @@
-//! Laws of the invariant. They do nothing when they are called.
+//! Laws of the invariant over every run. They are proofs; their functions do nothing.
 
 ghost use Rattle.std.specs.Prelude.{◌≡◌, ◌≤◌, ℕ, true, List, ◌++◌, map, Ok, Err};
 ghost use Rattle.lapd_frame.specs.declared.Side.{Side};
@@ -19,11 +19,11 @@ ghost use Rattle.lapd_pair_laws.specs.Invariant.{IsInvariant};
 ghost use Rattle.lapd_pair_laws.specs.Premises.{run_freely, hasty, stale, overtaken};
 ghost use Rattle.lapd_pair_laws.specs.Reports.{ReportsExpected, AllReportsExpected, AreFirstDue};
 
-/// After every list of moves from a new world, on whole numbers and on tags, in windows of up to 127, whatever each end does
-/// when T200 expires: the histories are safe, each side against the other. So what a side received is among what the other
-/// was given, in order and once each; within one establishment nothing is skipped; and what a sender counts as acknowledged
-/// was received. Only the reports F, G, H and I ever arose; and the N(R) of the next frame that is delivered is valid, and no
-/// response comes unasked.
+/// After every run, a side has received only messages that the other side submitted, in order and
+/// once each. A run is a list of moves from a new world, on whole numbers or on tags, with windows
+/// of up to 127 and either `Recovery`. Within one establishment no message is skipped, and every
+/// message that a sender counts as acknowledged was received. A move reports only F, G, H and I.
+/// The next frame to be delivered has a valid N(R), and no response arrives unsolicited.
 pub fn every_run_is_safe()
     ensures safe { (r : Reading) (user network : Parameters) → user.k ≤ 127 → network.k ≤ 127
         → (moves : List Move) → AreSafe (run r moves (new_world user network)) }
@@ -33,26 +33,27 @@ pub fn every_run_is_safe()
         → (moves : List Move) → AreFirstDue r (run r moves (new_world user network)) }
 {}
 
-/// No message of an earlier establishment arrives: after every list of moves from a new world, on whole numbers and on tags,
-/// in windows of up to 127, each I frame on its way to an end in state 7 or 8 was last sent in its sender's present
-/// establishment. So once an establishment is confirmed, nothing comes that was dropped before it began.
+/// No message of an earlier establishment arrives after an establishment is confirmed. After every
+/// run, each I frame in transit to an end in state 7 or 8 was last sent in its sender's present
+/// establishment. This holds on whole numbers and on tags, with windows of up to 127.
 pub fn no_old_message_arrives()
     ensures { (r : Reading) (user network : Parameters) → user.k ≤ 127 → network.k ≤ 127
         → (moves : List Move) → ComeFresh (run r moves (new_world user network)) }
 {}
 
-/// Of the SABME and DISC commands of a side and the answers to them, at most one is under way after every list of moves from a
-/// new world, on whole numbers and on tags, in windows of up to 127; and in states 4, 7 and 8 none is. So no answer is taken
-/// for that to another command (Q.921 5.5.1, 5.5.3).
+/// A side has at most one SABME or DISC outstanding, so it never takes a response for the answer to
+/// another command (Q.921 5.5.1, 5.5.3). After every run, at most one of a side's SABME and DISC
+/// commands and the responses to them is in transit, and in states 4, 7 and 8 none. This holds on
+/// whole numbers and on tags, with windows of up to 127.
 pub fn each_side_asks_one_at_a_time()
     ensures { (r : Reading) (user network : Parameters) → user.k ≤ 127 → network.k ≤ 127
         → (moves : List Move) → AskOneAtATime (run r moves (new_world user network)) }
 {}
 
-/// Histories are safe, reports are expected, what is heard is due, and messages are fresh with a weaker premise on T200 too.
-/// In the moves above it does not expire while any command with P=1 of its
-/// side, or any response with F=1 to it, is on the line. Here only what it guards and the answer hold it back: in states 5
-/// and 6 SABME, DISC, UA and DM, in state 8 commands that poll and supervisory responses with F=1, and in state 7 nothing.
+/// Every run is safe under a weaker premise on T200 too. In the moves above, T200 does not expire
+/// while any command with P=1 of its side, or any response with F=1 to it, is in transit. Here only
+/// the frames that T200 guards and their answers delay it: in states 5 and 6 SABME, DISC, UA and
+/// DM; in state 8 polling commands and supervisory responses with F=1; in state 7 none.
 pub fn every_eager_run_is_safe()
     ensures safe { (r : Reading) (user network : Parameters) → user.k ≤ 127 → network.k ≤ 127
         → (moves : List Move) → AreSafe (run_eagerly r moves (new_world user network)) }
@@ -65,8 +66,8 @@ pub fn every_eager_run_is_safe()
         → (moves : List Move) → ComeFresh (run_eagerly r moves (new_world user network)) }
 {}
 
-/// Eagerly every move that is admitted comes to the same; and T200 expires only where it runs and nothing is on its way that
-/// it waits for.
+/// Every admitted move is an eager move with the same outcome. An eager T200 expires only if it
+/// runs and no frame that it waits for is in transit.
 pub fn eager_moves_are_admitted()
     ensures same { (r : Reading) (move : Move) (w : World) (happened : Happened)
         → happens r move w ≡ Ok happened → happens_eagerly r move w ≡ Ok happened }
@@ -74,9 +75,10 @@ pub fn eager_moves_are_admitted()
         → expires_eagerly r side v ≡ Ok acted → (v.station.end.t200 ≡ true) × (awaited_in v ≡ 0) }
 {}
 
-/// More moves are admitted eagerly: an enquiry is on its way that nobody will answer, a message of the next establishment is
-/// lost, and T200, which guards that message, may not expire. Eagerly it expires; the message is sent again, received once
-/// and acknowledged.
+/// Some eager moves are not admitted otherwise. In this schedule an enquiry is in transit that
+/// nobody will answer, and the next message is lost. T200 guards that message, but may not expire
+/// because of the enquiry. Eagerly it expires: the message is retransmitted, received once and
+/// acknowledged.
 pub fn eager_schedule_is_computed()
     ensures refused { (r : Reading) → happens r (of_user Expire200) (run r passed_over worked.start)
         ≡ Err (NotYet side.Network 0) }
@@ -87,8 +89,9 @@ pub fn eager_schedule_is_computed()
         ≡ network_at_end }
 {}
 
-/// A run on tags is the run on whole numbers, each number in its tag: in what each move comes to, and in the world that is
-/// left. In windows of up to 127 tags decide as whole numbers do (Q.921 3.5.2, 5.9.5).
+/// A run on tags equals the run on whole numbers with each number replaced by its tag, in the
+/// outcome of each move and in the final world. So with windows of up to 127, tags decide as whole
+/// numbers do (Q.921 3.5.2, 5.9.5).
 pub fn every_run_is_the_same_on_tags()
     ensures worlds { (user network : Parameters) → user.k ≤ 127 → network.k ≤ 127
         → (moves : List Move)
@@ -100,7 +103,7 @@ pub fn every_run_is_the_same_on_tags()
         ≡ map tag_outcome (outcomes Whole moves (new_world user network)) }
 {}
 
-/// The invariant holds of a new world, each move keeps it, and so does every run.
+/// A new world satisfies the invariant, and each move and every run keep it.
 pub fn the_invariant_is_kept()
     ensures begins { (user network : Parameters) → user.k ≤ 127 → network.k ≤ 127
         → IsInvariant (new_world user network) }
@@ -110,9 +113,9 @@ pub fn the_invariant_is_kept()
         → IsInvariant (run Whole moves w) }
 {}
 
-/// Where it holds, the histories are safe; a move reports nothing but F, G, H and I; no old message comes; and the first frame
-/// on its way to a side carries numbers near those of that side, so that each of a list of moves does on tags what it does on
-/// whole numbers.
+/// The invariant implies what the laws above state. The histories are safe, a move reports only F,
+/// G, H and I, and no old message arrives. The first frame in transit to a side carries numbers
+/// near the side's own, so each of a list of moves has the same effect on tags as on whole numbers.
 pub fn the_invariant_tells()
     ensures safe { (w : World) → IsInvariant w → AreSafe w }
     ensures reports { (move : Move) (w : World) → IsInvariant w
@@ -124,9 +127,9 @@ pub fn the_invariant_tells()
         → AreNearMoves moves w }
 {}
 
-/// Each premise is needed: where T200 expires although the answer that it waits for is on its way, where what is on the line
-/// outlives a restart, or where one frame overtakes another, a run of some ten moves ends in histories that are not safe. In
-/// each a message is acknowledged that was never received.
+/// Each premise on the moves is needed: without it, a run of about ten moves acknowledges a message
+/// that was never received. `t200`: T200 expires while the answer it waits for is in transit.
+/// `restart`: frames in transit survive a restart. `order`: one frame overtakes another.
 pub fn each_premise_is_needed()
     ensures t200 { AreSafe (run_freely hasty worked.start) → ⊥ }
     ensures restart { AreSafe (run_freely stale worked.start) → ⊥ }

@@ -1,4 +1,4 @@
-//! Laws by which the definitions are tried. They do nothing when they are called.
+//! Laws that try the definitions on worked examples. They are proofs; their functions do nothing.
 
 ghost use Rattle.std.specs.Prelude.{◌≡◌, ◌↔◌, ◌≤◌, ℕ, true, false, List, [], ◌∷◌, ◌++◌, map, length, None, Ok, Err};
 ghost use Rattle.lapd_frame.specs.declared.Side.TheVariants as side;
@@ -23,10 +23,11 @@ ghost use Rattle.lapd_pair_laws.specs.Schedule.{figures, of_user, of_network, st
 ghost use Rattle.lapd_pair_laws.specs.Tagged.{tag_world, tag_outcome, IsNearMove, AreFirstWithin, AreNearMoves};
 ghost use Rattle.lapd_pair_laws.specs.World.{World, Happened, swapped, happens, world_after, left, new_world, run, outcomes};
 
-/// On whole numbers and on tags: a message is lost, T200 expires, the enquiry is answered, and the message is sent again;
-/// a second is lost, and dropped by a second establishment; a third is received. What was received, acknowledged, dropped
-/// and sent, and the state variables of both ends, are as the standard has them, and nothing is left on the line. A restart
-/// drops what waits and what is on the line, and unit data passes in state 4.
+/// A worked schedule ends as Q.921 requires, on whole numbers and on tags. A message is lost, T200
+/// expires, the enquiry is answered, and the message is retransmitted. A second message is lost,
+/// and dropped by a second establishment; a third is received. The histories and state variables of
+/// both ends are the expected ones, and the line is empty. A restart drops waiting messages and
+/// frames in transit. Unit data passes in state 4.
 pub fn schedule_is_computed()
     ensures recovery { (r : Reading) → figures (run r (establishing ++ losing) start).user
         ≡ user_in_recovery }
@@ -44,8 +45,9 @@ pub fn schedule_is_computed()
         start).network.history.units ≡ (9 ∷ []) ∷ [] }
 {}
 
-/// What each move puts on the line, on whole numbers and on tags: a message goes out with its place, and the first of two is
-/// lost; a release sends a DISC, T203 an enquiry, a busy condition an RNR and its end an RR, and unit data goes in a UI.
+/// Each kind of move sends the expected frame, on whole numbers and on tags. A message is sent in
+/// an I frame with its place, and the first of two is lost. A release sends DISC, T203 an enquiry,
+/// own busy RNR, its end RR, and unit data UI.
 pub fn moves_are_computed()
     ensures given { (r : Reading)
         → (run r (establishing ++ of_user (Give (8 ∷ 1 ∷ [])) ∷ []) start).to_network
@@ -73,8 +75,8 @@ pub fn moves_are_computed()
         ≡ unit_frame (9 ∷ []) ∷ [] }
 {}
 
-/// A move is refused where no frame is there, the timer does not run, the enquiry or its answer is on the line, or the
-/// state table refuses it.
+/// A move is refused if there is no such frame, if the timer does not run, if the enquiry or its
+/// answer is in transit, or if the state table refuses it.
 pub fn refusals_are_computed()
     ensures nothing_to_deliver { (r : Reading) → happens r (of_user Deliver) start
         ≡ Err NothingThere }
@@ -95,7 +97,8 @@ pub fn refusals_are_computed()
         ≡ Err (Refused NotEstablished) }
 {}
 
-/// The two sides are alike: a move of the network is that move of the user, with the sides exchanged before and after.
+/// The two sides are alike: a move of the network equals the same move of the user with the sides
+/// exchanged before and after.
 pub fn sides_are_alike()
     ensures { (r : Reading) (deed : Deed) (w : World)
         → world_after w (happens r (of_network deed) w)
@@ -107,14 +110,15 @@ pub fn schedule_is_safe()
     ensures { (r : Reading) → AreSafe (run r schedule start) }
 {}
 
-/// A world as it begins is safe.
+/// A new world is safe.
 pub fn new_worlds_are_safe()
     ensures { (user network : Parameters) → AreSafe (new_world user network) }
 {}
 
-/// These histories are not safe: one message received twice; two in the other order; one skipped in an establishment of
-/// the receiver; one missing of those that were sent in an establishment of the sender; one acknowledged and not received;
-/// and octets that were not given.
+/// `IsSafe` excludes wrong histories. A message is received twice; two are received in the wrong
+/// order; one is skipped within a receiver's establishment; one is missing from a sender's
+/// establishment; one is acknowledged but not received; one arrives with octets that were not
+/// submitted.
 pub fn wrong_histories_are_not_safe()
     ensures twice { IsSafe one_message in_first []
         (receipt 0 1 (1 ∷ []) ∷ receipt 0 2 (1 ∷ []) ∷ []) → ⊥ }
@@ -127,8 +131,8 @@ pub fn wrong_histories_are_not_safe()
     ensures altered { IsSafe one_message in_first [] (receipt 0 1 (2 ∷ []) ∷ []) → ⊥ }
 {}
 
-/// Every world keeps what is written in `IsKeptWorld`: a new one with windows of up to 127 has it, an admitted move leaves
-/// it, and so does every run. On whole numbers and on tags.
+/// Every run keeps `IsKeptWorld`, on whole numbers and on tags. A new world with windows of up to
+/// 127 satisfies it, and each admitted move keeps it.
 pub fn worlds_are_kept()
     ensures begins { (r : Reading) (user network : Parameters) → user.k ≤ 127 → network.k ≤ 127
         → IsKeptWorld r (new_world user network) }
@@ -138,8 +142,9 @@ pub fn worlds_are_kept()
         → IsKeptWorld r (run r moves w) }
 {}
 
-/// What a step of a side puts out is in order, and leads from its history to the end after the step; the information of a
-/// frame goes up once at most, and only of a frame that is heard.
+/// The outputs of a step are in order: they lead from the side's history to its end after the step.
+/// A step delivers the information of at most one frame to layer 3, and only if it received a
+/// frame.
 pub fn outputs_are_in_order()
     ensures order { (r : Reading) (input : Input) (station : Station) (s : StepState)
         → IsKept r station → step r input station.end ≡ Ok s
@@ -150,9 +155,10 @@ pub fn outputs_are_in_order()
         → is_heard input ≡ false → step r input e ≡ Ok s → ups s.outs ≡ 0 }
 {}
 
-/// One output is told: those behind it are still in order; the places acknowledged or dropped are still those before the
-/// first that waits; no establishment begins; no message was sent that was not given; and what is on the line is in the
-/// grammar.
+/// Recording one output in the history keeps what holds of a side. The remaining outputs are in
+/// order. The places acknowledged or dropped are those before the first waiting message. No
+/// establishment begins. No message is sent that was not submitted. Every frame on the line is a
+/// frame of the control table.
 pub fn outputs_are_told()
     ensures rest { (e : End) (o : Occasion) (out : Out) (outs : List Out) (t : Story)
         → AreInOrder e t.history.passed (out ∷ outs)
@@ -170,10 +176,11 @@ pub fn outputs_are_told()
         → AreProper t.line → AreProper (tell o out t).line }
 {}
 
-/// A move on tags does what it does on whole numbers: it is refused for the same reason, or it leaves the same world and puts
-/// out the same, each number in its tag. So it is where the world is one that moves keep, and a frame that is delivered and
-/// heard in states 7 and 8 carries numbers near those of the end (Q.921 3.5.2, 5.9.5), as it does within the bounds of the
-/// windows. And so does a run of such moves: in what each of them comes to, and in the world that is left.
+/// A move has the same effect on tags as on whole numbers: the same refusal, or the same world and
+/// outputs with each number replaced by its tag. It needs a world that satisfies `IsKeptWorld`. A
+/// frame delivered in states 7 and 8 must carry numbers near the end's own (Q.921 3.5.2, 5.9.5), as
+/// numbers within the window bounds are. The same holds for a run of such moves, in each outcome
+/// and in the final world.
 pub fn tags_move_as_whole_numbers()
     ensures moves { (move : Move) (w : World) → IsKeptWorld Whole w → IsNearMove move w
         → happens Tagged move (tag_world w) ≡ tag_outcome (happens Whole move w) }
@@ -185,7 +192,8 @@ pub fn tags_move_as_whole_numbers()
         → outcomes Tagged moves (tag_world w) ≡ map tag_outcome (outcomes Whole moves w) }
 {}
 
-/// Tags are not read where it is said what is safe, nor what is left; and a new world is its own, since all counters are 0.
+/// Safety and the number of messages left do not depend on tags. A new world is its own tagged
+/// world, since all its counters are 0.
 pub fn tags_are_not_read()
     ensures safe { (w : World) → AreSafe (tag_world w) ↔ AreSafe w }
     ensures left { (w : World) → left (tag_world w) ≡ left w }

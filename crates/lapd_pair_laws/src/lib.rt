@@ -1,23 +1,29 @@
-//! Two ends of a data link, after ITU-T Q.921 (09/97), and the line between them: definitions and laws. Nothing here runs.
+//! Two ends of a data link, after ITU-T Q.921 (09/97), and the line between them: definitions and
+//! laws. Nothing here runs.
 //!
-//! **Moves and histories.** What can happen to the two ends and the line, what is recorded of it, and when that is safe. The
-//! definitions are in specs/, to be read in this order: `Line`, one direction of the line; `Histories`, what a side received,
-//! sent, had acknowledged and dropped; `Move`, what a side does or what happens to it, and when that is admitted; `World`, both
-//! ends, and a run of moves; `Kept`, what every world keeps; `Safe`; and `Tagged`, the world on tags that represents one on
-//! whole numbers, and which moves are the same in both. Every other definition holds on whole numbers and on the tags that
-//! frames carry. The laws try them on worked moves (begin with [`schedule_is_computed`]), say what every run keeps
-//! ([`worlds_are_kept`]), and that a run on tags is the tag of the run on whole numbers ([`tags_move_as_whole_numbers`]).
+//! **Moves and histories.** What can happen to the two ends and the line, what is recorded of it,
+//! and when that is safe. The definitions are in specs/, to be read in this order: `Line`, one
+//! direction of the line; `Histories`, what a side received, sent, had acknowledged and dropped;
+//! `Move`, what a side does or what happens to it, and when that is admitted; `World`, both ends,
+//! and a run of moves; `Kept`, facts that every run keeps; `Safe`; and `Tagged`, the world on tags
+//! that represents one on whole numbers, and which moves are the same in both. Every other
+//! definition holds on whole numbers and on the tags that frames carry. The laws try them on worked
+//! moves (begin with [`schedule_is_computed`]), say what every run keeps ([`worlds_are_kept`]), and
+//! that a run on tags is the tag of the run on whole numbers ([`tags_move_as_whole_numbers`]).
 //!
-//! **Every run is safe.** A side receives the messages that the other side submitted, in order and once each. Read next:
-//! `Kinds`, what is read of the frames on their way; `Parties`, what is read of a side, and what it receives; `Conjuncts`, each
-//! a sentence on a few of these values; `Invariant`, all of them; `Reports`; `Fresh`, that no old message arrives; `Exchanges`,
-//! that a side has one establishment or release outstanding at a time; `Eager`, moves with a weaker premise on T200; and
-//! `Premises`, which shows that each premise of the moves is needed. Begin with [`every_run_is_safe`].
+//! **Every run is safe.** A side receives only messages that the other side submitted, in order and
+//! once each. Read next: `Kinds`, the kinds of frames in transit; `Parties`, the values of a side
+//! that the invariant reads, and the frames that it will process; `Conjuncts`, each a statement
+//! about a few of these values; `Invariant`, all of them; `Reports`; `Fresh`, that no old message
+//! arrives; `Exchanges`, that a side has one establishment or release outstanding at a time;
+//! `Eager`, moves with a weaker premise on T200; and `Premises`, which shows that each premise of
+//! the moves is needed. Begin with [`every_run_is_safe`].
 //!
-//! **A quiet line drains.** If both ends are established and not busy, the line between them is empty and no frame is lost,
-//! then every message is acknowledged in the end. Read `Settle`, which moves are made one after another, and when a line is
-//! quiet; `Drained`, what a quiet line comes to; `Timed`, what every end keeps between two steps; and `Worked`, worlds by which
-//! the moves are tried. Begin with [`every_quiet_line_drains`].
+//! **A quiet line drains.** If both ends are established and not busy, the line between them is
+//! empty and no frame is lost, then every message is acknowledged in the end. Read `Settle`, the
+//! moves by which a line settles, and when it is quiet; `Drained`, the world in which a quiet line
+//! ends; `Timed`, facts that every end keeps between two steps; and `Worked`, worlds that try the
+//! moves. Begin with [`every_quiet_line_drains`].
 #![tactic(auto)]
 
 mod every_run;

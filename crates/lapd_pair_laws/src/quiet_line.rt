@@ -1,4 +1,4 @@
-//! Laws of a quiet line. They do nothing when they are called.
+//! Laws of a quiet line. They are proofs; their functions do nothing.
 
 ghost use Rattle.std.specs.Prelude.{◌≡◌, ◌≤◌, List};
 ghost use Rattle.lapd_mod128.specs.Counting.{Reading, Whole};
@@ -11,9 +11,10 @@ ghost use Rattle.lapd_pair_laws.specs.Settle.{IsQuiet};
 ghost use Rattle.lapd_pair_laws.specs.Timed.{AreRested};
 ghost use Rattle.lapd_pair_laws.specs.Worked.{outcome_of, new_pair, sabme_lost, three_lost, busy, nothing_to_do, established, recovered, held_up};
 
-/// A quiet line drains, after whatever run from a new world, on whole numbers and on tags, in windows of 1 to 127, whatever
-/// each end does when T200 expires: by the moves by which it settles, three for each message that is left and eight at most,
-/// nothing is left, nothing was dropped, and each message that was left is acknowledged, and so was received (Q.921 5.6).
+/// A line that is quiet after a run drains: its settling moves acknowledge each message that was
+/// left, and drop none (Q.921 5.6). So each was received. They are at most three moves per message
+/// left, and eight more. The run starts in a new world, on whole numbers or on tags, with windows
+/// of 1 to 127 and either `Recovery`.
 pub fn every_quiet_line_drains()
     ensures { (r : Reading) (user network : Parameters)
         → user.k ≤ 127 → network.k ≤ 127 → 1 ≤ user.k → 1 ≤ network.k → (moves : List Move)
@@ -21,16 +22,16 @@ pub fn every_quiet_line_drains()
         → IsDrained r (run r moves (new_world user network)) }
 {}
 
-/// After every run of moves both ends are at rest between two steps: in state 7, T200 runs where a message is outstanding or
-/// the peer is thought busy; no message may go out that has not; and in states 7 and 8 no acknowledgement is pending
-/// (Q.921 5.6.1, 5.6.2, 5.6.5).
+/// Both ends are at rest between two steps, after every run (Q.921 5.6.1, 5.6.2, 5.6.5). In state
+/// 7, T200 runs if a message is outstanding or the end takes the peer to be busy. Every message
+/// that may be sent has been sent. In states 7 and 8 no acknowledgement is pending.
 pub fn ends_rest_between_moves()
     ensures { (user network : Parameters) → 1 ≤ user.k → 1 ≤ network.k → (moves : List Move)
         → AreRested (run Whole moves (new_world user network)) }
 {}
 
-/// Worked worlds settle as was written down beforehand, on whole numbers and on tags: a new pair; one whose SABME was lost;
-/// three messages that were lost, with either recovery; and a busy network, where nothing drains.
+/// Worked worlds settle as expected, on whole numbers and on tags: a new pair; a pair whose SABME
+/// was lost; three lost messages, with either recovery; and a busy network, where nothing drains.
 pub fn settling_is_computed()
     ensures new_pair { (r : Reading) → outcome_of r (new_pair 3 Enquiry) ≡ nothing_to_do }
     ensures sabme { (r : Reading) → outcome_of r (run r sabme_lost (new_pair 3 Enquiry))
