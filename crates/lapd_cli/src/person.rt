@@ -34,7 +34,8 @@ impl<'a> Speaker<'a> {
 
 impl Person for Speaker<'_> {
     fn greet(&mut self) {
-        self.notes.say("type a line; help lists the lines, quit ends the session");
+        self.notes
+            .say("type a line; help lists the lines, quit ends the session");
     }
 
     fn tidied(&self, line: &[u8]) -> Result<Vec<u8>, AllocError> {

@@ -20,8 +20,5 @@ pub fn put_help<W: Write>(script: Script, out: &mut W) -> io::Result<()> {
     for form in forms(script) {
         writeln!(out, "  {form}")?;
     }
-    writeln!(
-        out,
-        "help (prints this list), quit (ends the {end})"
-    )
+    writeln!(out, "help (prints this list), quit (ends the {end})")
 }

@@ -40,7 +40,10 @@ const UNSEEN: &[(&[u8], &str)] = &[
         "the line contains a tab; separate words by single spaces",
     ),
     (b"user \xff", "the line is not UTF-8"),
-    (b"user 0\x1b", "user HEX: '\\x1b' is not a hexadecimal digit"),
+    (
+        b"user 0\x1b",
+        "user HEX: '\\x1b' is not a hexadecimal digit",
+    ),
     (
         b"\x1b[A'",
         "'\\x1b[A\\'' is not a line of decode; valid lines: user HEX, net HEX",

@@ -211,11 +211,8 @@ impl UserSide {
         ensures nothing { result ≡ false → acts.new ≡ no_effects }
     {
         acts.clear();
-        let Some(RunningTimer { timer, of, .. }) = due(
-            &self.served.timers,
-            &self.served.links,
-            now,
-        ) else {
+        let Some(RunningTimer { timer, of, .. }) = due(&self.served.timers, &self.served.links, now)
+        else {
             return false;
         };
         match of {
