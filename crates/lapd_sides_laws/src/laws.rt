@@ -37,8 +37,8 @@ ghost use Rattle.lapd_sides_laws.specs.Schedule.{configs, call, packet, at_first
 ghost use Rattle.lapd_sides_laws.specs.SideView.{SideView, Deed, Expire, Ask, does};
 ghost use Rattle.lapd_sides_laws.specs.Told.{told_of};
 
-/// Every link between two sides is safe after every run, in both directions, if its T200 was timely
-/// and its TEI was assigned once.
+/// Every link between two sides is safe after every run, in both directions, if its T200 never
+/// expires while an awaited answer is in transit and its TEI is assigned once (`Premises`).
 ///
 /// Safe means: layer 3 at one end receives messages that layer 3 at the other end submitted, in
 /// order and once each. Within one establishment no message is skipped. Every message that counts
