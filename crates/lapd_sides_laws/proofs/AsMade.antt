@@ -1,5 +1,5 @@
--- Two sides as they are made: each of their links is there as new or not there yet, and no TEI is given whose links are there; so
--- each of their links is safe after every run.
+-- Two newly created sides. Each of their links exists as new or does not exist yet, and they assign
+-- or obtain no TEI whose links exist. So each of their links is safe after every run.
 use Rattle.std.proofs.Common.{◌≡◌, ℕ, ◌==◌, ◌&&◌, ◌||◌, nat_lt, List, [], ◌∷◌, Bool, true, false, if◌then◌else◌, Option, Some, None, refl, arith, inl, inr, ◌<◌, ◌≤◌}
 use Rattle.std.specs.Prelude.{is_some}
 use Rattle.std.specs.List.{list_any}
@@ -23,7 +23,7 @@ use Rattle.lapd_sides_laws.proofs.UserOwn.{AreOwn, user_keeps}
 use Rattle.lapd_sides_laws.proofs.Timed.{new_is_timed}
 use Rattle.lapd_sides_laws.proofs.Whole.{IsNew, link_safe_as}
 
--- ---- As they are made.
+-- ---- Newly created sides.
 
 there_so : (test : Bool) (fresh : Linked) → is_some (if test then Some fresh else None) ≡ true → test ≡ true
 there_so true fresh h = refl

@@ -1,4 +1,4 @@
--- What a request that is granted to a link is to one of the links.
+-- The effect of a request that a link accepts on any one of the links.
 use Rattle.std.specs.List.{cons_option}
 use Rattle.std.proofs.Common.{◌≡◌, ◌⊎◌, inl, inr, ℕ, List, [], ◌∷◌, length, Bool, true, false, if◌then◌else◌, Some, None, Ok, refl, sym, subst, Option}
 use Rattle.lapd_timers.specs.declared.timer.Timer.{Timer}
@@ -17,7 +17,7 @@ use Rattle.lapd_sides_laws.specs.Owed.{IsRequest, IsNoRequest}
 use Rattle.lapd_sides_laws.specs.Told.{given_to}
 use Rattle.lapd_sides_laws.proofs.LinkParts.{other_acts, own_granted, absent_refuses}
 
--- ---- What each request of a link is in the world.
+-- ---- Each request of a link, as a move in the world.
 
 -- a request of layer 3, with its unit data, as a move
 pub record IsWish (side : Side) (input : Input) (octets : List ℕ) : Type 0 where
@@ -49,7 +49,7 @@ pub unit_wish : (side : Side) (octets : List ℕ) → IsWish side (input.UnitDat
 unfolding acts
 unit_wish side octets = record { deed = world.UnitData octets; is_deed = λ v. refl; no_expiry = λ timer e. cc }
 
--- ---- A request that is granted among links.
+-- ---- A request that is accepted among links.
 
 module _ (side : Side) (id : LinkId) (fresh : Linked) (removed : Bool) (links : Links) (now : ℕ) (other : LinkId) (input : Input) (octets : List ℕ) (a : Reaction Links) (given : List (LinkId × List ℕ)) (wish : IsWish side input octets) where
   abbrev Granted : Type 0
@@ -76,12 +76,12 @@ module _ (side : Side) (id : LinkId) (fresh : Linked) (removed : Bool) (links : 
   pub granted_part : given_to id given ≡ (if id_eq id other then messages_of input else []) → in_links other (link_acts side other now input octets) links ≡ Ok a → Granted
   granted_part given_is granted = by_test (id_eq id other) refl given_is granted
 
--- no message is given
+-- no message is accepted
 pub none_given : (test : Bool) (xs : List (List ℕ)) → xs ≡ [] → [] ≡ (if test then xs else [])
 none_given true xs h = sym h
 none_given false xs h = refl
 
--- one is given to the link that is named
+-- one message is accepted for the link that the request names
 pub one_given : (id other : LinkId) (message : List ℕ) → given_to id ((other, message) ∷ []) ≡ (if id_eq id other then message ∷ [] else [])
 one_given id other message = one (id_eq id other) message
   where

@@ -1,4 +1,4 @@
--- A call of a side in code is a deed of the side that it showed before.
+-- A call of a side in code is an event of the side that the code represented before.
 use Rattle.std.proofs.Common.{◌≡◌, ℕ, List, ◌∷◌, ◌++◌, Bool, true, if◌then◌else◌, Option, Some, None, Result, Ok, Err, refl, sym, ap, subst, ◌∙◌}
 use Rattle.std.specs.Prelude.{is_some, option_map, Vec, ⊤}
 use Rattle.std.specs.declared.alloc.Global.{Global}
@@ -46,7 +46,7 @@ runs_by T202 (Some id) s t deadline there own until = absurd own
 due_may_expire : (now : ℕ) (s : Served) (e : RunningTimer) → IsDue now s (Some e) → may_expire e.timer e.of s ≡ true
 due_may_expire now s e due = let r : Runs (of_served s) e = due.0.runs in runs_by e.timer e.of s r.its e.deadline r.there r.own r.until
 
--- ---- What a deed puts.
+-- ---- The frames and primitives that an event adds.
 
 puts_so : (S : Type 0) (w : Behaviour S) (acts : Effects) (deed : Deed) (v : SideView S) → acts ≡ (reaction w deed v).effects → Puts w acts deed v
 unfolding does
@@ -55,13 +55,13 @@ puts_so S w acts deed v is = record {
   told = ap (λ (e : Effects). v.told ++ e.primitives) (sym is);
 }
 
--- what a deed does where its timer may expire
+-- the effect of an expiry if the timer may expire
 expiry_is : (S : Type 0) (w : Behaviour S) (e : RunningTimer) (now : ℕ) (v : SideView S) → may_expire e.timer e.of (w.served v.now) ≡ true → reaction w (Expire e.timer e.of now) v ≡ w.expires now e.timer e.of v.now
 expiry_is S w e now v may = ap (λ (b : Bool). if b then w.expires now e.timer e.of v.now else unmoved v.now) may
 
--- ---- What a call does.
+-- ---- The effect of a call.
 
--- the side does what the deed comes to
+-- the side after the call is the one after the event, with the same frames and primitives
 done : {C S : Type 0} (Show : C → Config → S → Type 0) (w : Config → Behaviour S) (code : C) (config : Config) (acts : Effects) (deed : Deed) (v : SideView S) (a : Reaction S)
     → reaction (w config) deed v ≡ a → HasDone Show code config acts a → SideDoes Show w code config acts deed v
 unfolding does

@@ -1,4 +1,4 @@
--- The worked runs, computed; and that what the last three come to is not right.
+-- The worked runs, computed. The last three runs end in a state that is not right.
 use Rattle.std.proofs.Common.{◌≡◌, inl, inr, ℕ, ◌≤◌, List, [], ◌∷◌, length, map, slice_get, Option, Some, None, refl, sym, ap, subst, arith, true, false}
 use Rattle.std.specs.Prelude.{Vec}
 use Rattle.std.specs.declared.alloc.Global.{Global}
@@ -36,7 +36,7 @@ Fits v octets = (v.len ≡ length octets) × (v.len ≤ v.cap)
 abbrev holding : (v : Vec ℕ Global) (octets : List ℕ) → Fits v octets → Vec ℕ Global
 holding v octets fits = record { ptr = v.ptr; len = v.len; cap = v.cap; alloc = v.alloc; items = octets; ok = fits; small = v.small }
 
--- what is so of each that holds these octets is so of this one, whose octets they are
+-- a property of every vector that holds these octets is a property of this one
 with_octets : (P : Vec ℕ Global → Type 0) (octets : List ℕ) → ((v : Vec ℕ Global) (fits : Fits v octets) → P (holding v octets fits)) → (v : Vec ℕ Global) → v.items ≡ octets → P v
 with_octets P octets each v is = subst (λ (xs : List ℕ). (fits : Fits v xs) → P (holding v xs fits)) (sym is) (λ fits. each v fits) v.ok
 
@@ -67,7 +67,7 @@ both_links_hold v w x y = record {
 pub both_links_so : (message answer : Vec ℕ Global) → IsMessage 1 message → IsMessage 2 answer → BothLinks message answer
 both_links_so = with_both BothLinks (1 ∷ []) (2 ∷ []) both_links_hold
 
--- ---- A TEI that is assigned.
+-- ---- A TEI is assigned.
 
 pub record Assigned (message : Vec ℕ Global) : Type 0 where
   pub premises : KeepPremises configs call (assigned message) unassigned
@@ -85,7 +85,7 @@ assigned_holds v x = record {
 pub assigned_so : (message : Vec ℕ Global) → IsMessage 1 message → Assigned message
 assigned_so = with_octets Assigned (1 ∷ []) assigned_holds
 
--- ---- A TEI that is taken away.
+-- ---- A TEI is removed.
 
 pub record Removed (first : Vec ℕ Global) : Type 0 where
   pub premises : KeepPremises configs call (removed first) at_first
@@ -101,7 +101,7 @@ removed_holds v x = record {
 pub removed_so : (first : Vec ℕ Global) → IsMessage 1 first → Removed first
 removed_so = with_octets Removed (1 ∷ []) removed_holds
 
--- ---- A place that counts as acknowledged and was not received.
+-- ---- A position that counts as acknowledged but was not received.
 
 one_of : {Y : Type 0} (f : ℕ → Y) (y : Y) (places : List ℕ) (at : ℕ) → map f places ≡ y ∷ [] → IsAmong at places → f at ≡ y
 one_of f y [] at same among = absurd among
@@ -127,7 +127,7 @@ same_octet a b same = ap first_octet same
 differ : Octet 1 ≡ Octet 2 → ⊥
 differ same = omega (arith, same_octet 1 2 same)
 
--- ---- T200, and of that link.
+-- ---- The premise on T200, of that link.
 
 pub record Hasty (first second : Vec ℕ Global) : Type 0 where
   pub tei : GiveTeiOnce configs call (hasty first second) at_first
@@ -155,7 +155,7 @@ hasty_is_not_right first second one two right =
     let plain : IsReceived two_messages (1 ∷ []) one_message = received_as _ two_messages _ (1 ∷ []) _ one_message (sym h.given) (sym h.acked) (sym h.received) right.to_user in
     differ (sym (one_of (λ place. slice_get two_messages place) (Some (1 ∷ [])) plain.places 1 plain.same (plain.acknowledged 1 (inl refl))))
 
--- ---- The TEI.
+-- ---- The premise on the TEI.
 
 pub record Regained (first second : Vec ℕ Global) : Type 0 where
   pub timely : AreTimely configs call (regained first second) at_first
@@ -181,7 +181,7 @@ regained_is_not_right first second one two right =
     let plain : IsReceived two_messages (0 ∷ []) ((2 ∷ []) ∷ []) = received_as _ two_messages _ (0 ∷ []) _ ((2 ∷ []) ∷ []) (sym h.given) (sym h.acked) (sym h.received) right.to_network in
     differ (one_of (λ place. slice_get two_messages place) (Some (2 ∷ [])) plain.places 0 plain.same (plain.acknowledged 0 (inl refl)))
 
--- ---- The line.
+-- ---- The premise on the line.
 
 pub record AnsweredBefore (message : Vec ℕ Global) : Type 0 where
   pub premises : KeepPremises configs call (answered_before message) with_old_frames

@@ -1,4 +1,4 @@
--- What one deed of a side is to one of its links in the world of two ends: nothing, or one move.
+-- In the world of two ends, an event of a side is nothing or one move to each of its links.
 use Rattle.std.proofs.Common.{◌≡◌, ◌⊎◌, inl, inr, ℕ, ◌<◌, nat_lt, List, [], ◌∷◌, ◌++◌, drop, length, Bool, true, false, if◌then◌else◌, Option, Some, None, Result, Ok, Err, refl, sym, ap, subst, ◌∙◌, arith}
 use Rattle.std.specs.Prelude.{is_some}
 use Rattle.std.specs.List.{filter_map, remove, list_any}
@@ -47,7 +47,7 @@ use Rattle.lapd_sides_laws.proofs.Timed.{Agree, is_on, timed_by_step, link_timed
 same_linked : (a b : Linked) (o : Option Linked) → o ≡ Some a → o ≡ Some b → a ≡ b
 same_linked a b o p q = cc
 
--- a frame that is heard is never refused
+-- a received frame is never refused
 heard_is_done : (frame : Flight) (e : End) → step Tagged (Heard frame.control frame.role) e ≡ Ok (end_step Tagged (row Tagged e.state (Heard frame.control frame.role) (begin e)))
 unfolding step
 heard_is_done frame e = refl
@@ -60,18 +60,18 @@ module _ (S : Type 0) (w : Behaviour S) (side : Side) (id : LinkId) where
   abbrev pub Serves : Type 0
   Serves = (removed : Bool) → ServesLink w side id removed
 
-  -- the TEI was taken away before
+  -- the TEI was removed before
   abbrev was_removed : SideView S → Bool
   was_removed v = list_any (tells_removal id.tei) v.told
 
   abbrev Once : SideView S → Reaction S → Type 0
   Once v a = IsGivenOnce id (w.served v.now).links (was_removed v) a.effects
 
-  -- a side after a deed
+  -- a side's view after an event
   abbrev pub view_after_deed : SideView S → Reaction S → List (LinkId × List ℕ) → List (List ℕ) → SideView S
   view_after_deed v a more line = record { now = a.after; told = v.told ++ a.effects.primitives; given = v.given ++ more; incoming = line; outgoing = v.outgoing ++ a.effects.frames }
 
-  -- ---- Nothing.
+  -- ---- No move.
 
   still_told : (v : SideView S) (a : Reaction S) (before : Links) → PassesBy side id before (w.served a.after).links a.effects → told_of id (v.told ++ a.effects.primitives) ≡ told_of id v.told
   still_told v a before passes = filter_map-append (what_for id) v.told a.effects.primitives ∙ rw (passes.told) (append-nil (told_of id v.told))
@@ -148,7 +148,7 @@ module _ (S : Type 0) (w : Behaviour S) (side : Side) (id : LinkId) where
         };
       }
 
-  -- ---- Nothing, or one move.
+  -- ---- No move, or one.
 
   pub record IsMove (before v : SideView S) (view : View) : Type 0 where
     pub deed : world.Deed
@@ -165,7 +165,7 @@ module _ (S : Type 0) (w : Behaviour S) (side : Side) (id : LinkId) where
   abbrev pub Outcome : SideView S → SideView S → View → Type 0
   Outcome before v view = IsNothing before v view ⊎ IsMove before v view
 
-  -- a deed that is nothing, by which what is for the link on its way to it stays
+  -- an event that is no move, and leaves the link's octets in transit to the side unchanged
   passing : (v : SideView S) (view : View) (a : Reaction S) (more : List (LinkId × List ℕ)) (line : List (List ℕ)) → Projects w side id v view
       → PassesBy side id (w.served v.now).links (w.served a.after).links a.effects → given_to id more ≡ [] → those_for (other_side side) id line ≡ those_for (other_side side) id v.incoming
       → Outcome v (view_after_deed v a more line) view
@@ -177,14 +177,14 @@ module _ (S : Type 0) (w : Behaviour S) (side : Side) (id : LinkId) where
   no_effect : (v : SideView S) → PassesBy side id (w.served v.now).links (w.served (unmoved v.now).after).links (unmoved v.now).effects
   no_effect v = passes_by_nothing side id (w.served v.now).links
 
-  -- ---- The link comes.
+  -- ---- The link joins.
 
   has_come : Serves → (v : SideView S) (e : End) → (w.served v.now).links id ≡ None → was_removed v ≡ false → ShowsEnd (w.fresh id) (w.served v.now).links id v.told e → HasLink (with_link id (Some (w.fresh id)) (w.served v.now).links) id e
   has_come serves v e none not_removed (inl h) = let there = h.there in cc
   has_come serves v e none not_removed (inr (inl h)) = record { linked = w.fresh id; there = now_there id (w.fresh id) (w.served v.now).links; end = sym h.end; timed = (serves (was_removed v)).fresh_is_timed }
   has_come serves v e none not_removed (inr (inr h)) = let removed = h.removed in cc
 
-  -- by itself
+  -- the link joins, and nothing else happens to it
   comes_alone : (v : SideView S) (view : View) (a : Reaction S) (more : List (LinkId × List ℕ)) (line : List (List ℕ)) (come : Links) → Projects w side id v view → HasLink come id view.station.end
       → PassesBy side id come (w.served a.after).links a.effects → given_to id more ≡ [] → those_for (other_side side) id line ≡ those_for (other_side side) id v.incoming
       → Outcome v (view_after_deed v a more line) view
@@ -199,7 +199,7 @@ module _ (S : Type 0) (w : Behaviour S) (side : Side) (id : LinkId) where
     expected = subst AreExpectedWhats (sym (still_told v a come passes));
   })
 
-  -- and the establishment that was kept for it is done
+  -- the link joins, and the establishment that was kept for it is done
   comes_and_establishes : (v : SideView S) (view : View) (a : Reaction S) (more : List (LinkId × List ℕ)) (line : List (List ℕ)) (now : ℕ) (come : Links) → Projects w side id v view → IsKept Tagged view.station → HasLink come id view.station.end
       → IsStep side id now input.Establish [] (λ t. t) come (w.served a.after).links a.effects → given_to id more ≡ [] → those_for (other_side side) id line ≡ those_for (other_side side) id v.incoming
       → Outcome v (view_after_deed v a more line) view
@@ -218,7 +218,7 @@ module _ (S : Type 0) (w : Behaviour S) (side : Side) (id : LinkId) where
       no_expiry : (timer : Timer) → input.Establish ≡ Expiry timer → ⊥
       no_expiry timer e = cc
 
-  -- ---- The link goes.
+  -- ---- The link is removed.
 
   is_removed : (v : SideView S) (view : View) (a : Reaction S) (more : List (LinkId × List ℕ)) (line : List (List ℕ)) → Projects w side id v view
       → IsRemoval side id (w.served a.after).links a.effects → given_to id more ≡ [] → those_for (other_side side) id line ≡ those_for (other_side side) id v.incoming
@@ -237,7 +237,7 @@ module _ (S : Type 0) (w : Behaviour S) (side : Side) (id : LinkId) where
         expected = λ h. subst AreExpectedWhats (sym told) (expected_both (told_of id v.told) (told_of id a.effects.primitives) h goes.told.expected);
       })
 
-  -- ---- What is no step of a link that is there.
+  -- ---- An event that is no step of an existing link.
 
   going : Serves → (v : SideView S) (view : View) (a : Reaction S) (more : List (LinkId × List ℕ)) (line : List (List ℕ)) (now : ℕ) → Projects w side id v view → IsKept Tagged view.station
       → Goes side id now (w.fresh id) (was_removed v) (w.served v.now).links (w.served a.after).links a.effects → given_to id more ≡ [] → those_for (other_side side) id line ≡ those_for (other_side side) id v.incoming
@@ -254,7 +254,7 @@ module _ (S : Type 0) (w : Behaviour S) (side : Side) (id : LinkId) where
 
   -- ---- Octets are taken.
 
-  -- those of the link
+  -- the link's own octets
   takes_its : Serves → (v : SideView S) (view : View) (now : ℕ) (octets : List ℕ) (rest : List (List ℕ)) → Projects w side id v view → IsKeptView Tagged view → HasLink (w.served v.now).links id view.station.end
       → IsFirst (other_side side) id octets (those_for (other_side side) id rest) view.incoming → Outcome v (view_after_deed v (w.takes octets now v.now) [] rest) view
   unfolding acts delivers hears
@@ -282,7 +282,7 @@ module _ (S : Type 0) (w : Behaviour S) (side : Side) (id : LinkId) where
       heard_is_no_expiry : (frame : Flight) (timer : Timer) → Heard frame.control frame.role ≡ Expiry timer → ⊥
       heard_is_no_expiry frame timer e = cc
 
-  -- those that come where it is not there are lost
+  -- the link's octets are lost if the link does not exist
   takes_early : Serves → (v : SideView S) (view : View) (now : ℕ) (octets : List ℕ) (rest : List (List ℕ)) → Projects w side id v view → IsKeptView Tagged view → (w.served v.now).links id ≡ None
       → IsFirst (other_side side) id octets (those_for (other_side side) id rest) view.incoming → Outcome v (view_after_deed v (w.takes octets now v.now) [] rest) view
   unfolding acts loses
@@ -347,7 +347,7 @@ module _ (S : Type 0) (w : Behaviour S) (side : Side) (id : LinkId) where
 
   -- ---- A timer expires.
 
-  -- a timer of the link, in the one move that it is
+  -- a timer of the link expires, which is one move
   expires_its : Serves → (v : SideView S) (view : View) (now : ℕ) (timer : Timer) (deed : world.Deed) → acts Tagged side deed view ≡ takes Tagged (Expiry timer) [] view
       → Projects w side id v view → IsKeptView Tagged view → HasLink (w.served v.now).links id view.station.end → Outcome v (view_after_deed v (w.expires now timer (Some id) v.now) [] v.incoming) view
   unfolding takes
@@ -367,11 +367,11 @@ module _ (S : Type 0) (w : Behaviour S) (side : Side) (id : LinkId) where
       same_timer : (a b : Timer) → Expiry a ≡ Expiry b → a ≡ b
       same_timer a b e = cc
 
-  -- the end says that it runs
+  -- the timer has a deadline at this link
   runs_by : (timer : Timer) (l : Linked) (o : Option Linked) → o ≡ Some l → runs_on timer o ≡ true → is_some (deadline_of timer l.timers) ≡ true
   runs_by timer l o there runs = sym (ap (runs_on timer) there) ∙ runs
 
-  -- the link is there, where its timer runs
+  -- the link exists if its timer runs
   is_there : (v : SideView S) (timer : Timer) (end : End) → ShowsEnd (w.fresh id) (w.served v.now).links id v.told end → runs_on timer ((w.served v.now).links id) ≡ true → HasLink (w.served v.now).links id end
   is_there v timer end (inl has) runs = has
   is_there v timer end (inr (inl early)) runs = let never : false ≡ true = sym (ap (runs_on timer) early.absent) ∙ runs in cc
@@ -388,7 +388,7 @@ module _ (S : Type 0) (w : Behaviour S) (side : Side) (id : LinkId) where
   unfolding acts expires_203
   t203_is_deed view on = ap (λ (b : Bool). if b then takes Tagged (Expiry T203) [] view else Err world.NotRunning) on
 
-  -- of a link that is named
+  -- the timer of a link that the event names
   named_expires : Serves → (v : SideView S) (view : View) (now : ℕ) (timer : Timer) (other : LinkId) (test : Bool) → id_eq id other ≡ test → runs_on timer ((w.served v.now).links other) ≡ true
       → (runs_on timer ((w.served v.now).links id) ≡ true → Some other ≡ Some id → Outcome v (view_after_deed v (w.expires now timer (Some id) v.now) [] v.incoming) view)
       → Projects w side id v view → IsKeptView Tagged view → Once v (w.expires now timer (Some other) v.now) → Outcome v (view_after_deed v (w.expires now timer (Some other) v.now) [] v.incoming) view
@@ -459,7 +459,7 @@ module _ (S : Type 0) (w : Behaviour S) (side : Side) (id : LinkId) where
         shows = x.shows;
       })
 
-  -- the link is there, where it does a step
+  -- the link exists if it does a step
   is_there_for : (v : SideView S) (end : End) (l : Linked) → ShowsEnd (w.fresh id) (w.served v.now).links id v.told end → (w.served v.now).links id ≡ Some l → HasLink (w.served v.now).links id end
   is_there_for v end l (inl has) was = has
   is_there_for v end l (inr (inl early)) was = let gone = early.absent in cc
@@ -483,7 +483,7 @@ module _ (S : Type 0) (w : Behaviour S) (side : Side) (id : LinkId) where
   asks_by ways v view request now (Err kind) is p kept stays =
       passing v view (unmoved v.now) (accepted_by w request now v.now) v.incoming p (no_effect v) (ap (given_to id) (none_accepted request now v.now kind is)) refl
 
-  -- ---- All deeds.
+  -- ---- All events.
 
   pub each_deed : Serves → (v : SideView S) (view : View) (deed : Deed) → IsTimely side id deed v → GivesTeiOnce w id deed v → Projects w side id v view → IsKeptView Tagged view → Outcome v (does w deed v) view
   unfolding does

@@ -1,5 +1,5 @@
--- Each timer of a link runs exactly where its end says so: over a step of the link, and among the links of a side. And of the
--- frames that a side sends, N(S) and N(R) are tags.
+-- Each timer of a link runs exactly when its end says so: after a step of the link, and among the
+-- links of a side. In the frames that a side sends, N(S) and N(R) are tags.
 use Rattle.std.proofs.Common.{◌≡◌, ℕ, ◌+◌, ◌*◌, ◌≤◌, Bool, true, false, if◌then◌else◌, List, [], ◌∷◌, ◌++◌, length, Option, Some, None, Result, Ok, Err, refl, sym, ap, subst, ◌∙◌, arith}
 use Rattle.std.specs.Prelude.{is_some, IfOk, ◌==◌}
 use Rattle.std.specs.List.{All, filter_map}
@@ -50,7 +50,7 @@ use Rattle.lapd_sides.specs.Management.{links_with, links_without, manages}
 use Rattle.lapd_sides_laws.specs.ExactTimers.{HasExactTimers, HaveExactTimers, RunByState, IsOctet, AreOctets}
 use Rattle.lapd_sides_laws.proofs.Timed.{is_on}
 
--- ---- A timer has a deadline exactly where it runs by the outputs.
+-- ---- A timer has a deadline exactly if it runs by the outputs.
 
 deadline_set : (timer other : Timer) (deadline : Option ℕ) (t : Timers) → is_on timer (with_deadline other deadline t) ≡ (if is_same_timer timer other then is_some deadline else is_on timer t)
 deadline_set T200 T200 deadline t = refl
@@ -104,7 +104,7 @@ plain_before : (input : Input) (l : Linked) → IsNoExpiry input → HasExactTim
 plain_before (Expiry expired) l plain h timer = absurd plain
 plain_before input l plain h timer = h.exact timer
 
--- one that has expired is stopped
+-- an expired timer is stopped
 expired_before : (expired : Timer) (l : Linked) → HasExactTimers l → RunsAsBefore (Expiry expired) l.end (stopped expired l.timers)
 expired_before expired l h timer = deadline_set timer expired None l.timers ∙ ap (λ (on : Bool). if is_same_timer timer expired then false else on) (h.exact timer)
 
@@ -148,7 +148,7 @@ new_is_exact p lengths = record { exact = new_exact; of_state = timers_begin p; 
     new_exact T202 = refl
     new_exact T203 = refl
 
--- what its state wants has a deadline
+-- the timers that the state requires have a deadline
 pub runs_by_state : (l : Linked) → HasExactTimers l → RunByState l
 runs_by_state l h =
     subst (λ (t200 : Bool). AreTimersOf l.end.state t200 (is_on T203 l.timers) (l.end.window.vs ≡ l.end.window.va)) (sym (h.exact T200))
@@ -159,7 +159,7 @@ runs_by_state l h =
 abbrev IsNumberedFrame : Result Fields FrameFault → Type 0
 IsNumberedFrame r = IfOk r (λ f. IsControl f.control)
 
--- sent by this side
+-- octets that this side sent
 abbrev pub CarriesTags : Side → List ℕ → Type 0
 CarriesTags from octets = IsNumberedFrame (frame_at from octets)
 
@@ -170,7 +170,7 @@ of_parts a control info (Some fault) h = tt
 pub spelled_carries_tags : (from : Side) (f : Fields) → IsControl f.control → CarriesTags from (spelling from f)
 spelled_carries_tags from f h = subst IsNumberedFrame (sym (parts_again from f)) (of_parts f.address f.control f.info (content_fault f.address.role f.control (length f.info)) h)
 
--- numbers in octets have seven bits
+-- sequence numbers in octets have seven bits
 second_octet : (first nr : ℕ) (pf : Bool) (info : List ℕ) → AreOctets (first ∷ (nr * 2 + bit pf) ∷ info) → nr ≤ 127
 second_octet first nr pf info h =
     let second : IsOctet (nr * 2 + bit pf) = All-head IsOctet (nr * 2 + bit pf) info (All-tail IsOctet first ((nr * 2 + bit pf) ∷ info) h) in
@@ -227,7 +227,7 @@ module _ (side : Side) (id : LinkId) (e : End) (octets : List ℕ) where
   sent_carry_tags (Stop timer ∷ outs) h = sent_carry_tags outs h.1
   sent_carry_tags (Report letter ∷ outs) h = sent_carry_tags outs h.1
 
--- ---- Among the links of a side: what a deed leaves and gives.
+-- ---- Among the links of a side: the links after an event, and its effects.
 
 pub record IsExact (side : Side) (links : Links) (effects : Effects) : Type 0 where
   pub timers : HaveExactTimers links
@@ -236,7 +236,7 @@ pub record IsExact (side : Side) (links : Links) (effects : Effects) : Type 0 wh
 abbrev pub IsExactAmong : Side → Result (Reaction Links) SideKind → Type 0
 IsExactAmong side r = IfOk r (λ a. IsExact side a.after a.effects)
 
--- nothing is sent
+-- no frame is sent
 pub quietly : (side : Side) (links : Links) (effects : Effects) → effects.frames ≡ [] → HaveExactTimers links → IsExact side links effects
 quietly side links effects none h = record { timers = h; frames = subst (All (CarriesTags side)) (sym none) (All-nil (CarriesTags side)) }
 
@@ -259,7 +259,7 @@ if_either P false a b first second = second
 with_exact : (id : LinkId) (l : Linked) (links : Links) → HasExactTimers l → HaveExactTimers links → HaveExactTimers (with_link id (Some l) links)
 with_exact id l links one all other = if_either OfSome (id_eq other id) (Some l) (links other) (some_is_exact l one) (all other)
 
--- ---- One link does something.
+-- ---- A step of one link.
 
 record IsExactLink (side : Side) (l : Linked) (effects : Effects) : Type 0 where
   pub timers : HasExactTimers l
@@ -297,7 +297,7 @@ module _ (side : Side) (id : LinkId) where
       there links (links id) (λ (l : Linked). acted side id now [] (stopped timer l.timers) (step Tagged (Expiry timer) l.end)) all (all id)
       (λ l h. acted_is_exact now (Expiry timer) [] l.end (stopped timer l.timers) (step Tagged (Expiry timer) l.end) h.of_state h.numbers tt (expired_before timer l h) refl)
 
--- ---- Links come and go.
+-- ---- Links join and are removed.
 
 pub fresh_or : (test : Bool) (config : Config) (id : LinkId) (o : Option Linked) → OfSome o → OfSome (if test then Some (new_linked (parameters_for config id.sapi) config.durations) else o)
 fresh_or test config id o h = if_either OfSome test (Some (new_linked (parameters_for config id.sapi) config.durations)) o (some_is_exact _ (new_is_exact (parameters_for config id.sapi) config.durations)) h

@@ -1,4 +1,5 @@
--- A network side keeps its links' timers exact, whatever it takes, whichever timer expires, and whatever is asked for.
+-- A network side keeps its links' timers exact, whatever it takes, whichever timer expires, and
+-- whichever request it executes.
 use Rattle.std.proofs.Common.{ℕ, ◌==◌, ◌&&◌, true, false, nat_lt, List, [], length, Option, Some, None, Result, Ok, Err, refl}
 use Rattle.std.specs.Prelude.{IfOk}
 use Rattle.std.proofs.lemmas.List.Elements.{All-nil, All-cons}
@@ -82,7 +83,7 @@ module _ (config : Config) (now : ℕ) where
   message (Ok m) s all = assigning (event.Heard m) s all
   message (Err fault) s all = nothing s all
 
-  -- ---- Octets come from the line.
+  -- ---- Octets arrive.
 
   faulty : (kind : FaultKind) (address : Option Address) (s : Network) → AreExact s → Keeps (fault_heard now kind address s)
   faulty kind None s all = discarding s all
@@ -130,7 +131,7 @@ module _ (config : Config) (now : ℕ) where
   network_asked request.AskTei s all = nothing s all
   network_asked (request.Check tei) s all = assigning (event.Check tei) s all
 
--- ---- As it is made.
+-- ---- A newly created side.
 
 pub new_network_exact : (config : Config) (known : List ℕ) → AreExact (new_network config known)
 unfolding links_below

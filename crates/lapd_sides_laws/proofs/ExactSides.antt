@@ -1,4 +1,5 @@
--- Each deed of a side keeps its links' timers exact, and so does each run of one side, and of an interface.
+-- Each event of a side keeps its links' timers exact, and so does each run of one side and of an
+-- interface.
 use Rattle.std.proofs.Common.{ℕ, zero, suc, List, [], ◌∷◌, ◌++◌, Option, Result, Ok, Err, refl}
 use Rattle.std.specs.Prelude.{IfOk}
 use Rattle.std.specs.List.{All, remove}
@@ -48,13 +49,13 @@ module _ (S : Type 0) (w : Behaviour S) (side : Side) where
   abbrev Keeps : Reaction S → Type 0
   Keeps a = IsExact side (w.served a.after).links a.effects
 
-  -- what a side does keeps its timers exact
+  -- a side keeps its timers exact, whatever it does
   pub record KeepsExact : Type 0 where
     pub takes : (now : ℕ) (octets : List ℕ) (s : S) → CarriesTags (other_side side) octets → AreExact s → Keeps (w.takes octets now s)
     pub expires : (now : ℕ) (timer : Timer) (of : Option LinkId) (s : S) → AreExact s → Keeps (w.expires now timer of s)
     pub requested : (now : ℕ) (request : Request) (s : S) → AreExact s → IfOk (w.requested request now s) Keeps
 
-  -- the frames on the way to the side, and from it, carry tags
+  -- the frames in transit to the side and from it carry tags
   pub record IsExactView (v : SideView S) : Type 0 where
     pub timers : AreExact v.now
     pub incoming : All (CarriesTags (other_side side)) v.incoming
@@ -88,7 +89,7 @@ module _ (S : Type 0) (w : Behaviour S) (side : Side) where
           outgoing = All-append (CarriesTags side) v.outgoing (reaction w deed v).effects.frames h.outgoing after.frames;
         }
 
-    -- of one deed alone, where octets come
+    -- one event alone, if only octets are in transit to the side
     pub deed_exact : (deed : Deed) (v : SideView S) → All AreOctets v.incoming → AreExact v.now → AreExact (does w deed v).now
     unfolding does
     deed_exact deed v octets all = (reacts deed v (all_carry_tags (other_side side) v.incoming octets) all).timers

@@ -1,4 +1,5 @@
--- A user side keeps its links' timers exact, whatever it takes, whichever timer expires, and whatever is asked for.
+-- A user side keeps its links' timers exact, whatever it takes, whichever timer expires, and
+-- whichever request it executes.
 use Rattle.std.proofs.Common.{ℕ, Bool, true, false, List, [], ◌∷◌, length, Option, Some, None, Result, Ok, Err, refl}
 use Rattle.std.specs.Prelude.{IfOk}
 use Rattle.std.proofs.lemmas.List.Elements.{All-append}
@@ -81,7 +82,7 @@ otherwise_unmoved s (Ok a) all h = h
 otherwise_unmoved s (Err kind) all h = nothing s all
 
 module _ (now : ℕ) where
-  -- ---- Establishments that are kept.
+  -- ---- Kept establishments.
 
   establishing : (on : Bool) (id : LinkId) (s : User) → AreExact s → Keeps (establishes on now id s)
   establishing true id s all = otherwise_unmoved s (link_of_user now id input.Establish [] s) all (linked now id input.Establish [] s tt tt all)
@@ -126,7 +127,7 @@ module _ (config : Config) (now : ℕ) where
   message (Ok m) s all = acting (event.Heard m) s all
   message (Err fault) s all = nothing s all
 
-  -- ---- Octets come from the line.
+  -- ---- Octets arrive.
 
   data_hearing : (frame : Fields) (s : User) → IsControl frame.control → AreExact s → Keeps (data_heard config now frame s)
   data_hearing frame s tags all =
@@ -186,7 +187,7 @@ module _ (config : Config) (now : ℕ) where
   user_asked request.AskTei s all = acting event.Ask s all
   user_asked (request.Check tei) s all = nothing s all
 
--- ---- As it is made.
+-- ---- A newly created side.
 
 pub new_user_exact : (config : Config) (fixed : Option ℕ) (random : Lcg) → AreExact (new_user config fixed random)
 new_user_exact config None random = λ id. no_link_is_exact

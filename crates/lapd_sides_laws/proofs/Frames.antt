@@ -1,5 +1,5 @@
--- What a step sends are the octets of the frames that the world puts on the line, what it tells is what the world writes down,
--- and what it reports is expected where its outputs are.
+-- A step sends the octets of the frames that the world puts on the line, and delivers the
+-- primitives that the world records. The errors that it reports are expected if its outputs are.
 use Rattle.std.proofs.Common.{◌≡◌, ℕ, ◌+◌, List, [], ◌∷◌, ◌++◌, get_or, map, Option, Some, refl, sym, ap, ◌∙◌, append_assoc, arith}
 use Rattle.std.specs.List.{filter_map}
 use Rattle.std.proofs.lemmas.List.{map-append, append-nil, get_or-drop}
@@ -28,12 +28,12 @@ module _ (side : Side) (id : LinkId) (e : End) (o : Occasion) (same : o.given �
   abbrev sends : Out → Option (List ℕ)
   sends out = sent_by (setup_for side id) e o.octets out
 
-  -- one frame more
+  -- one more frame
   one_more : (out : Out) (outs : List Out) (line : List Flight) (frame : Flight) (after : List (List ℕ)) → sends out ≡ Some (spelled side id frame)
       → after ≡ all_spelled side id (sent_behind line frame) ++ filter_map sends outs → after ≡ all_spelled side id line ++ filter_map sends (out ∷ outs)
   one_more out outs line frame after is h = rw is (h ∙ ap (λ l. l ++ filter_map sends outs) (map-append (spelled side id) line (frame ∷ [])) ∙ append_assoc (all_spelled side id line) (spelled side id frame ∷ []) (filter_map sends outs))
 
-  -- the message is named by its place behind those that wait no more
+  -- the message is named by its position, which follows those of the messages that no longer wait
   message_there : (passed n : ℕ) (control : Control) (outs : List Out) → AreInOrder e passed (SendMessage n control ∷ outs)
       → sends (SendMessage n control) ≡ Some (spelled side id (message_frame o control (passed + n)))
   message_there passed n control outs order =
@@ -62,12 +62,12 @@ module _ (side : Side) (id : LinkId) (e : End) (o : Occasion) (same : o.given �
   told_frames (Stop timer ∷ outs) t order = told_frames outs t (in_order_then e o (Stop timer) outs t order)
   told_frames (Report letter ∷ outs) t order = told_frames outs t (in_order_then e o (Report letter) outs t order)
 
--- ---- What is told.
+-- ---- The primitives.
 
 received_more : (before : List Receipt) (message : Receipt) → map (λ (m : Receipt). m.octets) (before ++ message ∷ []) ≡ map (λ (m : Receipt). m.octets) before ++ message.octets ∷ []
 received_more before message = map-append (λ (m : Receipt). m.octets) before (message ∷ [])
 
--- one thing learned is what one output writes down
+-- layer 3 learns from one primitive exactly what one output records
 learned : (o : Occasion) (out : Out) (outs : List Out) (k : Known) (t : Story) → k ≡ known_by t.history
     → ((t : Story) (k : Known) → k ≡ known_by t.history → learns_all (filter_map (what_of o.octets) outs) k ≡ known_by (told o outs t).history)
     → learns_all (filter_map (what_of o.octets) (out ∷ outs)) k ≡ known_by (told o (out ∷ outs) t).history
@@ -90,7 +90,7 @@ pub told_is_known : (o : Occasion) (outs : List Out) (t : Story) (k : Known) →
 told_is_known o [] t k is = is
 told_is_known o (out ∷ outs) t k is = learned o out outs k t is (told_is_known o outs)
 
--- ---- What is reported.
+-- ---- The errors reported.
 
 pub told_is_expected : (octets : List ℕ) (outs : List Out) → AreExpected outs → AreExpectedWhats (filter_map (what_of octets) outs)
 told_is_expected octets [] h = tt

@@ -1,4 +1,4 @@
--- A network side gives no TEI whose links are there: those are of TEIs that are held.
+-- A network side assigns no TEI whose links exist, since their TEIs are held.
 use Rattle.std.proofs.Common.{◌≡◌, ◌⊎◌, inl, inr, ℕ, ◌<◌, ◌==◌, List, [], ◌∷◌, set, drop, length, Bool, true, false, if◌then◌else◌, Option, Some, None, refl, sym, subst, ◌∙◌, arith}
 use Rattle.std.specs.Prelude.{nat_lt, ◌||◌}
 use Rattle.std.specs.List.{list_any, filter_map}
@@ -25,7 +25,7 @@ use Rattle.lapd_sides_links.specs.Effects.{outcome_of}
 use Rattle.lapd_sides_laws.specs.Premises.{tells_assignment}
 use Rattle.lapd_sides_laws.proofs.Managed.{freed_here, some_same}
 
--- what a step of the assigner is to the TEIs that are held
+-- a step of the assigner: it assigns only TEIs that were free, and held TEIs stay held or are freed
 pub record GivesFree (held : List Bool) (done : AssignerStep) : Type 0 where
   pub given : (t : ℕ) → tei_given done.outs ≡ Some t → is_held done.now.held t ≡ true
   pub stays_held : (n : ℕ) → is_held held n ≡ true → (freed_here n (tei_freed done.outs) ≡ true) ⊎ (is_held done.now.held n ≡ true)

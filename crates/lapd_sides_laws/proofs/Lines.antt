@@ -1,4 +1,5 @@
--- What is for a link on a line: behind it, at its front, and where something is lost; and the frames that ask or answer.
+-- The octets of a link on a line: at its end, at its front, and when octets are lost; and the
+-- frames that poll or answer a poll.
 use Rattle.std.proofs.Common.{◌≡◌, ◌⊎◌, inl, inr, ℕ, zero, suc, ◌<◌, ◌&&◌, nat_lt, if◌then◌else◌, List, [], ◌∷◌, length, map, Bool, true, false, Some, None, Result, Ok, refl, sym, ap, subst, ◌∙◌, arith}
 use Rattle.std.specs.Prelude.{◌||◌}
 use Rattle.std.specs.List.{filter, list_any, position, position_or_len, remove}
@@ -13,9 +14,9 @@ use Rattle.lapd_pair_laws.specs.Line.{Flight, is_poll, is_final, first_poll, fir
 use Rattle.lapd_table.specs.declared.link_id.LinkId.{LinkId}
 use Rattle.lapd_sides_laws.specs.Addressed.{is_for, those_for, reads_as_poll, reads_as_final, is_poll_for, is_final_for, parts_of, spelled, all_spelled}
 
--- ---- One is lost.
+-- ---- One element is lost.
 
--- what is left passes as it did, or is without one of those that passed
+-- removing an element that passes the test removes one of those that pass
 pub record IsLost {X : Type 0} (p : X → Bool) (xs : List X) (at : ℕ) : Type 0 where
   pub place : ℕ
   pub within : place < length (filter p xs)
@@ -46,7 +47,7 @@ removed_spelled f [] (suc n) = refl
 removed_spelled f (x ∷ xs) zero = refl
 removed_spelled f (x ∷ xs) (suc n) = ap (λ l. f x ∷ l) (removed_spelled f xs n)
 
--- ---- The first.
+-- ---- The first element.
 
 pub record IsFirst (from : Side) (id : LinkId) (octets : List ℕ) (rest : List (List ℕ)) (frames : List Flight) : Type 0 where
   pub frame : Flight
@@ -62,9 +63,9 @@ pub first_of : (from : Side) (id : LinkId) (octets : List ℕ) (rest : List (Lis
 first_of from id octets rest [] h = cc
 first_of from id octets rest (frame ∷ frames) h = let two = heads octets (spelled from id frame) rest (all_spelled from id frames) h in record { frame = frame; behind = frames; are = refl; head = two.0; tail = two.1 }
 
--- ---- Frames that ask or answer.
+-- ---- Frames that poll or answer a poll.
 
--- those that pass two tests, among those that pass the first
+-- among the elements that pass one test, those that pass another pass both
 any_among : {X : Type 0} (p q : X → Bool) (xs : List X) → list_any q (filter p xs) ≡ list_any (λ x. p x && q x) xs
 any_among p q [] = refl
 any_among p q (x ∷ xs) = by_test p q x xs (p x) refl (any_among p q xs)

@@ -1,4 +1,4 @@
--- A step of any link makes none come, and tells of no TEI.
+-- A step of any link creates no link, and reports no TEI as assigned or obtained.
 use Rattle.std.proofs.Common.{◌≡◌, ℕ, List, [], ◌∷◌, ◌++◌, map, Bool, true, false, if◌then◌else◌, Option, Some, None, Result, Ok, Err, refl, ap, subst, ◌∙◌}
 use Rattle.std.specs.Prelude.{is_some, ◌||◌}
 use Rattle.std.specs.List.{list_any, filter_map}

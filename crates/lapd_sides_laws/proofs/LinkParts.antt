@@ -1,4 +1,4 @@
--- What a step among the links of a side is to one of them.
+-- The effect of a step among the links of a side on one of them.
 use Rattle.std.proofs.Common.{◌≡◌, ℕ, List, [], ◌∷◌, map, length, Bool, true, false, if◌then◌else◌, Option, Some, None, Result, Ok, Err, refl, ap, subst, ◌∙◌, ◌++◌, sym}
 use Rattle.std.specs.Prelude.{IfSome, IfOk, ◌||◌}
 use Rattle.std.specs.List.{filter, filter_map, list_any}
@@ -40,7 +40,7 @@ use Rattle.lapd_sides_laws.specs.Owed.{PassesBy, IsStep, AreSilent, IsRemoval}
 use Rattle.lapd_sides_laws.specs.Premises.{tells_removal}
 use Rattle.lapd_sides_laws.specs.Told.{what_for, told_of, Known, learns, learns_all, AreExpectedWhats}
 
--- ---- Lists of which all or none pass.
+-- ---- Lists whose elements all pass a test, or all fail it.
 
 all_pass_by : {X Y : Type 0} (p : Y → Bool) (h : X → Option Y) (x : X) (xs : List X) (o : Option Y) → h x ≡ o → IfSome o (λ y. p y ≡ true) → filter p (filter_map h xs) ≡ filter_map h xs
     → filter p (filter_map h (x ∷ xs)) ≡ filter_map h (x ∷ xs)
@@ -60,7 +60,7 @@ pub none_pass : {X Y : Type 0} (p : Y → Bool) (h : X → Option Y) (xs : List 
 none_pass p h [] each = refl
 none_pass p h (x ∷ xs) each = none_pass_by p h x xs (h x) refl (each x) (none_pass p h xs each)
 
--- ---- Frames that are sent for a link.
+-- ---- Frames sent for a link.
 
 named_by : (id : LinkId) (a : Address) (r : Result Fields FaultKind) → IfOk r (λ f. f.address ≡ a) → is_named id (heard_by (fault_for_link a r)) ≡ id_eq id (id_of_address a)
 named_by id a (Ok f) same = ap (λ (b : Address). id_eq id (id_of_address b)) same
@@ -70,7 +70,7 @@ with_address : (a : Address) (control : Control) (info : List ℕ) (fault : Opti
 with_address a control info None = refl
 with_address a control info (Some fault) = tt
 
--- octets that are spelled are for the link with their address, be they a frame or none
+-- spelled octets belong to the link in their address, whether or not they form a valid frame
 pub spelled_is_for : (side : Side) (id : LinkId) (f : Fields) → is_for side id (spelling side f) ≡ id_eq id (id_of_address f.address)
 spelled_is_for side id f =
     ap (λ (r : Result Fields FrameFault). is_named id (heard_by r)) (parts_again side f)
@@ -100,7 +100,7 @@ module _ (side : Side) (id other : LinkId) where
   named_so test is None h = tt
   named_so test is (Some frame) h = h ∙ is
 
-  -- ---- What is told of a link.
+  -- ---- The primitives for a link.
 
   told_own : (whats : List What) → id_eq id other ≡ true → told_of id (map (Of other) whats) ≡ whats
   told_own [] is = refl
@@ -147,7 +147,7 @@ module _ (side : Side) (id other : LinkId) where
   unfolding in_links link_acts
   other_acts links now input octets a apart is = there_other links now input octets (λ (t : Timers). t) (links other) a apart is
 
-  -- the same of a timer that has expired
+  -- the same for an expired timer
   pub other_expires : (links : Links) (now : ℕ) (timer : Timer) (a : Reaction Links) → id_eq id other ≡ false
       → in_links other (link_expires side other now timer) links ≡ Ok a → PassesBy side id links a.after a.effects
   unfolding in_links link_acts link_expires
@@ -156,7 +156,7 @@ module _ (side : Side) (id other : LinkId) where
 -- ---- A step of the link itself.
 
 module _ (side : Side) (id : LinkId) (links : Links) (now : ℕ) (input : Input) (octets : List ℕ) (change : Timers → Timers) (l : Linked) (s : StepState) (was : links id ≡ Some l) (done : step Tagged input l.end ≡ Ok s) where
-  -- what it leaves and gives
+  -- the links after the step, and its effects
   abbrev pub own_reaction : Reaction Links
   own_reaction = record { after = with_link id (Some (record { end = s.end; timers = timed now s.outs (change l.timers) })) links; effects = effects_of_link side id s.end octets s.outs }
 
@@ -186,7 +186,7 @@ pub own_expires : (side : Side) (id : LinkId) (links : Links) (now : ℕ) (timer
 unfolding in_links link_acts link_expires
 own_expires side id links now timer l s was done = own_outcome side id links now (Expiry timer) [] (stopped timer) l s was done
 
--- what the link makes of an input, where it is there: its step, or a refusal
+-- an existing link answers an input with its step or a refusal; an accepted input is its step
 pub record ActsOwn (side : Side) (id : LinkId) (links : Links) (now : ℕ) (input : Input) (octets : List ℕ) (a : Reaction Links) : Type 0 where
   pub is_step : IsStep side id now input octets (λ (t : Timers). t) links a.after a.effects
 
@@ -209,12 +209,12 @@ by_result side id links now input octets l (Ok s) a was done is =
     record { is_step = subst (λ (x : Reaction Links). IsStep side id now input octets (λ (t : Timers). t) links x.after x.effects) same (own_is_step side id links now input octets (λ (t : Timers). t) l s was done) }
 by_result side id links now input octets l (Err fault) a was refused is = absurd (refused_there side id links now input octets l fault a was refused is)
 
--- granted to the link that is there
+-- an input that the existing link accepts
 pub own_granted : (side : Side) (id : LinkId) (links : Links) (now : ℕ) (input : Input) (octets : List ℕ) (l : Linked) (a : Reaction Links) → links id ≡ Some l
     → in_links id (link_acts side id now input octets) links ≡ Ok a → ActsOwn side id links now input octets a
 own_granted side id links now input octets l a was is = by_result side id links now input octets l (step Tagged input l.end) a was refl is
 
--- ---- Nothing, and one thing after another.
+-- ---- No step, and one step after another.
 
 pub passes_by_nothing : (side : Side) (id : LinkId) (links : Links) → PassesBy side id links links no_effects
 passes_by_nothing side id links = record { links = refl; frames = refl; told = refl }
@@ -250,7 +250,7 @@ step_then_pass side id at input octets change first second third a b x p = recor
   told = filter_map-append (what_for id) a.primitives b.primitives ∙ ap (λ l. told_of id a.primitives ++ l) p.told ∙ append-nil (told_of id a.primitives) ∙ x.told;
 }
 
--- ---- A link that is not there.
+-- ---- A link that does not exist.
 
 pub now_there : (id : LinkId) (fresh : Linked) (links : Links) → with_link id (Some fresh) links id ≡ Some fresh
 now_there id fresh links = ap (λ (t : Bool). if t then Some fresh else links id) (id_eq_self id)
@@ -267,12 +267,12 @@ absent_by side id other links now input octets a true none same is =
     subst (λ (k : LinkId). in_links k (link_acts side k now input octets) links ≡ Err kind.NoLink) (same_id_eq id other same) (absent_refuses side id links now input octets none) in
     cc
 
--- what any link does
+-- whatever any link does
 pub absent_acts : (side : Side) (id other : LinkId) (links : Links) (now : ℕ) (input : Input) (octets : List ℕ) (a : Reaction Links) → links id ≡ None
     → in_links other (link_acts side other now input octets) links ≡ Ok a → PassesBy side id links a.after a.effects
 absent_acts side id other links now input octets a none is = absent_by side id other links now input octets a (id_eq id other) none refl is
 
--- ---- What is told of one that goes.
+-- ---- Primitives for a link that is removed.
 
 or_more : (a b c : Bool) → (b ≡ true → c ≡ true) → (a || b) ≡ true → (a || c) ≡ true
 or_more true b c more h = refl

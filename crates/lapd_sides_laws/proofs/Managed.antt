@@ -1,4 +1,4 @@
--- TEI management is nothing to a link whose TEI it neither gives nor takes away.
+-- TEI management leaves a link unchanged if it neither assigns nor removes the link's TEI.
 use Rattle.std.proofs.Common.{◌≡◌, ℕ, ◌<◌, ◌==◌, ◌&&◌, List, [], ◌∷◌, ◌++◌, Bool, true, false, if◌then◌else◌, Option, Some, None, refl, ap, subst, ◌∙◌, arith, ◌⊎◌, sym, inl, inr}
 use Rattle.std.specs.Prelude.{◌||◌, IfSome, is_some}
 use Rattle.std.specs.List.{list_any, filter_map, cons_option}
@@ -52,15 +52,15 @@ any_first test xs ys h = (any_of_both test xs ys h).0
 pub any_second : {X : Type 0} (test : X → Bool) (xs ys : List X) → list_any test (xs ++ ys) ≡ false → list_any test ys ≡ false
 any_second test xs ys h = (any_of_both test xs ys h).1
 
--- another TEI
+-- a link of another TEI is another link
 pub other_tei : (sapi : Sapi) (t : ℕ) (id : LinkId) → (t == id.tei) ≡ false → id_eq id (of_sapi sapi t) ≡ false
 other_tei sapi t id apart = and_not _ (id.tei == t) (grind (arith, nat_tests))
 
--- the group is no link
+-- the group TEI has no link
 pub not_of_group : (sapi : Sapi) (id : LinkId) → id.tei < 127 → id_eq id (of_sapi sapi group_tei) ≡ false
 not_of_group sapi id low = and_not _ (id.tei == 127) (grind (arith, nat_tests))
 
--- ---- The TEI that is given or freed is another.
+-- ---- The TEI that is assigned or freed is another one.
 
 pub some_same : (x y : ℕ) → Some x ≡ Some y → x ≡ y
 some_same x y h = cc
@@ -86,7 +86,7 @@ pub freed_is_other : (tei : ℕ) (freed : Option ℕ) → freed_here tei freed �
 freed_is_other tei None h t is = cc
 freed_is_other tei (Some u) h t is = subst (λ (x : ℕ). (x == tei) ≡ false) (some_same u t is) h
 
--- a TEI that is freed is told of
+-- a primitive reports a TEI that is freed
 or_so : (a b : Bool) → a ≡ true → (a || b) ≡ true
 or_so true b h = refl
 or_so false b h = cc
@@ -104,7 +104,7 @@ freed_is_told tei (outcome.Send message ∷ outs) h = freed_is_told tei outs h
 freed_is_told tei (outcome.Start timer ∷ outs) h = freed_is_told tei outs h
 freed_is_told tei (outcome.Stop timer ∷ outs) h = freed_is_told tei outs h
 
--- ---- The links of another TEI come and go.
+-- ---- Links of another TEI join and are removed.
 
 pub with_other : (config : Config) (id : LinkId) (given : Option ℕ) (links : Links) → ((t : ℕ) → given ≡ Some t → (t == id.tei) ≡ false) → links_with config given links id ≡ links id
 unfolding with_tei
@@ -127,7 +127,7 @@ unfolding without_tei
 without_other id None links other = refl
 without_other id (Some t) links other = let apart : (id.tei == t) ≡ false = (let h = other t refl in grind (arith, nat_tests)) in ap (λ (b : Bool). if b then None else links id) apart
 
--- what is told of links that go
+-- the primitives for removed links
 removal_other : (id at : LinkId) (w : Option What) → id_eq id at ≡ false → told_of id (primitives_of at w) ≡ []
 removal_other id at None apart = refl
 removal_other id at (Some w) apart = rw apart refl
@@ -170,7 +170,7 @@ outcomes_are_other id (outcome.Free t ∷ outs) = outcomes_are_other id outs
 outcomes_are_other id (outcome.InUse t ∷ outs) = outcomes_are_other id outs
 outcomes_are_other id (outcome.Doubled t ∷ outs) = outcomes_are_other id outs
 
--- ---- What is told of links that go.
+-- ---- The primitives for removed links.
 
 abbrev IsQuietWhat : What → Type 0
 IsQuietWhat what.Released = Unit {0}
@@ -188,7 +188,7 @@ quiet_removal state.TimerRecovery pending = tt
 nothing_silent : AreSilent []
 nothing_silent = record { teaches = λ k. refl; expected = tt }
 
--- one thing told, of this link or of another
+-- one primitive, of this link or of another
 quiet_by : (w : What) (test : Bool) → IsQuietWhat w → AreSilent (cons_option (if test then Some w else None) [])
 quiet_by what.Released true h = record { teaches = λ k. refl; expected = (tt, tt) }
 quiet_by what.ReleaseConfirm true h = record { teaches = λ k. refl; expected = (tt, tt) }
@@ -222,7 +222,7 @@ unfolding without_tei
 without_this id None links here = cc
 without_this id (Some t) links here = let same : (id.tei == t) ≡ true = grind (arith, nat_tests, here) in ap (λ (b : Bool). if b then None else links id) same
 
--- ---- A step of it.
+-- ---- A step of TEI management.
 
 module _ (side : Side) (config : Config) (now : ℕ) (outs : List TeiOut) (s : Served) (id : LinkId) (low : id.tei < 127) where
   abbrev Managed : Reaction Served
@@ -231,12 +231,12 @@ module _ (side : Side) (config : Config) (now : ℕ) (outs : List TeiOut) (s : S
   abbrev PassesFrom : Links → Type 0
   PassesFrom before = PassesBy side id before Managed.after.links Managed.effects
 
-  -- what its outputs say of TEIs is told first
+  -- the step delivers the primitives for TEIs first
   outcomes_tell : (tells : Primitive → Bool) → list_any tells Managed.effects.primitives ≡ false → list_any tells (filter_map outcome_of outs) ≡ false
   unfolding manages
   outcomes_tell tells none = any_first tells (filter_map outcome_of outs) (told_without (tei_freed outs) (links_with config (tei_given outs) s.links)) none
 
-  -- its frames and what it tells are of no link of a TEI that is not taken away
+  -- if a link's TEI is not removed, no frame and no primitive of the step is for the link
   by_links : (before : Links) → freed_here id.tei (tei_freed outs) ≡ false → links_with config (tei_given outs) s.links id ≡ before id → PassesFrom before
   unfolding manages
   by_links before not_freed links =
@@ -261,7 +261,7 @@ module _ (side : Side) (config : Config) (now : ℕ) (outs : List TeiOut) (s : S
         tells = any_more (tells_removal id.tei) (filter_map outcome_of outs) more (freed_is_told id.tei outs freed);
       }
 
-  -- where it is told of no assignment, no outcome is one
+  -- if no primitive reports an assignment, no outcome is one
   pub outcomes_spare : list_any (tells_assignment id.tei) Managed.effects.primitives ≡ false → list_any (tells_assignment id.tei) (filter_map outcome_of outs) ≡ false
   outcomes_spare none = outcomes_tell (tells_assignment id.tei) none
 
@@ -269,7 +269,7 @@ module _ (side : Side) (config : Config) (now : ℕ) (outs : List TeiOut) (s : S
   passes_by not_freed not_given =
       by_links s.links not_freed (with_other config id (tei_given outs) s.links (given_is_other id.tei outs (outcomes_spare not_given)))
 
-  -- the link comes, where its TEI was not taken away before
+  -- the link joins, if its TEI was not removed before
   pub record ItComes (removed : Bool) : Type 0 where
     pub absent : s.links id ≡ None
     pub not_removed : removed ≡ false

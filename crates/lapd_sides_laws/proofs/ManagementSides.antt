@@ -1,4 +1,5 @@
--- Each deed of a side keeps the timer of TEI management as its end says, and so does each run of an interface.
+-- Each event of a side keeps the timer of TEI management as its end requires it, and so does each
+-- run of an interface.
 use Rattle.std.proofs.Common.{◌≡◌, ℕ, nat_lt, ◌==◌, ◌&&◌, Bool, true, false, if◌then◌else◌, List, [], ◌∷◌, length, Option, Some, None, Result, Ok, Err, refl}
 use Rattle.std.specs.Prelude.{IfOk, is_some}
 use Rattle.rand_pcg.specs.Lcg.{Lcg}
@@ -49,7 +50,7 @@ use Rattle.lapd_sides_laws.specs.SideView.{Behaviour, SideView, Deed, Take, Lose
 use Rattle.lapd_sides_laws.proofs.ExactLinks.{if_either}
 use Rattle.lapd_sides_laws.proofs.ManagementTimers.{awaits_before, checks_before, terminal_row, assigner_row, expired_201, expired_202}
 
--- ---- What is kept by a side, is kept by its deeds.
+-- ---- A property that every reaction of a side keeps, every event keeps.
 
 module _ (S : Type 0) (w : Behaviour S) (P : S → Type 0) where
   abbrev Keeps : Reaction S → Type 0
@@ -80,7 +81,7 @@ module _ (S : Type 0) (w : Behaviour S) (P : S → Type 0) where
     kept_by_deed (Expire timer of now) v h = where_it_may now timer of v.now (may_expire timer of (w.served v.now)) refl h
     kept_by_deed (Ask asked now) v h = granted v.now (w.requested asked now v.now) h (ways.requested now asked v.now h)
 
--- ---- A network side: nothing but a step of the assigner touches it.
+-- ---- A network side: only a step of the assigner changes the timer.
 
 network_among : (s : Network) (r : Result (Reaction Links) SideKind) → HasTimerOfAssigner s → IfOk (net.among_links s r) (λ a. HasTimerOfAssigner a.after)
 network_among s (Ok a) h = h
@@ -159,7 +160,7 @@ new_network_waits config known T201 = refl
 new_network_waits config known T202 = refl
 new_network_waits config known T203 = refl
 
--- ---- A user side: nothing but a step of the terminal touches it.
+-- ---- A user side: only a step of the terminal changes the timer.
 
 user_among : (s : User) (r : Result (Reaction Links) SideKind) → HasTimerOfTerminal s → IfOk (usr.among_links s r) (λ a. HasTimerOfTerminal a.after)
 user_among s (Ok a) h = h

@@ -1,4 +1,4 @@
--- T202 of a user side and T201 of a network side run exactly where TEI management waits.
+-- T202 of a user side and T201 of a network side run exactly while TEI management waits.
 use Rattle.std.proofs.Common.{◌≡◌, ℕ, ◌==◌, ◌&&◌, not, nat_lt, Bool, true, false, [], ◌∷◌, Option, Some, None, refl, sym, subst, ◌∙◌}
 use Rattle.std.specs.Prelude.{is_some}
 use Rattle.lapd_timers.specs.declared.timer.Timer.{Timer}
@@ -43,7 +43,7 @@ set_202 deadline t on h T203 = h T203
 
 -- ---- A terminal.
 
--- as a step begins: where T202 has expired, it runs no longer
+-- whether T202 runs as a step begins: an expired T202 no longer runs
 abbrev pub awaits_before : Phase → TerminalEvent → Bool
 awaits_before phase (terminal.T202 new) = false
 awaits_before phase event = is_awaiting phase
@@ -118,7 +118,7 @@ module _ (now : ℕ) (t : Timers) where
   ending None a is h = subst (λ (c : Option Check). RunsAlone T201 (is_some c) t) (sym is) h
   ending (Some check) a is h = ending_round check.tei check.round check.responses a h
 
--- where T201 has expired, it runs no longer
+-- whether T201 runs as a step begins: an expired T201 no longer runs
 abbrev pub checks_before : AssignerState → AssignerEvent → Bool
 checks_before a assigner.T201 = false
 checks_before a event = is_some a.check
@@ -128,7 +128,7 @@ assigner_row now t a (assigner.Heard m) h = hearing now t m.kind m.ri m.ai a h
 assigner_row now t a (assigner.Check tei) h = beginning now t tei a.check a h
 assigner_row now t a assigner.T201 h = ending now t a.check a refl h
 
--- ---- One that expires runs, and so it is the one that may.
+-- ---- A timer that expires runs, so it is the only one that may run.
 
 false_is_true : false ≡ true → ⊥
 false_is_true e = cc

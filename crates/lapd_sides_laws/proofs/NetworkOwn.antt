@@ -1,4 +1,5 @@
--- Every deed of a network side gives no TEI whose links are there: they are of TEIs that it holds.
+-- No event of a network side assigns a TEI whose links exist, since it holds the TEIs of these
+-- links.
 use Rattle.std.proofs.Common.{◌≡◌, ℕ, ◌==◌, ◌&&◌, nat_lt, List, [], ◌∷◌, length, Bool, true, false, if◌then◌else◌, Option, Some, None, Result, Ok, Err, refl, sym, subst, ◌∙◌}
 use Rattle.std.specs.List.{list_any, filter_map}
 use Rattle.lapd_timers.specs.declared.timer.Timer.{Timer}

@@ -1,4 +1,4 @@
--- What a deed of a network side is to one of its links.
+-- The effect of a network side's event on one of its links.
 use Rattle.std.proofs.Common.{◌≡◌, ◌⊎◌, inl, ℕ, ◌<◌, ◌==◌, ◌&&◌, nat_lt, List, [], ◌∷◌, length, Bool, true, false, if◌then◌else◌, Option, Some, None, Result, Ok, Err, refl, sym, ap, subst, ◌∙◌, arith, inr}
 use Rattle.std.proofs.lemmas.Bool.Decides.{nat_tests}
 use Rattle.lapd_timers.specs.declared.timer.Timer.{Timer}
@@ -89,7 +89,7 @@ module _ (config : Config) (id : LinkId) (low : id.tei < 127) (removed : Bool) w
   link_other now other input octets s apart =
       discarded s (in_links other (link_acts side.Network other now input octets) s.served.links) (λ a is. other_acts side.Network id other s.served.links now input octets a apart is)
 
-  -- one of two
+  -- one of two reactions
   chosen : (now : ℕ) (test : Bool) (x y : Reaction Network) (s : Network) → (Stays s x → NetworkGoes now s x) → Passes s y → Stays s (if test then x else y) → NetworkGoes now s (if test then x else y)
   chosen now true x y s hx hy stays = hx stays
   chosen now false x y s hx hy stays = inl hy
@@ -126,7 +126,7 @@ module _ (config : Config) (id : LinkId) (low : id.tei < 127) (removed : Bool) w
       (subst (λ (o : Result (Reaction Links) SideKind). Goal (or_discarded s (among_links s o))) (sym (own_acts side.Network id s.served.links now input frame.info l d was done))
       (own_is_step side.Network id s.served.links now input frame.info (λ t. t) l d was done)))
 
-  -- where it is not there, they are discarded
+  -- the link's octets are discarded if the link does not exist
   pub takes_absent : (frame : Flight) (now : ℕ) (s : Network) → content_fault frame.role frame.control (length frame.info) ≡ None → s.served.links id ≡ None → Passes s (network_takes config (spelled side.User id frame) now s)
   unfolding network_takes link_of_network
   takes_absent frame now s proper none =

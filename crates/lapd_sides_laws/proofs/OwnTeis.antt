@@ -1,4 +1,5 @@
--- TEI management gives no TEI whose links are there, where these are of TEIs that it holds or has.
+-- TEI management assigns and obtains no TEI whose links exist, if it holds or has the TEIs of these
+-- links.
 use Rattle.std.proofs.Common.{◌≡◌, ◌⊎◌, inl, inr, ℕ, ◌==◌, ◌&&◌, List, Bool, true, false, if◌then◌else◌, Option, Some, None, refl, sym, ap, subst, ◌∙◌, arith}
 use Rattle.std.specs.Prelude.{is_some}
 use Rattle.std.specs.List.{list_any, filter_map}
@@ -18,11 +19,11 @@ use Rattle.lapd_sides_laws.specs.Premises.{tells_assignment}
 use Rattle.lapd_sides_laws.proofs.LinkOps.{none_of_both}
 use Rattle.lapd_sides_laws.proofs.Managed.{freed_here, freed_is_other, without_this, without_other}
 
--- each link that is there is of such a TEI
+-- each existing link has such a TEI
 abbrev pub AreOf : (ℕ → Type 0) → Links → Type 0
 AreOf P links = (k : LinkId) → is_some (links k) ≡ true → P k.tei
 
--- none is told to be assigned whose links were there
+-- no primitive reports that the TEI of an existing link is assigned or obtained
 abbrev pub IsQuietFor : Links → Effects → Type 0
 IsQuietFor links effects = (k : LinkId) → is_some (links k) ≡ true → list_any (tells_assignment k.tei) effects.primitives ≡ false
 
@@ -45,7 +46,8 @@ quiet_without tei None links = refl
 quiet_without tei (Some t) links = none_of_both (tells_assignment tei) (told_at_removal (of_sapi Call t) (links (of_sapi Call t))) (told_at_removal (of_sapi Packet t) (links (of_sapi Packet t)))
     (quiet_at tei (of_sapi Call t) (links (of_sapi Call t))) (quiet_at tei (of_sapi Packet t) (links (of_sapi Packet t)))
 
--- what a step of TEI management is to its TEIs, before and after
+-- what a step of TEI management does to its TEIs: `P` holds for those before it, `Q` for those
+-- after
 pub record LeavesOwn (P Q : ℕ → Type 0) (outs : List TeiOut) : Type 0 where
   pub given : (t : ℕ) → tei_given outs ≡ Some t → Q t
   pub stays : (n : ℕ) → P n → (freed_here n (tei_freed outs) ≡ true) ⊎ Q n

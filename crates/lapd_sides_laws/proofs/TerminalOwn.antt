@@ -1,4 +1,4 @@
--- What a step of the terminal is to its own TEI.
+-- The effect of a terminal's step on its own TEI.
 use Rattle.std.proofs.Common.{◌≡◌, inl, inr, ℕ, ◌+◌, ◌==◌, ◌&&◌, not, nat_lt, [], ◌∷◌, Bool, true, false, if◌then◌else◌, Option, Some, refl, arith}
 use Rattle.std.proofs.lemmas.Bool.Decides.{nat_tests}
 use Rattle.lapd_timers.specs.declared.timer.Timer.TheVariants.{T202}
@@ -24,7 +24,7 @@ Owns (Awaiting purpose count ri) n = ⊥
 abbrev Leaves : Phase → TerminalStep → Type 0
 Leaves phase done = LeavesOwn (Owns phase) (Owns done.now) done.outs
 
--- without a TEI, and none is got
+-- a terminal that has no TEI before the step
 without : (done : TerminalStep) → ((t : ℕ) → tei_given done.outs ≡ Some t → Owns done.now t) → LeavesOwn (λ n. ⊥) (Owns done.now) done.outs
 without done given = record { given = given; stays = λ n none. absurd none; quiet = λ n none. absurd none }
 

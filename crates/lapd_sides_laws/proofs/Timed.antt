@@ -1,4 +1,4 @@
--- T200 and T203 of a link run only where its end says so.
+-- T200 and T203 of a link run only if its end says so.
 use Rattle.std.proofs.Common.{◌≡◌, ℕ, Bool, true, false, if◌then◌else◌, List, [], ◌∷◌, ◌++◌, Option, Some, None, Ok, refl, sym, ap, subst, ◌∙◌}
 use Rattle.std.specs.Prelude.{is_some, ◌&&◌, ◌==◌, nat_lt}
 use Rattle.lapd_timers.specs.declared.timer.Timer.{Timer}
@@ -95,7 +95,7 @@ unless_still false outs h = h
 abbrev pub is_on : Timer → Timers → Bool
 is_on timer t = is_some (deadline_of timer t)
 
--- the timers so far run only where these flags say so
+-- the timers so far run only if these flags say so
 pub record Agree (t : Timers) (t200 t203 : Bool) : Type 0 where
   pub of_200 : is_on T200 t ≡ true → t200 ≡ true
   pub of_203 : is_on T203 t ≡ true → t203 ≡ true
@@ -137,7 +137,7 @@ module _ (r : Reading) (now : ℕ) (t : Timers) where
   abbrev pub Stopped : Timer → StepState → Type 0
   Stopped timer s = is_on timer (timed now s.outs t) ≡ false
 
-  -- outputs behind those that were there
+  -- more outputs follow earlier ones
   behind : (before more : List Out) (a b : Bool) → Agree (timed now more (timed now before t)) a b → Agree (timed now (before ++ more) t) a b
   behind before more a b h = subst (λ (x : Timers). Agree x a b) (sym (timed_both now before more t)) h
 
@@ -189,7 +189,7 @@ module _ (r : Reading) (now : ℕ) (t : Timers) where
 
 -- ---- A whole step.
 
--- from timers and an end that agree; where one has expired, it was stopped
+-- if the timers agree with the end before a step, they agree after it; an expired timer was stopped
 pub timed_by_step : (r : Reading) (now : ℕ) (input : Input) (t : Timers) (e : End) (s : StepState) → ((timer : Timer) → input ≡ Expiry timer → is_on timer t ≡ false)
     → Agree t e.t200 e.t203 → step r input e ≡ Ok s → Agree (timed now s.outs t) s.end.t200 s.end.t203
 unfolding step begin
@@ -199,14 +199,14 @@ timed_by_step r now input t e s stopped h done =
     subst (Timely r now t) (taken (refused input e) (end_step r (row r e.state input (begin e))) s done).1
     (close_keeps r (Stopped r now t) (Timely r now t) (Timely r now t) _ _ _ _ _ _ (timed_actions r now t) (row r e.state input (begin e)) tt row_done)
 
--- of a link
+-- the same, said of a link
 pub link_timed : (l : Linked) → IsTimed l → Agree l.timers l.end.t200 l.end.t203
 link_timed l h = record { of_200 = h.t200; of_203 = h.t203 }
 
 pub timed_link : (e : End) (t : Timers) → Agree t e.t200 e.t203 → IsTimed (record { end = e; timers = t })
 timed_link e t h = record { t200 = h.of_200; t203 = h.of_203 }
 
--- a timer that has expired is stopped
+-- an expired timer is stopped
 pub stopped_is_off : (timer : Timer) (t : Timers) → is_on timer (stopped timer t) ≡ false
 stopped_is_off T200 t = refl
 stopped_is_off T201 t = refl
@@ -225,6 +225,6 @@ stopped_agrees T203 t a b h = record { of_200 = h.of_200; of_203 = λ on. absurd
     false_is_true : false ≡ true → ⊥
     false_is_true e = cc
 
--- as it is made
+-- a newly created link
 pub new_is_timed : (p : Parameters) (lengths : Lengths) → IsTimed (new_linked p lengths)
 new_is_timed p lengths = record { t200 = λ on. on; t203 = λ on. on }

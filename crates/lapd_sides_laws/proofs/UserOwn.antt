@@ -1,4 +1,4 @@
--- Every deed of a user side gets no TEI whose links are there: they are of the terminal's own.
+-- No event of a user side obtains a TEI whose links exist, since these have the terminal's own TEI.
 use Rattle.std.proofs.Common.{◌≡◌, ℕ, List, [], ◌∷◌, length, Bool, true, false, if◌then◌else◌, Option, Some, None, Result, Ok, Err, refl, sym, subst, ◌∙◌}
 use Rattle.std.specs.Prelude.{is_some}
 use Rattle.std.specs.List.{list_any}
@@ -51,9 +51,9 @@ pub record KeepsOwn (s : User) (a : Reaction User) : Type 0 where
   pub after : AreOwn a.after
   pub quiet : IsQuietFor s.served.links a.effects
 
--- ---- What the establishments that are kept come to.
+-- ---- Kept establishments.
 
--- no link comes, the terminal stays as it is, and no TEI is told of
+-- no link joins, the terminal stays unchanged, and no TEI is reported as assigned or obtained
 record IsOp (s : User) (a : Reaction User) : Type 0 where
   pub kept : (k : LinkId) → is_some (a.after.served.links k) ≡ true → is_some (s.served.links k) ≡ true
   pub terminal : a.after.terminal ≡ s.terminal

@@ -1,4 +1,4 @@
--- What a deed of a user side is to one of its links.
+-- The effect of a user side's event on one of its links.
 use Rattle.std.proofs.Common.{◌≡◌, ◌⊎◌, inl, ℕ, ◌<◌, ◌==◌, List, [], ◌∷◌, length, Bool, true, false, if◌then◌else◌, Option, Some, None, Result, Ok, Err, refl, sym, ap, subst, ◌∙◌, arith, inr}
 use Rattle.std.specs.List.{list_any, filter_map, cons_option}
 use Rattle.std.proofs.lemmas.Bool.Decides.{nat_tests}
@@ -98,7 +98,7 @@ module _ (config : Config) (id : LinkId) (low : id.tei < 127) (removed : Bool) w
 
   -- ---- TEI management.
 
-  -- what is told of the group is told of no link
+  -- primitives for the group TEI are for no link
   group_told : (on : Bool) (at : Sapi) (w : What) → told_of id (told_of_sapi on at w) ≡ []
   group_told false at w = refl
   group_told true at w = ap (λ (b : Bool). cons_option (if b then Some w else None) []) (not_of_group at id low)
@@ -136,7 +136,7 @@ module _ (config : Config) (id : LinkId) (low : id.tei < 127) (removed : Bool) w
   keeping now (tei_out.Start timer ∷ outs) s spared = keeping now outs s spared
   keeping now (tei_out.Stop timer ∷ outs) s spared = keeping now outs s spared
 
-  -- ---- Where the link is not there, no establishment is done for it.
+  -- ---- If the link does not exist, no establishment is done for it.
 
   link_absent : (now : ℕ) (other : LinkId) (input : Input) (octets : List ℕ) (s : User) → s.served.links id ≡ None → Passes s (or_unmoved s (link_of_user now other input octets s))
   unfolding link_of_user
@@ -168,7 +168,7 @@ module _ (config : Config) (id : LinkId) (low : id.tei < 127) (removed : Bool) w
   keeping_absent now (tei_out.Start timer ∷ outs) s none = keeping_absent now outs s none
   keeping_absent now (tei_out.Stop timer ∷ outs) s none = keeping_absent now outs s none
 
-  -- ---- Where it has come, the one that was kept for it is done.
+  -- ---- Once the link has joined, the establishment that was kept for it is done.
 
   abbrev IsEstablished : ℕ → User → Reaction User → Type 0
   IsEstablished now s a = Steps now Establish [] (λ t. t) s a
@@ -182,7 +182,7 @@ module _ (config : Config) (id : LinkId) (low : id.tei < 127) (removed : Bool) w
   unfolding link_of_user
   own_establishes now s l there = own_by now s l (in_links id (link_acts side.User id now Establish []) s.served.links) there refl
 
-  -- it is nothing, or the step of this link
+  -- an establishment leaves this link unchanged, or is its step
   abbrev Done : ℕ → LinkId → User → Reaction User → Type 0
   Done now other s a = Passes s a ⊎ ((id_eq id other ≡ true) × IsEstablished now s a)
 
@@ -232,7 +232,7 @@ module _ (config : Config) (id : LinkId) (low : id.tei < 127) (removed : Bool) w
 
   -- ---- A step of the terminal.
 
-  -- what TEI management left alone, the establishments that are kept leave alone
+  -- kept establishments leave the link unchanged if TEI management left it unchanged
   keeping_as : (now : ℕ) (outs : List TeiOut) (s : User) (o : Option Linked) → s.served.links id ≡ o → (is_some o ≡ true → list_any (tells_assignment id.tei) (filter_map outcome_of outs) ≡ false) → Passes s (kept_after now outs s)
   keeping_as now outs s (Some l) is spared = keeping now outs s (spared refl)
   keeping_as now outs s None is spared = keeping_absent now outs s is
@@ -321,7 +321,7 @@ module _ (config : Config) (id : LinkId) (low : id.tei < 127) (removed : Bool) w
       (subst (λ (o : Result (Reaction Links) SideKind). Goal (or_discarded s (among_links s o))) (sym (own_acts side.User id s.served.links now input frame.info l d was done))
       (own_is_step side.User id s.served.links now input frame.info (λ t. t) l d was done))))
 
-  -- where it is not there, they are discarded
+  -- the link's octets are discarded if the link does not exist
   pub takes_absent : (frame : Flight) (now : ℕ) (s : User) → content_fault frame.role frame.control (length frame.info) ≡ None → s.served.links id ≡ None → Passes s (user_takes config (spelled side.Network id frame) now s)
   unfolding user_takes link_of_user
   takes_absent frame now s proper none =
@@ -372,7 +372,7 @@ module _ (config : Config) (id : LinkId) (low : id.tei < 127) (removed : Bool) w
   link_asked now other input octets s a given wish given_is is =
       among now s a given (in_links other (link_acts side.User other now input octets) s.served.links) (λ b granted. granted_part side.User id (fresh_link config id) removed s.served.links now other input octets b given wish given_is granted) is
 
-  -- no message is given, and what is done without TEI is nothing to the link
+  -- requests without a message; a request that is executed without a TEI leaves the link unchanged
   plainly : (now : ℕ) (phase : Phase) (at : Sapi) (input : Input) (octets : List ℕ) (otherwise : Result (Reaction User) SideKind) (s : User) (a : Reaction User) → IsWish side.User input octets → messages_of input ≡ []
       → (otherwise ≡ Ok a → UserGoes now s a) → with_tei_or now phase at input octets otherwise s ≡ Ok a → Asked now s a []
   plainly now (Assigned by own) at input octets otherwise s a wish none else_ is = link_asked now (of_sapi at own) input octets s a [] wish (none_given (id_eq id (of_sapi at own)) (messages_of input) none) is

@@ -1,4 +1,5 @@
--- Each move of an interface is nothing, or one move, to each of its links; hence each link is safe after every run.
+-- Each move of an interface is nothing or one move to each of its links. So each link is safe after
+-- every run.
 use Rattle.std.proofs.Common.{◌≡◌, inl, inr, ℕ, ◌<◌, ◌≤◌, List, [], ◌∷◌, ◌++◌, map, Option, Some, Ok, refl, sym, ap, subst, ◌∙◌, ◌⊎◌}
 use Rattle.std.specs.List.{filter_map}
 use Rattle.lapd_timers.specs.Durations.{Lengths}
@@ -39,7 +40,7 @@ use Rattle.lapd_sides_laws.proofs.Users.{of_user}
 
 -- ---- Runs of the world.
 
--- one move more
+-- one more move
 run_more : (moves : List world.Move) (m : world.Move) (w : World) → world_of.run Tagged (moves ++ m ∷ []) w ≡ world_after (world_of.run Tagged moves w) (world_of.happens Tagged m (world_of.run Tagged moves w))
 run_more [] m w = refl
 run_more (first ∷ moves) m w = run_more moves m (world_after w (world_of.happens Tagged first w))
@@ -57,16 +58,16 @@ module _ (who : Side) (deed : world.Deed) (w : World) (turn : world.Turn) (is : 
   unfolding world_of.happens
   outs_are_expected h = subst (λ o. ReportsExpected (in_world who w o)) is h
 
--- a link is there as new, or not there yet
+-- a link exists as new, or does not exist yet
 abbrev pub IsNew : Linked → Links → LinkId → Parameters → Type 0
 IsNew fresh links id p = HasLink links id (new_end p) ⊎ AwaitsLink fresh links id (new_end p)
 
--- so it shows a new end, whatever was told before
+-- so it shows a new end, with no primitives delivered yet
 new_shows : (fresh : Linked) (links : Links) (id : LinkId) (p : Parameters) → IsNew fresh links id p → ShowsEnd fresh links id [] (new_end p)
 new_shows fresh links id p (inl h) = inl h
 new_shows fresh links id p (inr h) = inr (inl h)
 
--- ---- What is safe is right.
+-- ---- A safe world is right.
 
 some_octets : (received : List Receipt) → map (λ (message : Receipt). Some message.octets) received ≡ map (λ message. Some message) (map (λ (message : Receipt). message.octets) received)
 some_octets [] = refl
@@ -80,7 +81,7 @@ received_as given given_now acked acked_now received received_now g a r h =
     subst (λ x. IsReceived x acked_now received_now) (sym g) (subst (λ x. IsReceived given x received_now) (sym a) (subst (λ x. IsReceived given acked x) (sym r) h))
 
 module _ (c : Configs) (id : LinkId) (low : id.tei < 127) where
-  -- ---- The other side, after a deed of one.
+  -- ---- The other side, after an event of one side.
 
   network_beside : (v : SideView User) (i : Interface) (view : View) (w : World) → Projects (user_behaviour c.user) side.User id v view → Projects (network_behaviour c.network) side.Network id (by_network i) (view_of side.Network w)
       → Projects (network_behaviour c.network) side.Network id (by_network (with_user v i)) (view_of side.Network (with_view side.User view w))
@@ -126,7 +127,7 @@ module _ (c : Configs) (id : LinkId) (low : id.tei < 127) where
     abbrev Reached : List world.Move → World
     Reached moves = world_of.run Tagged moves (new_world p q)
 
-    -- the interface shows a world that some moves led to, and what was reported is expected
+    -- the interface represents a world that some moves led to, and the errors reported are expected
     pub record IsReached (i : Interface) : Type 0 where
       pub moves : List world.Move
       pub shows : ProjectsTo c id i (Reached moves)
@@ -143,7 +144,7 @@ module _ (c : Configs) (id : LinkId) (low : id.tei < 127) where
         → with_view who turn.view (Reached moves) ≡ Reached (More moves who deed)
     more_is moves who deed turn is = sym (run_more moves (record { side = who; deed = deed }) (new_world p q) ∙ after_move who deed (Reached moves) turn is)
 
-    -- what one move more tells of a link is expected
+    -- one more move reports only expected errors for a link
     tells_expected : (moves : List world.Move) (who : Side) (deed : world.Deed) (turn : world.Turn) (octets : List ℕ) (before now : List What) → world.acts Tagged who deed (view_of who (Reached moves)) ≡ Ok turn
         → now ≡ before ++ filter_map (what_of octets) turn.outs → AreExpectedWhats before → AreExpectedWhats now
     tells_expected moves who deed turn octets before now is tells h =
@@ -193,7 +194,7 @@ module _ (c : Configs) (id : LinkId) (low : id.tei < 127) where
     all_moves i [] timely stays r = r
     all_moves i (move ∷ moves) timely stays r = all_moves (happens c move i) moves timely.1 stays.1 (one_move i move.side move.deed timely.0 stays.0 r)
 
-    -- the link is new on both sides, there or not there yet, and no octets for it are on their way
+    -- the link is new on both sides or does not exist yet, and no octets for it are in transit
     begins : (i : Interface) → IsNew (fresh_link c.user id) i.user.served.links id p
         → IsNew (fresh_link c.network id) i.network.served.links id q
         → those_for side.Network id i.to_user ≡ [] → those_for side.User id i.to_network ≡ [] → IsReached (from_here i)

@@ -1,4 +1,5 @@
--- A side's next deadline comes no later than the timer of each link that is not in state 4, nor than that of TEI management.
+-- A side's next deadline is no later than the timer of each link that is not in state 4, nor than
+-- the timer of TEI management.
 use Rattle.std.proofs.Common.{◌≡◌, ◌⊎◌, inl, inr, ℕ, not, Bool, true, false, Option, Some, None, refl, ap, ◌∙◌, arith}
 use Rattle.std.specs.Prelude.{is_some, option_map}
 use Rattle.std.proofs.lemmas.Bool.{cases_lt}
@@ -35,7 +36,7 @@ there : (o : Option ℕ) → is_some o ≡ true → (deadline : ℕ) × (o ≡ S
 there (Some deadline) h = (deadline, refl)
 there None h = cc
 
--- what runs with a deadline is waited for no longer than that
+-- the next deadline is no later than that of any running timer
 comes_by : (s : Served) (e : RunningTimer) (next : Option ℕ) → Runs (of_served s) e → IsNextDeadline s next → ComesBy e.deadline next
 comes_by s e None runs h = absurd (h e.deadline e (record { runs = runs; is_past = omega arith }))
 comes_by s e (Some moment) runs h = elim (cases_lt e.deadline moment) [
@@ -58,7 +59,7 @@ module _ (s : Served) (next : Option ℕ) (h : IsNextDeadline s next) where
           | inr on ↦ let t = there (deadline_of T203 linked.timers) on in record { deadline = t.0; its = inr t.1; in_time = link_timer T203 t.0 tt t.1 }
         ]
 
-  -- one of TEI management
+  -- a timer of TEI management
   pub awaited_by : (timer : Timer) → is_on timer s.timers ≡ true → IsAwaited timer s.timers next
   awaited_by timer on =
       let t = there (deadline_of timer s.timers) on in

@@ -1,4 +1,4 @@
--- Which octets on the line are a link's, and which of them poll or answer a poll.
+-- Which octets on the line belong to a link, and which of them poll or answer a poll.
 use Rattle.std.specs.Prelude.{ℕ, Bool, false, not, ◌&&◌, List, map, Result, Ok, Err}
 use Rattle.std.specs.List.{filter}
 use Rattle.lapd_frame.specs.declared.Side.{Side}
@@ -13,19 +13,19 @@ use Rattle.lapd_table.specs.declared.link_id.LinkId.{LinkId}
 use Rattle.lapd_table.specs.LinkId.{id_eq}
 use Rattle.lapd_table.specs.Octets.{addressed}
 
--- the link that octets carry the address of is this one
+-- the octets were read as a frame, and its address names this link
 abbrev pub is_named : LinkId → Result (LinkId × Input) FaultKind → Bool
 is_named id (Ok (other, input)) = id_eq id other
 is_named id (Err kind) = false
 
--- octets that this side sent are for the link
+-- octets that this side sent belong to the link
 abbrev pub is_for : Side → LinkId → List ℕ → Bool
 is_for from id octets = is_named id (addressed from octets)
 
 abbrev pub those_for : Side → LinkId → List (List ℕ) → List (List ℕ)
 those_for from id line = filter (is_for from id) line
 
--- ---- A command with P=1, and a response with F=1.
+-- ---- Commands with P=1 and responses with F=1.
 
 abbrev pub reads_as_poll : Result Fields FrameFault → Bool
 reads_as_poll (Ok f) = is_command f.address.role && poll_final f.control

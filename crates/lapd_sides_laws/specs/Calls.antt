@@ -1,4 +1,4 @@
--- How the calls of a side in code are deeds.
+-- The calls of a side in code are events of the side.
 use Rattle.std.specs.Prelude.{◌≡◌, ℕ, ◌++◌, Result, Ok, Err, ⊤}
 use Rattle.lapd_sides_links.specs.declared.config.Config.{Config}
 use Rattle.lapd_sides_links.specs.Effects.{Effects}
@@ -11,13 +11,14 @@ use Rattle.lapd_sides.specs.User.{User}
 use Rattle.lapd_sides_laws.specs.Interface.{network_behaviour, user_behaviour}
 use Rattle.lapd_sides_laws.specs.SideView.{Behaviour, Deed, SideView, Take, Lose, does}
 
--- What a deed sent and told, all of it, is what a call put here.
+-- The call adds exactly the frames and the primitives that the event adds.
 pub record Puts {S : Type 0} (w : Behaviour S) (acts : Effects) (deed : Deed) (v : SideView S) :
     Type 0 where
   pub sent : (does w deed v).outgoing ≡ v.outgoing ++ acts.frames
   pub told : (does w deed v).told ≡ v.told ++ acts.primitives
 
--- The side in code shows the side after the deed, and what the call put is what the deed sent and told.
+-- The code represents the side after the event, and the call adds the event's frames and
+-- primitives.
 pub record SideDoes {C S : Type 0} (Show : C → Config → S → Type 0) (w : Config → Behaviour S)
     (code : C) (config : Config) (acts : Effects) (deed : Deed) (v : SideView S) : Type 0 where
   pub shown : Show code config (does (w config) deed v).now
@@ -29,7 +30,7 @@ NetworkDoes = SideDoes ShowNetwork network_behaviour
 abbrev pub UserDoes : UserSide → Config → Effects → Deed → SideView User → Type 0
 UserDoes = SideDoes ShowUser user_behaviour
 
--- octets that are taken; those for which there was no memory, and that are not taken again, are lost
+-- a successful take; octets for which an allocation failed, and that are not taken again, are lost
 abbrev pub take_of : {E : Type 0} → Result ⊤ E → ℕ → Deed
 take_of (Ok done) now = Take now
 take_of (Err fault) now = Lose 0

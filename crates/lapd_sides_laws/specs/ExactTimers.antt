@@ -1,5 +1,5 @@
--- At every link of a side each timer runs exactly where the link's end says so. One that was missing would hang the link for
--- ever.
+-- On every link of a side, each timer runs exactly when the link's end requires it. A link that
+-- lacked its timer would hang forever.
 use Rattle.std.specs.Prelude.{◌≡◌, ◌⊎◌, ℕ, ◌<◌, ◌≤◌, List, [], ◌∷◌, ◌++◌, Option, Some, is_some}
 use Rattle.std.specs.List.{All}
 use Rattle.lapd_timers.specs.declared.timer.Timer.{Timer}
@@ -13,54 +13,55 @@ use Rattle.lapd_sides_links.specs.Links.{Linked, Links}
 use Rattle.lapd_sides_laws.specs.Interface.{Interface}
 use Rattle.lapd_sides_laws.specs.SideView.{Behaviour, SideView, Deed, does}
 
--- A timer has a deadline exactly where it runs at the link's end: T200 and T203 by its state, and T201 and T202 never. And
--- V(S), V(A) and V(R) are tags.
+-- A timer has a deadline exactly when it runs at the link's end: T200 and T203 by the state, T201
+-- and T202 never. V(S), V(A) and V(R) are tags.
 pub record HasExactTimers (l : Linked) : Type 0 where
   pub exact : (timer : Timer) → is_some (deadline_of timer l.timers) ≡ runs timer l.end
   pub of_state : HasTimersOfState l.end
   pub numbers : AreTags l.end.window
 
--- of all links that are there
+-- every link that exists has exact timers
 abbrev pub HaveExactTimers : Links → Type 0
 HaveExactTimers links = (id : LinkId) (linked : Linked) → links id ≡ Some linked
     → HasExactTimers linked
 
--- of both sides
+-- on both sides
 abbrev pub BothHaveExactTimers : Interface → Type 0
 BothHaveExactTimers i = HaveExactTimers i.user.served.links
     × HaveExactTimers i.network.served.links
 
--- ---- What it comes to.
+-- ---- Consequences: timers by state, and deadlines in time.
 
--- What runs goes by the state: T200 has a deadline in states 5, 6 and 8, and T203 none; in state 7 one of the two has, T203
--- only where all is acknowledged; in state 4 neither.
+-- The state determines the timers that run. In states 5, 6 and 8 T200 has a deadline and T203 has
+-- none. In state 7 one of the two has, and T203 only if all is acknowledged. In state 4 neither
+-- has.
 abbrev pub RunByState : Linked → Type 0
 RunByState l = AreTimersOf l.end.state (is_some (deadline_of T200 l.timers))
     (is_some (deadline_of T203 l.timers)) (l.end.window.vs ≡ l.end.window.va)
 
--- the next moment at which something is due on a side, and it is no later than this deadline
+-- a side has a next deadline, no later than this one
 pub record ComesBy (deadline : ℕ) (next : Option ℕ) : Type 0 where
   pub moment : ℕ
   pub is_next : next ≡ Some moment
   pub no_later : moment ≤ deadline
 
--- a link is woken in time: T200 or T203 of it has a deadline, and something is due on its side no later
+-- T200 or T203 of the link has a deadline, and its side's next deadline is no later
 pub record IsWoken (l : Linked) (next : Option ℕ) : Type 0 where
   pub deadline : ℕ
   pub its : (deadline_of T200 l.timers ≡ Some deadline)
       ⊎ (deadline_of T203 l.timers ≡ Some deadline)
   pub in_time : ComesBy deadline next
 
--- ---- One side, whatever comes to it.
+-- ---- One side, whatever octets arrive.
 
--- eight bits
+-- a value of eight bits
 abbrev pub IsOctet : ℕ → Type 0
 IsOctet octet = octet < 256
 
 abbrev pub AreOctets : List ℕ → Type 0
 AreOctets octets = All IsOctet octets
 
--- octets come, behind those that are on their way to the side, from anyone; and then it does something
+-- octets arrive from anyone, behind those in transit to the side; then an event of the side follows
 pub record Turn : Type 0 where
   pub comes : List (List ℕ)
   pub deed : Deed
@@ -76,6 +77,6 @@ abbrev pub turned_by_all : {S : Type 0} → Behaviour S → List Turn → SideVi
 turned_by_all w [] v = v
 turned_by_all w (turn ∷ turns) v = turned_by_all w turns (turned w turn v)
 
--- a side as it is made
+-- a newly created side, with nothing delivered, accepted or in transit
 abbrev pub new_view : {S : Type 0} → S → SideView S
 new_view s = record { now = s; told = []; given = []; incoming = []; outgoing = [] }

@@ -1,4 +1,5 @@
--- An interface: a user side, a network side, and the octets on their way between them, in the order in which they were sent.
+-- An interface: a user side, a network side, and the octets in transit between them, in the order
+-- in which they were sent.
 use Rattle.std.specs.Prelude.{ℕ, List, [], ◌∷◌}
 use Rattle.lapd_frame.specs.declared.Side.{Side}
 use Rattle.lapd_frame.specs.declared.Side.TheVariants as side
@@ -14,11 +15,11 @@ use Rattle.lapd_sides_laws.specs.SideView.{Behaviour, SideView, Deed, does}
 
 -- ---- The two sides.
 
--- a link as it comes with its TEI
+-- a link as it joins with its TEI
 abbrev pub fresh_link : Config → LinkId → Linked
 fresh_link config id = new_linked (parameters_for config id.sapi) config.durations
 
--- a request of the user side means the link of the terminal's own TEI
+-- a request of the user side refers to the link with the terminal's own TEI, if it has one
 abbrev pub own_link : Phase → LinkId → LinkId
 own_link (Assigned by own) id = of_sapi id.sapi own
 own_link Unassigned id = id
@@ -44,12 +45,12 @@ user_behaviour config = record {
   fresh = fresh_link config;
 }
 
--- with what both were made
+-- the configurations of both sides
 pub record Configs : Type 0 where
   pub user : Config
   pub network : Config
 
--- ---- Both, and what is between them.
+-- ---- Both sides, and the octets between them.
 
 pub record Interface : Type 0 where
   pub user : User
@@ -61,7 +62,7 @@ pub record Interface : Type 0 where
   pub to_user : List (List ℕ)
   pub to_network : List (List ℕ)
 
--- as it begins
+-- an interface before its first move
 abbrev pub new_interface : User → Network → Interface
 new_interface user network = record {
   user = user;
@@ -74,7 +75,7 @@ new_interface user network = record {
   to_network = [];
 }
 
--- the same, where what is told and given is written down from this moment on
+-- the same interface, with primitives and messages recorded from this moment on
 abbrev pub from_here : Interface → Interface
 from_here i = record i {
   told_to_user = [];
@@ -83,7 +84,7 @@ from_here i = record i {
   given_to_network = [];
 }
 
--- what each side sees of it, and the interface with that changed
+-- each side's view of an interface, and the interface with a changed view
 abbrev pub by_user : Interface → SideView User
 by_user i = record {
   now = i.user;
@@ -122,7 +123,7 @@ with_network v i = record i {
 
 -- ---- Moves.
 
--- a deed of one of the two sides
+-- an event of one of the two sides
 pub record Move : Type 0 where
   pub side : Side
   pub deed : Deed

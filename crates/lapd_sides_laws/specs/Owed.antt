@@ -1,5 +1,6 @@
--- What a side owes each of its links: its own octets, timers and requests are steps of the state table, and everything else
--- leaves it, its timers and its frames alone, unless its TEI comes or goes.
+-- How a side serves each of its links. The link's own octets, timers and requests are steps of the
+-- state table. Everything else leaves the link, its timers and its frames unchanged, unless its TEI
+-- is assigned or removed.
 use Rattle.std.specs.Prelude.{◌≡◌, ◌⊎◌, ℕ, Bool, true, false, List, [], length, Option, Some, None, Ok}
 use Rattle.std.specs.List.{filter_map, list_any}
 use Rattle.lapd_timers.specs.declared.timer.Timer.{Timer}
@@ -27,17 +28,17 @@ use Rattle.lapd_sides_laws.specs.Projects.{IsTimed}
 use Rattle.lapd_sides_laws.specs.SideView.{Behaviour, accepted_by}
 use Rattle.lapd_sides_laws.specs.Told.{told_of, given_to, Known, learns_all, AreExpectedWhats}
 
--- ---- What a deed of a side is to one of its links: nothing, or one step of it.
+-- ---- What an event of a side does to one of its links: nothing, or one step.
 
--- the link stays, none of the frames is its, and nothing is told of it
+-- the link stays unchanged, and no frame and no primitive is for it
 pub record PassesBy (side : Side) (id : LinkId) (before now : Links) (effects : Effects) : Type 0
   where
     pub links : now id ≡ before id
     pub frames : those_for side id effects.frames ≡ []
     pub told : told_of id effects.primitives ≡ []
 
--- The link does a step of the table, and the frames for it and what is told of it are of that step. Its timers were changed
--- so before: left alone, or stopped where one has expired.
+-- The link does a step of the state table, and the frames and primitives for the link are those of
+-- the step. Before the step, `change` leaves the link's timers unchanged or stops an expired one.
 pub record IsStep (side : Side) (id : LinkId) (at : ℕ) (input : Input) (octets : List ℕ)
     (change : Timers → Timers) (before now : Links) (effects : Effects) : Type 0 where
   pub linked : Linked
@@ -50,8 +51,8 @@ pub record IsStep (side : Side) (id : LinkId) (at : ℕ) (input : Input) (octets
       ≡ filter_map (sent_by (setup_for side id) done.end octets) done.outs
   pub told : told_of id effects.primitives ≡ filter_map (what_of octets) done.outs
 
--- The link comes, as it is new, where its TEI was not taken away before; and then it is left alone, or does the establishment
--- that was kept for it.
+-- The link joins as a new one, if its TEI was not removed before. Then it stays unchanged, or does
+-- the establishment that was kept for it.
 pub record IsComing (side : Side) (id : LinkId) (at : ℕ) (fresh : Linked) (removed : Bool)
     (before now : Links) (effects : Effects) : Type 0 where
   pub absent : before id ≡ None
@@ -59,24 +60,25 @@ pub record IsComing (side : Side) (id : LinkId) (at : ℕ) (fresh : Linked) (rem
   pub comes : PassesBy side id (with_link id (Some fresh) before) now effects
       ⊎ IsStep side id at Establish [] (λ t. t) (with_link id (Some fresh) before) now effects
 
--- what is told of a link that goes teaches nothing, and reports no error
+-- primitives for a link that is removed: they change nothing that layer 3 knows, and report no
+-- error
 pub record AreSilent (whats : List What) : Type 0 where
   pub teaches : (k : Known) → learns_all whats k ≡ k
   pub expected : AreExpectedWhats whats
 
--- its TEI is taken away
+-- the link is removed with its TEI
 pub record IsRemoval (side : Side) (id : LinkId) (now : Links) (effects : Effects) : Type 0 where
   pub gone : now id ≡ None
   pub frames : those_for side id effects.frames ≡ []
   pub told : AreSilent (told_of id effects.primitives)
   pub tells : list_any (tells_removal id.tei) effects.primitives ≡ true
 
--- what is no step of a link that is there
+-- the event is no step of an existing link: it leaves the link unchanged, creates it or removes it
 abbrev pub Goes : Side → LinkId → ℕ → Linked → Bool → Links → Links → Effects → Type 0
 Goes side id at fresh removed before now effects = PassesBy side id before now effects
     ⊎ (IsComing side id at fresh removed before now effects ⊎ IsRemoval side id now effects)
 
--- an accepted request is nothing to a link, or a move of it
+-- an accepted request is a move of the link (`IsRequest`), or no step of it (`IsNoRequest`)
 pub record IsRequest (side : Side) (id : LinkId) (now : ℕ) (before after : Links)
     (effects : Effects) (given : List (LinkId × List ℕ)) : Type 0 where
   pub deed : world.Deed
@@ -92,10 +94,11 @@ pub record IsNoRequest (side : Side) (id : LinkId) (now : ℕ) (fresh : Linked) 
   pub goes : Goes side id now fresh removed before after effects
   pub none_given : given_to id given ≡ []
 
--- ---- What each deed is.
+-- ---- Every event of a side.
 
--- Octets of other links, other timers and other requests are no step of the link, where its TEI is given once; its own are steps
--- of it, and octets that come where it is not there are discarded.
+-- Octets of other links, other timers and other requests are no step of the link, if its TEI is
+-- assigned once. The link's own are steps of it. Octets for a link that does not exist are
+-- discarded.
 pub record ServesLink {S : Type 0} (w : Behaviour S) (side : Side) (id : LinkId) (removed : Bool)
     : Type 0 where
   pub takes_other : (octets : List ℕ) (now : ℕ) (s : S) → is_for (other_side side) id octets ≡ false

@@ -1,4 +1,4 @@
--- The premises of one link: its T200 is timely, and its TEI is given once.
+-- The premises of one link: its T200 is timely, and its TEI is assigned once.
 use Rattle.std.specs.Prelude.{◌≡◌, ℕ, ◌==◌, ◌||◌, Bool, true, false, List, [], ◌∷◌, Some, is_some}
 use Rattle.std.specs.List.{list_any}
 use Rattle.lapd_timers.specs.declared.timer.Timer.TheVariants.{T200}
@@ -15,29 +15,30 @@ use Rattle.lapd_sides_laws.specs.Addressed.{is_poll_for, is_final_for}
 use Rattle.lapd_sides_laws.specs.Interface.{Configs, Interface, Move, user_behaviour, network_behaviour, by_user, by_network, happens}
 use Rattle.lapd_sides_laws.specs.SideView.{Behaviour, SideView, Deed, Expire, reaction}
 
--- ---- Of one deed.
+-- ---- Of one event.
 
--- T200 of the link does not expire while a command with P=1 of this side, or a response with F=1 to it, is on the line.
+-- T200 of the link does not expire while a command with P=1 from this side, or a response with F=1
+-- to it, is in transit.
 abbrev pub IsTimely : {S : Type 0} → Side → LinkId → Deed → SideView S → Type 0
 IsTimely side id (Expire timer of now) v = timer ≡ T200 → of ≡ Some id
     → (list_any (is_poll_for side id) v.outgoing ≡ false)
     × (list_any (is_final_for (other_side side) id) v.incoming ≡ false)
 IsTimely side id deed v = Unit {0}
 
--- it is told that the TEI is freed, removed or given up
+-- a primitive reports that the TEI is freed, removed or given up
 abbrev pub tells_removal : ℕ → Primitive → Bool
 tells_removal tei (Management (outcome.Free t)) = t == tei
 tells_removal tei (Management (outcome.Doubled t)) = t == tei
 tells_removal tei (Management (outcome.Gone t)) = t == tei
 tells_removal tei other = false
 
--- it is told that the TEI is given or got
+-- a primitive reports that the TEI is assigned or obtained
 abbrev pub tells_assignment : ℕ → Primitive → Bool
 tells_assignment tei (Management (outcome.Given t)) = t == tei
 tells_assignment tei (Management (outcome.Got t)) = t == tei
 tells_assignment tei other = false
 
--- The TEI is not given where the link is there, nor where the TEI was taken away before.
+-- The TEI is not assigned or obtained while the link exists, nor after the TEI was removed.
 abbrev pub IsGivenOnce : LinkId → Links → Bool → Effects → Type 0
 IsGivenOnce id links removed effects = (is_some (links id) || removed) ≡ true
     → list_any (tells_assignment id.tei) effects.primitives ≡ false
@@ -46,8 +47,8 @@ abbrev pub GivesTeiOnce : {S : Type 0} → Behaviour S → LinkId → Deed → S
 GivesTeiOnce w id deed v = IsGivenOnce id (w.served v.now).links
     (list_any (tells_removal id.tei) v.told) (reaction w deed v).effects
 
--- It is not given where it was taken away before. Of sides as they are made that is the same: they give no TEI whose links are
--- there.
+-- The TEI is not assigned or obtained after it was removed. For newly created sides this is enough:
+-- they never assign or obtain a TEI whose links exist.
 abbrev pub IsNotGivenAgain : LinkId → Bool → Effects → Type 0
 IsNotGivenAgain id removed effects = removed ≡ true
     → list_any (tells_assignment id.tei) effects.primitives ≡ false
@@ -88,7 +89,7 @@ LeaveTeiTaken c id [] i = Unit {0}
 LeaveTeiTaken c id (move ∷ moves) i = IsMoveLeavingTeiTaken c id move.side move.deed i
     × LeaveTeiTaken c id moves (happens c move i)
 
--- both premises, and both of sides as they are made
+-- both premises; then both premises for newly created sides
 abbrev pub KeepPremises : Configs → LinkId → List Move → Interface → Type 0
 KeepPremises c id moves i = AreTimely c id moves i × GiveTeiOnce c id moves i
 

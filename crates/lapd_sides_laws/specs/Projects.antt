@@ -1,4 +1,5 @@
--- How what a side sees shows, for one link, what a side of the world of two ends sees; and that the link is safe.
+-- How a side's view represents, for one link, the view of a side in a world of two ends; and that
+-- the link is safe.
 use Rattle.std.specs.Prelude.{◌≡◌, ◌⊎◌, true, List, map, Some, None, is_some}
 use Rattle.std.specs.List.{list_any}
 use Rattle.lapd_timers.specs.declared.timer.Timer.TheVariants.{T200, T203}
@@ -22,12 +23,12 @@ use Rattle.lapd_sides_laws.specs.Premises.{tells_removal}
 use Rattle.lapd_sides_laws.specs.SideView.{Behaviour, SideView}
 use Rattle.lapd_sides_laws.specs.Told.{Known, told_of, given_to, known_of, IsReceived, AreExpectedWhats}
 
--- T200 and T203 of a link run only where its end says so
+-- T200 and T203 of a link run only if its end says so
 pub record IsTimed (l : Linked) : Type 0 where
   pub t200 : is_some (deadline_of T200 l.timers) ≡ true → l.end.t200 ≡ true
   pub t203 : is_some (deadline_of T203 l.timers) ≡ true → l.end.t203 ≡ true
 
--- what is known by a history
+-- what layer 3 knows by a history
 abbrev pub known_by : History → Known
 known_by h = record {
   received = map (λ (message : Receipt). message.octets) h.received;
@@ -37,19 +38,19 @@ known_by h = record {
   passed = h.passed;
 }
 
--- a link is there, and its end is this one
+-- the link exists, and this is its end
 pub record HasLink (links : Links) (id : LinkId) (e : End) : Type 0 where
   pub linked : Linked
   pub there : links id ≡ Some linked
   pub end : linked.end ≡ e
   pub timed : IsTimed linked
 
--- it is not there yet, and this is the end that it will have
+-- the link does not exist yet, and this is the end that it will have
 pub record AwaitsLink (fresh : Linked) (links : Links) (id : LinkId) (e : End) : Type 0 where
   pub absent : links id ≡ None
   pub end : e ≡ fresh.end
 
--- it is there no more, since its TEI was taken away
+-- the link no longer exists, since its TEI was removed
 pub record LacksLink (links : Links) (id : LinkId) (told : List Primitive) : Type 0 where
   pub absent : links id ≡ None
   pub removed : list_any (tells_removal id.tei) told ≡ true
@@ -58,8 +59,9 @@ abbrev pub ShowsEnd : Linked → Links → LinkId → List Primitive → End →
 ShowsEnd fresh links id told e =
     HasLink links id e ⊎ (AwaitsLink fresh links id e ⊎ LacksLink links id told)
 
--- The end of the link is the world's, unless it is there no more; the octets for it are the frames on their way, spelled; and
--- what was told of it, and given to it, is what the world wrote down.
+-- The link's end is the one in the world, unless the link no longer exists. The octets in transit
+-- for the link are the world's frames, spelled. Its primitives and accepted messages are those that
+-- the world recorded.
 pub record Projects {S : Type 0} (w : Behaviour S) (side : Side) (id : LinkId) (v : SideView S)
     (view : world.View) : Type 0 where
   pub link : ShowsEnd (w.fresh id) (w.served v.now).links id v.told view.station.end
@@ -75,8 +77,9 @@ pub record ProjectsTo (c : Configs) (id : LinkId) (i : Interface) (w : World) : 
   pub network : Projects (network_behaviour c.network) side.Network id (by_network i)
       (view_of side.Network w)
 
--- What came of the link is right, said of what was told and given alone: in both directions what was received was given, in
--- order and once each, and what counts as acknowledged was received; and no error but F, G, H and I was reported.
+-- The link's primitives and messages are right, in both directions: the messages received are, in
+-- order and once each, among those submitted; each message that counts as acknowledged was
+-- received; and no error but F, G, H and I was reported.
 pub record IsRight (id : LinkId) (i : Interface) : Type 0 where
   pub to_network : IsReceived (given_to id i.given_to_user) (known_of id i.told_to_user).acked
       (known_of id i.told_to_network).received
@@ -85,8 +88,8 @@ pub record IsRight (id : LinkId) (i : Interface) : Type 0 where
   pub reports_to_user : AreExpectedWhats (told_of id i.told_to_user)
   pub reports_to_network : AreExpectedWhats (told_of id i.told_to_network)
 
--- Some moves of the world of two ends lead from its beginning to the one that the interface shows for the link, and it is
--- safe, in both directions; so what came of the link is right.
+-- The interface represents, for the link, a world of two ends that some moves lead to from a new
+-- world. That world is safe in both directions, so the link's primitives are right.
 pub record IsSafeAt (c : Configs) (id : LinkId) (i : Interface) : Type 0 where
   pub user : Parameters
   pub network : Parameters

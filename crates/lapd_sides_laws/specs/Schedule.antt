@@ -1,4 +1,4 @@
--- Worked runs of an interface, by which the premises are seen to be met, and each of them to be needed.
+-- Worked runs of an interface. They show that the premises can be met, and that each is needed.
 use Rattle.std.specs.Prelude.{◌≡◌, ℕ, List, [], ◌∷◌, ◌++◌, Some, None, Vec}
 use Rattle.std.specs.declared.alloc.Global.{Global}
 use Rattle.lapd_timers.specs.declared.timer.Timer.TheVariants.{T200, T201}
@@ -19,7 +19,7 @@ by_user deed = record { side = side.User; deed = deed }
 abbrev pub by_network : Deed → Move
 by_network deed = record { side = side.Network; deed = deed }
 
--- both SAPIs are served, and the user has TEI 64, which the network knows
+-- both sides serve both SAPIs; the user has TEI 64, and the network knows it
 abbrev pub configs : Configs
 configs = record { user = sides.both_sapis; network = sides.both_sapis }
 
@@ -33,25 +33,27 @@ abbrev pub at_first : Interface
 at_first = new_interface (new_user sides.both_sapis (Some 64) sides.random)
     (new_network sides.both_sapis (64 ∷ []))
 
--- a message of one octet
+-- a message of this one octet
 abbrev pub IsMessage : ℕ → Vec ℕ Global → Type 0
 IsMessage octet message = message.items ≡ octet ∷ []
 
 -- ---- The premises are met.
 
--- The user asks for both links; the SABME of call control is lost, T200 expires, and the second one is answered.
+-- The user requests both links. The SABME of call control is lost, T200 expires, and the second
+-- SABME is answered.
 abbrev pub establishing : List Move
 establishing = by_user (Ask (request.Establish call) 0) ∷ by_user (Ask (request.Establish packet) 0)
     ∷ by_network (Lose 0) ∷ by_network (Take 0) ∷ by_user (Take 0)
     ∷ by_user (Expire T200 (Some call) 1000) ∷ by_network (Take 1000) ∷ by_user (Take 1000) ∷ []
 
--- Each side gives a message; that of the user is received and acknowledged, and that of the network is lost.
+-- Each side submits a message. The user's is received and acknowledged, and the network's is lost.
 abbrev pub giving : Vec ℕ Global → Vec ℕ Global → List Move
 giving message answer = by_user (Ask (request.Give call message) 1000)
     ∷ by_network (Ask (request.Give packet answer) 1000)
     ∷ by_user (Lose 0) ∷ by_network (Take 1000) ∷ by_user (Take 1000) ∷ []
 
--- T200 expires, the enquiry is answered, and the message is sent again, received and acknowledged.
+-- T200 expires, the enquiry is answered, and the message is retransmitted, received and
+-- acknowledged.
 abbrev pub recovering : List Move
 recovering = by_network (Expire T200 (Some packet) 2000) ∷ by_user (Take 2000)
     ∷ by_network (Take 2000) ∷ by_user (Take 2000) ∷ by_network (Take 2000) ∷ []
@@ -59,12 +61,13 @@ recovering = by_network (Expire T200 (Some packet) 2000) ∷ by_user (Take 2000)
 abbrev pub both_links : Vec ℕ Global → Vec ℕ Global → List Move
 both_links message answer = establishing ++ giving message answer ++ recovering
 
--- The same of a user that has no TEI, and of a network that knows none.
+-- The user has no TEI, and the network knows none.
 abbrev pub unassigned : Interface
 unassigned = new_interface (new_user sides.both_sapis None sides.random)
     (new_network sides.both_sapis [])
 
--- Layer 3 of the user asks for the link. It is kept until TEI 64 is assigned, and done with it; then a message is given.
+-- Layer 3 of the user requests the link. The establishment is kept until TEI 64 is assigned, and
+-- done then. After it a message is submitted.
 abbrev pub assigned : Vec ℕ Global → List Move
 assigned message = by_user (Ask (request.Establish call) 0) ∷ by_network (Take 0)
     ∷ by_user (Take 0) ∷ by_network (Take 0) ∷ by_user (Take 0)
@@ -72,8 +75,9 @@ assigned message = by_user (Ask (request.Establish call) 0) ∷ by_network (Take
 
 -- ---- Each premise is needed.
 
--- T200 of call control expires while the answer to its SABME is on its way: the second SABME begins another establishment of
--- the network, and the user takes the message of the first for that of the second.
+-- T200 of call control expires while the answer to the user's SABME is in transit. The second SABME
+-- starts another establishment at the network, and the user takes the first establishment's message
+-- for the second's.
 abbrev pub hasty : Vec ℕ Global → Vec ℕ Global → List Move
 hasty first second = by_user (Ask (request.Establish call) 0) ∷ by_network (Take 0)
     ∷ by_network (Ask (request.Give call first) 0) ∷ by_user (Expire T200 (Some call) 1000)
@@ -81,8 +85,8 @@ hasty first second = by_user (Ask (request.Establish call) 0) ∷ by_network (Ta
     ∷ by_network (Ask (request.Give call second) 1000)
     ∷ by_user (Take 1000) ∷ by_network (Take 1000) ∷ []
 
--- The first message is lost. The network checks the TEI, twice in vain, since the answers come late; two answers, and the TEI
--- is removed.
+-- The first message is lost. The network checks the TEI. The answer arrives only after T201
+-- expired, so the second round counts two answers, and the TEI is removed.
 abbrev pub removed : Vec ℕ Global → List Move
 removed first = by_user (Ask (request.Establish call) 0) ∷ by_network (Take 0) ∷ by_user (Take 0)
     ∷ by_user (Ask (request.Give call first) 0) ∷ by_network (Lose 0)
@@ -91,8 +95,8 @@ removed first = by_user (Ask (request.Establish call) 0) ∷ by_network (Take 0)
     ∷ by_network (Take 1000) ∷ by_network (Take 1000)
     ∷ by_network (Expire T201 None 2000) ∷ by_user (Take 2000) ∷ by_user (Take 2000) ∷ []
 
--- The terminal gets the same TEI again, and the second message counts as the first: layer 3 was told that the link was
--- released, and not that a message was dropped.
+-- The terminal obtains the same TEI again, and the second message counts as the first: it was
+-- reported to layer 3 that the link was released, but not that a message was dropped.
 abbrev pub regained : Vec ℕ Global → Vec ℕ Global → List Move
 regained first second = removed first ++ by_user (Ask request.AskTei 2000)
     ∷ by_network (Take 2000) ∷ by_user (Take 2000)
@@ -100,13 +104,14 @@ regained first second = removed first ++ by_user (Ask request.AskTei 2000)
     ∷ by_user (Ask (request.Give call second) 2000)
     ∷ by_network (Take 2000) ∷ by_user (Take 2000) ∷ []
 
--- On their way to the user, whose link is new, are a UA and an RR with N(R)=1 from before.
+-- The user's link is new, and a UA and an RR with N(R)=1 from before are in transit to it.
 abbrev pub with_old_frames : Interface
 with_old_frames = record at_first {
   to_user = (0x00 ∷ 0x81 ∷ 0x73 ∷ []) ∷ (0x00 ∷ 0x81 ∷ 0x01 ∷ 0x02 ∷ []) ∷ [];
 }
 
--- It takes the UA for the answer to its SABME, and the RR for an acknowledgement of its message.
+-- The user takes the UA for the answer to its SABME, and the RR for an acknowledgement of its
+-- message.
 abbrev pub answered_before : Vec ℕ Global → List Move
 answered_before message = by_user (Ask (request.Establish call) 0) ∷ by_user (Take 0)
     ∷ by_user (Ask (request.Give call message) 0) ∷ by_user (Take 0) ∷ []

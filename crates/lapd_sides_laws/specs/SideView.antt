@@ -1,5 +1,5 @@
--- A side as a program sees it, and its deeds: it takes the first octets on their way to it, some of these are lost, a timer
--- expires, or something is asked for.
+-- A side as a program sees it, and its events: it takes the first octets in transit to it, some of
+-- these are lost, a timer expires, or it executes a request.
 use Rattle.std.specs.Prelude.{ℕ, Bool, false, if◌then◌else◌, List, [], ◌∷◌, ◌++◌, drop, Option, Some, None, is_some, Result, Ok, Err}
 use Rattle.std.specs.List.{remove}
 use Rattle.lapd_timers.specs.declared.timer.Timer.{Timer}
@@ -13,8 +13,8 @@ use Rattle.lapd_sides_links.specs.Links.{Linked, Served, Reaction}
 use Rattle.lapd_sides.specs.declared.request.Request.{Request}
 use Rattle.lapd_sides.specs.declared.request.Request.TheVariants as request
 
--- What a side of either kind does: with octets, when a timer expires, and by a request; which link a request means; its links
--- and timers; and what a link is when it comes.
+-- How a side of either kind behaves: how it takes octets, expires a timer and executes a request;
+-- the link that a request refers to; its links and timers; and a link as it joins.
 pub record Behaviour (S : Type 0) : Type 0 where
   pub takes : List ℕ → ℕ → S → Reaction S
   pub expires : ℕ → Timer → Option LinkId → S → Reaction S
@@ -23,8 +23,8 @@ pub record Behaviour (S : Type 0) : Type 0 where
   pub served : S → Served
   pub fresh : LinkId → Linked
 
--- A side, all that the layers above it were told, the messages that it accepted from them, each with the link that it was
--- given to, and the octets on their way to it and from it.
+-- A side, all primitives that it delivered, the messages that it accepted, each with its link, and
+-- the octets in transit to it and from it.
 pub record SideView (S : Type 0) : Type 0 where
   pub now : S
   pub told : List Primitive
@@ -32,7 +32,7 @@ pub record SideView (S : Type 0) : Type 0 where
   pub incoming : List (List ℕ)
   pub outgoing : List (List ℕ)
 
--- at this moment, in milliseconds; octets are lost by their position, counted from 0
+-- `now` is in milliseconds; octets are lost by their position, counted from 0
 pub data Deed : Type 0 where
   Take : (now : ℕ) → Deed
   Lose : (at : ℕ) → Deed
@@ -48,7 +48,8 @@ abbrev pub takes_first : {S : Type 0} → Behaviour S → ℕ → List (List ℕ
 takes_first w now [] s = unmoved s
 takes_first w now (octets ∷ rest) s = w.takes octets now s
 
--- A timer expires only where it runs, be it due or not: T200 and T203 of a link, and any of TEI management.
+-- A timer expires only if it runs, due or not: T200 and T203 of a link, and any timer of TEI
+-- management.
 abbrev pub runs_on : Timer → Option Linked → Bool
 runs_on timer None = false
 runs_on timer (Some l) = is_some (deadline_of timer l.timers)
@@ -72,15 +73,15 @@ reaction w (Expire timer of now) v =
     if may_expire timer of (w.served v.now) then w.expires now timer of v.now else unmoved v.now
 reaction w (Ask request now) v = or_unmoved v.now (w.requested request now v.now)
 
--- ---- What else the deed changes.
+-- ---- The rest of an event.
 
--- what is left on its way to the side
+-- the octets that stay in transit to the side
 abbrev pub left : Deed → List (List ℕ) → List (List ℕ)
 left (Take now) line = drop 1 line
 left (Lose at) line = remove line at
 left other line = line
 
--- the message that was accepted, where one was
+-- the message, if the side accepted it
 abbrev pub if_granted : {S : Type 0} → LinkId → List ℕ → Result (Reaction S) SideKind
     → List (LinkId × List ℕ)
 if_granted id message (Ok a) = (id, message) ∷ []

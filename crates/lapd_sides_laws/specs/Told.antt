@@ -1,5 +1,5 @@
--- What layer 3 knows of a link by what it was told of it and what it gave to it, and that it is right. No end, frame or line
--- is spoken of.
+-- Layer 3's knowledge of a link, from its primitives and its own messages, and when this is right.
+-- These definitions mention no end, frame or line.
 use Rattle.std.specs.Prelude.{◌≡◌, ℕ, ◌+◌, if◌then◌else◌, List, [], ◌∷◌, ◌++◌, map, slice_get, Option, Some, None}
 use Rattle.std.specs.List.{filter_map, range_with_len}
 use Rattle.lapd_link_definition.specs.Reports.{IsExpected}
@@ -11,7 +11,7 @@ use Rattle.lapd_sides_links.specs.declared.primitive.Primitive.TheVariants.{Of, 
 use Rattle.lapd_sides_links.specs.declared.primitive.What.{What}
 use Rattle.lapd_sides_links.specs.declared.primitive.What.TheVariants as what
 
--- ---- Of all that was told and given, what is of the link.
+-- ---- The primitives and messages of one link.
 
 abbrev pub what_for : LinkId → Primitive → Option What
 what_for id (Of other w) = if id_eq id other then Some w else None
@@ -20,17 +20,18 @@ what_for id (Management outcome) = None
 abbrev pub told_of : LinkId → List Primitive → List What
 told_of id primitives = filter_map (what_for id) primitives
 
--- messages that were accepted, each with the link that it was given to
+-- accepted messages, each paired with its link
 abbrev pub message_for : LinkId → LinkId × List ℕ → Option (List ℕ)
 message_for id (other, message) = if id_eq id other then Some message else None
 
 abbrev pub given_to : LinkId → List (LinkId × List ℕ) → List (List ℕ)
 given_to id given = filter_map (message_for id) given
 
--- ---- What is known by it.
+-- ---- What layer 3 knows by them.
 
--- The messages and the unit data that came; the places of its own messages, counted from 0, that were acknowledged or
--- dropped, and how many these are: what is told of are always the next ones.
+-- The messages and the unit data received; the positions of layer 3's own messages, counted from 0,
+-- that were acknowledged or dropped; and the count of these. A primitive always reports the next
+-- ones.
 pub record Known : Type 0 where
   pub received : List (List ℕ)
   pub units : List (List ℕ)
@@ -61,13 +62,13 @@ learns_all (w ∷ ws) k = learns_all ws (learns w k)
 abbrev pub known_of : LinkId → List Primitive → Known
 known_of id told = learns_all (told_of id told) nothing_known
 
--- ---- It is right.
+-- ---- That it is right.
 
--- Of a sender: the messages that it gave, and the places of those that count as acknowledged. Of the receiver: the messages
--- that came. There is one list of places among the messages given, such that:
+-- For the sender: the messages submitted, and the positions of those that count as acknowledged.
+-- For the receiver: the messages received. A list of positions among the messages submitted exists:
 --   rising        it rises strictly: in order, and once each;
---   same          what came is, message by message, what was given at these places;
---   acknowledged  each acknowledged place is in the list.
+--   same          the messages received are, one by one, the messages at these positions;
+--   acknowledged  each acknowledged position is in the list.
 pub record IsReceived (given : List (List ℕ)) (acked : List ℕ) (received : List (List ℕ)) :
     Type 0 where
   pub places : List ℕ

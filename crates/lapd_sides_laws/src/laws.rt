@@ -1,4 +1,4 @@
-//! Laws of an interface. They do nothing when they are called.
+//! Laws of an interface between two sides. A call of a law does nothing.
 
 ghost use Rattle.std.specs.Prelude.{◌≡◌, ◌<◌, ◌≤◌, Bool, [], ◌∷◌, ℕ, List, Some, Option, Result, Vec, ⊤, is_some, true};
 ghost use Rattle.std.specs.List.{All};
@@ -37,18 +37,22 @@ ghost use Rattle.lapd_sides_laws.specs.Schedule.{configs, call, packet, at_first
 ghost use Rattle.lapd_sides_laws.specs.SideView.{SideView, Deed, Expire, Ask, does};
 ghost use Rattle.lapd_sides_laws.specs.Told.{told_of};
 
-/// After every run of two sides and the octets between them, a link whose T200 was timely and whose TEI was given once is
-/// safe, in both directions: what layer 3 at one end was told to have come on this link is, in order and once each, among
-/// what the other's layer 3 gave to it; within one establishment nothing is skipped; what counts as acknowledged was
-/// received; and no error but F, G, H and I was reported of it. So it is whatever the other links and TEI management do
-/// meanwhile.
+/// Every link between two sides is safe after every run, in both directions, if its T200 never
+/// expires while an awaited answer is in transit and its TEI is assigned once (`Premises`).
 ///
-/// `as_made`: of each link of two sides as they are made, the user with a fixed TEI or with none, the network with any that
-/// it knows. The link may be there at first on one side, on both or on none; it may come when its TEI is assigned, with the
-/// establishment that was kept for it, and go when its TEI is taken away. Of its TEI only this is asked there, that it is
-/// not given again after it was taken away. `safe`: of a link that was there as new from the start, on both sides.
-/// `from_here`: of a link that is new on both sides at some moment of an interface, when no octets for it are on their way;
-/// what is told and given counts from then on.
+/// Safe means: layer 3 at one end receives messages that layer 3 at the other end submitted, in
+/// order and once each. Within one establishment no message is skipped. Every message that counts
+/// as acknowledged was received. No error but F, G, H and I is reported for the link. Other links
+/// and TEI management may do anything meanwhile.
+///
+/// - `as_made`: any link of two newly created sides: the user with a fixed TEI or without one, the
+///   network with any TEIs that it knows. At first the link may exist on one side, on both or on
+///   neither. The link may join when its TEI is assigned, together with the establishment that was
+///   kept for it, and is removed together with its TEI. The only premise on its TEI is that it is
+///   not assigned again after it was removed.
+/// - `safe`: a link that exists as new on both sides from the start.
+/// - `from_here`: a link that is new on both sides at some moment of an interface, while no octets
+///   for it are in transit. Primitives and messages count from that moment on.
 pub fn each_link_is_safe()
     ensures safe { (c : Configs) (id : LinkId) (user : User) (network : Network)
         (p q : Parameters) (m n : Lengths) → id.tei < 127 → p.k ≤ 127 → q.k ≤ 127
@@ -73,9 +77,13 @@ pub fn each_link_is_safe()
         → IsSafeAt c id (run c moves (from_here i)) }
 {}
 
-/// What a side owes each of its links. Octets for another link or for TEI management, another timer and another request leave
-/// the link and its timers as they are, send nothing for it and tell nothing of it, unless its TEI comes or goes; its own
-/// octets, timers and requests are steps of the state table, whose outputs go out in order and time its timers.
+/// A side changes a link only by the link's own octets, timers and requests, or when its TEI is
+/// assigned or removed.
+///
+/// Octets for another link or for TEI management, other timers and other requests leave the link
+/// and its timers unchanged, send no frame for it and deliver no primitive about it. The link's own
+/// octets, timers and requests are steps of the state table. The outputs of a step are sent in
+/// order, and start and stop the link's timers.
 pub fn each_link_gets_its_own()
     ensures network { (config : Config) (id : LinkId) → id.tei < 127 → (removed : Bool)
         → ServesLink (network_behaviour config) side.Network id removed }
@@ -83,10 +91,13 @@ pub fn each_link_gets_its_own()
         → ServesLink (user_behaviour config) side.User id removed }
 {}
 
-/// The calls of a side in code are deeds, by their contracts: of whatever side was shown before, the side in code shows what
-/// the deed leaves, and the frames and primitives that it put are those that the deed sends and tells. A `take` that finds
-/// no memory is a loss of these octets, where they are not taken again. A `tick` that does something is the expiry of the
-/// timer that is due. A `request` is one that is asked, be it granted or refused.
+/// Each call of a side in code is an event of the side, by the contract of the call.
+///
+/// Let the code represent any side before the call. After it the code represents the side that the
+/// event leaves. The call adds exactly the frames that the event sends and the primitives that it
+/// delivers. A `take` that runs out of memory loses its octets, unless they are taken again. A
+/// `tick` that does something is the expiry of the timer that is due. A `request` is a request
+/// event, whether the side accepts or refuses it.
 pub fn calls_are_deeds()
     ensures network_takes { (old new : NetSide) (acts : Effects) (result : Result ⊤ SideFault)
         (octets : List ℕ) (rest : List (List ℕ)) (now : ℕ)
@@ -122,10 +133,13 @@ pub fn calls_are_deeds()
         → UserDoes new config acts (Ask request now) v }
 {}
 
-/// The premises of two links are met by a worked run, with a message on each, in both directions, and a loss on each: a
-/// SABME is lost and a message, T200 expires for each, and both messages are received and acknowledged. They are met too
-/// where the user has no TEI when its layer 3 asks for the link, and gets one; and where a TEI is checked in vain and
-/// removed.
+/// Worked runs meet the premises of a link.
+///
+/// In the first run both links meet them, with a message on each, in opposite directions, and a
+/// loss on each: a SABME and a message are lost, T200 expires on each link, and both messages are
+/// received and acknowledged. In another run the user has no TEI when its layer 3 requests the
+/// link, and obtains one. In a third the answers to a TEI check arrive late and count as two, and
+/// the TEI is removed.
 pub fn schedule_is_computed()
     ensures call_premises { (message answer : Vec ℕ Global) → IsMessage 1 message
         → IsMessage 2 answer → KeepPremises configs call (both_links message answer) at_first }
@@ -162,10 +176,15 @@ pub fn schedule_is_computed()
         ≡ what.Established ∷ what.Up (1 ∷ []) ∷ [] }
 {}
 
-/// Each premise is needed, and of that link: where T200 of the link expires although the answer that it waits for is on its
-/// way, where its TEI is taken away and given again, or where frames from before are on the line, a run of some ten to
-/// twenty moves ends with a message that counts as acknowledged and never came. In the first of these the premises of
-/// another link are kept.
+/// Each premise is needed, and for the link itself.
+///
+/// Each of three short runs violates one premise, and ends with a message that counts as
+/// acknowledged but never arrived:
+///
+/// - `t200`: T200 of the link expires while the answer that it waits for is in transit.
+///   `of_that_link`: this run keeps the premises of another link.
+/// - `tei`: the TEI of the link is removed and assigned again.
+/// - `line`: frames from before are in transit.
 pub fn each_premise_is_needed()
     ensures t200 { (first second : Vec ℕ Global) → IsMessage 1 first → IsMessage 2 second
         → GiveTeiOnce configs call (hasty first second) at_first
@@ -181,16 +200,21 @@ pub fn each_premise_is_needed()
         × (IsRight call (run configs (answered_before message) with_old_frames) → ⊥) }
 {}
 
-/// At every link that a side comes to, each timer runs exactly where the link's end says so: T200 and T203 have a deadline where
-/// its state has them run and nowhere else, and T201 and T202 have none. It holds of all links at once, with no premise on any:
-/// a TEI may be taken away and given again, and whatever octets may come (Q.921 5.9.1, 5.9.8, 5.10.3).
+/// On every link that a side ever has, each timer runs exactly when the link's end requires it.
 ///
-/// `new_network`, `new_user`: sides as they are made have it. `network_deed`, `user_deed`: each deed keeps it, from any side
-/// whose links have it, where what is on its way to it is octets. `network_turns`, `user_turns`: so a side has it, whatever octets
-/// come to it in between and whatever it does. `interface`: so both sides have it after every list of moves.
+/// T200 and T203 have a deadline exactly when the state requires it; T201 and T202 of a link never
+/// have one. This holds for all links at once and needs no premise: a TEI may be removed and
+/// assigned again, and any octets may arrive (Q.921 5.9.1, 5.9.8, 5.10.3).
 ///
-/// What it comes to: `by_state`: which of T200 and T203 have a deadline goes by the state. `woken`: while a link is in any state
-/// but 4, its side has a next deadline, no later than the link's own; so nobody who sleeps until it sleeps for ever.
+/// - `new_network`, `new_user`: newly created sides have this property.
+/// - `network_deed`, `user_deed`: each event keeps it, from any side whose links have it, if only
+///   octets are in transit to the side.
+/// - `network_turns`, `user_turns`: so a side has it, whatever octets arrive before each event and
+///   whatever the events are.
+/// - `interface`: so both sides have it after every list of moves.
+/// - `by_state`: the state determines which of T200 and T203 have a deadline.
+/// - `woken`: while a link is in any state but 4, its side has a next deadline, no later than the
+///   link's own. So a caller that sleeps until the next deadline does not sleep forever.
 pub fn timers_run_as_ends_say()
     ensures new_network { (config : Config) (known : List ℕ)
         → HaveExactTimers (new_network config known).served.links }
@@ -218,13 +242,17 @@ pub fn timers_run_as_ends_say()
         → (linked.end.state ≡ TeiAssigned → ⊥) → IsNextDeadline s next → IsWoken linked next }
 {}
 
-/// The timer of TEI management runs exactly where its end waits for an answer: T202 of a user side while its terminal awaits a
-/// TEI, and T201 of a network side while a TEI is under check; no other timer of TEI management ever runs. So an establishment
-/// that is kept for a TEI does not wait for ever, nor does a check go on without end (Q.921 5.3.2, 5.3.3, 5.9.6, 5.9.7).
+/// The timer of TEI management runs exactly while its end waits for an answer.
 ///
-/// `new_user`, `new_network`: sides as they are made have it. `user_deed`, `network_deed`: each deed keeps it, whatever is on
-/// its way to the side. `interface`: so both sides have it after every list of moves. `terminal_is_woken`,
-/// `assigner_is_woken`: while one waits, its side has a next deadline, no later than the timer's.
+/// A user side runs T202 while its terminal awaits a TEI, and a network side runs T201 while it
+/// checks a TEI. No other timer of TEI management ever runs. So an establishment that is kept for a
+/// TEI does not wait forever, and a check ends (Q.921 5.3.2, 5.3.3, 5.9.6, 5.9.7).
+///
+/// - `new_user`, `new_network`: newly created sides have this property.
+/// - `user_deed`, `network_deed`: each event keeps it, whatever is in transit to the side.
+/// - `interface`: so both sides have it after every list of moves.
+/// - `terminal_is_woken`, `assigner_is_woken`: while one of them waits, its side has a next
+///   deadline, no later than the timer's.
 pub fn management_timers_run_while_it_waits()
     ensures new_user { (config : Config) (fixed : Option ℕ) (random : Lcg)
         → HasTimerOfTerminal (new_user config fixed random) }
