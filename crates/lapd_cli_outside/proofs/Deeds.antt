@@ -1,4 +1,4 @@
--- Deeds, one after another.
+-- Calls, one after another.
 use Rattle.std.proofs.Common.{◌≡◌, List, [], ◌++◌, Option, None, Some, sym, ap, subst, ◌∙◌, append_assoc}
 use Rattle.std.proofs.lemmas.List.{append-nil}
 use Rattle.lapd_cli_outside.specs.Deeds.{Adds, Deed}

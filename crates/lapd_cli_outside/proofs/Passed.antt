@@ -1,4 +1,4 @@
--- What a tap was handed, after some deeds more.
+-- The frames that a tap was passed, after some more calls.
 use Rattle.std.proofs.Common.{◌≡◌, ℕ, List, [], ◌∷◌, ◌++◌, Option, None, Some, Result, Ok, Err, refl, sym, ap, subst, ◌∙◌, append-nil}
 use Rattle.std.specs.Prelude.{IfOk, OnErr}
 use Rattle.lapd_port.specs.declared.port_fault.PortFault.{PortFault}
@@ -26,7 +26,7 @@ still_handed own (Some before) (Some after) None deeds are adds = tt
 still_handed own (Some before) (Some after) (Some frames) deeds are adds =
     ap (λ xs. xs ++ passed_in own deeds) are ∙ sym (passed_both own before deeds) ∙ ap (passed_in own) (sym adds)
 
--- a tap is passed the frames of what was done since
+-- a tap is passed the frames of the calls since
 pub still_told : (own : Side) (a b : Option (List Deed)) (handed after : Option (List PassedFrame)) (deeds : List Deed)
     → ∥ AreHanded own a handed ∥₁ → Adds a b deeds → after ≡ handed_deeds own handed deeds → ∥ AreHanded own b after ∥₁
 still_told own a b handed after deeds told adds is =
@@ -36,7 +36,7 @@ more_none : (handed : Option (List PassedFrame)) → handed ≡ handed_more hand
 more_none None = refl
 more_none (Some frames) = ap Some (sym (append-nil frames))
 
--- and stays as it was passed where no frame went over the line
+-- and no others if no frame was received or sent
 pub told_beside : (own : Side) (a b : Option (List Deed)) (handed : Option (List PassedFrame)) (deeds : List Deed)
     → ∥ AreHanded own a handed ∥₁ → Adds a b deeds → passed_in own deeds ≡ [] → ∥ AreHanded own b handed ∥₁
 told_beside own a b handed deeds told adds none =

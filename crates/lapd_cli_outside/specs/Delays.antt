@@ -11,7 +11,7 @@ use Rattle.lapd_cli_outside.specs.declared.outside.Woken.{Woken}
 use Rattle.lapd_cli_outside.specs.declared.outside.Woken.TheVariants.{Due}
 use Rattle.lapd_cli_outside.specs.Deeds.{Adds, Deed, Reads, Sends, Waits, received}
 
--- some deeds are done of which this holds
+-- some calls are made for which this holds
 abbrev pub Does : Option (List Deed) → Option (List Deed) → (List Deed → Type 0) → Type 0
 Does before after P = (deeds : List Deed) × Adds before after deeds × P deeds
 
@@ -23,7 +23,7 @@ word_of (word, random) = word
 abbrev pub rest_of : ℕ × Lcg → Lcg
 rest_of (word, random) = random
 
--- a frame is lost by a chance, a number of per cent, as the next word of the generator says
+-- a frame is lost with this chance, in per cent, as the next word of the generator decides
 abbrev pub is_lost : ℕ → Lcg → Bool
 is_lost loss random = nat_lt (word_of (pcg32 random) % 100) loss
 
@@ -31,7 +31,7 @@ pub record IsDrawn (lost : Bool) (old new : Delays) : Type 0 where
   pub is : lost ≡ is_lost old.impairment.loss old.random
   pub drawn : new ≡ record old { random = rest_of (pcg32 old.random) }
 
--- ---- Which frames are sent later, and when.
+-- ---- Delayed frames, and their moments.
 
 abbrev pub octets_of : DelayedFrame → List ℕ
 octets_of frame = frame.octets.items
@@ -48,12 +48,12 @@ abbrev pub first_moment : List DelayedFrame → Option ℕ
 first_moment [] = None
 first_moment (frame ∷ frames) = Some frame.moment
 
--- a frame that is handed over now is sent after the delay, and not before the one that was put off
--- last; moments end at 2^64 - 1
+-- a frame that is passed in now is sent after the delay, and not before the last delayed frame;
+-- moments end at 2^64 - 1
 abbrev pub moment_of_next : ℕ → Delays → ℕ
 moment_of_next now line = max (min (now + line.impairment.delay) 18446744073709551615) line.latest
 
--- a frame is put behind the others
+-- a frame is added after the others
 pub record IsPutOff (now : ℕ) (octets : List ℕ) (old new : Delays) : Type 0 where
   pub frame : DelayedFrame
   pub octets_are : octets_of frame ≡ octets
@@ -63,14 +63,14 @@ pub record IsPutOff (now : ℕ) (octets : List ℕ) (old new : Delays) : Type 0 
   pub impairment : new.impairment ≡ old.impairment
   pub random : new.random ≡ old.random
 
--- the first frame is taken off
+-- the first frame is removed
 pub record IsTakenOff (frame : DelayedFrame) (old new : Delays) : Type 0 where
   pub front : old.delayed.items ≡ frame ∷ new.delayed.items
   pub latest : new.latest ≡ old.latest
   pub impairment : new.impairment ≡ old.impairment
   pub random : new.random ≡ old.random
 
--- ---- What the line does.
+-- ---- Sending and waiting.
 
 -- The clock is read, and the frames that are due then are sent, in order. The others stay.
 pub record SendsDue (old new : Delays) (deeds : List Deed) : Type 0 where
@@ -84,26 +84,27 @@ pub record SendsDue (old new : Delays) (deeds : List Deed) : Type 0 where
   pub impairment : new.impairment ≡ old.impairment
   pub random : new.random ≡ old.random
 
--- the sooner of two moments that may be set
+-- the earlier of two optional moments
 abbrev pub sooner : Option ℕ → Option ℕ → Option ℕ
 sooner None other = other
 sooner (Some one) None = Some one
 sooner (Some one) (Some other) = Some (min one other)
 
--- What is due is sent, and there is one wait, until the next frame is due or a moment has come.
+-- The frames that are due are sent. Then there is one wait, until the next frame is due or a moment
+-- is reached.
 pub record WaitsOnce (until : Option ℕ) (woken : Woken) (old new : Delays) (deeds : List Deed)
     : Type 0 where
   pub first : List Deed
   pub due : SendsDue old new first
   pub all : deeds ≡ first ++ Waits (sooner until (first_moment new.delayed.items)) woken ∷ []
 
--- ---- A frame is handed over.
+-- ---- A frame is passed in.
 
 -- frames are sent at once while none is delayed
 abbrev pub is_direct : Delays → Bool
 is_direct line = nat_eq line.impairment.delay 0 && nat_eq (length line.delayed.items) 0
 
--- it is lost, and nothing is done
+-- it is lost, and no call is made
 pub record LosesFrame (sending : Sending) (old new : Delays) (deeds : List Deed) : Type 0 where
   pub drawn : IsDrawn true old new
   pub told : sending ≡ Lost
@@ -115,13 +116,13 @@ pub record SendsFrame (octets : List ℕ) (old new : Delays) (deeds : List Deed)
   pub direct : is_direct old ≡ true
   pub sent : deeds ≡ Sends octets ∷ []
 
--- the clock is read, and a frame is put off
+-- the clock is read, and a frame is delayed
 pub record PutsOff (octets : List ℕ) (old new : Delays) (deeds : List Deed) : Type 0 where
   pub now : ℕ
   pub put_off : IsPutOff now octets old new
   pub read : deeds ≡ Reads now ∷ []
 
--- or it is put off
+-- or it is delayed
 pub record PutsFrameOff (octets : List ℕ) (sending : Sending) (old new : Delays) (deeds : List Deed)
     : Type 0 where
   pub mid : Delays
@@ -136,7 +137,7 @@ HandsOver octets sending old new deeds = LosesFrame sending old new deeds
 
 -- ---- A frame of the other side is received.
 
--- what is due is sent, and then the line is looked at
+-- the frames that are due are sent, and then the line is looked at
 pub record Receives (room : List ℕ) (count : Option ℕ) (old new : Delays) (deeds : List Deed)
     : Type 0 where
   pub first : List Deed

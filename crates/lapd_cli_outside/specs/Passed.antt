@@ -12,7 +12,7 @@ pub record PassedFrame : Type 0 where
 abbrev pub passed_frame : Side → List ℕ → PassedFrame
 passed_frame from octets = record { from = from; octets = octets }
 
--- the frames that came to this side and that it sent, in order
+-- the frames that this side received and sent, in order
 abbrev pub passed_in : Side → List Deed → List PassedFrame
 passed_in own [] = []
 passed_in own (Reads now ∷ deeds) = passed_in own deeds
@@ -21,15 +21,15 @@ passed_in own (Waits until woken ∷ deeds) = passed_in own deeds
 passed_in own (Comes frame ∷ deeds) = passed_frame (other_side own) frame ∷ passed_in own deeds
 passed_in own (Sends frame ∷ deeds) = passed_frame own frame ∷ passed_in own deeds
 
--- what a tap was handed, and some frames more, where it is known
+-- the frames that a tap was passed, and some more, if they are recorded
 abbrev pub handed_more : Option (List PassedFrame) → List PassedFrame → Option (List PassedFrame)
 handed_more handed more = option_map (λ frames. frames ++ more) handed
 
--- and the frames of some deeds more
+-- and the frames of some more calls
 abbrev pub handed_deeds : Side → Option (List PassedFrame) → List Deed → Option (List PassedFrame)
 handed_deeds own handed deeds = handed_more handed (passed_in own deeds)
 
--- where both are known, a tap was handed just the frames of the deeds, each once and in order
+-- if both are recorded, a tap was passed exactly the frames of the calls, each once and in order
 abbrev pub AreHanded : Side → Option (List Deed) → Option (List PassedFrame) → Type 0
 AreHanded own None handed = ⊤
 AreHanded own (Some deeds) None = ⊤

@@ -1,4 +1,4 @@
-//! Which frames of a line are lost on purpose, and which are sent later.
+//! Decides which frames of a line are lost on purpose, and when the others are sent.
 
 ghost use Rattle.std.specs.Prelude.{◌≤◌, length};
 ghost use Rattle.lapd_port.specs.SocketText.{IsFrameLength};
@@ -10,22 +10,22 @@ use rand_pcg::Pcg32;
 use std::alloc::{AllocError, Global};
 use std::collections::VecDeque;
 
-/// What is lost, by chance, and what is sent later, in the order in which it was handed over.
+/// The losses and the delayed frames of a line. Frames leave in the order in which they were passed in.
 #[derive(Drop)]
 pub(crate) struct Delays {
     alloc: Global,
     pub(crate) impairment: Impairment,
-    /// Draws which frames are lost.
+    /// The random numbers that decide which frames are lost.
     pub(crate) random: Pcg32,
     pub(crate) delayed: VecDeque<DelayedFrame>,
-    /// The moment of the frame that was put off last, in milliseconds.
+    /// The moment of the last delayed frame, in milliseconds.
     pub(crate) latest: u64,
 }
 
-/// A frame that is sent later.
+/// A delayed frame.
 #[derive(Drop)]
 pub(crate) struct DelayedFrame {
-    /// When it is sent, in milliseconds.
+    /// The moment at which it is sent, in milliseconds.
     pub(crate) moment: u64,
     pub(crate) octets: Vec<u8>,
     ghost is_frame: { IsFrameLength (length octets.items) },
@@ -34,11 +34,11 @@ pub(crate) struct DelayedFrame {
 impl DelayedFrame {
     ghost use Rattle.std.specs.Prelude.{◌≡◌, IfOk};
 
-    /// A frame of 3 to 264 octets, which is sent at this moment.
+    /// Creates a delayed frame of 3 to 264 octets, which is sent at this moment.
     ///
     /// # Errors
     ///
-    /// `AllocError`.
+    /// `AllocError` if an allocation fails.
     fn new(alloc: Global, moment: u64, frame: &[u8]) -> Result<DelayedFrame, AllocError>
         requires { IsFrameLength (length frame.now) }
         ensures moment { IfOk result (λ delayed. delayed.moment ≡ moment) }
@@ -56,7 +56,7 @@ impl Delays {
     ghost use Rattle.rand_pcg.specs.Pcg.{pcg32_of_seed};
     ghost use Rattle.lapd_cli_outside.specs.Delays.{FirstIsLater, IsDrawn, IsPutOff, IsTakenOff, first_moment, is_direct, moment_of_next as moment_behind};
 
-    /// Nothing is lost or delayed so far. Which frames are lost later depends on the seed.
+    /// Creates a line without losses and delays. The seed decides which frames are lost later.
     pub(crate) fn new(alloc: Global, seed: u64) -> Delays
         ensures loss { result.impairment.loss ≡ 0 }
         ensures delay { result.impairment.delay ≡ 0 }
@@ -72,21 +72,21 @@ impl Delays {
         }
     }
 
-    /// Draws whether the next frame is lost.
+    /// Decides by chance whether the next frame is lost.
     pub(crate) fn draw(&mut self) -> bool
         ensures { IsDrawn result self.old self.new }
     {
         self.random.next_word() % 100 < u32::from(self.impairment.loss)
     }
 
-    /// Whether a frame is sent at once.
+    /// Whether a frame can be sent at once.
     pub(crate) fn is_direct(&self) -> bool
         ensures { result ≡ is_direct self.now }
     {
         self.impairment.delay == 0 && self.delayed.is_empty()
     }
 
-    /// When the next delayed frame is sent.
+    /// The moment of the next delayed frame.
     pub(crate) fn next_moment(&self) -> Option<u64>
         ensures { result ≡ first_moment self.now.delayed.items }
     {
@@ -96,18 +96,18 @@ impl Delays {
         }
     }
 
-    /// When a frame is sent that is handed over now.
+    /// The moment at which a frame is sent that is passed in now.
     fn moment_of_next(&self, now: u64) -> u64
         ensures { result ≡ moment_behind now self.now }
     {
         now.saturating_add(self.impairment.delay).max(self.latest)
     }
 
-    /// Puts off a frame of 3 to 264 octets that is handed over now.
+    /// Delays a frame of 3 to 264 octets that is passed in now.
     ///
     /// # Errors
     ///
-    /// `AllocError`.
+    /// `AllocError` if an allocation fails.
     pub(crate) fn put_off(&mut self, frame: &[u8], now: u64) -> Result<(), AllocError>
         requires { IsFrameLength (length frame.now) }
         ensures { OnOk result (IsPutOff now frame.now self.old self.new) }
@@ -119,7 +119,7 @@ impl Delays {
         Ok(())
     }
 
-    /// Takes the next delayed frame, if it is due at this moment, in milliseconds.
+    /// Removes and returns the next delayed frame, if it is due at this moment, in milliseconds.
     pub(crate) fn take_due(&mut self, now: u64) -> Option<DelayedFrame>
         ensures some { IfSome result (λ frame. (frame.moment ≤ now)
             × IsTakenOff frame self.old self.new) }

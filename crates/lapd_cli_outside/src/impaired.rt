@@ -11,9 +11,9 @@ use lapd_port::{MOST_OCTETS, PortFault};
 use lapd_table::LinkId;
 use std::alloc::Global;
 
-/// What is around a side, with a line that can be impaired ([`Outside::impair`]). Each frame of the side is lost
-/// with the chance that was set. Else it is sent when the delay has passed, behind those that were handed over
-/// before it. Frames of the other side are not impaired.
+/// A line and a clock, with a line that can be impaired ([`Outside::impair`]). Each frame that the
+/// side sends is lost with the chance that was set. Otherwise it is sent when the delay has passed,
+/// after the frames that were passed in before it. Received frames are not impaired.
 #[derive(Drop)]
 pub struct Impaired<O> {
     inner: O,
@@ -26,7 +26,7 @@ impl<O: Outside> Impaired<O> {
     ghost use Rattle.rand_pcg.specs.Pcg.{pcg32_of_seed};
     ghost use Rattle.lapd_cli_outside.specs.Delays.{Does, IsOver, PutsOff, Round, SendsDue, WaitsOnce};
 
-    /// A line that is not impaired so far. Which frames are lost later depends on the seed.
+    /// Creates a line that is not impaired yet. The seed decides which frames are lost later.
     pub fn new(alloc: Global, inner: O, seed: u64) -> Impaired<O>
         ensures inner { result.inner ≡ inner }
         ensures loss { result.delays.impairment.loss ≡ 0 }
@@ -40,7 +40,7 @@ impl<O: Outside> Impaired<O> {
         }
     }
 
-    /// What is around the side. Frames that are still to be sent are lost.
+    /// Returns the line and the clock. Delayed frames that were not sent yet are lost.
     pub fn into_inner(self) -> O
         ensures { result ≡ self.inner }
     {
@@ -59,7 +59,7 @@ impl<O: Outside> Impaired<O> {
         Ok(())
     }
 
-    /// Sends what is due, and waits once, until the next frame is due or the moment `until` has come.
+    /// Sends the frames that are due, and waits once, until the next frame is due or until `until`.
     fn wait_once(&mut self, until: Option<u64>, lines: Lines) -> Result<Woken, PortFault>
         ensures { IfOk result (λ woken. Does (O.deeds self.old.inner) (O.deeds self.new.inner)
             (WaitsOnce until woken self.old.delays self.new.delays)) }
@@ -69,7 +69,7 @@ impl<O: Outside> Impaired<O> {
         self.inner.wait(next, lines)
     }
 
-    /// Whether a wait is over that something ended: the moment of a delayed frame alone does not end it.
+    /// Whether the wait of the side is over. The moment of a delayed frame alone does not end it.
     fn is_over(&mut self, until: Option<u64>, woken: Woken) -> Result<bool, PortFault>
         ensures delays { self.new.delays ≡ self.old.delays }
         ensures over { IfOk result (λ over. Does (O.deeds self.old.inner) (O.deeds self.new.inner)
@@ -81,7 +81,7 @@ impl<O: Outside> Impaired<O> {
         }
     }
 
-    /// Waits once, and returns what ended that, if the wait is over.
+    /// Waits once, and returns what ended the wait of the side, if it is over.
     fn wait_round(&mut self, until: Option<u64>, lines: Lines) -> Result<(Woken, bool), PortFault>
         ensures { IfOk result (λ end. Does (O.deeds self.old.inner) (O.deeds self.new.inner)
             (Round until end.0 end.1 self.old.delays self.new.delays)) }
@@ -91,7 +91,7 @@ impl<O: Outside> Impaired<O> {
         Ok((woken, is_over))
     }
 
-    /// Puts a frame of 3 to 264 octets off.
+    /// Delays a frame of 3 to 264 octets.
     fn put_off(&mut self, frame: &[u8]) -> Result<(), PortFault>
         requires { IsFrameLength (length frame.now) }
         ensures { OnOk result (Does (O.deeds self.old.inner) (O.deeds self.new.inner)
@@ -168,7 +168,7 @@ impl<O: Outside> Outside for Impaired<O> {
     }
 }
 
-/// The sooner of two moments that may be set.
+/// The earlier of two optional moments.
 fn sooner(one: Option<u64>, other: Option<u64>) -> Option<u64>
     ensures { result ≡ sooner_of one other }
 {
@@ -179,7 +179,7 @@ fn sooner(one: Option<u64>, other: Option<u64>) -> Option<u64>
     }
 }
 
-/// Whether a moment that is set has come.
+/// Whether an optional moment is reached.
 fn has_come(until: Option<u64>, now: u64) -> bool
     ensures { result ≡ come_by until now }
 {

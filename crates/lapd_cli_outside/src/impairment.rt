@@ -3,6 +3,6 @@
 pub struct Impairment {
     /// The chance that a frame is lost, in per cent, 0 to 100.
     pub loss: u8,
-    /// By how much each frame is delayed, in milliseconds, 0 to 3,600,000.
+    /// The delay of each frame in milliseconds, 0 to 3,600,000.
     pub delay: u64,
 }

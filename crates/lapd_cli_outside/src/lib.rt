@@ -1,7 +1,8 @@
-//! What is around a side that is served in real time: the line to the other side, and a clock.
+//! The surroundings of a side that runs in real time: the line to the other side, and a clock.
 //!
-//! [`Outside`] is that, be it connections or a device in memory. A [`Tapped`] line passes each frame to a [`Tap`], such as a
-//! capture (specs/Passed.antt), and an [`Impaired`] line loses and delays frames on purpose (specs/Delays.antt).
+//! [`Outside`] is their interface; connections implement it, and so does a line in memory in tests.
+//! A [`Tapped`] line passes each frame to a [`Tap`], such as a capture (specs/Passed.antt). An
+//! [`Impaired`] line loses and delays frames on purpose (specs/Delays.antt).
 #![tactic(auto)]
 
 mod delays;

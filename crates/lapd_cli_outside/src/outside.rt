@@ -1,4 +1,4 @@
-//! What is around a side that is served: the other side, behind a line, and a clock.
+//! The surroundings of a side: the other side, behind a line, and a clock.
 
 ghost use Rattle.std.specs.Prelude.{◌≡◌, ◌≤◌, List, Option, None, length, IfOk, IfSome, OnErr, OnOk, ◌∷◌, []};
 ghost use Rattle.lapd_port.specs.SocketText.{IsFrameLength};
@@ -8,14 +8,14 @@ use crate::impairment::Impairment;
 use lapd_port::{MOST_OCTETS, PortFault};
 use lapd_table::LinkId;
 
-/// What ended a wait.
+/// Why a wait ended.
 #[derive(Clone, Copy)]
 pub enum Woken {
     /// A frame may have arrived.
     Arrival,
     /// A line of input can be read.
     Line,
-    /// The moment has come until which the wait was to last.
+    /// The moment until which the call should wait is reached.
     Due,
     /// The other side has closed the connection, and every frame that it sent was received.
     Closed,
@@ -24,13 +24,13 @@ pub enum Woken {
 /// Whether a line of input ends a wait.
 #[derive(Clone, Copy)]
 pub enum Lines {
-    /// It does.
+    /// It ends a wait.
     Awaited,
-    /// It does not: it is read later.
+    /// It does not end a wait: it is read later.
     Ignored,
 }
 
-/// What became of a frame that was handed to the line.
+/// The fate of a frame that was passed to the line.
 #[derive(Clone, Copy)]
 pub enum Sending {
     /// It was sent.
@@ -39,16 +39,16 @@ pub enum Sending {
     Lost,
 }
 
-/// What is around a side that is served: the line with the other side behind it, and a clock. Moments are milliseconds since
-/// the start.
+/// The surroundings of a side: the line with the other side behind it, and a clock. Moments are
+/// milliseconds since the start.
 ///
-/// An implementation that records what was done returns it by `deeds`, in order. Clauses that speak of deeds hold for such an
-/// implementation; all others hold for each.
+/// An implementation that records its calls returns them by `deeds`, in order. Clauses about `deeds`
+/// hold for such an implementation, and all others for every implementation.
 pub trait Outside {
-    /// What was done so far, where it is known.
+    /// The calls so far, if they are recorded.
     ghost deeds: { Self → Option (List Deed) } = { λ _. None };
 
-    /// The present moment.
+    /// Reads the clock.
     ///
     /// # Errors
     ///
@@ -58,8 +58,9 @@ pub trait Outside {
             (Reads now ∷ [])) }
         ensures err { OnErr result (deeds self.new ≡ deeds self.old) };
 
-    /// Receives the next frame that has arrived, without waiting, into the front of `frame`, and returns its number of octets.
-    /// `None` if no whole frame had arrived when the call began. Part of a frame is kept until the rest arrives.
+    /// Receives the next frame that has arrived, without waiting, into the beginning of `frame`, and
+    /// returns its number of octets. `None` if no whole frame had arrived when the call began. Part
+    /// of a frame is kept until the rest arrives.
     ///
     /// # Errors
     ///
@@ -70,8 +71,8 @@ pub trait Outside {
             (received frame.new count)) }
         ensures err { OnErr result (deeds self.new ≡ deeds self.old) };
 
-    /// Waits until a frame may have arrived, a line of input can be read, the connection is closed, or the moment `until` has
-    /// come; `None` is no moment.
+    /// Waits until a frame may have arrived, a line of input can be read, the connection is closed,
+    /// or the moment `until` is reached. `None` is no moment.
     ///
     /// # Errors
     ///
@@ -92,11 +93,11 @@ pub trait Outside {
             (Sends frame.now ∷ [])) }
         ensures err { OnErr result (deeds self.new ≡ deeds self.old) };
 
-    /// The side discarded a frame, since it has no link of this SAPI and TEI.
+    /// Notes that the side discarded a frame, because it has no link with this SAPI and TEI.
     fn discarded(&mut self, id: LinkId)
         ensures { deeds self.new ≡ deeds self.old };
 
-    /// From now on this share of the frames that are sent is lost, and the others are delayed.
+    /// Loses this share of the sent frames from now on, and delays the others.
     fn impair(&mut self, impairment: Impairment)
         ensures { deeds self.new ≡ deeds self.old };
 }

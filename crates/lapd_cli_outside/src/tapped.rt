@@ -10,36 +10,38 @@ use lapd_frame::Side;
 use lapd_port::{MOST_OCTETS, PortFault};
 use lapd_table::LinkId;
 
-/// Takes a copy of each frame of a line, as a capture file or a socket does. It reports by itself what it can't write, and the
-/// line goes on without it.
+/// Receives a copy of each frame of a line, such as a capture file or a socket. It reports its own
+/// errors, and the line continues without it.
 ///
 /// An implementation that records the frames returns them by `handed`.
 pub trait Tap {
-    /// The frames that it was passed so far, where they are known.
+    /// The frames that it was passed so far, if they are recorded.
     ghost handed: { Self → Option (List PassedFrame) } = { λ _. None };
 
-    /// A frame of at most 264 octets, which side `from` sent, goes over the line at a moment in milliseconds since the start.
+    /// Records a frame of at most 264 octets that the side `from` sent, at a moment in milliseconds
+    /// since the start.
     fn pass(&mut self, from: Side, moment: u64, frame: &[u8])
         requires { length frame.now ≤ MOST_OCTETS }
         ensures handed { handed self.new ≡ handed_more (handed self.old)
             (passed_frame from frame.now ∷ []) };
 }
 
-/// What is around a side, whose frames are passed to a tap: each that is received or sent, once, in order, with the moment that
-/// was read last. To the line it does what the one within does.
+/// The surroundings of a side, with a tap. The tap is passed each frame that is received or sent,
+/// once and in order, with the last moment that was read. All calls are forwarded to the inner line.
 #[derive(Drop)]
 pub struct Tapped<O: Outside, T: Tap> {
     inner: O,
     tap: T,
-    /// The side that is served.
+    /// The side whose line this is.
     own: Side,
-    /// The moment that was read last, in milliseconds since the start.
+    /// The last moment that was read, in milliseconds since the start.
     moment: u64,
     ghost told: { ∥ AreHanded own (O.deeds inner) (T.handed tap) ∥₁ },
 }
 
 impl<O: Outside, T: Tap> Tapped<O, T> {
-    /// The line of this side, tapped from here on. Where both are known, the tap was passed the frames of what was done so far.
+    /// Taps the line of this side from here on. If both are recorded, the tap was passed the frames
+    /// of the calls so far.
     pub fn new(own: Side, inner: O, tap: T) -> Tapped<O, T>
         requires { AreHanded own (O.deeds inner) (T.handed tap) }
     {
@@ -51,7 +53,8 @@ impl<O: Outside, T: Tap> Tapped<O, T> {
         }
     }
 
-    /// What is around the side, and the tap, which was passed exactly the frames that were received and sent.
+    /// Returns the inner line and the tap, which was passed exactly the frames that were received and
+    /// sent.
     pub fn into_parts(self) -> (O, T)
         ensures { ∥ AreHanded self.own (O.deeds result.0) (T.handed result.1) ∥₁ }
     {
