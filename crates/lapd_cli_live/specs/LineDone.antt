@@ -1,8 +1,12 @@
 -- What a line of a side does that is served with the real clock, if it ends well.
-use Rattle.std.specs.Prelude.{◌≡◌, ◌⊎◌, ℕ, Bool, true, false, List, [], ◌∷◌, codes, Option, None, Some}
+use Rattle.std.specs.Prelude.{◌≡◌, ◌⊎◌, ℕ, Bool, true, false, List, [], ◌∷◌, codes, Option, None, Some, unwrap_or}
 use Rattle.lapd_cli_live_text.specs.declared.words.LiveLine.{LiveLine}
 use Rattle.lapd_cli_live_text.specs.declared.words.LiveLine.TheVariants as line
+use Rattle.lapd_tei.specs.Terminal.{tei_of}
+use Rattle.lapd_sides.specs.declared.either_side.EitherSide.{EitherSide}
+use Rattle.lapd_sides.specs.declared.either_side.EitherSide.TheVariants as either
 use Rattle.lapd_sides.specs.Either.{side_of}
+use Rattle.lapd_sides.specs.ShowsUser as user
 use Rattle.lapd_cli_live_text.specs.LiveWishes.{live_wish_of, live_wish_of_line}
 use Rattle.lapd_cli_live_text.specs.AwaitedText.{shown_words}
 use Rattle.lapd_cli_outside.specs.declared.outside.Lines.{Lines}
@@ -36,9 +40,17 @@ LineDone line.Stats lines a b = StatesCounts a b
 LineDone (line.Ask request) lines a b = IsAsked request a b
 LineDone (line.Impair impairment) lines a b = HappenBeside [] a b
 
--- a line of the side is done as what it requests
+-- The TEI of the links that a line of the user side names: the terminal's, or the group TEI while it has none. A line of the network
+-- side names the TEI itself.
+abbrev pub HasOwnTei : EitherSide → ℕ → Type 0
+HasOwnTei (either.Network code) own = own ≡ 127
+HasOwnTei (either.User code) own =
+    user.EachShown code (λ s. own ≡ unwrap_or (tei_of s.terminal) 127)
+
+-- a line of the side is executed as the request that it is, read with the side's own TEI
 pub record Obeys (octets : List ℕ) (lines : Lines) (a b : LiveState) : Type 0 where
   pub own : ℕ
+  pub own_is : HasOwnTei a.side own
   pub asked : LiveLine
   pub is : live_wish_of_line (side_of a.side) own octets ≡ Some (live_wish_of asked)
   pub done_at : LiveState

@@ -28,7 +28,7 @@ use Rattle.lapd_cli_live.specs.Typed.{deed_of}
 use Rattle.lapd_cli_live.specs.Log.{Chain, HappenBeside, LiveState, state_of}
 use Rattle.lapd_cli_live.specs.Steps.{IsServed}
 use Rattle.lapd_cli_live.specs.WaitingLines.{Runs, service}
-use Rattle.lapd_cli_live.specs.LineDone.{LineDone, MissesLine, Obeys}
+use Rattle.lapd_cli_live.specs.LineDone.{HasOwnTei, LineDone, MissesLine, Obeys}
 
 -- ---- One line.
 
@@ -42,12 +42,14 @@ RequestEnds obeyed.Bad asked lines a b = ⊥
 -- a line is not a line of the side, and nothing happens
 pub record IsBad (octets : List ℕ) (a b : LiveState) : Type 0 where
   pub own : ℕ
+  pub own_is : HasOwnTei a.side own
   pub none : live_wish_of_line (side_of a.side) own octets ≡ None
   pub same : b ≡ a
 
 -- a line of the side expects a line that was not printed in time
 pub record IsUnmet (octets : List ℕ) (lines : Lines) (a b : LiveState) : Type 0 where
   pub own : ℕ
+  pub own_is : HasOwnTei a.side own
   pub asked : LiveLine
   pub is : live_wish_of_line (side_of a.side) own octets ≡ Some (live_wish_of asked)
   pub missed_at : LiveState

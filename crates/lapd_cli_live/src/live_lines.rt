@@ -16,7 +16,7 @@ impl<O: Outside, W: Write> LiveSide<O, W> {
     ghost use Rattle.std.specs.Prelude.{[], true, false, Ok, if◌then◌else◌};
     ghost use Rattle.lapd_cli_live.specs.Log.{Between, HappenBeside};
     ghost use Rattle.lapd_cli_live.specs.StateLines.{PutsManagement, PutsState, StateEach, StatesAll, StatesCounts, StatesLink};
-    ghost use Rattle.lapd_cli_live.specs.LineDone.{ExpectDone, ExpectsFromHere};
+    ghost use Rattle.lapd_cli_live.specs.LineDone.{ExpectDone, ExpectsFromHere, HasOwnTei};
     ghost use Rattle.lapd_cli_live.specs.Sessions.{AwaitsInput, ObeysAs, RequestEnds};
     ghost use Rattle.lapd_cli_live.specs.Unseen.{has_line, kept_lines};
     ghost use Rattle.lapd_cli_live.specs.WaitingLines.{Expects, Reads, Runs};
@@ -88,7 +88,9 @@ impl<O: Outside, W: Write> LiveSide<O, W> {
     }
 
     /// The TEI of the links that a line of the user side names: its own, or the group TEI if it has none.
-    fn own_tei(&self) -> Tei {
+    fn own_tei(&self) -> Tei
+        ensures { HasOwnTei self.now.side result }
+    {
         match &self.side {
             EitherSide::User(side) => side.terminal().tei().unwrap_or(Tei::group()),
             EitherSide::Network(_) => Tei::group(),
