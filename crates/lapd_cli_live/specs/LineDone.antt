@@ -16,7 +16,8 @@ use Rattle.lapd_cli_live.specs.Steps.{IsAsked}
 use Rattle.lapd_cli_live.specs.StateLines.{StatesAll, StatesCounts, StatesLink}
 use Rattle.lapd_cli_live.specs.WaitingLines.{Expects, Reads, Runs}
 
--- `expect`: a line was printed that begins with the words, while the line of input was awaited or while the side was served since
+-- `expect`: a line was printed that begins with the words, while the line of input was awaited or
+-- while the side was served since
 abbrev pub FindsLine : List ℕ → ℕ → Lines → LiveState → LiveState → Type 0
 FindsLine words ms lines a b = HappenBeside [] a b ⊎ Expects words ms lines true a b
 
@@ -40,8 +41,8 @@ LineDone line.Stats lines a b = StatesCounts a b
 LineDone (line.Ask request) lines a b = IsAsked request a b
 LineDone (line.Impair impairment) lines a b = HappenBeside [] a b
 
--- The TEI of the links that a line of the user side names: the terminal's, or the group TEI while it has none. A line of the network
--- side names the TEI itself.
+-- The TEI of the links that a line of the user side names: the terminal's, or the group TEI while
+-- it has none. A line of the network side names the TEI itself.
 abbrev pub HasOwnTei : EitherSide → ℕ → Type 0
 HasOwnTei (either.Network code) own = own ≡ 127
 HasOwnTei (either.User code) own =
@@ -57,7 +58,8 @@ pub record Obeys (octets : List ℕ) (lines : Lines) (a b : LiveState) : Type 0 
   pub does : LineDone asked lines a done_at
   pub beside : HappenBeside [] done_at b
 
--- `expect` where no line that begins so was printed before: only a line that is printed from here on is found
+-- `expect` where no line that begins so was printed before: only a line that is printed from here
+-- on is found
 abbrev pub ExpectsFromHere : List ℕ → ℕ → Lines → Bool → LiveState → LiveState → Type 0
 ExpectsFromHere words ms lines true a b = Expects words ms lines true a b
 ExpectsFromHere words ms lines false a b = MissesLine words ms lines a b

@@ -47,7 +47,7 @@ impl<W: Write> Printer<W> {
     ghost use Rattle.std.specs.Prelude.{true, false};
     ghost use Rattle.std.specs.Io.KnownBytes.{Keeps};
     ghost use Rattle.lapd_cli_live.specs.Printers.{Awaits, PrintsOn, PutsLine, shown};
-    ghost use Rattle.lapd_cli_live.specs.Unseen.{has_line, kept_lines, with_line};
+    ghost use Rattle.lapd_cli_live.specs.Unseen.{has_line, kept_lines, lines_behind, with_line};
 
     /// Prints lines of this style.
     pub fn new(alloc: Global, out: W, style: Style) -> Printer<W>
@@ -145,6 +145,8 @@ impl<W: Write> Printer<W> {
     pub(crate) fn take_unseen(&mut self, words: &[u8]) -> bool
         ensures same { self.new ≡ record self.old { unseen = self.new.unseen } }
         ensures found { result ≡ has_line words.now self.old.unseen }
+        ensures lines { kept_lines self.new.unseen
+            ≡ lines_behind words.now (kept_lines self.old.unseen) }
         ensures kept { self.new.unseen.is_kept ≡ false }
     {
         self.unseen.take(words)
