@@ -22,6 +22,7 @@ use Rattle.lapd_cli_outside.specs.declared.outside.Lines.TheVariants.{Ignored}
 use Rattle.lapd_cli_live.specs.declared.service.Came.{Came}
 use Rattle.lapd_cli_live.specs.declared.service.Came.TheVariants as came
 use Rattle.lapd_cli_live.specs.Log.{Chain, HappenBeside, LiveState}
+use Rattle.lapd_cli_live.specs.LineDone.{HasOwnTei}
 use Rattle.lapd_cli_live.specs.Typed.{IsFirstLine}
 use Rattle.lapd_cli_live.specs.Sessions.{AreTaken, Awaits, AwaitsInput, AwaitsQuietly, DoesLine, GreetedAndEnds, Greets, Hears, InOrder, LineEnds, LinesEnd, LinesType, ObeysAs, Quits, ReadsPart, RequestEnds, ScriptEnds, ServesOn, Session, SessionEnds, StopsAt, StopsBy, TakesLines, Told, Types, TypesLast, TypesOn, stop_of}
 
@@ -371,11 +372,11 @@ reads_none before after (o ∷ part) held consumes none end = absurd (omega arit
 
 -- ---- What becomes of a line.
 
-pub obeyed_as : (why : Obeyed) (octets : List ℕ) (lines : Lines) (own : ℕ) (asked : LiveLine) (a mid b : LiveState) → live_wish_of_line (side_of a.side) own octets ≡ Some (live_wish_of asked)
-    → RequestEnds why asked lines a mid → HappenBeside [] mid b → ObeysAs why octets lines a b
-obeyed_as obeyed.Done octets lines own asked a mid b is ends beside = record { own = own; asked = asked; is = is; done_at = mid; does = ends; beside = beside }
-obeyed_as obeyed.Unmet octets lines own asked a mid b is ends beside = record { own = own; asked = asked; is = is; missed_at = mid; misses = ends; beside = beside }
-obeyed_as obeyed.Bad octets lines own asked a mid b is ends beside = absurd ends
+pub obeyed_as : (why : Obeyed) (octets : List ℕ) (lines : Lines) (own : ℕ) (asked : LiveLine) (a mid b : LiveState) → HasOwnTei a.side own
+    → live_wish_of_line (side_of a.side) own octets ≡ Some (live_wish_of asked) → RequestEnds why asked lines a mid → HappenBeside [] mid b → ObeysAs why octets lines a b
+obeyed_as obeyed.Done octets lines own asked a mid b own_is is ends beside = record { own = own; own_is = own_is; asked = asked; is = is; done_at = mid; does = ends; beside = beside }
+obeyed_as obeyed.Unmet octets lines own asked a mid b own_is is ends beside = record { own = own; own_is = own_is; asked = asked; is = is; missed_at = mid; misses = ends; beside = beside }
+obeyed_as obeyed.Bad octets lines own asked a mid b own_is is ends beside = absurd ends
 
 -- the first line that has ended, as it is held
 pub first_held : {V : Type 0} (items : V → List ℕ) (found : Option V) (line : V) (octets before after : List ℕ) → found ≡ Some line → octets ≡ items line

@@ -1,8 +1,12 @@
 -- What a line of a side does that is served with the real clock, if it ends well.
-use Rattle.std.specs.Prelude.{◌≡◌, ◌⊎◌, ℕ, Bool, true, false, List, [], ◌∷◌, codes, Option, None, Some}
+use Rattle.std.specs.Prelude.{◌≡◌, ◌⊎◌, ℕ, Bool, true, false, List, [], ◌∷◌, codes, Option, None, Some, unwrap_or}
 use Rattle.lapd_cli_live_text.specs.declared.words.LiveLine.{LiveLine}
 use Rattle.lapd_cli_live_text.specs.declared.words.LiveLine.TheVariants as line
+use Rattle.lapd_tei.specs.Terminal.{tei_of}
+use Rattle.lapd_sides.specs.declared.either_side.EitherSide.{EitherSide}
+use Rattle.lapd_sides.specs.declared.either_side.EitherSide.TheVariants as either
 use Rattle.lapd_sides.specs.Either.{side_of}
+use Rattle.lapd_sides.specs.ShowsUser as user
 use Rattle.lapd_cli_live_text.specs.LiveWishes.{live_wish_of, live_wish_of_line}
 use Rattle.lapd_cli_live_text.specs.AwaitedText.{shown_words}
 use Rattle.lapd_cli_outside.specs.declared.outside.Lines.{Lines}
@@ -12,7 +16,8 @@ use Rattle.lapd_cli_live.specs.Steps.{IsAsked}
 use Rattle.lapd_cli_live.specs.StateLines.{StatesAll, StatesCounts, StatesLink}
 use Rattle.lapd_cli_live.specs.WaitingLines.{Expects, Reads, Runs}
 
--- `expect`: a line was printed that begins with the words, while the line of input was awaited or while the side was served since
+-- `expect`: a line was printed that begins with the words, while the line of input was awaited or
+-- while the side was served since
 abbrev pub FindsLine : List ℕ → ℕ → Lines → LiveState → LiveState → Type 0
 FindsLine words ms lines a b = HappenBeside [] a b ⊎ Expects words ms lines true a b
 
@@ -36,16 +41,25 @@ LineDone line.Stats lines a b = StatesCounts a b
 LineDone (line.Ask request) lines a b = IsAsked request a b
 LineDone (line.Impair impairment) lines a b = HappenBeside [] a b
 
--- a line of the side is done as what it requests
+-- The TEI of the links that a line of the user side names: the terminal's, or the group TEI while
+-- it has none. A line of the network side names the TEI itself.
+abbrev pub HasOwnTei : EitherSide → ℕ → Type 0
+HasOwnTei (either.Network code) own = own ≡ 127
+HasOwnTei (either.User code) own =
+    user.EachShown code (λ s. own ≡ unwrap_or (tei_of s.terminal) 127)
+
+-- a line of the side is executed as the request that it is, read with the side's own TEI
 pub record Obeys (octets : List ℕ) (lines : Lines) (a b : LiveState) : Type 0 where
   pub own : ℕ
+  pub own_is : HasOwnTei a.side own
   pub asked : LiveLine
   pub is : live_wish_of_line (side_of a.side) own octets ≡ Some (live_wish_of asked)
   pub done_at : LiveState
   pub does : LineDone asked lines a done_at
   pub beside : HappenBeside [] done_at b
 
--- `expect` where no line that begins so was printed before: only a line that is printed from here on is found
+-- `expect` where no line that begins so was printed before: only a line that is printed from here
+-- on is found
 abbrev pub ExpectsFromHere : List ℕ → ℕ → Lines → Bool → LiveState → LiveState → Type 0
 ExpectsFromHere words ms lines true a b = Expects words ms lines true a b
 ExpectsFromHere words ms lines false a b = MissesLine words ms lines a b

@@ -1,4 +1,5 @@
--- Which lines of input a served side does, in which order, and what ends them: the lines of a script, and those that are typed.
+-- Which lines of input a served side does, in which order, and what ends them: the lines of a
+-- script, and those that are typed.
 use Rattle.std.specs.Prelude.{◌≡◌, ◌⊎◌, ℕ, ◌+◌, Bool, true, false, List, [], ◌∷◌, ◌++◌, length, Option, None, Some, Result, Ok, Err, ⊤, IfSome}
 use Rattle.std.specs.Io.KnownBytes.{Consumes, IsAtEnd}
 use Rattle.lapd_sides.specs.Either.{side_of}
@@ -28,7 +29,7 @@ use Rattle.lapd_cli_live.specs.Typed.{deed_of}
 use Rattle.lapd_cli_live.specs.Log.{Chain, HappenBeside, LiveState, state_of}
 use Rattle.lapd_cli_live.specs.Steps.{IsServed}
 use Rattle.lapd_cli_live.specs.WaitingLines.{Runs, service}
-use Rattle.lapd_cli_live.specs.LineDone.{LineDone, MissesLine, Obeys}
+use Rattle.lapd_cli_live.specs.LineDone.{HasOwnTei, LineDone, MissesLine, Obeys}
 
 -- ---- One line.
 
@@ -42,12 +43,14 @@ RequestEnds obeyed.Bad asked lines a b = ⊥
 -- a line is not a line of the side, and nothing happens
 pub record IsBad (octets : List ℕ) (a b : LiveState) : Type 0 where
   pub own : ℕ
+  pub own_is : HasOwnTei a.side own
   pub none : live_wish_of_line (side_of a.side) own octets ≡ None
   pub same : b ≡ a
 
 -- a line of the side expects a line that was not printed in time
 pub record IsUnmet (octets : List ℕ) (lines : Lines) (a b : LiveState) : Type 0 where
   pub own : ℕ
+  pub own_is : HasOwnTei a.side own
   pub asked : LiveLine
   pub is : live_wish_of_line (side_of a.side) own octets ≡ Some (live_wish_of asked)
   pub missed_at : LiveState
@@ -76,21 +79,24 @@ pub record Awaits (a b : LiveState) : Type 0 where
 
 -- ---- Octets that are read, and their lines.
 
--- A read puts the octets that it takes from the reader behind those that are held. Or the reader has ended, and they stay.
+-- A read puts the octets that it takes from the reader behind those that are held. Or the reader
+-- has ended, and they stay.
 abbrev pub ReadsPart : Bool → Option (List ℕ) → Option (List ℕ) → List ℕ → List ℕ → Type 0
 ReadsPart true before after held holds = (part : List ℕ) × Consumes before after part
     × (holds ≡ held ++ part)
 ReadsPart false before after held holds = Consumes before after [] × IsAtEnd after
     × (holds ≡ held)
 
--- these lines are taken off the front of some octets: whatever follows, they come first, and then the lines of what is left
+-- these lines are taken off the front of some octets: whatever follows, they come first, and then
+-- the lines of what is left
 abbrev pub AreTaken : List (List ℕ) → List ℕ → List ℕ → Type 0
 AreTaken lines before after = (more : List ℕ)
     → lines_of (before ++ more) ≡ lines ++ lines_of (after ++ more)
 
 -- ---- Lines, one after another.
 
--- each of these lines is done so, once and in order; before each, and behind the last, nothing happens but that input is awaited
+-- each of these lines is done so, once and in order; before each, and behind the last, nothing
+-- happens but that input is awaited
 abbrev pub InOrder : {S : Type 0} → (S → S → Type 0) → (List ℕ → S → S → Type 0) → List (List ℕ)
     → S → S → Type 0
 InOrder Waits Does [] a b = Waits a b
@@ -120,8 +126,8 @@ ObeysUnless false octets a b = Obeys octets Ignored a b
 abbrev pub DoesLine : List ℕ → LiveState → LiveState → Type 0
 DoesLine octets a b = ObeysUnless (is_passed_over octets) octets a b
 
--- The lines before one of them are done. This becomes of that one, and none behind it is done. It is counted as the line of this
--- number, if so many lines came before them all.
+-- The lines before one of them are done. This becomes of that one, and none behind it is done. It
+-- is counted as the line of this number, if so many lines came before them all.
 pub record StopsAt (why : Obeyed) (number count : ℕ) (lines : List (List ℕ)) (a b : LiveState) : Type 0
   where
     pub before : List (List ℕ)
@@ -154,8 +160,8 @@ LinesEnd (Ok done) before after n m a b = TakesLines Awaits DoesLine before afte
 LinesEnd (Err stop) before after n m a b = (more : List ℕ)
     → StopsBy stop n (lines_of (before ++ more)) a b
 
--- A script ends well once each of its lines is done; then the side is served on, if that is wanted. Else it stops at the first
--- line that is bad or unmet.
+-- A script ends well once each of its lines is done; then the side is served on, if that is wanted.
+-- Else it stops at the first line that is bad or unmet.
 abbrev pub ScriptEnds : Bool → Result ⊤ LiveStop → List (List ℕ) → LiveState → LiveState → Type 0
 ScriptEnds serve_on (Ok done) lines a b = (ended : LiveState) × InOrder Awaits DoesLine lines a ended
     × ServesOn serve_on ended b

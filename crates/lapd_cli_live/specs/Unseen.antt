@@ -5,11 +5,16 @@ use Rattle.std.specs.declared.alloc.Global.{Global}
 use Rattle.std.specs.declared.vec.Vec.{Vec}
 use Rattle.lapd_cli_live.specs.declared.unseen.Unseen.{Unseen}
 
+-- the octets of some lines
+abbrev pub line_octets : List (Vec ℕ Global) → List (List ℕ)
+line_octets lines = map (λ line. line.items) lines
+
 -- the octets of the kept lines, in the order in which they were printed
 abbrev pub kept_lines : Unseen → List (List ℕ)
-kept_lines unseen = map (λ line. line.items) unseen.lines.items
+kept_lines unseen = line_octets unseen.lines.items
 
--- A line is printed. If lines are kept, it is kept behind the others; the others are forgotten if they are 1,000.
+-- A line is printed. If lines are kept, it is kept behind the others; the others are forgotten if
+-- they are 1,000.
 abbrev pub with_line : Bool → List ℕ → List (List ℕ) → List (List ℕ)
 with_line kept line lines = if kept
     then (if nat_le 1000 (length lines) then [] else lines) ++ line ∷ [] else lines
@@ -21,3 +26,9 @@ begins_with words line = starts_with nat_eq line.items words
 -- one of the lines that are kept begins with these words
 abbrev pub has_line : List ℕ → Unseen → Bool
 has_line words unseen = list_any (begins_with words) unseen.lines.items
+
+-- the lines behind the first that begins with these words; none if no line begins so
+abbrev pub lines_behind : List ℕ → List (List ℕ) → List (List ℕ)
+lines_behind words [] = []
+lines_behind words (line ∷ lines) = if starts_with nat_eq line words
+    then lines else lines_behind words lines

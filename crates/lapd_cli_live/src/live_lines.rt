@@ -1,4 +1,4 @@
-//! What the lines of a side do that is served with the real clock.
+//! The lines of input of a side that runs on the real clock, and how each is executed.
 
 ghost use Rattle.std.specs.Prelude.{◌≡◌, IfOk, OnOk};
 
@@ -16,14 +16,15 @@ impl<O: Outside, W: Write> LiveSide<O, W> {
     ghost use Rattle.std.specs.Prelude.{[], true, false, Ok, if◌then◌else◌};
     ghost use Rattle.lapd_cli_live.specs.Log.{Between, HappenBeside};
     ghost use Rattle.lapd_cli_live.specs.StateLines.{PutsManagement, PutsState, StateEach, StatesAll, StatesCounts, StatesLink};
-    ghost use Rattle.lapd_cli_live.specs.LineDone.{ExpectDone, ExpectsFromHere};
+    ghost use Rattle.lapd_cli_live.specs.LineDone.{ExpectDone, ExpectsFromHere, HasOwnTei};
     ghost use Rattle.lapd_cli_live.specs.Sessions.{AwaitsInput, ObeysAs, RequestEnds};
-    ghost use Rattle.lapd_cli_live.specs.Unseen.{has_line, kept_lines};
+    ghost use Rattle.lapd_cli_live.specs.Unseen.{has_line, kept_lines, lines_behind};
     ghost use Rattle.lapd_cli_live.specs.WaitingLines.{Expects, Reads, Runs};
 
-    /// Does what a line requests, which comes without its line feed. If `lines` are awaited, a further line of input cuts the waits
-    /// of this one short. Whatever the line requests, every frame that had arrived is taken before, and then what is due is
-    /// done. Returns what became of the line.
+    /// Executes a line of input, without its line feed, and returns what became of it. If `lines`
+    /// is `Awaited`, the next line of input ends the waits of this one. Before a request is
+    /// executed, all frames that have arrived are processed, and then all timers that are due
+    /// expire.
     ///
     /// # Errors
     ///
@@ -52,7 +53,7 @@ impl<O: Outside, W: Write> LiveSide<O, W> {
         }
     }
 
-    /// A line of input is done now. Unless it expects a line, those that were printed before are forgotten.
+    /// Begins a line of input. Unless it is an `expect`, the kept lines are forgotten.
     fn begin_line(&mut self, is_expect: bool)
         ensures same { self.new ≡ record self.old {
           printer = record self.old.printer { unseen = self.new.printer.unseen };
@@ -65,7 +66,8 @@ impl<O: Outside, W: Write> LiveSide<O, W> {
         }
     }
 
-    /// Does what is requested. `Unmet` if a line was expected in vain, else `Done`.
+    /// Executes a request. Returns `Unmet` if an expected line was not printed in time, else
+    /// `Done`.
     fn do_line(&mut self, line: LiveLine<'_>, lines: Lines) -> Result<Obeyed, LiveFault>
         ensures { IfOk result (λ obeyed. Between O.deeds W.contents self.old self.new
             (RequestEnds obeyed line.entry lines)) }
@@ -87,15 +89,18 @@ impl<O: Outside, W: Write> LiveSide<O, W> {
         Ok(Obeyed::Done)
     }
 
-    /// The TEI of the links that a line of the user side names: its own, or the group TEI if it has none.
-    fn own_tei(&self) -> Tei {
+    /// The TEI of the links that a line of the user side names: the terminal's, or the group TEI
+    /// while it has none. A line of the network side names the TEI itself.
+    fn own_tei(&self) -> Tei
+        ensures { HasOwnTei self.now.side result }
+    {
         match &self.side {
             EitherSide::User(side) => side.terminal().tei().unwrap_or(Tei::group()),
             EitherSide::Network(_) => Tei::group(),
         }
     }
 
-    /// Serves the side until a line of input can be read, or the connection is closed.
+    /// Serves the side until a line of input can be read or the connection is closed.
     pub(crate) fn await_input(&mut self) -> Result<Came, LiveFault>
         ensures { IfOk result (λ came. Between O.deeds W.contents self.old self.new
             (AwaitsInput came)) }
@@ -108,7 +113,7 @@ impl<O: Outside, W: Write> LiveSide<O, W> {
         })
     }
 
-    /// Serves the side until the connection is closed, or for so many milliseconds.
+    /// Serves the side for `ms` milliseconds, or until the connection is closed.
     pub(crate) fn run(&mut self, ms: Option<u64>, lines: Lines) -> Result<(), LiveFault>
         ensures { OnOk result (Between O.deeds W.contents self.old self.new (Runs ms lines)) }
     {
@@ -121,7 +126,8 @@ impl<O: Outside, W: Write> LiveSide<O, W> {
         Ok(())
     }
 
-    /// Serves the side until the next frame was taken, for so many milliseconds if they are given.
+    /// Serves the side until it has processed the next frame, but for at most `ms` milliseconds if
+    /// given.
     fn read(&mut self, ms: Option<u64>, lines: Lines) -> Result<(), LiveFault>
         ensures { OnOk result (Between O.deeds W.contents self.old self.new (Reads ms lines)) }
     {
@@ -138,13 +144,16 @@ impl<O: Outside, W: Write> LiveSide<O, W> {
         }
     }
 
-    /// Serves the side until a line is printed that begins with these words, unless one was printed while this line of input was
-    /// awaited. Whether one was; else that is printed.
+    /// Looks for a printed line that begins with these words: first among the kept lines, then for
+    /// `ms` milliseconds among those that are printed while the side is served. Returns whether
+    /// there was one, and prints it if not.
     fn expect(&mut self, words: &[u8], ms: u64, lines: Lines) -> Result<bool, LiveFault>
         ensures done { IfOk result (λ found. Between O.deeds W.contents self.old self.new
             (ExpectDone words.now ms lines found)) }
         ensures seen { has_line words.now self.old.printer.unseen ≡ true
-            → (result ≡ Ok true) × Between O.deeds W.contents self.old self.new (HappenBeside []) }
+            → (result ≡ Ok true) × Between O.deeds W.contents self.old self.new (HappenBeside [])
+            × (kept_lines self.new.printer.unseen
+            ≡ lines_behind words.now (kept_lines self.old.printer.unseen)) }
         ensures unseen { has_line words.now self.old.printer.unseen ≡ false → IfOk result
             (λ found. Between O.deeds W.contents self.old self.new
             (ExpectsFromHere words.now ms lines found)) }
@@ -160,7 +169,8 @@ impl<O: Outside, W: Write> LiveSide<O, W> {
         Ok(false)
     }
 
-    /// Serves the side until a line is printed that begins with these words. Whether one was.
+    /// Serves the side until it prints a line that begins with these words, but for at most `ms`
+    /// milliseconds. Returns whether it printed one.
     fn await_words(&mut self, words: &[u8], ms: u64, lines: Lines) -> Result<bool, LiveFault>
         ensures { IfOk result (λ found. Between O.deeds W.contents self.old self.new
             (Expects words.now ms lines found)) }
@@ -184,7 +194,7 @@ impl<O: Outside, W: Write> LiveSide<O, W> {
         self.printer.put_stats(discarded)
     }
 
-    /// Prints the state of a link, or that the side does not have it.
+    /// Prints the state of a link, or that the link does not exist.
     fn put_link(&mut self, id: &LinkId) -> Result<(), LiveFault>
         ensures { OnOk result (Between O.deeds W.contents self.old self.new (StatesLink id.now)) }
     {
@@ -195,7 +205,7 @@ impl<O: Outside, W: Write> LiveSide<O, W> {
         self.printer.put_refused(SideKind::NoLink)
     }
 
-    /// Prints the state of each link, and the timer of TEI management that runs, if one does.
+    /// Prints the state of each link, and the timer of TEI management if one runs.
     fn put_links(&mut self) -> Result<(), LiveFault>
         ensures { OnOk result (Between O.deeds W.contents self.old self.new StatesAll) }
     {
@@ -205,7 +215,7 @@ impl<O: Outside, W: Write> LiveSide<O, W> {
         self.put_management()
     }
 
-    /// Prints the state of each of these links that the side has.
+    /// Prints the state of each of these links that exists.
     fn put_each(&mut self, ids: &[LinkId]) -> Result<(), LiveFault>
         ensures { OnOk result (Between O.deeds W.contents self.old self.new (StateEach ids.now)) }
     {
@@ -215,7 +225,7 @@ impl<O: Outside, W: Write> LiveSide<O, W> {
         Ok(())
     }
 
-    /// Prints what is left of the timer of TEI management, if one runs.
+    /// Prints the time left of TEI management's timer, if one runs.
     fn put_management(&mut self) -> Result<(), LiveFault>
         ensures { OnOk result (Between O.deeds W.contents self.old self.new PutsManagement) }
     {
@@ -232,7 +242,8 @@ impl<O: Outside, W: Write> LiveSide<O, W> {
         self.printer.put_words(words)
     }
 
-    /// Prints the state of a link, as it is at the moment of the printer. `false` if the side does not have the link.
+    /// Prints the state of a link at the printer's moment. Returns `false` if the link does not
+    /// exist.
     fn put_state(&mut self, id: &LinkId) -> Result<bool, LiveFault>
         ensures { IfOk result (λ found. Between O.deeds W.contents self.old self.new
             (PutsState id.now found)) }

@@ -1,4 +1,4 @@
-//! A side that is served.
+//! A side that runs on the real clock.
 
 ghost use Rattle.std.specs.Prelude.{◌≡◌, map, true, false, IfOk, OnErr, OnOk};
 ghost use Rattle.std.specs.List.{All};
@@ -6,7 +6,8 @@ ghost use Rattle.lapd_sides_links.specs.Effects.{HasLeastOctets};
 ghost use Rattle.lapd_frame.specs.declared.Side.{Side as SideValue};
 ghost use Rattle.lapd_cli_outside.specs.Deeds.{SendsFront};
 ghost use Rattle.lapd_cli_live.specs.Entries.{Told};
-ghost use Rattle.lapd_cli_live.specs.Printers.{PrintsOn, SendsAll};
+ghost use Rattle.std.specs.Io.KnownBytes.{Keeps};
+ghost use Rattle.lapd_cli_live.specs.Printers.{PrintsOn, SendsAll, shown};
 ghost use Rattle.lapd_cli_live.specs.Steps.{came_of as came_from, ended_by as ends_by, HasCome, sooner as sooner_of};
 
 use crate::fault::LiveFault;
@@ -21,10 +22,10 @@ use lapd_sides::{Acts, EitherSide, LinkId, Primitive, Request};
 use std::alloc::Global;
 use std::io::Write;
 
-/// The most frames that a step receives, so that timers run however many frames arrive.
+/// The most frames that a step receives, so that timers expire however many frames arrive.
 const MOST_FRAMES: u64 = 4096;
 
-/// A side with what is around it, and what it prints on.
+/// A side with its surroundings and its printer.
 #[derive(Drop)]
 pub struct LiveSide<O, W> {
     pub(crate) alloc: Global,
@@ -38,7 +39,7 @@ impl<O: Outside, W: Write> LiveSide<O, W> {
     ghost use Rattle.lapd_cli_live.specs.Log.{Between, IsCarriedOut, ReadsClock};
     ghost use Rattle.lapd_cli_live.specs.Steps.{CatchesUp, DoesDue, EndsAfter, HasReceived, IsAsked, IsServed, Looks, Step, TakesAt, WaitsFor};
 
-    /// A side with this around it, and room for what a call gives.
+    /// A side with these surroundings. `acts` is the buffer for the output of its calls.
     pub fn new(
         alloc: Global,
         side: EitherSide,
@@ -59,14 +60,24 @@ impl<O: Outside, W: Write> LiveSide<O, W> {
         }
     }
 
-    /// What is around it, and the writer that it printed on.
-    pub fn into_parts(self) -> (O, W)
-        ensures { result.0 ≡ self.outside }
+    /// Flushes the printer, and returns the surroundings, the writer and the flush's result. If the
+    /// flush succeeded and the writer's contents are known, the writer holds exactly what the side
+    /// printed.
+    pub fn into_parts(self) -> (O, W, Result<(), LiveFault>)
+        ensures outside { result.0 ≡ self.outside }
+        ensures printed { OnOk result.2
+            (Keeps (shown W.contents self.printer).text (W.contents result.1)) }
     {
-        (self.outside, self.printer.into_inner())
+        let LiveSide {
+            outside,
+            printer,
+            ..
+        } = self;
+        let (out, flushed) = printer.into_inner();
+        (outside, out, flushed)
     }
 
-    /// Reads the clock. A clock that goes back is a fault.
+    /// Reads the clock. It is a fault if the clock has gone back.
     pub(crate) fn read_clock(&mut self) -> Result<u64, LiveFault>
         ensures { IfOk result (λ now.
             Between O.deeds W.contents self.old self.new (ReadsClock now)) }
@@ -79,7 +90,7 @@ impl<O: Outside, W: Write> LiveSide<O, W> {
         Ok(now)
     }
 
-    /// Sends and prints what the last call gave. On an error, what was sent is the front of what was to be sent.
+    /// Sends and prints the output of the last call. On an error, a front of the frames was sent.
     fn carry_out(&mut self) -> Result<(), LiveFault>
         ensures carried { OnOk result (Between O.deeds W.contents self.old self.new
             (IsCarriedOut self.old.acts)) }
@@ -92,7 +103,8 @@ impl<O: Outside, W: Write> LiveSide<O, W> {
         put_all_told(primitives, &mut self.printer)
     }
 
-    /// Takes a frame at the moment `now`, which was read just before the frame was looked for, and carries out what this gives.
+    /// Processes a frame at the moment `now`, and sends and prints the output. `now` was read just
+    /// before the frame was received.
     fn take(&mut self, frame: &[u8], now: u64) -> Result<(), LiveFault>
         ensures { OnOk result (Between O.deeds W.contents self.old self.new
             (TakesAt frame.now now)) }
@@ -108,7 +120,7 @@ impl<O: Outside, W: Write> LiveSide<O, W> {
         self.carry_out()
     }
 
-    /// Takes the next frame that has arrived. `false` if none has.
+    /// Processes the next frame that has arrived. Returns `false` if none has.
     fn look(&mut self) -> Result<bool, LiveFault>
         ensures { IfOk result (λ found. Between O.deeds W.contents self.old self.new
             (Looks found)) }
@@ -124,7 +136,8 @@ impl<O: Outside, W: Write> LiveSide<O, W> {
         }
     }
 
-    /// Takes every frame that has arrived, up to 4,096 of them, or up to one that ends the service.
+    /// Processes the frames that have arrived, at most 4,096 of them, and none behind one that ends
+    /// the service.
     fn receive_all(&mut self, until: Until) -> Result<Option<Came>, LiveFault>
         ensures { IfOk result (λ came. Between O.deeds W.contents self.old self.new
             (HasReceived until came)) }
@@ -141,8 +154,8 @@ impl<O: Outside, W: Write> LiveSide<O, W> {
         Ok(None)
     }
 
-    /// Expires every timer that is due at the moment of the printer, one after another, and carries out what this gives. The loop
-    /// counts only to be seen to end.
+    /// Expires all timers that are due at the printer's moment, one after another, and sends and
+    /// prints the output. The bound is never reached; it only proves termination.
     fn do_due(&mut self) -> Result<(), LiveFault>
         ensures { OnOk result (Between O.deeds W.contents self.old self.new DoesDue) }
     {
@@ -156,7 +169,8 @@ impl<O: Outside, W: Write> LiveSide<O, W> {
         Err(LiveFault::Line(LineFault::Device))
     }
 
-    /// Receives every frame that had arrived by now, and then does what is due by now. Returns the moment.
+    /// Processes the frames that have arrived, and then expires the timers that are due. Returns
+    /// the moment.
     pub(crate) fn catch_up(&mut self) -> Result<u64, LiveFault>
         ensures moment { IfOk result (λ now. now ≡ self.new.printer.moment) }
         ensures does { OnOk result (Between O.deeds W.contents self.old self.new
@@ -167,11 +181,12 @@ impl<O: Outside, W: Write> LiveSide<O, W> {
         Ok(self.printer.moment())
     }
 
-    /// Catches up with the clock, and then asks the side for something. If the request is refused, the reason is printed.
+    /// Catches up with the clock, and then submits a request to the side. If it is refused, the
+    /// reason is printed.
     ///
     /// # Errors
     ///
-    /// As the trait, and `Device` and `Memory`.
+    /// Those of [`Outside`], `Device` and `Memory`.
     pub fn ask(&mut self, request: Request) -> Result<(), LiveFault>
         ensures { OnOk result (Between O.deeds W.contents self.old self.new (IsAsked request)) }
     {
@@ -184,7 +199,7 @@ impl<O: Outside, W: Write> LiveSide<O, W> {
         }
     }
 
-    /// The moment so many milliseconds from now, if they are given.
+    /// The moment `ms` milliseconds from now, if given.
     pub(crate) fn end_after(&mut self, ms: Option<u64>) -> Result<Option<u64>, LiveFault>
         ensures { IfOk result (λ end. Between O.deeds W.contents self.old self.new
             (EndsAfter ms end)) }
@@ -196,8 +211,8 @@ impl<O: Outside, W: Write> LiveSide<O, W> {
         }
     }
 
-    /// Waits once, until the next deadline or the end of the service, whichever comes first, and then reads the clock, so that what
-    /// is printed next has the moment at which the wait ended.
+    /// Waits once, until the next deadline or the end of the service, whichever comes first. Then
+    /// it reads the clock, so that the next lines have the moment at which the wait ended.
     fn wait(&mut self, service: Service) -> Result<Option<Came>, LiveFault>
         ensures { IfOk result (λ came. Between O.deeds W.contents self.old self.new
             (WaitsFor service came)) }
@@ -209,7 +224,8 @@ impl<O: Outside, W: Write> LiveSide<O, W> {
         Ok(came_of(service.lines, woken))
     }
 
-    /// A step: receives what has arrived, does what is due, and waits, unless the service ends before. Returns why it ends.
+    /// One step: processes the frames that have arrived, expires the timers that are due, and
+    /// waits. Returns why the service ends, if it does.
     fn step(&mut self, service: Service) -> Result<Option<Came>, LiveFault>
         ensures { IfOk result (λ came. Between O.deeds W.contents self.old self.new
             (λ a b. Step service a b came)) }
@@ -229,11 +245,11 @@ impl<O: Outside, W: Write> LiveSide<O, W> {
         self.wait(service)
     }
 
-    /// Serves the side, step by step, until something ends the service. Returns what.
+    /// Serves the side, step by step, until the service ends. Returns why it ended.
     ///
     /// # Errors
     ///
-    /// As the trait, and `Device` and `Memory`.
+    /// Those of [`Outside`], `Device` and `Memory`.
     pub fn serve(&mut self, service: Service) -> Result<Came, LiveFault>
         ensures { IfOk result (λ came. Between O.deeds W.contents self.old self.new
             (IsServed service came)) }
@@ -247,7 +263,7 @@ impl<O: Outside, W: Write> LiveSide<O, W> {
     }
 }
 
-/// Reports that a frame of the other side was discarded, if it was and names a link.
+/// Reports that a frame of the other side was discarded, if it was and it names a link.
 fn report_discarded<O: Outside>(is_discarded: bool, own: Side, frame: &[u8], outside: &mut O)
     ensures { O.deeds outside.new ≡ O.deeds outside.old }
 {
@@ -263,7 +279,7 @@ fn report_discarded<O: Outside>(is_discarded: bool, own: Side, frame: &[u8], out
     }
 }
 
-/// Sends frames of this side, and prints each once it is sent.
+/// Sends these frames, and prints each once it is sent.
 fn send_all<O: Outside, W: Write>(
     own: Side,
     frames: &[ArrayVec<u8, MOST_OCTETS>],
@@ -284,7 +300,7 @@ fn send_all<O: Outside, W: Write>(
     Ok(())
 }
 
-/// Prints what layer 3 is told.
+/// Prints these primitives to layer 3.
 fn put_all_told<W: Write>(
     primitives: &[Primitive],
     printer: &mut Printer<W>,
@@ -298,7 +314,7 @@ fn put_all_told<W: Write>(
     Ok(())
 }
 
-/// What ends a service, if it is ended by a frame that was taken or by an awaited line that was printed.
+/// Why a service ends, if a processed frame or the awaited line ends it.
 fn ended_by(until: Until, is_taken: bool, is_found: bool) -> Option<Came>
     ensures { result ≡ ends_by until is_taken is_found }
 {
@@ -309,7 +325,7 @@ fn ended_by(until: Until, is_taken: bool, is_found: bool) -> Option<Came>
     }
 }
 
-/// What ends a service by what ended a wait, if that does.
+/// Why a service ends, if the reason that ended a wait ends the service too.
 fn came_of(lines: Lines, woken: Woken) -> Option<Came>
     ensures { result ≡ came_from lines woken }
 {
@@ -320,7 +336,7 @@ fn came_of(lines: Lines, woken: Woken) -> Option<Came>
     }
 }
 
-/// The sooner of two moments that may be set.
+/// The sooner of two moments, of which each may be absent.
 fn sooner(one: Option<u64>, other: Option<u64>) -> Option<u64>
     ensures { result ≡ sooner_of one other }
 {
@@ -331,7 +347,7 @@ fn sooner(one: Option<u64>, other: Option<u64>) -> Option<u64>
     }
 }
 
-/// Whether an end that is set has come.
+/// Whether there is an end and it has come.
 fn has_come(end: Option<u64>, now: u64) -> bool
     ensures come { result ≡ true → HasCome end now }
     ensures not { result ≡ false → ¬ HasCome end now }

@@ -1,4 +1,4 @@
-//! The lines that a side prints while it is served.
+//! The lines that a side prints while it runs on the real clock.
 
 ghost use Rattle.std.specs.Prelude.{◌≡◌, ◌||◌, ◌++◌, ◌∷◌, [], ℕ, List, codes, OnOk};
 ghost use Rattle.std.specs.String.{string_bytes};
@@ -22,20 +22,20 @@ use lapd_sides::{Primitive, SideKind};
 use std::alloc::{AllocError, Global};
 use std::io::Write;
 
-/// Prints the lines of a side, counts what goes over its line, and notices a line that is awaited. What is printed is kept until
-/// [`Printer::flush`], so that no writer delays a frame.
+/// Prints the lines of a side, counts its frames, and looks for an awaited line. Printed text is
+/// buffered until [`Printer::flush`], so that a slow writer doesn't delay a frame.
 #[derive(Drop)]
 pub struct Printer<W> {
     pub(crate) alloc: Global,
     pub(crate) out: W,
     pub(crate) style: Style,
-    /// The moment of the lines that are printed now, in milliseconds since the start.
+    /// The moment that printed lines have, in milliseconds since the start.
     pub(crate) moment: u64,
-    /// What was printed and the writer was not given yet.
+    /// Printed text that was not written to the writer yet.
     pub(crate) text: Vec<u8>,
-    /// Room for a line in words, with its line feed.
+    /// A buffer for one line in words, with its line feed.
     pub(crate) line: String,
-    /// The words that an awaited line begins with. There are none if no line is awaited.
+    /// The words that an awaited line begins with; empty if no line is awaited.
     pub(crate) awaited: Vec<u8>,
     pub(crate) is_found: bool,
     pub(crate) stats: Stats,
@@ -45,8 +45,9 @@ pub struct Printer<W> {
 
 impl<W: Write> Printer<W> {
     ghost use Rattle.std.specs.Prelude.{true, false};
-    ghost use Rattle.lapd_cli_live.specs.Printers.{Awaits, PrintsOn, PutsLine};
-    ghost use Rattle.lapd_cli_live.specs.Unseen.{has_line, kept_lines, with_line};
+    ghost use Rattle.std.specs.Io.KnownBytes.{Keeps};
+    ghost use Rattle.lapd_cli_live.specs.Printers.{Awaits, PrintsOn, PutsLine, shown};
+    ghost use Rattle.lapd_cli_live.specs.Unseen.{has_line, kept_lines, lines_behind, with_line};
 
     /// Prints lines of this style.
     pub fn new(alloc: Global, out: W, style: Style) -> Printer<W>
@@ -71,21 +72,24 @@ impl<W: Write> Printer<W> {
         }
     }
 
-    /// The writer, which is given first what was printed. An error of the writer is left to it.
-    pub fn into_inner(self) -> W {
-        let Printer { mut out, text, .. } = self;
-        let _ = out.write_all(text.as_slice());
-        out
+    /// Flushes, and returns the writer and the flush's result. If the flush succeeded and the
+    /// writer's contents are known, the writer holds exactly what was printed.
+    pub fn into_inner(mut self) -> (W, Result<(), LiveFault>)
+        ensures { OnOk result.1 (Keeps (shown W.contents self).text (W.contents result.0)) }
+    {
+        let flushed = self.flush();
+        let Printer { out, .. } = self;
+        (out, flushed)
     }
 
-    /// The moment of the lines that are printed now, in milliseconds since the start.
+    /// The moment that printed lines have, in milliseconds since the start.
     pub(crate) fn moment(&self) -> u64
         ensures { result ≡ self.now.moment }
     {
         self.moment
     }
 
-    /// Lines are of this moment from here on.
+    /// Sets the moment that printed lines have from now on.
     pub(crate) fn set_moment(&mut self, now: u64)
         ensures moment { self.new.moment ≡ now }
         ensures dated { (own : SideValue) → PrintsOn W.contents own (Dated now ∷ []) self.old self.new }
@@ -93,7 +97,7 @@ impl<W: Write> Printer<W> {
         self.moment = now;
     }
 
-    /// Awaits a line that begins with these words, from here on. No words await no line.
+    /// Awaits a line that begins with these words, from now on. Empty words await no line.
     ///
     /// # Errors
     ///
@@ -106,7 +110,7 @@ impl<W: Write> Printer<W> {
         self.awaited.extend_from_slice(words)
     }
 
-    /// Awaits no line any more. Returns whether an awaited line was printed.
+    /// Stops awaiting a line. Returns whether the awaited line was printed.
     pub(crate) fn end_wait(&mut self) -> bool
         ensures found { result ≡ self.old.is_found }
         ensures ends { Awaits [] self.old self.new }
@@ -117,7 +121,8 @@ impl<W: Write> Printer<W> {
         was_found
     }
 
-    /// A line of input is awaited: lines that are printed meanwhile are kept for an `expect` that comes next.
+    /// Keeps the lines that are printed from now on for the next `expect`, as a line of input is
+    /// awaited.
     pub(crate) fn keep_unseen(&mut self)
         ensures same { self.new ≡ record self.old { unseen = self.new.unseen } }
         ensures lines { kept_lines self.new.unseen ≡ kept_lines self.old.unseen }
@@ -126,7 +131,7 @@ impl<W: Write> Printer<W> {
         self.unseen.keep();
     }
 
-    /// A line of input is done now, which looks for no line.
+    /// Forgets the kept lines, as a line of input is executed that isn't an `expect`.
     pub(crate) fn forget_unseen(&mut self)
         ensures same { self.new ≡ record self.old { unseen = self.new.unseen } }
         ensures lines { kept_lines self.new.unseen ≡ [] }
@@ -135,24 +140,26 @@ impl<W: Write> Printer<W> {
         self.unseen.forget();
     }
 
-    /// Whether a line was printed that begins with these words, while a line of input was awaited. It is forgotten, with the lines
-    /// before it; all of them are, if there is none.
+    /// Returns whether a kept line begins with these words. The first such line is forgotten with
+    /// the lines before it, or all lines if there is none.
     pub(crate) fn take_unseen(&mut self, words: &[u8]) -> bool
         ensures same { self.new ≡ record self.old { unseen = self.new.unseen } }
         ensures found { result ≡ has_line words.now self.old.unseen }
+        ensures lines { kept_lines self.new.unseen
+            ≡ lines_behind words.now (kept_lines self.old.unseen) }
         ensures kept { self.new.unseen.is_kept ≡ false }
     {
         self.unseen.take(words)
     }
 
-    /// Whether an awaited line was printed.
+    /// Whether the awaited line was printed.
     pub(crate) fn is_found(&self) -> bool
         ensures { result ≡ self.now.is_found }
     {
         self.is_found
     }
 
-    /// The other side sent a frame: it is counted, and its line printed. `own` is this side.
+    /// Counts a frame that the other side sent, and prints its line. `own` is this side.
     ///
     /// # Errors
     ///
@@ -164,7 +171,7 @@ impl<W: Write> Printer<W> {
         self.put_frame(own.other(), frame)
     }
 
-    /// This side sent a frame, which was lost on purpose or not: it is counted, and its line printed.
+    /// Counts a frame that this side sent, and prints its line, or that it was lost on purpose.
     ///
     /// # Errors
     ///
@@ -185,7 +192,7 @@ impl<W: Write> Printer<W> {
         }
     }
 
-    /// Prints the line of a frame that this side or the other one sent, unless lines of frames are left out.
+    /// Prints the line of a frame from this sender, unless the style omits lines of frames.
     fn put_frame(&mut self, from: Side, frame: &[u8]) -> Result<(), LiveFault>
         ensures { OnOk result (PutsLine (unless_quiet self.old.style
             (frame_text_line LineStyle.Text from frame.now))
@@ -205,7 +212,7 @@ impl<W: Write> Printer<W> {
         }
     }
 
-    /// Prints that a frame was lost on purpose, unless lines of frames are left out.
+    /// Prints that a frame was lost on purpose, unless the style omits lines of frames.
     fn put_lost(&mut self, from: Side, frame: &[u8]) -> Result<(), LiveFault>
         ensures { OnOk result (PutsLine (unless_quiet self.old.style
             (text_line (codes "lost" ++ 32 ∷ trace_line from frame.now)))
@@ -219,7 +226,7 @@ impl<W: Write> Printer<W> {
         self.put_text("lost", line.as_str())
     }
 
-    /// Prints what layer 3 is told, if that has a line.
+    /// Prints a primitive to layer 3, if it has a line.
     ///
     /// # Errors
     ///
@@ -240,11 +247,11 @@ impl<W: Write> Printer<W> {
         }
     }
 
-    /// Prints why a request is refused.
+    /// Prints why a request was refused.
     ///
     /// # Errors
     ///
-    /// `Memory`, also if that is why.
+    /// `Memory`, also if the request was refused for lack of memory.
     pub(crate) fn put_refused(&mut self, kind: SideKind) -> Result<(), LiveFault>
         ensures { (own : SideValue) → OnOk result
             (PrintsOn W.contents own (refused kind ∷ []) self.old self.new) }
@@ -256,7 +263,7 @@ impl<W: Write> Printer<W> {
         self.put_named("refused", why.as_str())
     }
 
-    /// Prints a name, a space and a text. An object has the text as its member of that name.
+    /// Prints a name, a space and a text, or an object with the text as its member of that name.
     ///
     /// # Errors
     ///
@@ -287,7 +294,7 @@ impl<W: Write> Printer<W> {
         }
     }
 
-    /// Prints a line of words and of numbers with their names.
+    /// Prints a line of words and named numbers.
     ///
     /// # Errors
     ///
@@ -308,7 +315,7 @@ impl<W: Write> Printer<W> {
         }
     }
 
-    /// Prints the statistics, three lines. The side discarded so many of the received frames.
+    /// Prints the three lines of statistics. `discarded` is the number of discarded frames.
     ///
     /// # Errors
     ///
@@ -322,7 +329,7 @@ impl<W: Write> Printer<W> {
         self.put_reports()
     }
 
-    /// Prints what was sent.
+    /// Prints the numbers of sent frames.
     fn put_sent_stats(&mut self) -> Result<(), LiveFault>
         ensures { (own : SideValue) → OnOk result (PrintsOn W.contents own
             (Worded (sent_words self.old.stats) ∷ []) self.old self.new) }
@@ -332,7 +339,7 @@ impl<W: Write> Printer<W> {
         self.put_words(words.as_str())
     }
 
-    /// Prints what was received.
+    /// Prints the numbers of received frames.
     fn put_received_stats(&mut self, discarded: u64) -> Result<(), LiveFault>
         ensures { (own : SideValue) → OnOk result (PrintsOn W.contents own
             (Worded (received_words self.old.stats discarded) ∷ []) self.old self.new) }
@@ -342,7 +349,7 @@ impl<W: Write> Printer<W> {
         self.put_words(words.as_str())
     }
 
-    /// Prints which errors were reported.
+    /// Prints the errors that were reported.
     fn put_reports(&mut self) -> Result<(), LiveFault>
         ensures { (own : SideValue) → OnOk result (PrintsOn W.contents own
             (Worded (reports_words self.old.stats) ∷ []) self.old self.new) }
@@ -352,13 +359,18 @@ impl<W: Write> Printer<W> {
         self.put_words(words.as_str())
     }
 
-    /// Gives the writer what was printed, and has it forward that to its device.
+    /// Writes the buffered text to the writer, and flushes the writer. If this succeeds, the buffer
+    /// is empty.
     ///
     /// # Errors
     ///
     /// `Device`.
     pub(crate) fn flush(&mut self) -> Result<(), LiveFault>
-        ensures { (own : SideValue) → OnOk result (PrintsOn W.contents own [] self.old self.new) }
+        ensures shown { (own : SideValue) → OnOk result
+            (PrintsOn W.contents own [] self.old self.new) }
+        ensures written { OnOk result
+            (Keeps (shown W.contents self.old).text (W.contents self.new.out)) }
+        ensures empty { OnOk result (self.new.text.items ≡ []) }
     {
         self.out.write_all(self.text.as_slice())?;
         self.text.clear();
@@ -366,7 +378,7 @@ impl<W: Write> Printer<W> {
         Ok(())
     }
 
-    /// Prints the line that stands in the room for it, in words.
+    /// Prints the buffered line, in words.
     fn put_words_line(&mut self) -> Result<(), LiveFault>
         requires { self.old.style.lines ≡ LineStyle.Text }
         ensures { (object : List ℕ) → OnOk result
@@ -381,7 +393,7 @@ impl<W: Write> Printer<W> {
         Ok(())
     }
 
-    /// Prints this object in place of the line that stands in the room for it.
+    /// Prints this object in place of the buffered line.
     fn put_object_line(&mut self, object: &str) -> Result<(), LiveFault>
         requires { self.old.style.lines ≡ LineStyle.Json }
         ensures { OnOk result
@@ -395,7 +407,7 @@ impl<W: Write> Printer<W> {
         Ok(())
     }
 
-    /// Notices whether the line that stands in the room for it is awaited, and keeps it for an `expect` to come.
+    /// Notes whether the buffered line is the awaited one, and keeps it for a later `expect`.
     fn notice_line(&mut self) -> Result<(), AllocError>
         ensures found { OnOk result (self.new ≡ record self.old {
           is_found = self.old.is_found || begins self.old.awaited.items (string_bytes self.old.line);
@@ -412,14 +424,14 @@ impl<W: Write> Printer<W> {
     }
 }
 
-/// Whether words are awaited, and a line begins with them.
+/// Whether words are awaited and a line begins with them.
 fn begins_so(awaited: &[u8], line: &[u8]) -> bool
     ensures { result ≡ begins awaited.now line.now }
 {
     !awaited.is_empty() && line.starts_with(awaited)
 }
 
-/// Appends the moment of a line and a space, if lines have a moment.
+/// Appends the moment of a line and a space, if the style shows moments.
 fn push_moment(style: Style, now: u64, text: &mut Vec<u8>) -> Result<(), AllocError>
     ensures { OnOk result (text.new.items ≡ text.old.items ++ moment_text style now) }
 {
@@ -431,7 +443,8 @@ fn push_moment(style: Style, now: u64, text: &mut Vec<u8>) -> Result<(), AllocEr
     Ok(())
 }
 
-/// Appends an object and a line feed. If lines have a moment, it is the object's last member.
+/// Appends an object and a line feed. If the style shows moments, the moment is the object's last
+/// member.
 fn push_object(style: Style, now: u64, object: &[u8], text: &mut Vec<u8>) -> Result<(), AllocError>
     ensures { OnOk result (text.new.items
         ≡ text.old.items ++ text_line (timed_object style now object.now)) }

@@ -1,13 +1,14 @@
-ghost use Rattle.std.specs.Prelude.{◌<◌, ◌≡◌, length, IfSome, is_some};
+ghost use Rattle.std.specs.Prelude.{◌<◌, ◌≡◌, ◌+◌, drop, length, [], IfSome, None, is_some};
 ghost use Rattle.std.specs.List.{list_any};
-ghost use Rattle.lapd_cli_live.specs.Unseen.{begins_with};
+ghost use Rattle.lapd_cli_live.specs.Unseen.{begins_with, line_octets, lines_behind};
 
 use std::alloc::{AllocError, Global};
 
-/// How many lines are kept at most. If one more is printed, all are forgotten before it.
+/// The most lines that are kept. When one more is printed, all earlier lines are forgotten.
 const MOST_LINES: usize = 1000;
 
-/// Lines that were printed while a line of input was awaited, for an `expect` that comes after they were printed.
+/// The lines that were printed while a line of input was awaited. An `expect` that comes after they
+/// were printed still finds them.
 #[derive(Drop)]
 pub(crate) struct Unseen {
     alloc: Global,
@@ -19,7 +20,7 @@ impl Unseen {
     ghost use Rattle.std.specs.Prelude.{[], false, true, OnOk};
     ghost use Rattle.lapd_cli_live.specs.Unseen.{has_line, kept_lines, with_line};
 
-    /// No lines, and none are kept.
+    /// No lines. Printed lines are not kept yet.
     pub(crate) fn new(alloc: Global) -> Unseen
         ensures lines { kept_lines result ≡ [] }
         ensures kept { result.is_kept ≡ false }
@@ -31,7 +32,7 @@ impl Unseen {
         }
     }
 
-    /// Lines are kept from here on.
+    /// Keeps the lines that are printed from now on.
     pub(crate) fn keep(&mut self)
         ensures lines { kept_lines self.new ≡ kept_lines self.old }
         ensures kept { self.new.is_kept ≡ true }
@@ -39,7 +40,7 @@ impl Unseen {
         self.is_kept = true;
     }
 
-    /// Forgets all lines, and keeps no more.
+    /// Forgets all lines, and stops keeping them.
     pub(crate) fn forget(&mut self)
         ensures lines { kept_lines self.new ≡ [] }
         ensures kept { self.new.is_kept ≡ false }
@@ -48,7 +49,7 @@ impl Unseen {
         self.lines.clear();
     }
 
-    /// A line is printed: it is kept, if lines are.
+    /// Adds a printed line, if lines are kept.
     ///
     /// # Errors
     ///
@@ -70,10 +71,11 @@ impl Unseen {
         Ok(())
     }
 
-    /// Whether a line is kept that begins with these words. It is forgotten, with the lines before it; all of them are, if there
-    /// is none. No more lines are kept.
+    /// Returns whether a kept line begins with these words. The first such line is forgotten with
+    /// the lines before it, or all lines if there is none. Stops keeping lines.
     pub(crate) fn take(&mut self, words: &[u8]) -> bool
         ensures found { result ≡ has_line words.now self.old }
+        ensures lines { kept_lines self.new ≡ lines_behind words.now (kept_lines self.old) }
         ensures kept { self.new.is_kept ≡ false }
     {
         self.is_kept = false;
@@ -90,10 +92,13 @@ impl Unseen {
     }
 }
 
-/// The place of the first of these lines that begins with these words.
+/// The index of the first of these lines that begins with these words.
 fn place_of(lines: &[Vec<u8>], words: &[u8]) -> Option<usize>
     ensures within { IfSome result (λ place. place < length lines.now) }
     ensures found { is_some result ≡ list_any (begins_with words.now) lines.now }
+    ensures first { IfSome result (λ place. line_octets (drop (place + 1) lines.now)
+        ≡ lines_behind words.now (line_octets lines.now)) }
+    ensures none { result ≡ None → lines_behind words.now (line_octets lines.now) ≡ [] }
 {
     for (place, line) in lines.iter().enumerate() {
         if line.as_slice().starts_with(words) {

@@ -13,7 +13,7 @@ returns-in_ok-flush-in-Ok-do_line g c =
     let asked = c.in-Ok.line in
     let done_at = state_of g.O.Outside.deeds g.W.Write.contents c.do_line.new.self in
     let begun = ap (λ x. state_of g.O.Outside.deeds g.W.Write.contents x) c.begin_line.ensures.same in
-    obeyed_as c.in-Ok-do_line.obeyed c.args.line.now c.args.lines c.own_tei-own.result asked _ done_at _
+    obeyed_as c.in-Ok-do_line.obeyed c.args.line.now c.args.lines c.own_tei-own.result asked _ done_at _ c.own_tei-own.ensures
     (subst (λ (side : Side). live_wish_of_line side c.own_tei-own.result c.args.line.now ≡ Some (live_wish_of asked)) c.side-side.ensures c.in-Ok.ensures)
     (subst (λ (s : LiveState). RequestEnds c.in-Ok-do_line.obeyed asked c.args.lines s done_at) begun c.in-Ok-do_line.ensures)
-    (flushed g.W.Write.contents c.do_line.new.self.side _ _ _ (c.in_ok-flush-in-Ok-do_line.ensures (side_of c.do_line.new.self.side)))
+    (flushed g.W.Write.contents c.do_line.new.self.side _ _ _ (c.in_ok-flush-in-Ok-do_line.ensures.shown (side_of c.do_line.new.self.side)))
