@@ -15,7 +15,7 @@ received_before (FindsNone ∷ deeds) now = received_before deeds now
 received_before (Waits until woken ∷ deeds) now = received_before deeds now
 received_before (Sends frame ∷ deeds) now = received_before deeds now
 
--- where it is known what was done by now, it was known before
+-- if the calls are recorded by now, they were recorded before
 pub record Knew (a b : Option (List Deed)) (deeds more : List Deed) : Type 0 where
   pub before : List Deed
   pub was : a ≡ Some before

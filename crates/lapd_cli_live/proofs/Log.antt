@@ -1,4 +1,4 @@
--- What happens, one event after another.
+-- Events, one after another.
 use Rattle.std.proofs.Common.{◌≡◌, ℕ, ◌+◌, ◌<◌, List, [], ◌∷◌, ◌++◌, get_or, length, map, take, Option, None, Some, Result, Ok, Err, OnOk, refl, sym, ap, subst, ◌∙◌, append_assoc, append-nil}
 use Rattle.std.specs.Prelude.{Bool, true, false, ◌||◌, flat_map, fold, ⊤}
 use Rattle.std.specs.List.{list_any}
@@ -112,7 +112,7 @@ happen_both xs ys a b c p q = record {
 pub happen_none : (a : LiveState) → Happen [] a a
 happen_none a = record { own = refl; style = refl; deeds = adds_none a.deeds; shown = prints_none a.style (side_of a.side) a.shown }
 
--- ---- Frames that are sent, and what layer 3 is told.
+-- ---- Frames that are sent, and primitives.
 
 one_moment : (now : ℕ) (octets : List ℕ) (sending : Sending) → moment_after now (sent_entry octets sending) ≡ now
 one_moment now octets WasSent = refl
@@ -183,7 +183,7 @@ told_next own primitives at primitive contents p q r within is some now =
     subst (λ (entries : List Entry). PrintsOn contents own entries p r) (sym all)
     (prints_on_both contents own (map Told (take at primitives)) (Told primitive ∷ []) p q r some now)
 
--- a side that is served, by its parts
+-- a running side, by its parts
 abbrev pub live : {W : Type 0} → EitherSide → Option (List Deed) → (W → Option (List ℕ)) → Printer W → LiveState
 live side deeds contents printer = record { side = side; style = printer.style; deeds = deeds; shown = shown contents printer }
 
@@ -228,9 +228,9 @@ pub chain_more : (R : LiveState → LiveState → Type 0) (states : List LiveSta
 chain_more R [] a b c are one = (subst (λ (x : LiveState). R x c) are one, refl)
 chain_more R (mid ∷ states) a b c are one = (are.0, chain_more R states mid b c are.1 one)
 
--- ---- Where a call fails.
+-- ---- Calls that fail.
 
--- so many frames were sent, and then nothing was
+-- this many frames were sent, and then nothing
 pub front_of : {F : Type 0} (octets : F → List ℕ) (frames : List F) (count : ℕ) (a b c : Option (List Deed)) → Adds a b (all_sent (map octets (take count frames))) → c ≡ b
     → SendsFront (map octets frames) a c
 front_of octets frames count a b c adds stays = (

@@ -12,7 +12,7 @@ appends_known : (known : Option (List ℕ)) (a b : List ℕ) → Appends (append
 appends_known None a b = tt
 appends_known (Some before) a b = sym (append_assoc before a b)
 
--- two printers differ in the room for a line and in what was counted at most
+-- two printers differ at most in the buffer for a line and in the counts
 pub record IsBeside {W : Type 0} (old mid : Printer W) : Type 0 where
   pub out : mid.out ≡ old.out
   pub style : mid.style ≡ old.style
@@ -21,7 +21,7 @@ pub record IsBeside {W : Type 0} (old mid : Printer W) : Type 0 where
   pub text : mid.text ≡ old.text
   pub found : mid.is_found ≡ old.is_found
 
--- a line is printed from a printer that differs in the room for it
+-- a line is printed from a printer that differs in the buffer for it
 pub puts_same : {W : Type 0} (line other object : List ℕ) (old mid new : Printer W) → IsBeside old mid → mid.stats ≡ old.stats → line ≡ other
     → PutsLine line object mid new → PutsLine other object old new
 puts_same line other object old mid new beside stats is puts = record {

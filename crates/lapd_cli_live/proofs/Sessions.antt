@@ -1,4 +1,4 @@
--- Lines of input of a served side, put together.
+-- The input of a running side, put together.
 use Rattle.std.proofs.Common.{◌≡◌, ◌≢◌, ℕ, ◌+◌, ◌-◌, List, [], ◌∷◌, ◌++◌, length, cond, Bool, true, false, Option, None, Some, option_map, Result, Ok, Err, IsErrAnd, IfSome, OnOk, refl, sym, ap, subst, ◌∙◌, append_assoc, append-nil, length-append, inl, inr, arith}
 use Rattle.std.specs.Prelude.{⊤}
 use Rattle.std.specs.Io.KnownBytes.{Consumes, IsAtEnd, Keeps}
@@ -101,17 +101,17 @@ taken_more lines line a b c taken none is = λ more.
     ap (λ x. lines_of (x ++ more)) is ∙ ap lines_of (append_assoc line (10 ∷ c) more) ∙ lines_of_line line (c ++ more) none in
     taken more ∙ ap (λ x. lines ++ x) next ∙ sym (append_assoc lines (line ∷ []) (lines_of (c ++ more)))
 
--- these are all of them, and those of what is left
+-- these are all of them, and those of the rest
 pub taken_all : (lines : List (List ℕ)) (a b : List ℕ) → AreTaken lines a b → lines_of a ≡ lines ++ lines_of b
 taken_all lines a b taken = ap lines_of (sym (append-nil a)) ∙ taken [] ∙ ap (λ x. lines ++ lines_of x) (append-nil b)
 
--- lines are taken off the front of octets that others follow
+-- lines are removed from the beginning of octets that others follow
 pub taken_both : (xs ys : List (List ℕ)) (octets held rest left : List ℕ) → AreTaken xs octets (held ++ rest) → AreTaken ys held left → AreTaken (xs ++ ys) octets (left ++ rest)
 taken_both xs ys octets held rest left p q = λ more.
     p more ∙ ap (λ x. xs ++ lines_of x) (append_assoc held rest more) ∙ ap (λ x. xs ++ x) (q (rest ++ more))
     ∙ ap (λ x. xs ++ (ys ++ lines_of x)) (sym (append_assoc left rest more)) ∙ sym (append_assoc xs ys (lines_of ((left ++ rest) ++ more)))
 
--- ---- Lines that are done.
+-- ---- Executed lines.
 
 pub takes_none : {S : Type 0} (Waits : S → S → Type 0) (can : CanWait Waits) (Does : List ℕ → S → S → Type 0) (octets : List ℕ) (n : ℕ) (a : S)
     → TakesLines Waits Does octets octets n n a a
@@ -135,9 +135,9 @@ pub takes_all : {S : Type 0} (Waits : S → S → Type 0) (Does : List ℕ → S
 takes_all Waits Does before now left n m a b takes first =
     (subst (λ (x : List ℕ). TakesLines Waits Does before x n m a b) (sym first.1) takes, subst HasNoFeed (sym first.1) first.0)
 
--- ---- What stops lines.
+-- ---- Lines that stop the input.
 
--- a fault of what is around the side
+-- a fault of the surroundings
 pub around_stops : (fault : LiveFault) (n : ℕ) (lines : List (List ℕ)) (a b : LiveState) → StopsBy (stop_of fault) n lines a b
 around_stops (fault.Line line_fault.Bad) n lines a b = tt
 around_stops (fault.Line line_fault.Device) n lines a b = tt
@@ -221,7 +221,7 @@ next_stops result stop before now left line after n m k j a b c takes first stop
 
 -- ---- A whole script.
 
--- what was done of the octets of a reader, some of which are held and not done yet
+-- the executed lines of a reader's octets, some of which are held and not executed yet
 pub record ComesTo {S : Type 0} (Waits : S → S → Type 0) (Does : List ℕ → S → S → Type 0) (initial now : Option (List ℕ)) (held : List ℕ) (n : ℕ) (a b : S) : Type 0 where
   pub no_feed : HasNoFeed held
   pub so_far : IfSome initial (λ octets. (rest : List ℕ) × (now ≡ Some rest) × TakesLines Waits Does octets (held ++ rest) 0 n a b)
@@ -243,12 +243,12 @@ takes_awaited Waits can Does before after n m a b c takes waits = record {
   done = in_order_awaited Waits can Does takes.lines a b c takes.done waits;
 }
 
--- a known reader gives a part of what it has
+-- a known reader returns a part of its octets
 consumes_some : (rest part : List ℕ) (new : Option (List ℕ)) → Consumes (Some rest) new part → (ys : List ℕ) × (new ≡ Some ys) × (rest ≡ part ++ ys)
 consumes_some rest part None h = absurd h
 consumes_some rest part (Some ys) h = (ys, refl, h)
 
--- input is awaited, and a part is read, behind what is held
+-- input is awaited, and a part is read, after what is held
 pub part_read : {S : Type 0} (Waits : S → S → Type 0) (can : CanWait Waits) (Does : List ℕ → S → S → Type 0) (octets held holds : List ℕ) (now new : Option (List ℕ)) (n : ℕ)
     (a b c : S) → ComesTo Waits Does (Some octets) now held n a b → Waits b c → ReadsPart true now new held holds
     → (ys : List ℕ) × (new ≡ Some ys) × TakesLines Waits Does octets (holds ++ ys) 0 n a c
@@ -267,7 +267,7 @@ takes_both Waits can Does octets held rest left n k m a b c p q = record {
   done = in_order_both Waits can Does p.lines q.lines a b c p.done q.done;
 }
 
--- input is awaited, a part is read, and the lines that end in it are done
+-- input is awaited, a part is read, and the lines that end in it are executed
 pub comes_further : {S : Type 0} (Waits : S → S → Type 0) (can : CanWait Waits) (Does : List ℕ → S → S → Type 0) (initial now new : Option (List ℕ)) (held holds left : List ℕ)
     (n k m j : ℕ) (a b c d : S) → ComesTo Waits Does initial now held n a b → Waits b c → ReadsPart true now new held holds → TakesLines Waits Does holds left k m c d
     → HasNoFeed left → j ≡ n + (m - k) → ComesTo Waits Does initial new left j a d
@@ -294,7 +294,7 @@ pub script_stops : (serve_on : Bool) (result : Result ⊤ LiveStop) (stop : Live
 script_stops serve_on (Ok done) stop lines a b is stops = absurd is
 script_stops serve_on (Err other) stop lines a b is stops = subst (λ (x : LiveStop). StopsBy x 0 lines a b) (sym is) stops
 
--- a fault of what is around the side ends a script
+-- a fault of the surroundings ends a script
 pub around_ends : (initial : Option (List ℕ)) (serve_on : Bool) (result : Result ⊤ LiveStop) (fault : LiveFault) (a b : LiveState) → IsErrAnd result (λ x. x ≡ stop_of fault)
     → IfSome initial (λ octets. ScriptEnds serve_on result (lines_of octets) a b)
 around_ends None serve_on result fault a b is = tt
@@ -362,7 +362,7 @@ end_stops (Some octets) now new held holds n came serve_on result stop a b c d c
 
 -- ---- Reads.
 
--- a read that was interrupted took nothing
+-- an interrupted read returned no octets
 pub reads_nothing : (before after : Option (List ℕ)) (held : List ℕ) → Keeps before after → ReadsPart true before after held held
 reads_nothing before after held keeps = ([], Consumes-kept before before after [] (Consumes-nil before) keeps, sym (append-nil held))
 
@@ -370,7 +370,7 @@ pub reads_none : (before after : Option (List ℕ)) (part held : List ℕ) → C
 reads_none before after [] held consumes none end = (consumes, end, refl)
 reads_none before after (o ∷ part) held consumes none end = absurd (omega arith)
 
--- ---- What becomes of a line.
+-- ---- The outcome of a line.
 
 pub obeyed_as : (why : Obeyed) (octets : List ℕ) (lines : Lines) (own : ℕ) (asked : LiveLine) (a mid b : LiveState) → HasOwnTei a.side own
     → live_wish_of_line (side_of a.side) own octets ≡ Some (live_wish_of asked) → RequestEnds why asked lines a mid → HappenBeside [] mid b → ObeysAs why octets lines a b
@@ -378,7 +378,7 @@ obeyed_as obeyed.Done octets lines own asked a mid b own_is is ends beside = rec
 obeyed_as obeyed.Unmet octets lines own asked a mid b own_is is ends beside = record { own = own; own_is = own_is; asked = asked; is = is; missed_at = mid; misses = ends; beside = beside }
 obeyed_as obeyed.Bad octets lines own asked a mid b own_is is ends beside = absurd ends
 
--- the first line that has ended, as it is held
+-- the first complete line of the held octets
 pub first_held : {V : Type 0} (items : V → List ℕ) (found : Option V) (line : V) (octets before after : List ℕ) → found ≡ Some line → octets ≡ items line
     → IsFirstLine before (option_map items found) after → IsFirstLine before (Some octets) after
 first_held items found line octets before after is says first =
@@ -525,7 +525,7 @@ session_last_quits tidy serve_on goes_on (Some octets) now new held holds came a
     let w = at_end AwaitsQuietly quiet_can (TypesOn tidy) octets held holds now new comes.0 a b (after_wait live b) comes.1 (awaits_one came b.live live awaits, refl) reads in
     inr (inl (last_quits tidy octets holds comes.0 a (after_wait live b) d w.1 w.0 (subst (λ (x : Bool). TypesLast tidy holds x (after_wait live b) d) is types)))
 
--- an error says nothing of a session
+-- an error implies nothing about a session
 pub err_says_nothing : {E : Type 0} (initial : Option (List ℕ)) (result : Result ⊤ E) (fault : E) (P : List ℕ → Type 0) → IsErrAnd result (λ x. x ≡ fault)
     → IfSome initial (λ octets. OnOk result (P octets))
 err_says_nothing None result fault P is = tt

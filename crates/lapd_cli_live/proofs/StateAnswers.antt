@@ -1,4 +1,4 @@
--- What a side prints when it is asked, put together.
+-- The lines of `state` and `stats`, put together.
 use Rattle.std.proofs.Common.{◌≡◌, ℕ, ◌+◌, ◌<◌, List, [], ◌∷◌, ◌++◌, get_or, length, take, Option, refl, sym, ap, subst, ◌∙◌}
 use Rattle.std.proofs.lemmas.List.{take_more}
 use Rattle.std.specs.Prelude.{Bool, true, false, ◌==◌, codes, map, Some}
@@ -61,7 +61,7 @@ management_printed timers t now (first ∷ words) a b is are some prints =
     subst (λ (x : Option Timers). HappenBeside (management_events x now) a b) (sym is)
     (subst (λ (x : List ℕ). HappenBeside (line_unless_empty x) a b) are prints)
 
--- no line was found, and that is printed
+-- no line was found, and this is printed
 pub misses_line : (words : List ℕ) (ms : ℕ) (lines : Lines) (found : Bool) (a m b : LiveState) → found ≡ false → Expects words ms lines found a m
     → HappenBeside (Shows (Named (codes "expected") (shown_words words)) ∷ []) m b → MissesLine words ms lines a b
 misses_line words ms lines found a m b none expects prints = record {

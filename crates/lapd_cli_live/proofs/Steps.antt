@@ -1,4 +1,4 @@
--- What a side does while it is served, put together.
+-- The steps of a running side, put together.
 use Rattle.std.proofs.Common.{◌≡◌, ℕ, ◌+◌, ◌<◌, ◌≤◌, List, [], ◌∷◌, ◌++◌, length, Option, None, Some, Result, Ok, Err, OnOk, refl, sym, ap, subst, ◌∙◌, append_assoc, append-nil, inl, inr, arith}
 use Rattle.std.specs.Prelude.{Bool, true, false, is_some, IfOk, OnErr, ⊤}
 use Rattle.std.proofs.lemmas.List.{length-append}
@@ -30,7 +30,7 @@ true_is_not_false is = cc
 
 -- ---- One event.
 
--- something is done around the side
+-- a call to the surroundings
 pub deed_happens : (a : LiveState) (deeds : Option (List Deed)) (deed : Deed) → Adds a.deeds deeds (deed ∷ []) → Happen (Around deed ∷ []) a (record a { deeds = deeds })
 deed_happens a deeds deed adds = record { own = refl; style = refl; deeds = adds; shown = prints_none a.style (side_of a.side) a.shown }
 
@@ -45,7 +45,7 @@ entry_happens contents old new own a b p q entry is same stays prints = record {
   shown = subst (λ (x : Side). Prints p.style x (entry ∷ []) (shown contents p) (shown contents q)) same prints.prints;
 }
 
--- ---- What has arrived.
+-- ---- Receiving.
 
 pub taken_at : {W : Type 0} (contents : W → Option (List ℕ)) (frame : List ℕ) (now : ℕ) (old new : EitherSide) (own : Side) (a b : Option (List Deed)) (p q : Printer W)
     (acts : Effects) (c : LiveState) → own ≡ side_of old → PrintsOn contents own (Received frame ∷ []) p q → Takes frame now (Ok tt) old new acts
@@ -78,7 +78,7 @@ looked frame now a m b deeds reads adds takes =
       happen = subst (λ (x : ℕ). Happen (read_at x ++ (Around (Comes frame) ∷ Shows (Received frame) ∷ takes.given)) a b) is all;
     }
 
--- so many frames are taken, and the service goes on
+-- this many frames are processed, and the service continues
 pub record SomeTaken (until : Until) (count : ℕ) (a b : LiveState) : Type 0 where
   pub taken : List LiveState
   pub are : Chain (TakesAndGoesOn until) taken a b
@@ -131,7 +131,7 @@ pub received_end : (came : Option Came) (a b : LiveState) → HasReceived until.
 received_end None a b receives = receives
 received_end (Some why) a b ends = let never : None ≡ Some why = ends.ends in cc
 
--- ---- What is due.
+-- ---- Expiring.
 
 carries_more : (calls : List Effects) (acts : Effects) (first last : List LiveEvent) → CarriesOutAll calls first → CarriesOut acts last
     → CarriesOutAll (calls ++ acts ∷ []) (first ++ last)
@@ -145,7 +145,7 @@ carries_more (call ∷ calls) acts first last all one = (
   ap (λ (events : List LiveEvent). events ++ last) all.4 ∙ append_assoc all.0 all.1 last,
 )
 
--- each of some timers was due in turn, and what this gave is carried out
+-- each of some timers was due in turn, and the output is carried out
 pub record SomeDue (now : ℕ) (a b : LiveState) : Type 0 where
   pub calls : List Effects
   pub are : AreExpired now calls a.side b.side
@@ -218,7 +218,7 @@ beside_printed contents side deeds p q entry prints stays = record {
 
 -- ---- Steps.
 
--- what was printed is given to the writer, and then the side waits
+-- the printed text is passed to the writer, and then the side waits
 pub flushed_and_waited : {W : Type 0} (contents : W → Option (List ℕ)) (side : EitherSide) (a b : Option (List Deed)) (p q : Printer W) (until : Option ℕ) (woken : Woken)
     → PrintsOn contents (side_of side) [] p q → Adds a b (Waits until woken ∷ [])
     → HappenBeside (Around (Waits until woken) ∷ []) (live side a contents p) (live side b contents q)
@@ -288,7 +288,7 @@ pub on_err : {A E : Type 0} (r : Result A E) (P : Type 0) → P → OnErr r P
 on_err (Ok done) P holds = tt
 on_err (Err fault) P holds = holds
 
--- what was printed is given to the writer
+-- the printed text is passed to the writer
 pub flushed : {W : Type 0} (contents : W → Option (List ℕ)) (side : EitherSide) (deeds : Option (List Deed)) (p q : Printer W)
     → PrintsOn contents (side_of side) [] p q → HappenBeside [] (live side deeds contents p) (live side deeds contents q)
 flushed contents side deeds p q prints = record {

@@ -1,4 +1,4 @@
--- What lines of input do, put together.
+-- The effect of lines that wait, put together.
 use Rattle.std.proofs.Common.{◌≡◌, ◌⊎◌, ℕ, List, [], Option, refl, sym, ap, subst, inl, inr, ◌∙◌}
 use Rattle.std.specs.Prelude.{Bool, false}
 use Rattle.std.specs.Io.KnownBytes.{append_known}
@@ -14,7 +14,7 @@ use Rattle.lapd_cli_live.specs.WaitingLines.{awaiting, read_events}
 use Rattle.lapd_cli_live.proofs.Log.{live}
 use Rattle.lapd_cli_live.proofs.Steps.{beside_none}
 
--- what a printer shows that awaits a line
+-- the state of a printer that awaits a line
 shown_awaiting : {W : Type 0} (contents : W → Option (List ℕ)) (words : List ℕ) (p q : Printer W) → Awaits words p q
     → shown contents q ≡ record (shown contents p) { awaited = words; found = false }
 shown_awaiting {W = W} contents words p q awaits =
@@ -32,7 +32,7 @@ is_awaiting contents side deeds words p q awaits =
     ap (λ style. record { side = side; style = style; deeds = deeds; shown = shown contents q }) awaits.style
     ∙ ap (λ (x : Shown). record { side = side; style = p.style; deeds = deeds; shown = x }) (shown_awaiting contents words p q awaits)
 
--- nothing is printed by `read` if a frame was taken
+-- `read` prints nothing if a frame was received
 pub read_nothing : (why : Came) (a : LiveState) → (why ≡ came.Frame) ⊎ ((why ≡ came.Found) ⊎ (why ≡ came.Line)) → HappenBeside (read_events why) a a
 read_nothing why a (inl is) = subst (λ (x : Came). HappenBeside (read_events x) a a) (sym is) (beside_none a)
 read_nothing why a (inr (inl is)) = subst (λ (x : Came). HappenBeside (read_events x) a a) (sym is) (beside_none a)

@@ -1,4 +1,4 @@
--- What a side prints and counts while it is served, entry by entry.
+-- The entries that a running side prints and counts.
 use Rattle.std.specs.Prelude.{◌≡◌, ℕ, ◌-◌, ◌&&◌, ◌||◌, ◌==◌, not, nat_eq, if◌then◌else◌, Bool, true, false, List, [], ◌∷◌, ◌++◌, length, take, fold, codes, Option}
 use Rattle.std.specs.List.{list_any, starts_with}
 use Rattle.std.specs.Fmt.{decimal}
@@ -21,8 +21,8 @@ use Rattle.lapd_cli_outside.specs.declared.outside.Sending.{Sending}
 use Rattle.lapd_cli_outside.specs.declared.outside.Sending.TheVariants as sending
 use Rattle.lapd_cli_live.specs.declared.style.Style.{Style}
 
--- Lines are of a moment from here on. A frame is received, sent, or lost on purpose. Layer 3 is told something. A line consists of
--- a name and a text, or of words and numbers.
+-- Lines have this moment from here on. A frame is received, sent, or lost on purpose. A primitive is
+-- passed to layer 3. A line consists of a name and a text, or of words and numbers.
 pub data Entry : Type 0 where
   Dated : (now : ℕ) → Entry
   Received : (frame : List ℕ) → Entry
@@ -37,7 +37,7 @@ abbrev pub sent_entry : List ℕ → Sending → Entry
 sent_entry frame sending.Sent = Sent frame
 sent_entry frame sending.Lost = Lost frame
 
--- a frame that was given to the line, and what became of it
+-- a frame that was passed to the line, and its fate
 pub record Outgoing : Type 0 where
   pub octets : List ℕ
   pub sending : Sending
@@ -74,7 +74,7 @@ object_of own (Told primitive) = object_text (primitive_members primitive)
 object_of own (Named name text) = object_text (text_members name text)
 object_of own (Worded words) = words_object words
 
--- the line of a frame, which is left out if lines of frames are not wanted
+-- the line of a frame, which a quiet style leaves out
 abbrev pub is_of_frame : Entry → Bool
 is_of_frame (Received frame) = true
 is_of_frame (Sent frame) = true
@@ -88,7 +88,7 @@ abbrev pub line_of : Style → Side → Entry → List ℕ
 line_of style own entry =
     if is_of_frame entry then unless_quiet style (words_line own entry) else words_line own entry
 
--- ---- What is printed.
+-- ---- Printing.
 
 -- the moment before a line, and a space
 abbrev pub moment_text : Style → ℕ → List ℕ
@@ -128,7 +128,7 @@ entries_text style own now [] = []
 entries_text style own now (entry ∷ entries) =
     entry_text style own now entry ++ entries_text style own (moment_after now entry) entries
 
--- ---- What is counted, and what is awaited.
+-- ---- Counting, and awaited lines.
 
 abbrev pub counted : Side → Stats → Entry → Stats
 counted own stats (Received frame) = received_counted stats (other_side own) frame
@@ -137,7 +137,7 @@ counted own stats (Lost frame) = sent_counted stats own frame
 counted own stats (Told primitive) = told_counted stats primitive
 counted own stats entry = stats
 
--- a line begins with the words that are awaited; no words are awaited if there are none
+-- a line begins with the awaited words; if there are no words, no line is awaited
 abbrev pub begins_so : List ℕ → List ℕ → Bool
 begins_so awaited line = not (length awaited == 0) && starts_with nat_eq line awaited
 
@@ -146,8 +146,8 @@ is_awaited style own awaited entry = begins_so awaited (line_of style own entry)
 
 -- ---- A printer.
 
--- what a printer has printed, where that is known; the moment of its lines; what was counted; the words that are awaited, and
--- whether a line was printed that begins so
+-- the printed text, if it is known; the moment of the lines; the counts; the awaited words, and
+-- whether a line that begins with them was printed
 pub record Shown : Type 0 where
   pub text : Option (List ℕ)
   pub now : ℕ
@@ -165,7 +165,7 @@ pub record Prints (style : Style) (own : Side) (entries : List Entry) (old new :
     pub found : new.found
         ≡ (old.found || list_any (is_awaited style own old.awaited) entries)
 
--- the three lines of statistics, of which the other side's discarded frames are a part
+-- the three lines of statistics, including the number of discarded frames
 abbrev pub stats_entries : Stats → ℕ → List Entry
 stats_entries stats discarded = Worded (sent_words stats) ∷ Worded (received_words stats discarded)
     ∷ Worded (reports_words stats) ∷ []

@@ -1,4 +1,4 @@
--- What a line of a side does that is served with the real clock, if it ends well.
+-- The effect of a line of a side on the real clock, if it ends well.
 use Rattle.std.specs.Prelude.{◌≡◌, ◌⊎◌, ℕ, Bool, true, false, List, [], ◌∷◌, codes, Option, None, Some, unwrap_or}
 use Rattle.lapd_cli_live_text.specs.declared.words.LiveLine.{LiveLine}
 use Rattle.lapd_cli_live_text.specs.declared.words.LiveLine.TheVariants as line
@@ -16,8 +16,8 @@ use Rattle.lapd_cli_live.specs.Steps.{IsAsked}
 use Rattle.lapd_cli_live.specs.StateLines.{StatesAll, StatesCounts, StatesLink}
 use Rattle.lapd_cli_live.specs.WaitingLines.{Expects, Reads, Runs}
 
--- `expect`: a line was printed that begins with the words, while the line of input was awaited or
--- while the side was served since
+-- `expect`: a line that begins with the words was printed, while the line of input was awaited or
+-- while the side ran since
 abbrev pub FindsLine : List ℕ → ℕ → Lines → LiveState → LiveState → Type 0
 FindsLine words ms lines a b = HappenBeside [] a b ⊎ Expects words ms lines true a b
 

@@ -1,4 +1,5 @@
--- What happens at a side while it is served, in order: what is done around it, and what it prints and counts.
+-- The events at a running side, in order: its calls to the surroundings, and the entries that it
+-- prints and counts.
 use Rattle.std.specs.Prelude.{◌≡◌, ℕ, ◌≤◌, Bool, List, [], ◌∷◌, ◌++◌, map, flat_map, Option}
 use Rattle.lapd_sides_links.specs.declared.primitive.Primitive.{Primitive}
 use Rattle.lapd_sides_links.specs.Effects.{Effects}
@@ -10,12 +11,12 @@ use Rattle.lapd_cli_outside.specs.Deeds.{Adds, Comes, Deed, FindsNone, Reads, Se
 use Rattle.lapd_cli_live.specs.Entries.{Dated, Entry, Outgoing, Prints, Received, Shown, Told, octets_of, outgoing_entry}
 use Rattle.lapd_cli_live.specs.Printers.{shown}
 
--- something is done around the side, or an entry is printed and counted
+-- a call to the surroundings, or an entry that is printed and counted
 pub data LiveEvent : Type 0 where
   Around : (deed : Deed) → LiveEvent
   Shows : (entry : Entry) → LiveEvent
 
--- the deeds of some events, and the entries
+-- the calls among some events, and the entries
 abbrev pub deeds_in : List LiveEvent → List Deed
 deeds_in [] = []
 deeds_in (Around deed ∷ events) = deed ∷ deeds_in events
@@ -26,8 +27,8 @@ entries_in [] = []
 entries_in (Around deed ∷ events) = entries_in events
 entries_in (Shows entry ∷ events) = entry ∷ entries_in events
 
--- A side that is served: how it prints, what is known of what was done around it, and what it has printed and counted. Its lines
--- are of the moment at which the clock was read last.
+-- A running side: its style, its calls to the surroundings, if they are recorded, and what it has
+-- printed and counted. Its lines have the moment at which the clock was last read.
 pub record LiveState : Type 0 where
   pub side : EitherSide
   pub style : Style
@@ -49,7 +50,7 @@ moment_of s = s.shown.now
 abbrev pub is_found : LiveState → Bool
 is_found s = s.shown.found
 
--- this holds of a live side before and after a call
+-- this holds for a live side before and after a call
 abbrev pub Between : {O W : Type 0} → (O → Option (List Deed)) → (W → Option (List ℕ))
     → LiveSide O W → LiveSide O W → (LiveState → LiveState → Type 0) → Type 0
 Between deeds contents old new R = R (state_of deeds contents old) (state_of deeds contents new)
@@ -61,7 +62,7 @@ pub record Happen (events : List LiveEvent) (a b : LiveState) : Type 0 where
   pub deeds : Adds a.deeds b.deeds (deeds_in events)
   pub shown : Prints a.style (side_of a.side) (entries_in events) a.shown b.shown
 
--- they happen, and the side and the moment of its lines stay
+-- they happen, and the side and the moment of its lines are unchanged
 pub record HappenBeside (events : List LiveEvent) (a b : LiveState) : Type 0 where
   pub side : b.side ≡ a.side
   pub moment : moment_of b ≡ moment_of a
@@ -69,7 +70,7 @@ pub record HappenBeside (events : List LiveEvent) (a b : LiveState) : Type 0 whe
 
 -- ---- The clock.
 
--- the clock is read: it did not go back, and lines are of this moment from here on
+-- the clock is read: it has not gone back, and lines have this moment from here on
 abbrev pub read_at : ℕ → List LiveEvent
 read_at now = Around (Reads now) ∷ Shows (Dated now) ∷ []
 
@@ -79,7 +80,7 @@ pub record ReadsClock (now : ℕ) (a b : LiveState) : Type 0 where
   pub rises : moment_of a ≤ now
   pub happen : Happen (read_at now) a b
 
--- ---- What a call of the side gives.
+-- ---- The output of a call of the side.
 
 -- it is sent, and then printed and counted
 abbrev pub sending_events : Outgoing → List LiveEvent
@@ -89,7 +90,7 @@ sending_events outgoing =
 abbrev pub told_event : Primitive → LiveEvent
 told_event primitive = Shows (Told primitive)
 
--- each frame that a call gave is sent and printed, in order, and then what layer 3 is told is printed
+-- each frame of a call's output is sent and printed, in order, and then its primitives are printed
 pub record CarriesOut (acts : Effects) (events : List LiveEvent) : Type 0 where
   pub outgoing : List Outgoing
   pub frames : map octets_of outgoing ≡ acts.frames
@@ -102,7 +103,7 @@ CarriesOutAll [] events = events ≡ []
 CarriesOutAll (acts ∷ calls) events = (first : List LiveEvent) × (rest : List LiveEvent)
     × CarriesOut acts first × CarriesOutAll calls rest × (events ≡ first ++ rest)
 
--- what a call gave is carried out, and nothing else happens
+-- the output of a call is carried out, and nothing else happens
 pub record IsCarriedOut (acts : Effects) (a b : LiveState) : Type 0 where
   pub events : List LiveEvent
   pub carries : CarriesOut acts events

@@ -1,4 +1,4 @@
--- What a printer shows.
+-- The state of a printer.
 use Rattle.std.specs.Prelude.{◌≡◌, ℕ, ◌||◌, false, List, ◌++◌, map, Option}
 use Rattle.std.specs.Io.KnownBytes.{append_known}
 use Rattle.lapd_frame.specs.declared.Side.{Side}
@@ -6,7 +6,7 @@ use Rattle.lapd_cli_live.specs.declared.printer.Printer.{Printer}
 use Rattle.lapd_cli_outside.specs.Deeds.{Adds, Deed, all_sent}
 use Rattle.lapd_cli_live.specs.Entries.{Entry, Outgoing, Prints, Shown, begins_so, octets_of, outgoing_entry, printed_line}
 
--- what was printed is what the writer has taken, and the text that it is still to be given
+-- the printed text is what the writer has, followed by the text that is not written yet
 abbrev pub shown : {W : Type 0} → (W → Option (List ℕ)) → Printer W → Shown
 shown contents printer = record {
   text = append_known (contents printer.out) printer.text.items;
@@ -22,7 +22,7 @@ pub record PrintsOn {W : Type 0} (contents : W → Option (List ℕ)) (own : Sid
   pub style : new.style ≡ old.style
   pub prints : Prints old.style own entries (shown contents old) (shown contents new)
 
--- the line that stands in the room for it is printed, or its object, and nothing else changes
+-- the line in the printer's buffer is printed, or its object, and nothing else changes
 pub record PutsLine {W : Type 0} (line object : List ℕ) (old new : Printer W) : Type 0 where
   pub out : new.out ≡ old.out
   pub style : new.style ≡ old.style
@@ -33,7 +33,7 @@ pub record PutsLine {W : Type 0} (line object : List ℕ) (old new : Printer W) 
       ≡ old.text.items ++ printed_line old.style old.moment line object
   pub found : new.is_found ≡ (old.is_found || begins_so old.awaited.items line)
 
--- from here on a line is awaited that begins with these words, and none was printed since
+-- from here on a line that begins with these words is awaited, and none was printed since
 pub record Awaits {W : Type 0} (words : List ℕ) (old new : Printer W) : Type 0 where
   pub out : new.out ≡ old.out
   pub style : new.style ≡ old.style

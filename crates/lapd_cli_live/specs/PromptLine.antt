@@ -1,4 +1,4 @@
--- A line that hands over what has arrived, and what a step knows when its timers expire.
+-- A line that passes on what has arrived, and what is known in a step when its timers expire.
 use Rattle.std.specs.Prelude.{◌≡◌, ◌⊎◌, ℕ, nat_le, List, [], ◌∷◌, ◌++◌, filter, map, Option, Some}
 use Rattle.lapd_cli_live.specs.declared.service.Until.{Until}
 use Rattle.lapd_cli_outside.specs.Deeds.{Comes, Deed, FindsNone, Reads, Sends, Waits}
@@ -14,7 +14,7 @@ pub record Arrival : Type 0 where
 abbrev pub arrived_by : ℕ → List Arrival → List (List ℕ)
 arrived_by now arrivals = map (λ a. a.frame) (filter (λ a. nat_le a.moment now) arrivals)
 
--- the frames that some deeds received, in order
+-- the frames that some calls received, in order
 abbrev pub frames_received : List Deed → List (List ℕ)
 frames_received [] = []
 frames_received (Comes frame ∷ deeds) = frame ∷ frames_received deeds
@@ -23,8 +23,8 @@ frames_received (FindsNone ∷ deeds) = frames_received deeds
 frames_received (Waits until woken ∷ deeds) = frames_received deeds
 frames_received (Sends frame ∷ deeds) = frames_received deeds
 
--- A frame that arrived before a look is handed over by it: if a look finds none after the clock was read, then everything that had
--- arrived by that moment was received.
+-- A look at the line returns a frame that arrived before it: if the clock was read and then a look
+-- finds no frame, every frame that had arrived by that moment was received.
 abbrev pub IsPrompt : List Arrival → List Deed → Type 0
 IsPrompt arrivals deeds = (before rest : List Deed) (now : ℕ)
     → deeds ≡ before ++ (Reads now ∷ FindsNone ∷ rest)
@@ -36,8 +36,9 @@ pub record HasAllThatArrived (arrivals : List Arrival) (s : LiveState) : Type 0 
   pub are : s.deeds ≡ Some deeds
   pub received : frames_received deeds ≡ arrived_by (moment_of s) arrivals
 
--- A side that catches up expires timers for a moment only when every frame that had arrived by that moment was received, and so
--- also the answer that a timer waits for; or when as many frames came at once as a step receives.
+-- A side that catches up expires timers for a moment only after every frame that had arrived by that
+-- moment was received, and so also the response that a timer waits for; or if as many frames arrived
+-- at once as a step receives.
 pub record ExpiresInTime (arrivals : List Arrival) (until : Until) (a b : LiveState) : Type 0 where
   pub received : LiveState
   pub receives : Receives until a received

@@ -1,4 +1,4 @@
--- What a side prints of its links, its timers and its statistics when it is asked.
+-- The lines of `state` and `stats`: links, timers and statistics of a side.
 use Rattle.std.specs.Prelude.{◌≡◌, ◌⊎◌, ◌↔◌, ℕ, Bool, true, false, List, [], ◌∷◌, map, Contains, Option, None, Some, IsSome}
 use Rattle.lapd_link.specs.declared.link.Link.{Link}
 use Rattle.lapd_table.specs.declared.link_id.LinkId.{LinkId}
@@ -15,7 +15,7 @@ use Rattle.lapd_cli_live.specs.Entries.{Entry, Worded, refused, stats_entries}
 use Rattle.lapd_cli_live.specs.Log.{HappenBeside, LiveEvent, LiveState, Shows, moment_of}
 use Rattle.lapd_cli_live.specs.Steps.{CatchesUp}
 
--- these words tell the state of a link of the side, as it is at the side's moment
+-- these words are the state of a link of the side, at the side's moment
 pub record TellsLink (id : LinkId) (s : LiveState) (words : List ℕ) : Type 0 where
   pub table : LinkTable
   pub has : HasTable s.side table
@@ -37,7 +37,7 @@ pub record PutsLink (id : LinkId) (a b : LiveState) : Type 0 where
   pub tells : TellsLink id a words
   pub prints : HappenBeside (Shows (Worded words) ∷ []) a b
 
--- or nothing is, since the side does not have it
+-- or nothing is printed, since the side does not have it
 pub record PutsNoLink (id : LinkId) (a b : LiveState) : Type 0 where
   pub lacks : LacksLink id a
   pub same : b ≡ a

@@ -1,5 +1,5 @@
--- What a side does while it is served, step by step. A step receives every frame that had arrived, then expires every timer that
--- is due, and then waits once, until the next deadline.
+-- A running side, step by step. A step receives every frame that had arrived, then expires every
+-- timer that is due, and then waits once, until the next deadline.
 use Rattle.std.specs.Prelude.{◌≡◌, ◌⊎◌, ℕ, ◌+◌, ◌-◌, ◌^◌, ◌<◌, ◌≤◌, Bool, true, false, List, [], ◌∷◌, ◌++◌, length, min, Option, None, Some, Result, Ok, Err, ⊤}
 use Rattle.lapd_sides_links.specs.Effects.{Effects}
 use Rattle.lapd_sides_links.specs.declared.side_fault.SideFault.{SideFault}
@@ -21,7 +21,7 @@ use Rattle.lapd_cli_live.specs.Log.{Around, CarriesOut, CarriesOutAll, Chain, Ha
 
 -- ---- What ends a service.
 
--- a frame that was taken ends it, or a line that was printed, if that is what the service lasts for
+-- a received frame ends it, or a printed line, if the service lasts until then
 abbrev pub ended_by : Until → Bool → Bool → Option Came
 ended_by until.End taken found = None
 ended_by until.Frame true found = Some came.Frame
@@ -29,7 +29,7 @@ ended_by until.Frame false found = None
 ended_by until.Found taken true = Some came.Found
 ended_by until.Found taken false = None
 
--- what ended a wait ends the service, or it does not
+-- the end of a wait ends the service, or it does not
 abbrev pub came_of : Lines → Woken → Option Came
 came_of lines woken.Arrival = None
 came_of lines woken.Due = None
@@ -37,21 +37,21 @@ came_of lines woken.Closed = Some came.Closed
 came_of Awaited woken.Line = Some came.Line
 came_of Ignored woken.Line = None
 
--- an end that is set has come
+-- there is an end, and it is reached
 abbrev pub HasCome : Option ℕ → ℕ → Type 0
 HasCome None now = ⊥
 HasCome (Some end) now = end ≤ now
 
--- the sooner of two moments that may be set
+-- the earlier of two optional moments
 abbrev pub sooner : Option ℕ → Option ℕ → Option ℕ
 sooner None other = other
 sooner (Some one) None = Some one
 sooner (Some one) (Some other) = Some (min one other)
 
--- ---- What has arrived.
+-- ---- Receiving.
 
--- a frame had arrived by the moment at which the line is looked at: it is received and taken, once, and what this gives is carried
--- out
+-- a frame had arrived by the moment at which the side looks at the line: the side receives and
+-- processes it, once, and carries out the output
 pub record TakesFrame (a b : LiveState) : Type 0 where
   pub frame : List ℕ
   pub acts : Effects
@@ -68,16 +68,16 @@ pub record LooksInVain (a b : LiveState) : Type 0 where
   pub rises : moment_of a ≤ moment_of b
   pub happen : Happen (read_at (moment_of b) ++ (Around FindsNone ∷ [])) a b
 
--- a frame is taken, and it does not end the service
+-- a frame is processed, and it does not end the service
 pub record TakesAndGoesOn (until : Until) (a b : LiveState) : Type 0 where
   pub takes : TakesFrame a b
   pub going : ended_by until true (is_found b) ≡ None
 
--- the most frames that a step receives, so that timers run however many frames arrive
+-- the most frames of a step, so that timers expire however many frames arrive
 abbrev pub most_frames : ℕ
 most_frames = 4096
 
--- every frame is taken that had arrived by a moment
+-- every frame that had arrived by a moment is processed
 pub record TakesAll (until : Until) (a b : LiveState) : Type 0 where
   pub taken : List LiveState
   pub within : length taken < most_frames
@@ -102,7 +102,7 @@ pub record EndsByFrame (until : Until) (why : Came) (a b : LiveState) : Type 0 w
   pub takes : TakesFrame last b
   pub ends : ended_by until true (is_found b) ≡ Some why
 
--- a frame is taken at this moment
+-- a frame is processed at this moment
 pub record TakesAt (frame : List ℕ) (now : ℕ) (a b : LiveState) : Type 0 where
   pub acts : Effects
   pub takes : Takes frame now (Ok tt) a.side b.side acts
@@ -111,19 +111,19 @@ pub record TakesAt (frame : List ℕ) (now : ℕ) (a b : LiveState) : Type 0 whe
   pub moment : moment_of b ≡ moment_of a
   pub happen : Happen (Shows (Received frame) ∷ given) a b
 
--- the line is looked at once: a frame had arrived and is taken, or none had arrived
+-- the side looks at the line once: a frame had arrived and is processed, or none had arrived
 abbrev pub Looks : Bool → LiveState → LiveState → Type 0
 Looks true a b = TakesFrame a b
 Looks false a b = LooksInVain a b
 
--- what has arrived is received, or a frame ends the service
+-- all frames that had arrived are received, or a frame ends the service
 abbrev pub HasReceived : Until → Option Came → LiveState → LiveState → Type 0
 HasReceived until None a b = Receives until a b
 HasReceived until (Some why) a b = EndsByFrame until why a b
 
--- ---- What is due.
+-- ---- Expiring.
 
--- all that is due at the moment expires in turn, until nothing is due, and what this gives is carried out
+-- all timers that are due at the moment expire in turn, and the output is carried out
 pub record DoesDue (a b : LiveState) : Type 0 where
   pub calls : List Effects
   pub in_turn : ExpireInTurn (moment_of a) calls a.side b.side
@@ -132,7 +132,7 @@ pub record DoesDue (a b : LiveState) : Type 0 where
   pub moment : moment_of b ≡ moment_of a
   pub happen : Happen events a b
 
--- The side has caught up with the clock: what had arrived is taken first, and then what is due is done.
+-- The side catches up with the clock: it receives what had arrived, and then expires what is due.
 pub record CatchesUp (until : Until) (a b : LiveState) : Type 0 where
   pub received : LiveState
   pub receives : Receives until a received
@@ -147,14 +147,14 @@ pub record IsFound (service : Service) (a b : LiveState) (outcome : Option Came)
   pub is : outcome ≡ Some why
   pub same : b ≡ a
 
--- or its end has come
+-- or its end is reached
 pub record IsOver (service : Service) (a b : LiveState) (outcome : Option Came) : Type 0 where
   pub going : ended_by service.until false (is_found a) ≡ None
   pub come : HasCome service.end (moment_of a)
   pub is : outcome ≡ Some came.End
   pub same : b ≡ a
 
--- one wait: until the next moment at which something is due, or until the end, whichever comes first; then the clock is read
+-- one wait: until the next deadline or until the end, whichever is first; then the clock is read
 pub record WaitsFor (service : Service) (outcome : Option Came) (a b : LiveState) : Type 0 where
   pub deadline : Option ℕ
   pub is_next : HasNextDeadline a.side deadline
@@ -178,7 +178,7 @@ pub record WholeStep (service : Service) (a b : LiveState) (outcome : Option Cam
   pub then : IsFound service ready b outcome ⊎ IsOver service ready b outcome
       ⊎ WaitsOnce service ready b outcome
 
--- A step of a service, which goes on where the outcome is none.
+-- A step of a service. The service continues if the outcome is `None`.
 pub record CutStep (service : Service) (a b : LiveState) (outcome : Option Came) : Type 0 where
   pub why : Came
   pub ends : EndsByFrame service.until why a b
@@ -187,11 +187,12 @@ pub record CutStep (service : Service) (a b : LiveState) (outcome : Option Came)
 abbrev pub Step : Service → LiveState → LiveState → Option Came → Type 0
 Step service a b outcome = CutStep service a b outcome ⊎ WholeStep service a b outcome
 
--- a step with which the service goes on
+-- a step after which the service continues
 abbrev pub GoesOn : Service → LiveState → LiveState → Type 0
 GoesOn service a b = Step service a b None
 
--- A side is served: step after step, at least one, until one of them ends the service, for exactly this reason.
+-- A side runs: step after step, at least one, until one of them ends the service, for exactly this
+-- reason.
 pub record IsServed (service : Service) (came : Came) (a b : LiveState) : Type 0 where
   pub passed : List LiveState
   pub last : LiveState
@@ -200,12 +201,12 @@ pub record IsServed (service : Service) (came : Came) (a b : LiveState) : Type 0
 
 -- ---- Requests.
 
--- that a request is refused is printed, with the reason
+-- the refusal of a request is printed, with the reason
 abbrev pub refusal_events : Result ⊤ SideFault → List LiveEvent
 refusal_events (Ok done) = []
 refusal_events (Err fault) = Shows (refused fault.kind) ∷ []
 
--- The side catches up with the clock, and is then asked for something. What this gives is carried out.
+-- The side catches up with the clock, and then executes a request. The output is carried out.
 pub record IsAsked (request : Request) (a b : LiveState) : Type 0 where
   pub ready : LiveState
   pub catches_up : CatchesUp until.End a ready
@@ -219,7 +220,7 @@ pub record IsAsked (request : Request) (a b : LiveState) : Type 0 where
 
 -- ---- Spans.
 
--- the moment so many milliseconds from the one that the clock shows
+-- the moment this many milliseconds after the one of the clock
 abbrev pub end_after : ℕ → Option ℕ → Option ℕ
 end_after now None = None
 end_after now (Some ms) = Some (min (now + ms) (2 ^ 64 - 1))

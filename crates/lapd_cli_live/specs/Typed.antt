@@ -1,4 +1,4 @@
--- What is typed, line by line, and what is done with a line.
+-- Typed lines, and how each is handled.
 use Rattle.std.specs.Prelude.{◌≡◌, ℕ, List, ◌∷◌, ◌++◌, ◌||◌, if◌then◌else◌, codes, Option, None, Some}
 use Rattle.std.specs.Str.{bytes_eq}
 use Rattle.lapd_cli_script.specs.WalkState.{HasNoFeed}
@@ -6,12 +6,14 @@ use Rattle.lapd_cli_script.specs.Script.{is_passed_over}
 use Rattle.lapd_cli_live.specs.declared.input.TypedDeed.{TypedDeed}
 use Rattle.lapd_cli_live.specs.declared.input.TypedDeed.TheVariants.{Pass, Help, Quit, Obey}
 
--- the first line that has ended is taken off with its line feed, and nothing else is; or none has ended, and nothing is
+-- the first complete line is removed with its line feed, and nothing else; or no line is complete,
+-- and nothing is removed
 abbrev pub IsFirstLine : List ℕ → Option (List ℕ) → List ℕ → Type 0
 IsFirstLine before None after = HasNoFeed before × (after ≡ before)
 IsFirstLine before (Some line) after = HasNoFeed line × (before ≡ line ++ 10 ∷ after)
 
--- A line is obeyed, as the line of a script is, unless it is passed over, asks for help or ends the session.
+-- A line is executed like a line of a script, unless it is skipped, lists the lines or ends the
+-- session.
 abbrev pub deed_of : List ℕ → TypedDeed
 deed_of line = if is_passed_over line then Pass else (
     if bytes_eq line (codes "help") then Help else (

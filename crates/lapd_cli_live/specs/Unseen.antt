@@ -1,4 +1,4 @@
--- Lines that were printed while a line of input was awaited, for an `expect` to come.
+-- Lines that were printed while a line of input was awaited, for a later `expect`.
 use Rattle.std.specs.Prelude.{ℕ, Bool, nat_le, nat_eq, if◌then◌else◌, List, [], ◌∷◌, ◌++◌, length, map}
 use Rattle.std.specs.List.{list_any, starts_with}
 use Rattle.std.specs.declared.alloc.Global.{Global}
@@ -13,8 +13,8 @@ line_octets lines = map (λ line. line.items) lines
 abbrev pub kept_lines : Unseen → List (List ℕ)
 kept_lines unseen = line_octets unseen.lines.items
 
--- A line is printed. If lines are kept, it is kept behind the others; the others are forgotten if
--- they are 1,000.
+-- A line is printed. If lines are kept, it is kept after the others; if these are 1,000, they are
+-- forgotten first.
 abbrev pub with_line : Bool → List ℕ → List (List ℕ) → List (List ℕ)
 with_line kept line lines = if kept
     then (if nat_le 1000 (length lines) then [] else lines) ++ line ∷ [] else lines

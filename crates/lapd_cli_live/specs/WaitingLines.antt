@@ -1,4 +1,4 @@
--- What the lines of a side do that wait.
+-- The effect of lines that wait: `read`, `run`, `wait` and `expect`.
 use Rattle.std.specs.Prelude.{◌≡◌, ◌⊎◌, ℕ, ◌+◌, Bool, false, List, [], ◌∷◌, codes, Option, None, Some}
 use Rattle.lapd_cli_outside.specs.declared.outside.Lines.{Lines}
 use Rattle.lapd_cli_live.specs.declared.service.Service.{Service}
@@ -13,7 +13,7 @@ use Rattle.lapd_cli_live.specs.Steps.{EndsAfter, IsServed}
 abbrev pub service : Option ℕ → Until → Lines → Service
 service end until lines = record { end = end; until = until; lines = lines }
 
--- the clock is read, and the side is served from then on, for so many milliseconds if they are given
+-- the clock is read, and the side runs from then on, for this many milliseconds if given
 pub record ServedFor (ms : Option ℕ) (until : Until) (lines : Lines) (came : Came) (a b : LiveState) :
     Type 0 where
   pub end : Option ℕ
@@ -38,11 +38,11 @@ pub record Reads (ms : Option ℕ) (lines : Lines) (a b : LiveState) : Type 0 wh
   pub served : ServedFor ms until.Frame lines why a served_to
   pub prints : HappenBeside (read_events why) served_to b
 
--- a line is awaited that begins with these words, and none was printed so far
+-- a line that begins with these words is awaited, and none was printed so far
 abbrev pub awaiting : List ℕ → LiveState → LiveState
 awaiting words s = record s { shown = record s.shown { awaited = words; found = false } }
 
--- `expect`: a line was found if one that begins with the words was printed while the side was served
+-- `expect`: a line is found if one that begins with the words was printed while the side ran
 pub record Expects (words : List ℕ) (ms : ℕ) (lines : Lines) (found : Bool) (a b : LiveState) :
     Type 0 where
   pub end : Option ℕ

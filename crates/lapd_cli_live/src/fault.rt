@@ -3,13 +3,13 @@ use lapd_port::PortFault;
 use std::alloc::AllocError;
 use std::io;
 
-/// Why a side is served no longer.
+/// Why a side stopped running.
 #[derive(Clone, Copy)]
 pub enum LiveFault {
-    /// A reader or the writer failed, or an allocation did. It is never `Bad`: [`LiveSide::obey`](crate::LiveSide::obey) returns
-    /// that a line is bad.
+    /// A reader or the writer failed, or an allocation. Never `Bad`:
+    /// [`LiveSide::obey`](crate::LiveSide::obey) returns `Obeyed::Bad` for a bad line.
     Line(LineFault),
-    /// What is around the side returned this.
+    /// The surroundings of the side returned this fault.
     Port(PortFault),
 }
 

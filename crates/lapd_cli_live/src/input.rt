@@ -1,4 +1,4 @@
-//! Lines of input of a side that is served: a script, or lines that a person types.
+//! The input of a side that runs on the real clock: a script, or lines that a person types.
 
 ghost use Rattle.std.specs.Prelude.{◌≡◌, ℕ, ◌∷◌, [], List, Option, None, true, IfOk, IfSome, OnOk};
 ghost use Rattle.lapd_cli_script.specs.Script.{lines_of};
@@ -19,13 +19,13 @@ use lapd_cli_script::{LineFault, ScriptFault, is_passed_over};
 use std::alloc::{AllocError, Global};
 use std::io::{ErrorKind, Read, Write};
 
-/// How many octets one read takes at most.
+/// The most octets of one read.
 const PART: usize = 8192;
 
-/// How lines of input end that are not done to their end.
+/// Why the input stopped before its end.
 #[derive(Clone, Copy, PartialEq, Eq)]
 pub enum LiveStop {
-    /// As any script ends.
+    /// For the reasons of any script.
     Script(ScriptFault),
     /// An expected line was not printed in time.
     Unmet,
@@ -51,56 +51,59 @@ impl From<AllocError> for LiveStop {
     }
 }
 
-/// What a person at a terminal is told, beside what is printed. No call may wait.
+/// Messages to a person at a terminal, beside the printed lines. No call may block.
 ///
-/// An implementation that records what the person was told returns it by `told`, and one whose rule for tidying lines is known
-/// states the rule by `tidy`. Clauses that speak of them hold for such an implementation; all others hold for each.
+/// An implementation that records its messages returns them by `told`. One whose rule for tidying
+/// lines is known states it by `tidy`. Clauses about these hold for such an implementation, and all
+/// others for every implementation.
 pub trait Person {
     /// The person's tidied form of a line, if it is known.
     ghost tidy: { List ℕ → Option (List ℕ) } = { λ _. None };
 
-    /// What the person was told so far, if it is known.
+    /// The messages so far, if they are recorded.
     ghost told: { Self → Option (List Told) } = { λ _. None };
 
-    /// Lines are awaited.
+    /// Says that lines can be typed.
     fn greet(&mut self)
         ensures { Hears (told self.old) (told self.new) (Greets ∷ []) };
 
-    /// The line as it is meant: without spaces around it, and without `0x`, spaces and colons inside hexadecimal digits.
+    /// Returns the line without spaces around it, and without `0x`, spaces and colons inside
+    /// hexadecimal digits.
     ///
     /// # Errors
     ///
-    /// `AllocError`.
+    /// `AllocError` if an allocation fails.
     fn tidied(&self, line: &[u8]) -> Result<Vec<u8>, AllocError>
         ensures { IfOk result (λ text. IfSome (tidy line.now) (λ is. text.items ≡ is)) };
 
-    /// The line is not done, since it is not a line of the side.
+    /// Says why the line is not executed: it is not a line of the side.
     fn refuse_line(&mut self, line: &[u8])
         ensures { Hears (told self.old) (told self.new) (Refuses line.now ∷ []) };
 
-    /// The lines of the side are listed.
+    /// Lists the lines of the side.
     fn help(&mut self)
         ensures { Hears (told self.old) (told self.new) (Helps ∷ []) };
 }
 
-/// What is done with a line that was typed.
+/// How a typed line is handled.
 #[derive(Clone, Copy)]
 pub(crate) enum TypedDeed {
-    /// Nothing: it is empty or a comment.
+    /// Skip it: it is empty or a comment.
     Pass,
-    /// The lines of the side are listed.
+    /// List the lines of the side.
     Help,
-    /// The session ends.
+    /// End the session.
     Quit,
-    /// It is done as the line of a script is.
+    /// Execute it, like a line of a script.
     Obey,
 }
 
-/// Serves a side over a script, also while the next line of the script is awaited. Each line is done once and in order, unless it is
-/// passed over. The first line that is not a line of the side ends the script, and so does an expected line that is not printed in
-/// time. With `serve_on` the side is then served behind the end of the script, until the connection is closed. The side is returned.
+/// Runs a side on a script, also while it waits for the next line. It executes each line once and in
+/// order, and skips empty lines and comments. The script stops at the first line that is not a line
+/// of the side, and at an `expect` whose line is not printed in time. With `serve_on` the side runs
+/// on after the script, until the connection is closed. Returns the side.
 ///
-/// If the octets of the script are known, as in memory, `Ok` means that all its lines were done.
+/// If the octets of the script are known, as in memory, `Ok` means that all its lines were executed.
 ///
 /// # Errors
 ///
@@ -118,13 +121,14 @@ pub fn live_script<R: Read, O: Outside, W: Write>(
     (ended, live)
 }
 
-/// Serves a side while lines are typed, until the connection is closed or the lines end. Each line is done once it is typed whole,
-/// in order, as the line of a script. A line that is not a line of the side is reported, and the session goes on, as it does after
-/// a line that was expected in vain. `help` lists the lines, and `quit` and `exit` end the session. With `serve_on` the side is
-/// served behind the end of the lines, until the connection is closed. The side is returned.
+/// Runs a side on typed lines, until the connection is closed or the lines end. It executes each line
+/// once it is complete, in order, like a line of a script. It reports a line that is not a line of
+/// the side, and continues, as it does after an `expect` in vain. `help` lists the lines, and `quit`
+/// and `exit` end the session. With `serve_on` the side runs on after the last line, until the
+/// connection is closed. Returns the side.
 ///
-/// If the octets of the lines are known, as in memory, `Ok` means that all lines were done, or those before `quit`, or those
-/// that were typed before the connection was closed.
+/// If the octets of the lines are known, as in memory, `Ok` means that all lines were executed, or
+/// those before `quit`, or those that were typed before the connection was closed.
 ///
 /// # Errors
 ///
@@ -148,7 +152,7 @@ pub fn live_session<R: Read, P: Person, O: Outside, W: Write>(
     }
 }
 
-/// Serves a side over a script.
+/// Runs a side on a script.
 fn go_over<R: Read, O: Outside, W: Write>(
     alloc: Global,
     live: &mut LiveSide<O, W>,
@@ -161,7 +165,7 @@ fn go_over<R: Read, O: Outside, W: Write>(
     let mut lines = TypedLines::new(alloc);
     let mut number: u64 = 0;
     for _read in 0..u64::MAX {
-        // If the connection is closed, the script goes on all the same.
+        // The script continues even if the connection is closed.
         live.await_input()?;
         if !read_part(script, &mut lines)? {
             do_script_line(live, lines.last_line(), &mut number)?;
@@ -173,7 +177,7 @@ fn go_over<R: Read, O: Outside, W: Write>(
     Err(LiveStop::Script(ScriptFault::Device))
 }
 
-/// Does the lines of a script that have ended.
+/// Executes the complete lines of a script.
 fn do_script_lines<O: Outside, W: Write>(
     live: &mut LiveSide<O, W>,
     lines: &mut TypedLines,
@@ -191,7 +195,7 @@ fn do_script_lines<O: Outside, W: Write>(
     Err(LiveStop::Script(ScriptFault::Device))
 }
 
-/// Counts a line of a script, and does it unless it is passed over.
+/// Counts a line of a script, and executes it unless it is skipped.
 fn do_script_line<O: Outside, W: Write>(
     live: &mut LiveSide<O, W>,
     line: &[u8],
@@ -214,7 +218,7 @@ fn do_script_line<O: Outside, W: Write>(
     }
 }
 
-/// Serves a side while lines are typed.
+/// Runs a side on typed lines.
 fn converse<R: Read, P: Person, O: Outside, W: Write>(
     alloc: Global,
     live: &mut LiveSide<O, W>,
@@ -245,7 +249,7 @@ fn converse<R: Read, P: Person, O: Outside, W: Write>(
     Err(LiveFault::Line(LineFault::Device))
 }
 
-/// Does the lines that were typed whole. `false` if one of them ends the session.
+/// Executes the complete typed lines. Returns `false` if one of them ends the session.
 fn do_typed_lines<P: Person, O: Outside, W: Write>(
     live: &mut LiveSide<O, W>,
     typed: &mut TypedLines,
@@ -267,7 +271,7 @@ fn do_typed_lines<P: Person, O: Outside, W: Write>(
     Err(LiveFault::Line(LineFault::Device))
 }
 
-/// Does what was typed of the last line, if it lacks its line feed. `false` if it ends the session.
+/// Executes the last line, if it lacks its line feed. Returns `false` if it ends the session.
 fn do_last<P: Person, O: Outside, W: Write>(
     live: &mut LiveSide<O, W>,
     line: &[u8],
@@ -283,7 +287,7 @@ fn do_last<P: Person, O: Outside, W: Write>(
     }
 }
 
-/// Does a line that was typed. `false` if it ends the session.
+/// Executes a typed line. Returns `false` if it ends the session.
 fn do_typed<P: Person, O: Outside, W: Write>(
     live: &mut LiveSide<O, W>,
     line: &[u8],
@@ -309,7 +313,7 @@ fn do_typed<P: Person, O: Outside, W: Write>(
     }
 }
 
-/// What is done with a line.
+/// How a line is handled.
 pub(crate) fn typed_deed(line: &[u8]) -> TypedDeed
     ensures { result ≡ deed_of line.now }
 {
@@ -324,7 +328,7 @@ pub(crate) fn typed_deed(line: &[u8]) -> TypedDeed
     }
 }
 
-/// Does a line of a person, or reports why it is no line of the side.
+/// Executes a line of a person, or reports why it is not a line of the side.
 fn obey_typed<P: Person, O: Outside, W: Write>(
     live: &mut LiveSide<O, W>,
     line: &[u8],
@@ -343,7 +347,7 @@ fn obey_typed<P: Person, O: Outside, W: Write>(
     }
 }
 
-/// Serves the side until the connection is closed, if that is wanted.
+/// Runs the side until the connection is closed, if `serve_on` is set.
 fn serve_to_end<O: Outside, W: Write>(
     live: &mut LiveSide<O, W>,
     serve_on: bool,
@@ -356,7 +360,7 @@ fn serve_to_end<O: Outside, W: Write>(
     Ok(())
 }
 
-/// Reads lines once. `false` if they have ended.
+/// Reads lines once. Returns `false` if they have ended.
 fn read_part<R: Read>(lines: &mut R, read: &mut TypedLines) -> Result<bool, LiveFault>
     ensures { IfOk result (λ more. ReadsPart more (R.remaining lines.old) (R.remaining lines.new)
         read.old.text.items read.new.text.items) }

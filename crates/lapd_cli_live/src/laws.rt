@@ -7,9 +7,9 @@ ghost use Rattle.lapd_cli_live.specs.Log.{LiveState};
 ghost use Rattle.lapd_cli_live.specs.Steps.{CatchesUp};
 ghost use Rattle.lapd_cli_live.specs.PromptLine.{Arrival, ExpiresInTime, IsPrompt};
 
-/// No timer expires early: over a line that hands over what has arrived, a timer expires for a moment only when every frame that
-/// had arrived by then was received, and so also its answer. A flood of 4,096 frames at once is the only exception. So T200
-/// does not expire while an answer to it has arrived.
+/// No timer expires early: if the line passes on what has arrived, a timer expires for a moment only
+/// after every frame that had arrived by then was received, and so also its response. The only
+/// exception is a flood of 4,096 frames at once. So T200 does not expire if its response has arrived.
 pub fn no_timer_expires_early()
     ensures { (arrivals : List Arrival) (until : Until) (a b : LiveState) (deeds : List Deed)
         → CatchesUp until a b → b.deeds ≡ Some deeds → IsPrompt arrivals deeds

@@ -336,7 +336,7 @@ fn came_of(lines: Lines, woken: Woken) -> Option<Came>
     }
 }
 
-/// The sooner of two moments, of which each may be absent.
+/// The earlier of two optional moments.
 fn sooner(one: Option<u64>, other: Option<u64>) -> Option<u64>
     ensures { result ≡ sooner_of one other }
 {
@@ -347,7 +347,7 @@ fn sooner(one: Option<u64>, other: Option<u64>) -> Option<u64>
     }
 }
 
-/// Whether there is an end and it has come.
+/// Whether there is an end and it is reached.
 fn has_come(end: Option<u64>, now: u64) -> bool
     ensures come { result ≡ true → HasCome end now }
     ensures not { result ≡ false → ¬ HasCome end now }

@@ -1,9 +1,9 @@
-/// What became of a line of a side.
+/// The outcome of a line of a side.
 #[derive(Clone, Copy, PartialEq, Eq)]
 pub enum Obeyed {
-    /// It was done.
+    /// It was executed.
     Done,
-    /// It is not a line of the side, and nothing was done.
+    /// The side has no such line; nothing was executed.
     Bad,
     /// It expects a line that was not printed in time.
     Unmet,

@@ -1,24 +1,24 @@
-//! How long a side is served, and what ends a service.
+//! How long a side runs, and what ends it.
 
 use lapd_cli_outside::Lines;
 
-/// How long a side is served.
+/// How long a side runs.
 #[derive(Clone, Copy)]
 pub struct Service {
     /// The moment at which the service ends, in milliseconds since the start. `None` is no moment.
     pub end: Option<u64>,
-    /// What ends it before.
+    /// The event that ends the service before.
     pub until: Until,
-    /// Whether a line of input ends it.
+    /// Whether a line of input ends the service.
     pub lines: Lines,
 }
 
-/// What ends a service before its end, beside the closing of the connection.
+/// The event that ends a service before its end, beside a closed connection.
 #[derive(Clone, Copy)]
 pub enum Until {
     /// Nothing.
     End,
-    /// One frame was taken.
+    /// One frame was received.
     Frame,
     /// An awaited line was printed.
     Found,
@@ -27,7 +27,7 @@ pub enum Until {
 /// Why a service has ended.
 #[derive(Clone, Copy, PartialEq, Eq)]
 pub enum Came {
-    /// A frame was taken.
+    /// A frame was received.
     Frame,
     /// An awaited line was printed.
     Found,
@@ -35,6 +35,6 @@ pub enum Came {
     Line,
     /// The other side has closed the connection.
     Closed,
-    /// The end has come.
+    /// Its end is reached.
     End,
 }

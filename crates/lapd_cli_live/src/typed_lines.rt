@@ -1,4 +1,4 @@
-//! Lines that are typed, as their octets come.
+//! Typed lines, assembled from octets as these arrive.
 
 ghost use Rattle.std.specs.Prelude.{◌≡◌, ◌++◌, ◌∷◌, [], option_map, IfOk, IfSome, IfNone, OnOk};
 ghost use Rattle.lapd_cli_script.specs.WalkState.{HasNoFeed};
@@ -7,7 +7,7 @@ ghost use Rattle.lapd_cli_live.specs.Typed.{IsFirstLine};
 use memchr::memchr;
 use std::alloc::{AllocError, Global};
 
-/// What was typed and is not handed out yet.
+/// The octets that were typed and not returned yet.
 #[derive(Drop)]
 pub(crate) struct TypedLines {
     alloc: Global,
@@ -15,7 +15,7 @@ pub(crate) struct TypedLines {
 }
 
 impl TypedLines {
-    /// Nothing.
+    /// No octets.
     pub(crate) fn new(alloc: Global) -> TypedLines
         ensures { result.text.items ≡ [] }
     {
@@ -25,22 +25,22 @@ impl TypedLines {
         }
     }
 
-    /// Puts these octets behind.
+    /// Appends octets.
     ///
     /// # Errors
     ///
-    /// `AllocError`.
+    /// `AllocError` if an allocation fails.
     pub(crate) fn push(&mut self, octets: &[u8]) -> Result<(), AllocError>
         ensures { OnOk result (self.new.text.items ≡ self.old.text.items ++ octets.now) }
     {
         self.text.extend_from_slice(octets)
     }
 
-    /// Takes the first line off that has ended, and gives it without its line feed.
+    /// Removes the first complete line, and returns it without its line feed.
     ///
     /// # Errors
     ///
-    /// `AllocError`.
+    /// `AllocError` if an allocation fails.
     pub(crate) fn next_line(&mut self) -> Result<Option<Vec<u8>>, AllocError>
         ensures { IfOk result (λ line. IsFirstLine self.old.text.items
             (option_map (λ line. line.items) line) self.new.text.items) }
@@ -54,7 +54,7 @@ impl TypedLines {
         Ok(Some(line))
     }
 
-    /// What was typed of a line that has not ended, which is the last one.
+    /// The octets of the last line, which is not complete.
     pub(crate) fn last_line(&self) -> &[u8]
         ensures { result.now ≡ self.now.text.items }
     {
@@ -62,7 +62,7 @@ impl TypedLines {
     }
 }
 
-/// The octets before the first line feed, and those behind it.
+/// The octets before the first line feed, and those after it.
 fn first_line(octets: &[u8]) -> Option<(&[u8], &[u8])>
     ensures found { IfSome result (λ parts. HasNoFeed parts.0.now
         × (octets.now ≡ parts.0.now ++ 10 ∷ parts.1.now)) }
@@ -72,7 +72,7 @@ fn first_line(octets: &[u8]) -> Option<(&[u8], &[u8])>
     Some((&octets[..end], &octets[end + 1..]))
 }
 
-/// These octets, in memory of their own.
+/// A copy of these octets.
 fn owned(alloc: Global, octets: &[u8]) -> Result<Vec<u8>, AllocError>
     ensures { IfOk result (λ copy. copy.items ≡ octets.now) }
 {

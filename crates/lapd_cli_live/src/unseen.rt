@@ -7,8 +7,8 @@ use std::alloc::{AllocError, Global};
 /// The most lines that are kept. When one more is printed, all earlier lines are forgotten.
 const MOST_LINES: usize = 1000;
 
-/// The lines that were printed while a line of input was awaited. An `expect` that comes after they
-/// were printed still finds them.
+/// The lines that were printed while a line of input was awaited. A later `expect` still finds
+/// them.
 #[derive(Drop)]
 pub(crate) struct Unseen {
     alloc: Global,

@@ -1,4 +1,4 @@
--- Words that were awaited in vain, as they are shown.
+-- The form in which words that were awaited in vain are printed.
 use Rattle.std.specs.Prelude.{ℕ, ◌/◌, ◌%◌, List, [], ◌∷◌, if◌then◌else◌, encode_utf8_all}
 use Rattle.std.specs.List.{flat_map}
 use Rattle.std.specs.Char.{digit_char, is_control}
@@ -6,7 +6,7 @@ use Rattle.std.specs.Str.{chars}
 use Rattle.std.specs.Str.Lossy.{utf8_lossy}
 
 -- a control character by its number in two hexadecimal digits, as `\x1b`, and any other character
--- as it is
+-- unchanged
 abbrev pub shown_char : ℕ → List ℕ
 shown_char c = if is_control c
     then 92 ∷ 120 ∷ digit_char (c / 16) ∷ digit_char (c % 16) ∷ [] else c ∷ []

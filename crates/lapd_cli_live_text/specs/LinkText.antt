@@ -39,8 +39,8 @@ management_text timers now = if any_runs timers then codes "tei" ++ timers_text 
 
 -- ---- Links.
 
--- The end that a link shows: what layer 3 gave before the messages in its queue is left out, since
--- a link keeps nothing of it.
+-- The end that a link shows: the messages that layer 3 submitted before those in its queue are left
+-- out, since a link does not keep them.
 abbrev pub shown_end : Link → End
 shown_end link = record {
   parameters = link.machine.params;

@@ -12,7 +12,7 @@ use Rattle.lapd_cli_side_lines.specs.Wishes.{Wish, AskTei, check_wish, id_said, 
 use Rattle.lapd_cli_live_text.specs.declared.words.LiveLine.{LiveLine}
 use Rattle.lapd_cli_live_text.specs.declared.words.LiveLine.TheVariants as line
 
--- What a line requests:
+-- The request of a line:
 -- `Read`: the next frame is awaited, for so many milliseconds or without limit;
 -- `Run`: the side is served, for so many milliseconds or until the connection is closed;
 -- `Expect`: a line that begins with these words is awaited, for so many milliseconds;

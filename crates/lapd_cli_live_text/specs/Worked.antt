@@ -59,7 +59,7 @@ request_timers = record {
 -- ---- A history of a user side.
 
 -- The link of TEI 64 is established. The first message is rejected once and sent again, and a
--- second one is sent. Two octets come that do not form a valid frame, and an invalid N(R) is
+-- second one is sent. Two octets are received that do not form a valid frame, and an invalid N(R) is
 -- reported.
 abbrev pub rejected_message : List SideEvent
 rejected_message = Sent (0x00 ∷ 0x81 ∷ 0x7F ∷ [])

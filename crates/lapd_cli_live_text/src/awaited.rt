@@ -1,4 +1,4 @@
-//! Words that were awaited in vain, as they are shown.
+//! The form in which words that were awaited in vain are printed.
 
 ghost use Rattle.std.specs.Prelude.{◌≡◌, ◌++◌, ◌∷◌, ◌<◌, [], encode_utf8_all, IfOk, OnOk};
 ghost use Rattle.std.specs.Char.{digit_char};

@@ -20,7 +20,7 @@ const MOST_MS: u64 = 3_600_000;
 /// The greatest loss, in per cent.
 const MOST_LOSS: u64 = 100;
 
-/// What a line requests.
+/// The request of a line.
 #[derive(Drop)]
 pub enum LiveLine<'l> {
     /// Serve the side until the next frame is received, for so many milliseconds at most, 1 to
@@ -66,7 +66,7 @@ pub fn read_live_line<'l>(
     }
 }
 
-/// What a word other than `expect` requests, with the words behind it.
+/// The request of a word other than `expect`, with the words after it.
 fn line_by<'l>(
     alloc: Global,
     side: Side,
@@ -94,7 +94,7 @@ fn line_by<'l>(
     }
 }
 
-/// What a word requests that the other side may not have.
+/// The request of a word that the other side may not have.
 fn own_line<'l>(
     alloc: Global,
     side: Side,
@@ -132,7 +132,7 @@ fn check<'l>(mut behind: Words<'_>) -> Result<LiveLine<'l>, LineFault>
     Ok(LiveLine::Ask(Request::Check(tei)))
 }
 
-/// What a word requests of the link that the next words name.
+/// The request of a word for the link that the next words name.
 fn of_link<'l>(
     alloc: Global,
     side: Side,
@@ -149,7 +149,7 @@ fn of_link<'l>(
     line_of_link(alloc, word, id, behind)
 }
 
-/// What a word requests of this link, with the words behind those that name it.
+/// The request of a word for this link, with the words after those that name it.
 fn line_of_link<'l>(
     alloc: Global,
     word: &[u8],
@@ -301,7 +301,7 @@ fn delay_if_any(mut behind: Words<'_>) -> Result<u64, LineFault>
     }
 }
 
-/// What a line requests that begins with the word `expect`.
+/// The request of a line that begins with the word `expect`.
 fn expect(line: &[u8]) -> Result<LiveLine<'_>, LineFault>
     ensures { Reads live_wish_of result (expect_wish (drop 1 (words_of line.now))) }
 {
@@ -311,7 +311,7 @@ fn expect(line: &[u8]) -> Result<LiveLine<'_>, LineFault>
     }
 }
 
-/// What stands behind the first space.
+/// The octets after the first space.
 #[tactic(auto, using(crate::proofs::Expected::behind_first, crate::proofs::Expected::none_behind))]
 fn behind_first_word(line: &[u8]) -> Option<&[u8]>
     ensures { drop 1 (words_of line.now) ≡ words_left (option_map (λ rest. rest.now) result) }
@@ -332,7 +332,7 @@ fn cut_at_first_space(octets: &[u8]) -> Option<(&[u8], &[u8])>
     Some((&octets[..end], &octets[end + 1..]))
 }
 
-/// What is expected: the words up to the last space, for the time behind it.
+/// The expected words, up to the last space, and the time after it.
 #[tactic(auto, using(crate::proofs::Expected::expected_cut, crate::proofs::Expected::expected_whole))]
 fn expect_of(behind: &[u8]) -> Result<LiveLine<'_>, LineFault>
     ensures { Reads live_wish_of result (expect_wish (words_of behind.now)) }
