@@ -82,10 +82,10 @@ def value_of(words, option, default=None):
 
 
 def program_of(words):
-    """Takes `--built` and `--program FILE` from the words. Returns the program's path, and proves it first if neither is given."""
-    program, is_built = value_of(words, "--program"), "--built" in words
-    if is_built:
-        words.remove("--built")
+    """The program's path by `--built` or `--program FILE`, which are all the words; if there are none, it is proved and built first."""
+    program, is_built = value_of(words, "--program"), words == ["--built"]
+    if words and (program or not is_built):
+        raise Failed("unknown words; -h prints the usage")
     if not program and not is_built and subprocess.run([f"{TOP}/tools/prove"], stdin=subprocess.DEVNULL).returncode:
         raise Failed("the program was not built")
     if not os.access(program or PROGRAM, os.X_OK):
