@@ -1,4 +1,4 @@
-"""What the tools share: where the program is, free ports, what a tool prints, and how it starts and ends."""
+"""Shared by the tools: the path of the program, free ports, what a tool prints, and how it starts and ends."""
 
 import os
 import signal
@@ -13,7 +13,7 @@ NAME = os.path.basename(sys.argv[0])
 
 
 class Failed(Exception):
-    """The tool cannot go on: the reason, and the tool's status."""
+    """The tool cannot continue: the reason, and the status that it ends with."""
 
     def __init__(self, reason, status=2):
         super().__init__(reason)
