@@ -120,7 +120,8 @@ class Proofs:
         self.lanes = lanes if is_beside else 1
         self.left = {it: SECONDS.get(it, OTHER) for it in plan.below}
         self.order, self.expected = plan.chain(self.left), self.rest(self.left)
-        self.running, self.done, self.begun, self.shown = {}, 0, time.monotonic(), False
+        self.running, self.done, self.begun, self.shown = {}, 0, time.monotonic(), ""
+        self.has_waited = False
         if is_beside:
             self.lock()
 
@@ -132,6 +133,7 @@ class Proofs:
                 fcntl.flock(self.held[-1], fcntl.LOCK_EX | fcntl.LOCK_NB)
             except BlockingIOError:
                 say(f"lapd: waiting for another run of rt or tools/prove in {folder}")
+                self.has_waited = True
                 fcntl.flock(self.held[-1], fcntl.LOCK_EX)
             except OSError:
                 pass  # a file system without locks
@@ -186,10 +188,10 @@ class Proofs:
 
     def show(self, more=None):
         """Keeps one line on a terminal up to date, or clears it."""
-        if sys.stderr.isatty() and (more or self.shown):
-            text = f"lapd: {self.text(more)}"[: shutil.get_terminal_size().columns - 1] if more else ""
+        text = f"lapd: {self.text(more)}"[: shutil.get_terminal_size().columns - 1] if more else ""
+        if sys.stderr.isatty() and text != self.shown:
             print(f"\r\033[K{text}", end="", file=sys.stderr, flush=True)
-            self.shown = bool(more)
+            self.shown = text
 
     def stop(self):
         self.show()
@@ -211,13 +213,15 @@ def prove(top=CLI, is_anew=False):
         raise Failed(f"{top} {why}, and rt, which proves and builds it, is not on the PATH", NOT_BUILT)
     for name in plan.below:
         os.makedirs(f"{TOP}/crates/{name}/out", exist_ok=True)
-        for it in ("rlib", "incremental") if is_anew else ():
-            shutil.rmtree(f"{TOP}/crates/{name}/out/{it}", ignore_errors=True)
-    if is_anew and os.path.exists(f"{plan.made}.stamp"):
-        os.remove(f"{plan.made}.stamp")
     when, free = moment(out), shutil.disk_usage(TOP).free
     proofs = Proofs(plan, rt, is_anew)
     try:
+        if proofs.has_waited and not is_anew and not plan.change():
+            return
+        for name in plan.below if is_anew else ():
+            for it in "rlib", "incremental", name, f"{name}.stamp":
+                path = f"{TOP}/crates/{name}/out/{it}"
+                shutil.rmtree(path, ignore_errors=True) if os.path.isdir(path) else os.path.exists(path) and os.remove(path)
         minutes, room = max(round(proofs.expected / 60), 1), DISK * len(plan.below) / 31
         say(f"lapd: {top} {why}: proving its {len(plan.below)} crates takes up to {minutes} min on four free cores, and {room / 1e9:.0f} GB of disk")
         if free < room:
