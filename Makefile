@@ -1,0 +1,39 @@
+# make            proves and builds the program lapd, with progress (about 30 minutes on four cores the first time, 8 GB of disk)
+# make test       runs the tests from source, before any proof; make test-long runs the long ones, with drawn inputs
+# make check      proves everything, runs all tests and tries the must-fail edits: the gate
+# make install    installs what `make` built: program, manual page and completions, under DESTDIR and PREFIX
+# make uninstall  removes them
+# make -C c       proves and builds liblapd for C
+# Each of these is a command below, or a script of tools/ with -h for its usage.
+
+PREFIX = /usr/local
+PROGRAM = crates/lapd_cli/out/lapd_cli
+TO = $(DESTDIR)$(PREFIX)
+SHARE = $(TO)/share
+INSTALLED = $(TO)/bin/lapd $(SHARE)/man/man1/lapd.1 $(SHARE)/bash-completion/completions/lapd \
+	$(SHARE)/zsh/site-functions/_lapd $(SHARE)/fish/vendor_completions.d/lapd.fish
+
+all:
+	@tools/prove
+
+test:
+	@tools/test
+
+test-long:
+	@tools/test --long
+
+check:
+	rt ci
+
+install:
+	@test -x $(PROGRAM) || { echo "the program is not built; run make first" >&2; exit 1; }
+	install -D -m 755 $(PROGRAM) $(TO)/bin/lapd
+	install -D -m 644 docs/lapd.1 $(SHARE)/man/man1/lapd.1
+	install -D -m 644 completions/lapd.bash $(SHARE)/bash-completion/completions/lapd
+	install -D -m 644 completions/_lapd $(SHARE)/zsh/site-functions/_lapd
+	install -D -m 644 completions/lapd.fish $(SHARE)/fish/vendor_completions.d/lapd.fish
+
+uninstall:
+	rm -f $(INSTALLED)
+
+.PHONY: all test test-long check install uninstall
