@@ -108,7 +108,7 @@ fn lines_of(side: Side) -> Script {
 /// Flushes what was printed, even after a fault; the writer remembers its own faults. Notes if the
 /// other side has closed the connection.
 fn close<W: Write>(live: LiveSide<Line<'_>, &mut W>) {
-    let (line, out, _) = live.into_parts();
+    let (line, out, _flushed) = live.into_parts();
     let _ = out.flush();
     let (line, _taps) = line.into_parts();
     line.into_inner().tell_closed();

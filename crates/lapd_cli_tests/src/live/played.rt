@@ -89,7 +89,7 @@ pub(crate) fn play<'s>(
 ) -> Result<Played<'s>, AllocError> {
     let live = made_live(alloc, who, style, made)?;
     let (ended, live) = live_script(alloc, live, &mut keys, serve_on);
-    let (made, printed, _) = live.into_parts();
+    let (made, printed, _flushed) = live.into_parts();
     Ok(Played {
         ended,
         made,
@@ -110,7 +110,7 @@ pub(crate) fn hold<'s>(
     let live = made_live(alloc, who, style, made)?;
     let mut reader = Reader::new(alloc);
     let (ended, live) = live_session(alloc, live, &mut keys, &mut reader, serve_on);
-    let (made, printed, _) = live.into_parts();
+    let (made, printed, _flushed) = live.into_parts();
     Ok(Played {
         ended,
         made,
