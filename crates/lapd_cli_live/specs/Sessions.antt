@@ -1,5 +1,5 @@
--- Which lines of input a served side does, in which order, and what ends them: the lines of a
--- script, and those that are typed.
+-- Which lines of input a side executes, in which order, and when it stops: the lines of a script, and
+-- typed lines.
 use Rattle.std.specs.Prelude.{◌≡◌, ◌⊎◌, ℕ, ◌+◌, Bool, true, false, List, [], ◌∷◌, ◌++◌, length, Option, None, Some, Result, Ok, Err, ⊤, IfSome}
 use Rattle.std.specs.Io.KnownBytes.{Consumes, IsAtEnd}
 use Rattle.lapd_sides.specs.Either.{side_of}
@@ -33,21 +33,21 @@ use Rattle.lapd_cli_live.specs.LineDone.{HasOwnTei, LineDone, MissesLine, Obeys}
 
 -- ---- One line.
 
--- what a request comes to: it is done, or it expects a line that was not printed in time
+-- the result of a request: it is done, or it expects a line that was not printed in time
 abbrev pub RequestEnds : Obeyed → LiveLine → Lines → LiveState → LiveState → Type 0
 RequestEnds obeyed.Done asked lines a b = LineDone asked lines a b
 RequestEnds obeyed.Unmet (line.Expect words ms) lines a b = MissesLine words.now ms lines a b
 RequestEnds obeyed.Unmet asked lines a b = ⊥
 RequestEnds obeyed.Bad asked lines a b = ⊥
 
--- a line is not a line of the side, and nothing happens
+-- a line is not a valid request, and nothing happens
 pub record IsBad (octets : List ℕ) (a b : LiveState) : Type 0 where
   pub own : ℕ
   pub own_is : HasOwnTei a.side own
   pub none : live_wish_of_line (side_of a.side) own octets ≡ None
   pub same : b ≡ a
 
--- a line of the side expects a line that was not printed in time
+-- a valid request expects a line that was not printed in time
 pub record IsUnmet (octets : List ℕ) (lines : Lines) (a b : LiveState) : Type 0 where
   pub own : ℕ
   pub own_is : HasOwnTei a.side own
@@ -57,7 +57,7 @@ pub record IsUnmet (octets : List ℕ) (lines : Lines) (a b : LiveState) : Type 
   pub misses : RequestEnds obeyed.Unmet asked lines a missed_at
   pub beside : HappenBeside [] missed_at b
 
--- what becomes of a line
+-- the result of a line
 abbrev pub ObeysAs : Obeyed → List ℕ → Lines → LiveState → LiveState → Type 0
 ObeysAs obeyed.Done octets lines a b = Obeys octets lines a b
 ObeysAs obeyed.Bad octets lines a b = IsBad octets a b
@@ -72,38 +72,38 @@ AwaitsInput came a b = IsServed (service None until.End Awaited) came a b
 abbrev pub AwaitsOnce : LiveState → LiveState → Type 0
 AwaitsOnce a b = (came : Came) × AwaitsInput came a b
 
--- and nothing else happens, as often as input is awaited
+-- input is awaited any number of times, and nothing else happens
 pub record Awaits (a b : LiveState) : Type 0 where
   pub passed : List LiveState
   pub are : Chain AwaitsOnce passed a b
 
 -- ---- Octets that are read, and their lines.
 
--- A read puts the octets that it takes from the reader behind those that are held. Or the reader
--- has ended, and they stay.
+-- A read appends the octets that it consumes to the buffered ones. At the reader's end the buffer is
+-- unchanged.
 abbrev pub ReadsPart : Bool → Option (List ℕ) → Option (List ℕ) → List ℕ → List ℕ → Type 0
 ReadsPart true before after held holds = (part : List ℕ) × Consumes before after part
     × (holds ≡ held ++ part)
 ReadsPart false before after held holds = Consumes before after [] × IsAtEnd after
     × (holds ≡ held)
 
--- these lines are taken off the front of some octets: whatever follows, they come first, and then
--- the lines of what is left
+-- These lines are removed from the front of some octets: whatever octets follow, the lines of all
+-- octets are these and then the lines of the rest.
 abbrev pub AreTaken : List (List ℕ) → List ℕ → List ℕ → Type 0
 AreTaken lines before after = (more : List ℕ)
     → lines_of (before ++ more) ≡ lines ++ lines_of (after ++ more)
 
 -- ---- Lines, one after another.
 
--- each of these lines is done so, once and in order; before each, and behind the last, nothing
--- happens but that input is awaited
+-- Each of these lines is executed once and in order. Before each and after the last, the side only
+-- awaits input.
 abbrev pub InOrder : {S : Type 0} → (S → S → Type 0) → (List ℕ → S → S → Type 0) → List (List ℕ)
     → S → S → Type 0
 InOrder Waits Does [] a b = Waits a b
 InOrder {S} Waits Does (line ∷ lines) a b = (ready : S) × (done : S) × Waits a ready
     × Does line ready done × InOrder Waits Does lines done b
 
--- lines are taken off the front of some octets, are counted, and are done
+-- lines are removed from the front of some octets, counted and executed
 pub record TakesLines {S : Type 0} (Waits : S → S → Type 0) (Does : List ℕ → S → S → Type 0)
     (before after : List ℕ) (n m : ℕ) (a b : S) : Type 0 where
   pub lines : List (List ℕ)
@@ -111,14 +111,14 @@ pub record TakesLines {S : Type 0} (Waits : S → S → Type 0) (Does : List ℕ
   pub counted : m ≡ n + length lines
   pub done : InOrder Waits Does lines a b
 
--- behind the end of the input the side is served until the connection is closed, if that is wanted
+-- after the end of the input the side is served until the connection is closed, if requested
 abbrev pub ServesOn : Bool → LiveState → LiveState → Type 0
 ServesOn true a b = Runs None Ignored a b
 ServesOn false a b = b ≡ a
 
 -- ---- Scripts.
 
--- a line of a script is obeyed, unless it is passed over
+-- a line of a script is executed, unless it is empty or a comment
 abbrev pub ObeysUnless : Bool → List ℕ → LiveState → LiveState → Type 0
 ObeysUnless true octets a b = b ≡ a
 ObeysUnless false octets a b = Obeys octets Ignored a b
@@ -126,8 +126,8 @@ ObeysUnless false octets a b = Obeys octets Ignored a b
 abbrev pub DoesLine : List ℕ → LiveState → LiveState → Type 0
 DoesLine octets a b = ObeysUnless (is_passed_over octets) octets a b
 
--- The lines before one of them are done. This becomes of that one, and none behind it is done. It
--- is counted as the line of this number, if so many lines came before them all.
+-- All lines before one of them are executed, that one has this result, and no line after it is
+-- executed. Its number counts from the lines that came before them all.
 pub record StopsAt (why : Obeyed) (number count : ℕ) (lines : List (List ℕ)) (a b : LiveState) : Type 0
   where
     pub before : List (List ℕ)
@@ -140,7 +140,7 @@ pub record StopsAt (why : Obeyed) (number count : ℕ) (lines : List (List ℕ))
     pub not_passed : is_passed_over stopping ≡ false
     pub stops : ObeysAs why stopping Ignored met b
 
--- a fault of what is around the side may stop it anywhere
+-- a fault of the side's surroundings may stop a script at any line
 abbrev pub StopsBy : LiveStop → ℕ → List (List ℕ) → LiveState → LiveState → Type 0
 StopsBy Unmet count lines a b = (number : ℕ) × StopsAt obeyed.Unmet number count lines a b
 StopsBy (Script (BadLine number)) count lines a b = StopsAt obeyed.Bad number count lines a b
@@ -148,20 +148,20 @@ StopsBy (Script Device) count lines a b = ⊤
 StopsBy (Script Memory) count lines a b = ⊤
 StopsBy (Script (Port fault)) count lines a b = ⊤
 
--- one line of a script, with this number of lines before it and behind it
+-- one line of a script, with the numbers of lines before it and after it
 abbrev pub LineEnds : Result ⊤ LiveStop → List ℕ → ℕ → ℕ → LiveState → LiveState → Type 0
 LineEnds (Ok done) octets n m a b = DoesLine octets a b × (m ≡ n + 1)
 LineEnds (Err stop) octets n m a b = (behind : List (List ℕ)) → StopsBy stop n (octets ∷ behind) a b
 
--- the lines that have ended in some octets are done, and the others are left
+-- the whole lines of some octets are executed, and the rest of the octets is left
 abbrev pub LinesEnd : Result ⊤ LiveStop → List ℕ → List ℕ → ℕ → ℕ → LiveState → LiveState → Type 0
 LinesEnd (Ok done) before after n m a b = TakesLines Awaits DoesLine before after n m a b
     × HasNoFeed after
 LinesEnd (Err stop) before after n m a b = (more : List ℕ)
     → StopsBy stop n (lines_of (before ++ more)) a b
 
--- A script ends well once each of its lines is done; then the side is served on, if that is wanted.
--- Else it stops at the first line that is bad or unmet.
+-- A script succeeds once each of its lines is executed; then the side is served on, if requested.
+-- Otherwise it stops at the first line that is bad or unmet.
 abbrev pub ScriptEnds : Bool → Result ⊤ LiveStop → List (List ℕ) → LiveState → LiveState → Type 0
 ScriptEnds serve_on (Ok done) lines a b = (ended : LiveState) × InOrder Awaits DoesLine lines a ended
     × ServesOn serve_on ended b
@@ -169,19 +169,19 @@ ScriptEnds serve_on (Err stop) lines a b = StopsBy stop 0 lines a b
 
 -- ---- Typed lines.
 
--- what a person is told: that lines are awaited, the lines of the side, or that a line is not done
+-- what a person is told: that lines are awaited, the lines of the side, or that a line is invalid
 pub data Told : Type 0 where
   Greets : Told
   Helps : Told
   Refuses : (octets : List ℕ) → Told
 
--- where it is known what a person was told, exactly this was told since
+-- if it is known what a person was told, exactly this was added
 abbrev pub Hears : Option (List Told) → Option (List Told) → List Told → Type 0
 Hears None after told = ⊤
 Hears (Some before) None told = ⊥
 Hears (Some before) (Some after) told = after ≡ before ++ told
 
--- a served side, and what the person was told
+-- a running side, and what the person was told
 pub record Session : Type 0 where
   pub live : LiveState
   pub told : Option (List Told)
@@ -203,7 +203,7 @@ refusals obeyed.Bad octets = Refuses octets ∷ []
 refusals obeyed.Done octets = []
 refusals obeyed.Unmet octets = []
 
--- what is done with a line, and whether the session goes on
+-- how a line is executed, and whether the session goes on
 abbrev pub TypedEnds : TypedDeed → List ℕ → Bool → Session → Session → Type 0
 TypedEnds Pass octets goes_on a b = (goes_on ≡ true) × (b ≡ a)
 TypedEnds Help octets goes_on a b = (goes_on ≡ true) × (b.live ≡ a.live)
@@ -227,7 +227,7 @@ abbrev pub TypesLast : (List ℕ → Option (List ℕ)) → List ℕ → Bool �
 TypesLast tidy [] goes_on a b = (goes_on ≡ true) × (b ≡ a)
 TypesLast tidy (octet ∷ octets) goes_on a b = Types tidy (octet ∷ octets) goes_on a b
 
--- the lines before one of them are done, and that one ends the session
+-- all lines before one of them are executed, and that one ends the session
 pub record Quits (tidy : List ℕ → Option (List ℕ)) (lines : List (List ℕ)) (a b : Session) : Type 0
   where
     pub before : List (List ℕ)
@@ -238,14 +238,14 @@ pub record Quits (tidy : List ℕ → Option (List ℕ)) (lines : List (List ℕ
     pub done : InOrder AwaitsQuietly (TypesOn tidy) before a met
     pub quits : Types tidy quit false met b
 
--- the lines that have ended in some octets are done, or one of them ends the session
+-- the whole lines of some octets are executed, or one of them ends the session
 abbrev pub LinesType : (List ℕ → Option (List ℕ)) → Bool → List ℕ → List ℕ → Session → Session
     → Type 0
 LinesType tidy true before after a b = (count : ℕ)
     × TakesLines AwaitsQuietly (TypesOn tidy) before after 0 count a b × HasNoFeed after
 LinesType tidy false before after a b = (more : List ℕ) → Quits tidy (lines_of (before ++ more)) a b
 
--- all lines are done, and then the side is served on, if that is wanted
+-- all lines are executed, and then the side is served on, if requested
 pub record EndsByInput (tidy : List ℕ → Option (List ℕ)) (serve_on : Bool) (lines : List (List ℕ))
     (a b : Session) : Type 0 where
   pub ended : Session
@@ -253,7 +253,7 @@ pub record EndsByInput (tidy : List ℕ → Option (List ℕ)) (serve_on : Bool)
   pub serves : ServesOn serve_on ended.live b.live
   pub told : b.told ≡ ended.told
 
--- or the connection is closed while a line is awaited; those before it are done
+-- the connection is closed while a line is awaited; the lines before it are executed
 pub record EndsByClose (tidy : List ℕ → Option (List ℕ)) (lines : List (List ℕ)) (a b : Session) :
     Type 0 where
   pub before : List (List ℕ)
@@ -264,7 +264,7 @@ pub record EndsByClose (tidy : List ℕ → Option (List ℕ)) (lines : List (Li
   pub closes : AwaitsInput came.Closed met.live b.live
   pub told : b.told ≡ met.told
 
--- how a session ends well
+-- how a session ends without a fault
 abbrev pub SessionEnds : (List ℕ → Option (List ℕ)) → Bool → List (List ℕ) → Session → Session → Type 0
 SessionEnds tidy serve_on lines a b = EndsByInput tidy serve_on lines a b ⊎ Quits tidy lines a b
     ⊎ EndsByClose tidy lines a b
@@ -276,7 +276,7 @@ pub record GreetedAndEnds (tidy : List ℕ → Option (List ℕ)) (serve_on : Bo
   pub greets : Hears a.told greeted (Greets ∷ [])
   pub ends : SessionEnds tidy serve_on lines (record { live = a.live; told = greeted }) b
 
--- ---- What stops lines of input beside the lines themselves.
+-- ---- Faults that stop a script or a session.
 
 abbrev pub stop_of : LiveFault → LiveStop
 stop_of (fault.Line line_fault.Memory) = Script Memory

@@ -1,4 +1,4 @@
--- Lines that were printed while a line of input was awaited, for an `expect` to come.
+-- The lines that were printed while a line of input was awaited, for a later `expect`.
 use Rattle.std.specs.Prelude.{ℕ, Bool, nat_le, nat_eq, if◌then◌else◌, List, [], ◌∷◌, ◌++◌, length, map}
 use Rattle.std.specs.List.{list_any, starts_with}
 use Rattle.std.specs.declared.alloc.Global.{Global}
@@ -13,8 +13,8 @@ line_octets lines = map (λ line. line.items) lines
 abbrev pub kept_lines : Unseen → List (List ℕ)
 kept_lines unseen = line_octets unseen.lines.items
 
--- A line is printed. If lines are kept, it is kept behind the others; the others are forgotten if
--- they are 1,000.
+-- A line is printed. If lines are kept, it is appended to them. If 1,000 are kept already, they are
+-- forgotten first.
 abbrev pub with_line : Bool → List ℕ → List (List ℕ) → List (List ℕ)
 with_line kept line lines = if kept
     then (if nat_le 1000 (length lines) then [] else lines) ++ line ∷ [] else lines
@@ -23,11 +23,11 @@ with_line kept line lines = if kept
 abbrev pub begins_with : List ℕ → Vec ℕ Global → Bool
 begins_with words line = starts_with nat_eq line.items words
 
--- one of the lines that are kept begins with these words
+-- one of the kept lines begins with these words
 abbrev pub has_line : List ℕ → Unseen → Bool
 has_line words unseen = list_any (begins_with words) unseen.lines.items
 
--- the lines behind the first that begins with these words; none if no line begins so
+-- the lines after the first one that begins with these words; none if no line begins so
 abbrev pub lines_behind : List ℕ → List (List ℕ) → List (List ℕ)
 lines_behind words [] = []
 lines_behind words (line ∷ lines) = if starts_with nat_eq line words
