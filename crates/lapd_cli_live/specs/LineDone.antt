@@ -21,7 +21,7 @@ use Rattle.lapd_cli_live.specs.WaitingLines.{Expects, Reads, Runs}
 abbrev pub FindsLine : List ℕ → ℕ → Lines → LiveState → LiveState → Type 0
 FindsLine words ms lines a b = HappenBeside [] a b ⊎ Expects words ms lines true a b
 
--- or none was, and this is printed
+-- `expect` fails: the side prints no such line in time, and then prints the words
 pub record MissesLine (words : List ℕ) (ms : ℕ) (lines : Lines) (a b : LiveState) : Type 0 where
   pub served_to : LiveState
   pub expects : Expects words ms lines false a served_to
@@ -48,7 +48,7 @@ HasOwnTei (either.Network code) own = own ≡ 127
 HasOwnTei (either.User code) own =
     user.EachShown code (λ s. own ≡ unwrap_or (tei_of s.terminal) 127)
 
--- a line of the side is executed as the request that it is, read with the side's own TEI
+-- a line is a request, read with the side's own TEI, and is executed as this request
 pub record Obeys (octets : List ℕ) (lines : Lines) (a b : LiveState) : Type 0 where
   pub own : ℕ
   pub own_is : HasOwnTei a.side own
@@ -58,8 +58,7 @@ pub record Obeys (octets : List ℕ) (lines : Lines) (a b : LiveState) : Type 0 
   pub does : LineDone asked lines a done_at
   pub beside : HappenBeside [] done_at b
 
--- `expect` where no line that begins so was printed before: only a line that is printed from here
--- on is found
+-- `expect` if no kept line begins with the words: only a line that is printed from now on is found
 abbrev pub ExpectsFromHere : List ℕ → ℕ → Lines → Bool → LiveState → LiveState → Type 0
 ExpectsFromHere words ms lines true a b = Expects words ms lines true a b
 ExpectsFromHere words ms lines false a b = MissesLine words ms lines a b

@@ -40,14 +40,14 @@ RequestEnds obeyed.Unmet (line.Expect words ms) lines a b = MissesLine words.now
 RequestEnds obeyed.Unmet asked lines a b = ⊥
 RequestEnds obeyed.Bad asked lines a b = ⊥
 
--- a line is not a line of the side, and nothing happens
+-- a line is not a valid request, and nothing happens
 pub record IsBad (octets : List ℕ) (a b : LiveState) : Type 0 where
   pub own : ℕ
   pub own_is : HasOwnTei a.side own
   pub none : live_wish_of_line (side_of a.side) own octets ≡ None
   pub same : b ≡ a
 
--- a line of the side expects a line that was not printed in time
+-- a valid request expects a line that was not printed in time
 pub record IsUnmet (octets : List ℕ) (lines : Lines) (a b : LiveState) : Type 0 where
   pub own : ℕ
   pub own_is : HasOwnTei a.side own
@@ -72,7 +72,7 @@ AwaitsInput came a b = IsServed (service None until.End Awaited) came a b
 abbrev pub AwaitsOnce : LiveState → LiveState → Type 0
 AwaitsOnce a b = (came : Came) × AwaitsInput came a b
 
--- and nothing else happens, as often as input is awaited
+-- input is awaited any number of times, and nothing else happens
 pub record Awaits (a b : LiveState) : Type 0 where
   pub passed : List LiveState
   pub are : Chain AwaitsOnce passed a b
@@ -265,7 +265,7 @@ pub record EndsByClose (tidy : List ℕ → Option (List ℕ)) (lines : List (Li
   pub closes : AwaitsInput came.Closed met.live b.live
   pub told : b.told ≡ met.told
 
--- how a session ends well
+-- how a session ends without a fault
 abbrev pub SessionEnds : (List ℕ → Option (List ℕ)) → Bool → List (List ℕ) → Session → Session → Type 0
 SessionEnds tidy serve_on lines a b = EndsByInput tidy serve_on lines a b ⊎ Quits tidy lines a b
     ⊎ EndsByClose tidy lines a b

@@ -23,11 +23,11 @@ with_line kept line lines = if kept
 abbrev pub begins_with : List ℕ → Vec ℕ Global → Bool
 begins_with words line = starts_with nat_eq line.items words
 
--- one of the lines that are kept begins with these words
+-- one of the kept lines begins with these words
 abbrev pub has_line : List ℕ → Unseen → Bool
 has_line words unseen = list_any (begins_with words) unseen.lines.items
 
--- the lines behind the first that begins with these words; none if no line begins so
+-- the lines after the first one that begins with these words; none if no line begins so
 abbrev pub lines_behind : List ℕ → List (List ℕ) → List (List ℕ)
 lines_behind words [] = []
 lines_behind words (line ∷ lines) = if starts_with nat_eq line words
