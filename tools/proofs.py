@@ -126,7 +126,7 @@ class Proofs:
             self.lock()
 
     def lock(self):
-        """Takes rt's own locks of all the crates, and waits for other runs. What this starts keeps them until it ends."""
+        """Takes rt's own locks of all the crates, and waits for other runs. The commands that this starts hold them too."""
         for folder in sorted(os.path.realpath(f"{TOP}/crates/{it}") for it in self.plan.below):
             self.held.append(os.open(folder, os.O_RDONLY))
             try:

@@ -1,5 +1,5 @@
-/* Refuses one allocation of a program: the one whose number, from 1, the variable REFUSE holds. It stands before the C
-   library (LD_PRELOAD), from which the programs that `rt` builds take all their memory. Where it refuses one, it says so on
+/* Makes one allocation of a program fail: the one whose number, from 1, the variable REFUSE holds. It is preloaded before the C
+   library (LD_PRELOAD), from which the programs that `rt` builds allocate all their memory. If it fails one, it says so on
    standard error, by a line that no program of this repository writes. */
 
 #include <stddef.h>
