@@ -1,0 +1,41 @@
+# Completion of lapd's commands and options for fish.
+set -l commands answer pair loop bus net user decode help
+complete -c lapd -f
+complete -c lapd -n "not __fish_seen_subcommand_from $commands" -a "$commands"
+complete -c lapd -n "__fish_seen_subcommand_from help" -a "answer pair loop bus net user decode"
+complete -c lapd -l strict -d "End with status 5 if a request was refused"
+complete -c lapd -s h -l help -d "Print help"
+complete -c lapd -s V -l version -d "Print the version"
+for command in answer pair loop net user
+    complete -c lapd -n "__fish_seen_subcommand_from $command" -l k -x -d "Window, 1 to 127"
+    complete -c lapd -n "__fish_seen_subcommand_from $command" -l n200 -x -d "Most retransmissions"
+    complete -c lapd -n "__fish_seen_subcommand_from $command" -l room -x -d "Most messages in the I queue"
+end
+complete -c lapd -n "__fish_seen_subcommand_from answer" -l side -x -a "net user" -d "Side of the link"
+complete -c lapd -n "__fish_seen_subcommand_from answer" -l sapi -x -a "0 16" -d "SAPI of the link"
+complete -c lapd -n "__fish_seen_subcommand_from answer net user" -l tei -x -d "TEI"
+complete -c lapd -n "__fish_seen_subcommand_from answer net user" -l recovery -x -a "enquiry last" -d "Frame at T200"
+complete -c lapd -n "__fish_seen_subcommand_from pair loop" -l recovery-user -x -a "enquiry last" -d "Frame at T200, user side"
+complete -c lapd -n "__fish_seen_subcommand_from pair loop" -l recovery-net -x -a "enquiry last" -d "Frame at T200, network side"
+complete -c lapd -n "__fish_seen_subcommand_from bus net" -l terminals -x -d "Terminals, 1 to 127"
+complete -c lapd -n "__fish_seen_subcommand_from net" -l listen -x -d "Address, such as 127.0.0.1:4000"
+complete -c lapd -n "__fish_seen_subcommand_from net" -l idle-limit -x -d "Milliseconds without a frame"
+complete -c lapd -n "__fish_seen_subcommand_from user" -l connect -x -d "Address, such as 127.0.0.1:4000"
+complete -c lapd -n "__fish_seen_subcommand_from net user" -l pri -d "Primary rate"
+complete -c lapd -n "__fish_seen_subcommand_from net user" -l sapi16 -d "Serve SAPI 16 too"
+for timer in t200 t201 t202 t203
+    complete -c lapd -n "__fish_seen_subcommand_from net user" -l $timer -x -d "Milliseconds"
+end
+complete -c lapd -n "__fish_seen_subcommand_from net user" -l seed -x -d "Seed of references"
+complete -c lapd -n "__fish_seen_subcommand_from net user decode" -l json -d "JSON objects"
+complete -c lapd -n "__fish_seen_subcommand_from net user" -l clock -x -a "script real" -d "Clock"
+complete -c lapd -n "__fish_seen_subcommand_from net user" -l time -d "Begin lines with the time"
+complete -c lapd -n "__fish_seen_subcommand_from net user" -l quiet -d "No trace lines"
+complete -c lapd -n "__fish_seen_subcommand_from net user" -l serve -d "Go on after the script"
+complete -c lapd -n "__fish_seen_subcommand_from net user" -l keep -d "Next connection after a closed one"
+complete -c lapd -n "__fish_seen_subcommand_from net user decode" -l pcap -r -F -d "Capture file"
+complete -c lapd -n "__fish_seen_subcommand_from net user" -l gsmtap -x -d "GSMTAP address"
+complete -c lapd -n "__fish_seen_subcommand_from decode" -l loose -d "Allow spaces and libpri's lines"
+complete -c lapd -n "__fish_seen_subcommand_from decode" -l sender -x -a "net user" -d "Sender"
+complete -c lapd -n "__fish_seen_subcommand_from decode" -l names -d "Name messages"
+complete -c lapd -n "__fish_seen_subcommand_from decode" -l keep-going -d "Skip bad lines"
