@@ -183,7 +183,7 @@ class Proofs:
         """The time left: that of the table, and as much longer as the crates done so far took longer."""
         rest, elapsed = self.rest(self.left) if self.left else 0, time.monotonic() - self.begun
         past = self.expected - rest
-        minutes = round(rest * (elapsed / past if past > 60 else 1) / 60)
+        minutes = round(rest * (max(elapsed / past, 1) if past > 60 else 1) / 60)
         return f"about {minutes} min left" if minutes else "less than a minute left"
 
     def show(self, more=None):
