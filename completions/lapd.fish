@@ -1,41 +1,50 @@
-# Completion of lapd's commands and options for fish.
-set -l commands answer pair loop bus net user decode help
+# Completion of lapd's commands, options and their words for fish.
+function __lapd_runs --description "Whether the first word is one of these commands, or absent for no commands"
+    set -l words (commandline -opc)
+    test "$words[2]" = "$argv"; or contains -- "$words[2]" $argv
+end
+function __lapd_option --description "Adds an option of these commands, a list in one word"
+    complete -c lapd -n "__lapd_runs $argv[1]" -l $argv[2..]
+end
+
 complete -c lapd -f
-complete -c lapd -n "not __fish_seen_subcommand_from $commands" -a "$commands"
-complete -c lapd -n "__fish_seen_subcommand_from help" -a "answer pair loop bus net user decode"
-complete -c lapd -l strict -d "End with status 5 if a request was refused"
-complete -c lapd -s h -l help -d "Print help"
-complete -c lapd -s V -l version -d "Print the version"
-for command in answer pair loop net user
-    complete -c lapd -n "__fish_seen_subcommand_from $command" -l k -x -d "Window, 1 to 127"
-    complete -c lapd -n "__fish_seen_subcommand_from $command" -l n200 -x -d "Most retransmissions"
-    complete -c lapd -n "__fish_seen_subcommand_from $command" -l room -x -d "Most messages in the I queue"
-end
-complete -c lapd -n "__fish_seen_subcommand_from answer" -l side -x -a "net user" -d "Side of the link"
-complete -c lapd -n "__fish_seen_subcommand_from answer" -l sapi -x -a "0 16" -d "SAPI of the link"
-complete -c lapd -n "__fish_seen_subcommand_from answer net user" -l tei -x -d "TEI"
-complete -c lapd -n "__fish_seen_subcommand_from answer net user" -l recovery -x -a "enquiry last" -d "Frame at T200"
-complete -c lapd -n "__fish_seen_subcommand_from pair loop" -l recovery-user -x -a "enquiry last" -d "Frame at T200, user side"
-complete -c lapd -n "__fish_seen_subcommand_from pair loop" -l recovery-net -x -a "enquiry last" -d "Frame at T200, network side"
-complete -c lapd -n "__fish_seen_subcommand_from bus net" -l terminals -x -d "Terminals, 1 to 127"
-complete -c lapd -n "__fish_seen_subcommand_from net" -l listen -x -d "Address, such as 127.0.0.1:4000"
-complete -c lapd -n "__fish_seen_subcommand_from net" -l idle-limit -x -d "Milliseconds without a frame"
-complete -c lapd -n "__fish_seen_subcommand_from user" -l connect -x -d "Address, such as 127.0.0.1:4000"
-complete -c lapd -n "__fish_seen_subcommand_from net user" -l pri -d "Primary rate"
-complete -c lapd -n "__fish_seen_subcommand_from net user" -l sapi16 -d "Serve SAPI 16 too"
+complete -c lapd -n __lapd_runs -a "answer bus pair loop net user decode help"
+complete -c lapd -n "__lapd_runs help" -a "answer bus pair loop net user decode"
+complete -c lapd -n __lapd_runs -s V -l version -d "Print the version"
+complete -c lapd -n "not __lapd_runs help" -s h -l help -d "Print help"
+__lapd_option "answer bus pair loop net user decode" strict -d "End with status 5 if a request was refused"
+
+__lapd_option answer side -x -a "net user" -d "Side of the link"
+__lapd_option answer sapi -x -a "0 16" -d "SAPI of the link"
+__lapd_option "answer net user" tei -x -d "TEI, 0 to 126"
+__lapd_option "answer pair loop net user" k -x -d "Window, 1 to 127"
+__lapd_option "answer pair loop net user" n200 -x -d "Most retransmissions, 1 to 100"
+__lapd_option "answer pair loop net user" room -x -d "Most messages in an I queue, 1 to 1024"
+__lapd_option "answer net user" recovery -x -a "enquiry last" -d "Frame that T200 sends in state 7"
+__lapd_option "pair loop" recovery-user -x -a "enquiry last" -d "Recovery of the user side"
+__lapd_option "pair loop" recovery-net -x -a "enquiry last" -d "Recovery of the network side"
+__lapd_option "bus net" terminals -x -d "Number of terminals, 1 to 127"
+
+__lapd_option net listen -x -d "Wait at this address"
+__lapd_option user connect -x -d "Connect to this address"
+__lapd_option "net user" pri -d "Primary rate"
+__lapd_option "net user" sapi16 -d "With --pri, serve SAPI 16 too"
 for timer in t200 t201 t202 t203
-    complete -c lapd -n "__fish_seen_subcommand_from net user" -l $timer -x -d "Milliseconds"
+    __lapd_option "net user" $timer -x -d "Duration in milliseconds"
 end
-complete -c lapd -n "__fish_seen_subcommand_from net user" -l seed -x -d "Seed of references"
-complete -c lapd -n "__fish_seen_subcommand_from net user decode" -l json -d "JSON objects"
-complete -c lapd -n "__fish_seen_subcommand_from net user" -l clock -x -a "script real" -d "Clock"
-complete -c lapd -n "__fish_seen_subcommand_from net user" -l time -d "Begin lines with the time"
-complete -c lapd -n "__fish_seen_subcommand_from net user" -l quiet -d "No trace lines"
-complete -c lapd -n "__fish_seen_subcommand_from net user" -l serve -d "Go on after the script"
-complete -c lapd -n "__fish_seen_subcommand_from net user" -l keep -d "Next connection after a closed one"
-complete -c lapd -n "__fish_seen_subcommand_from net user decode" -l pcap -r -F -d "Capture file"
-complete -c lapd -n "__fish_seen_subcommand_from net user" -l gsmtap -x -d "GSMTAP address"
-complete -c lapd -n "__fish_seen_subcommand_from decode" -l loose -d "Allow spaces and libpri's lines"
-complete -c lapd -n "__fish_seen_subcommand_from decode" -l sender -x -a "net user" -d "Sender"
-complete -c lapd -n "__fish_seen_subcommand_from decode" -l names -d "Name messages"
-complete -c lapd -n "__fish_seen_subcommand_from decode" -l keep-going -d "Skip bad lines"
+__lapd_option "net user" seed -x -d "Where references begin"
+__lapd_option "net user decode" json -d "Print JSON objects"
+__lapd_option "net user" clock -x -a "script real" -d "Clock"
+__lapd_option "net user" time -d "Begin lines with the time"
+__lapd_option "net user" quiet -d "Print no trace lines"
+__lapd_option "net user" serve -d "Continue after the script"
+__lapd_option "net user" keep -d "Take the next connection when one is lost"
+__lapd_option "net user decode" pcap -r -F -d "Capture file"
+__lapd_option "net user" gsmtap -x -d "Send frames as GSMTAP to this address"
+__lapd_option net idle-limit -x -d "Close a silent connection, in milliseconds"
+
+__lapd_option decode loose -d "Allow spaces and libpri's lines"
+__lapd_option decode sender -x -a "net user" -d "Sender if none is named"
+__lapd_option decode names -d "Name messages"
+__lapd_option decode keep-going -d "Skip bad lines"
+functions -e __lapd_option
