@@ -63,7 +63,7 @@ impl End {
     ///
     /// `NoFrame` for octets that do not form a valid frame, `NotForLink`, `Link` if the link
     /// refuses, or `LineFull`.
-    pub fn hear(&mut self, from: &mut Wire, to: &mut Wire) -> Result<(), BenchFault> {
+    pub fn receive(&mut self, from: &mut Wire, to: &mut Wire) -> Result<(), BenchFault> {
         for slot in from.under_way() {
             let frame = read(slot.octets(), from.sender())?;
             if !self.link.is_for(&frame.address()) {

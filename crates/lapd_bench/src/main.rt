@@ -32,7 +32,7 @@ use bench_fault::BenchFault;
 use done::Done;
 use end::End;
 use lapd_frame::Side;
-use over_side::Deed;
+use over_side::SideEvent;
 use std::alloc::Global;
 use std::env::Args;
 use std::process::ExitCode;
@@ -112,11 +112,11 @@ fn do_word(alloc: Global, word: &str, words: &mut Args) -> Result<Done, BenchFau
 /// Executes the command of this word with two numbers.
 fn do_with_two(alloc: Global, word: &str, count: u32, times: u32) -> Result<Done, BenchFault> {
     match word {
-        "line" => over_pair::stand(alloc, count, times),
+        "line" => over_pair::exchange(alloc, count, times),
         "table" => over_table::answer(alloc, count, times),
-        "side" => over_side::pass(alloc, count, Deed::Take(times)),
-        "tick" => over_side::pass(alloc, count, Deed::Tick(times)),
-        "expire" => over_side::pass(alloc, count, Deed::Expire(times)),
+        "side" => over_side::pass(alloc, count, SideEvent::Take(times)),
+        "tick" => over_side::pass(alloc, count, SideEvent::Tick(times)),
+        "expire" => over_side::pass(alloc, count, SideEvent::Expire(times)),
         _ => Err(BenchFault::CommandLine),
     }
 }
@@ -205,7 +205,8 @@ impl Pair {
 
     /// Delivers the frames on the line to the network, and its responses to the user.
     fn cross(&mut self) -> Result<(), BenchFault> {
-        self.network.hear(&mut self.to_network, &mut self.to_user)?;
-        self.user.hear(&mut self.to_user, &mut self.to_network)
+        self.network
+            .receive(&mut self.to_network, &mut self.to_user)?;
+        self.user.receive(&mut self.to_user, &mut self.to_network)
     }
 }

@@ -65,9 +65,14 @@ fn pass_batch(
 }
 
 /// Makes the same move this many times.
-fn repeat(pair: &mut Pair, deed: &Move, times: u32, outs: &mut Outs) -> Result<(), BenchFault> {
+fn repeat(
+    pair: &mut Pair,
+    side_event: &Move,
+    times: u32,
+    outs: &mut Outs,
+) -> Result<(), BenchFault> {
     for _ in 0..times {
-        pair.apply_into(deed, outs)?;
+        pair.apply_into(side_event, outs)?;
     }
     Ok(())
 }
@@ -78,19 +83,24 @@ fn repeat(pair: &mut Pair, deed: &Move, times: u32, outs: &mut Outs) -> Result<(
 /// # Errors
 ///
 /// `Memory`, and `Pair` if a move is refused.
-pub fn stand(alloc: Global, frames: u32, moves: u32) -> Result<Done, BenchFault> {
+pub fn exchange(alloc: Global, frames: u32, moves: u32) -> Result<Done, BenchFault> {
     let unit = Move::Unit(Side::User, [0; OCTETS].to_vec(alloc)?);
-    stand_each(alloc, &unit, frames, moves)
+    exchange_each(alloc, &unit, frames, moves)
 }
 
-/// The same as [`stand`], on a new pair.
-fn stand_each(alloc: Global, unit: &Move, frames: u32, moves: u32) -> Result<Done, BenchFault> {
+/// The same as [`exchange`], on a new pair.
+fn exchange_each(alloc: Global, unit: &Move, frames: u32, moves: u32) -> Result<Done, BenchFault> {
     let mut pair = Pair::new(alloc, Params::primary(), Params::primary())?;
-    stand_over(&mut pair, unit, frames, moves)
+    exchange_over(&mut pair, unit, frames, moves)
 }
 
-/// The same as [`stand`], on this pair.
-fn stand_over(pair: &mut Pair, unit: &Move, frames: u32, moves: u32) -> Result<Done, BenchFault> {
+/// The same as [`exchange`], on this pair.
+fn exchange_over(
+    pair: &mut Pair,
+    unit: &Move,
+    frames: u32,
+    moves: u32,
+) -> Result<Done, BenchFault> {
     let mut outs = Outs::new();
     repeat(pair, unit, frames, &mut outs)?;
     move_on(pair, unit, moves, &mut outs)?;

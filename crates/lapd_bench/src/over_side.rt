@@ -22,7 +22,7 @@ type Message = [u8; 4 + OCTETS];
 
 /// The work over a side.
 #[derive(Clone, Copy)]
-pub enum Deed {
+pub enum SideEvent {
     /// Passes this many I frames, one after another to each link, and counts the delivered messages
     /// and the frames that respond.
     Take(u32),
@@ -39,34 +39,34 @@ pub enum Deed {
 /// # Errors
 ///
 /// `Memory`, and `CommandLine` for no links or more than 254.
-pub fn pass(alloc: Global, links: u32, deed: Deed) -> Result<Done, BenchFault> {
+pub fn pass(alloc: Global, links: u32, side_event: SideEvent) -> Result<Done, BenchFault> {
     let mut messages = Vec::with_capacity(alloc, links as usize)?;
-    with_known(alloc, links, deed, &mut messages)
+    with_known(alloc, links, side_event, &mut messages)
 }
 
 /// Does the work over a side with this many links, whose TEIs are known at the start.
 fn with_known(
     alloc: Global,
     links: u32,
-    deed: Deed,
+    side_event: SideEvent,
     messages: &mut Vec<Message>,
 ) -> Result<Done, BenchFault> {
     let known = known(alloc, links)?;
-    with_side(alloc, links, deed, messages, &known)
+    with_side(alloc, links, side_event, messages, &known)
 }
 
 /// Does the work over a side with this many links, of terminals with these TEIs.
 fn with_side(
     alloc: Global,
     links: u32,
-    deed: Deed,
+    side_event: SideEvent,
     messages: &mut Vec<Message>,
     known: &[Tei],
 ) -> Result<Done, BenchFault>
     requires { All (λ tei. tei < 127) known.now }
 {
     let mut side = NetSide::new(alloc, config(links), known)?;
-    with_acts(alloc, &mut side, links, deed, messages)
+    with_acts(alloc, &mut side, links, side_event, messages)
 }
 
 /// Does the work over this side, with outputs that it borrows.
@@ -74,26 +74,26 @@ fn with_acts(
     alloc: Global,
     side: &mut NetSide,
     links: u32,
-    deed: Deed,
+    side_event: SideEvent,
     messages: &mut Vec<Message>,
 ) -> Result<Done, BenchFault> {
     let mut acts = Acts::new(alloc)?;
-    establish_and_do(side, links, deed, messages, &mut acts)
+    establish_and_do(side, links, side_event, messages, &mut acts)
 }
 
 /// Establishes the links of this side, and does the work over it.
 fn establish_and_do(
     side: &mut NetSide,
     links: u32,
-    deed: Deed,
+    side_event: SideEvent,
     messages: &mut Vec<Message>,
     acts: &mut Acts,
 ) -> Result<Done, BenchFault> {
     establish(side, links, messages, acts)?;
-    match deed {
-        Deed::Take(frames) => take_each(side, frames, messages.as_mut_slice(), acts),
-        Deed::Tick(times) => Ok(tick_each(side, times, acts)),
-        Deed::Expire(rounds) => Ok(expire_each(side, rounds, acts)),
+    match side_event {
+        SideEvent::Take(frames) => take_each(side, frames, messages.as_mut_slice(), acts),
+        SideEvent::Tick(times) => Ok(tick_each(side, times, acts)),
+        SideEvent::Expire(rounds) => Ok(expire_each(side, rounds, acts)),
     }
 }
 

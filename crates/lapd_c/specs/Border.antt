@@ -7,7 +7,7 @@ use Rattle.lapd_sides.specs.declared.either_side.EitherSide.{EitherSide}
 use Rattle.lapd_c.specs.declared.held_side.HeldSide.{HeldSide}
 use Rattle.lapd_c.specs.declared.link_state.LinkState.{LinkState}
 use Rattle.lapd_c.specs.LinkStates.{no_state}
-use Rattle.lapd_c.specs.Calls.{Call, Asks, TellsState}
+use Rattle.lapd_c.specs.Calls.{Call, Asks, ReturnsState}
 use Rattle.lapd_c.specs.Codes.{done, no_side, out_of_range, memory}
 use Rattle.lapd_c.specs.Owned.{Held}
 use Rattle.lapd_c.specs.Settings.{IsNew}
@@ -31,10 +31,12 @@ AsksLink call code old new None = (code ≡ out_of_range) × (new ≡ old)
 AsksLink call code old new (Some id) = AsksSide (call id) code old new
 
 -- a query of the state of a link
-abbrev pub TellsStateOf : LinkState → ℕ → Held → Held → Option LinkId → Type 0
-TellsStateOf told code old new None = (code ≡ out_of_range) × (told ≡ no_state) × (new ≡ old)
-TellsStateOf told code old new (Some id) =
-    Through (λ o n. TellsState id told o n code) ((code ≡ no_side) × (told ≡ no_state)) old new
+abbrev pub ReturnsStateOf : LinkState → ℕ → Held → Held → Option LinkId → Type 0
+ReturnsStateOf delivered code old new None = (code ≡ out_of_range) × (delivered ≡ no_state)
+    × (new ≡ old)
+ReturnsStateOf delivered code old new (Some id) =
+    Through (λ o n. ReturnsState id delivered o n code)
+    ((code ≡ no_side) × (delivered ≡ no_state)) old new
 
 -- a call for a TEI, likewise
 abbrev pub AsksTei : (ℕ → Call) → ℕ → Held → Held → Option ℕ → Type 0

@@ -1,7 +1,7 @@
 -- The effect of a call on a held side: that of the side's own call, and the results that are
 -- fetched.
 use Rattle.std.specs.Prelude.{◌≡◌, ◌≤◌, ◌⊎◌, ℕ, ◌++◌, ◌||◌, ◌&&◌, nat_eq, nat_lt, nat_le, Bool, true, false, List, length, drop, slice_get, Option, Some, None, Result, ⊤}
-use Rattle.lapd_link.specs.Link.{LinkStandsFor}
+use Rattle.lapd_link.specs.Link.{LinkRepresents}
 use Rattle.lapd_link.specs.declared.link.Link.{Link}
 use Rattle.lapd_link_definition.specs.End.{End}
 use Rattle.lapd_table.specs.declared.link_id.LinkId.{LinkId}
@@ -12,7 +12,7 @@ use Rattle.lapd_sides_links.specs.declared.primitive.Primitive.{Primitive}
 use Rattle.lapd_sides_links.specs.declared.side_fault.SideFault.{SideFault}
 use Rattle.lapd_sides_links.specs.Effects.{Effects, and_then, no_effects}
 use Rattle.lapd_sides.specs.declared.either_side.EitherSide.{EitherSide}
-use Rattle.lapd_sides.specs.Either.{Expires, Rests, HasNextDeadline, HasDiscarded, HasTable}
+use Rattle.lapd_sides.specs.Either.{Expires, StaysIdle, HasNextDeadline, HasDiscarded, HasTable}
 use Rattle.lapd_c.specs.declared.flat_primitive.FlatPrimitive.{FlatPrimitive}
 use Rattle.lapd_c.specs.declared.held_side.HeldSide.{HeldSide}
 use Rattle.lapd_c.specs.declared.link_state.LinkState.{LinkState}
@@ -69,7 +69,7 @@ pub record HasTicked (now expired : ℕ) (old new : HeldSide) (code : ℕ) : Typ
   pub flag : expired ≤ 1
   pub given : Effects
   pub due : expired ≡ 1 → Expires now old.side new.side given
-  pub none : expired ≡ 0 → Rests now old.side new.side × (given ≡ no_effects)
+  pub none : expired ≡ 0 → StaysIdle now old.side new.side × (given ≡ no_effects)
   pub waits : waiting new ≡ and_then (waiting old) given
   pub most : new.most_waiting ≡ old.most_waiting
 
@@ -90,30 +90,30 @@ abbrev pub or_never : Option ℕ → ℕ
 or_never None = 18446744073709551615
 or_never (Some moment) = moment
 
-pub record TellsDeadline (moment : ℕ) (old new : HeldSide) (code : ℕ) : Type 0 where
+pub record ReturnsDeadline (moment : ℕ) (old new : HeldSide) (code : ℕ) : Type 0 where
   pub done : code ≡ done
   pub same : new ≡ old
   pub deadline : Option ℕ
   pub next : HasNextDeadline old.side deadline
   pub is : moment ≡ or_never deadline
 
-pub record TellsDiscarded (count : ℕ) (old new : HeldSide) (code : ℕ) : Type 0 where
+pub record ReturnsDiscarded (count : ℕ) (old new : HeldSide) (code : ℕ) : Type 0 where
   pub done : code ≡ done
   pub same : new ≡ old
   pub discarded : HasDiscarded old.side count
 
 -- the state of an existing link, whatever end it represents, and of one that does not exist
-abbrev pub TellsLink : LinkState → ℕ → Option Link → Type 0
-TellsLink told code None = (code ≡ code_of_kind NoLink) × (told ≡ no_state)
-TellsLink told code (Some link) =
-    (code ≡ done) × ((e : End) → LinkStandsFor link e → told ≡ state_of e)
+abbrev pub ReturnsLink : LinkState → ℕ → Option Link → Type 0
+ReturnsLink delivered code None = (code ≡ code_of_kind NoLink) × (delivered ≡ no_state)
+ReturnsLink delivered code (Some link) =
+    (code ≡ done) × ((e : End) → LinkRepresents link e → delivered ≡ state_of e)
 
-pub record TellsState (id : LinkId) (told : LinkState) (old new : HeldSide) (code : ℕ) :
+pub record ReturnsState (id : LinkId) (delivered : LinkState) (old new : HeldSide) (code : ℕ) :
     Type 0 where
   pub same : new ≡ old
   pub table : LinkTable
   pub has_table : HasTable old.side table
-  pub link : TellsLink told code (link_at table id)
+  pub link : ReturnsLink delivered code (link_at table id)
 
 -- ---- Calls that fetch.
 
@@ -173,18 +173,19 @@ without_first_primitive e = record e { primitives = drop 1 e.primitives }
 
 abbrev pub FetchesPrimitiveOr : Option Primitive → HeldSide → HeldSide → ℕ → FlatPrimitive
     → Buffer → Type 0
-FetchesPrimitiveOr None old new code told buffer = (told ≡ nothing) × HasNone old new code buffer
-FetchesPrimitiveOr (Some primitive) old new code told buffer = (told ≡ flat primitive)
+FetchesPrimitiveOr None old new code delivered buffer = (delivered ≡ nothing)
+    × HasNone old new code buffer
+FetchesPrimitiveOr (Some primitive) old new code delivered buffer = (delivered ≡ flat primitive)
     × Fetches (octets_of primitive) (without_first_primitive (waiting old)) old new code buffer
 
 abbrev pub FetchesPrimitive : HeldSide → HeldSide → ℕ → FlatPrimitive → Buffer → Type 0
-FetchesPrimitive old new code told buffer =
-    FetchesPrimitiveOr (slice_get (waiting old).primitives 0) old new code told buffer
+FetchesPrimitive old new code delivered buffer =
+    FetchesPrimitiveOr (slice_get (waiting old).primitives 0) old new code delivered buffer
 
 -- ---- Text.
 
 -- the text is written to the beginning of the buffer, if it fits
-pub record TellsText (text : List ℕ) (code count : ℕ) (buffer : Buffer) : Type 0 where
+pub record ReturnsText (text : List ℕ) (code count : ℕ) (buffer : Buffer) : Type 0 where
   pub counted : count ≡ length text
   pub done : nat_lt (length buffer.before) (length text) ≡ false
       → (code ≡ done) × (buffer.after ≡ overwritten text buffer.before)
@@ -192,11 +193,11 @@ pub record TellsText (text : List ℕ) (code count : ℕ) (buffer : Buffer) : Ty
       → (code ≡ out_of_range) × (buffer.after ≡ buffer.before)
 
 -- or an allocation fails, and nothing is written
-pub record TellsNothing (code count : ℕ) (buffer : Buffer) : Type 0 where
+pub record ReturnsNothing (code count : ℕ) (buffer : Buffer) : Type 0 where
   pub refused : code ≡ memory
   pub counted : count ≡ 0
   pub octets : buffer.after ≡ buffer.before
 
-abbrev pub TellsTextOrNothing : List ℕ → ℕ → ℕ → Buffer → Type 0
-TellsTextOrNothing text code count buffer =
-    TellsNothing code count buffer ⊎ TellsText text code count buffer
+abbrev pub ReturnsTextOrNothing : List ℕ → ℕ → ℕ → Buffer → Type 0
+ReturnsTextOrNothing text code count buffer =
+    ReturnsNothing code count buffer ⊎ ReturnsText text code count buffer

@@ -72,13 +72,13 @@ tei_of_outcome other = group_tei
 -- ---- The whole primitive.
 
 abbrev pub flat : Primitive → FlatPrimitive
-flat (Of id told) = record {
-  kind = kind_of_link told;
+flat (Of id delivered) = record {
+  kind = kind_of_link delivered;
   sapi = sapi_value id.sapi;
   tei = id.tei;
-  letter = letter_of told;
-  count = count_of told;
-  octets = length (octets_up told);
+  letter = letter_of delivered;
+  count = count_of delivered;
+  octets = length (octets_up delivered);
 }
 flat (Management outcome) = record {
   kind = kind_of_outcome outcome;
@@ -94,7 +94,7 @@ abbrev pub nothing : FlatPrimitive
 nothing = record { kind = 0; sapi = 0; tei = 0; letter = 0; count = 0; octets = 0 }
 
 abbrev pub octets_of : Primitive → List ℕ
-octets_of (Of id told) = octets_up told
+octets_of (Of id delivered) = octets_up delivered
 octets_of (Management outcome) = []
 
 -- ---- A link named by C: SAPI 0, 16 or 63, and TEI 0 to 127.

@@ -3,7 +3,7 @@
 ghost use Rattle.std.specs.Prelude.{◌≡◌, ◌<◌, ◌≤◌, length, slice_get, option_copied, IfOk, OnOk, OnErr, false};
 ghost use Rattle.lapd_sides_links.specs.Effects.{no_effects};
 ghost use Rattle.lapd_sides.specs.Either.{Takes, Answers};
-ghost use Rattle.lapd_c.specs.Calls.{or_never, waiting, gives_nothing, is_full, without_first_frame, without_first_primitive, Asks, Ticks, TellsDeadline, TellsDiscarded, TellsState, FetchesFrame, FetchesPrimitive, overwritten};
+ghost use Rattle.lapd_c.specs.Calls.{or_never, waiting, gives_nothing, is_full, without_first_frame, without_first_primitive, Asks, Ticks, ReturnsDeadline, ReturnsDiscarded, ReturnsState, FetchesFrame, FetchesPrimitive, overwritten};
 
 use crate::backlog::Backlog;
 use crate::codes::{DONE, MEMORY, NO_LINK, OUT_OF_RANGE, PENDING, code_of};
@@ -124,7 +124,7 @@ impl HeldSide {
     /// Sets `moment` to the next moment at which something is due, in milliseconds, or to the
     /// greatest moment if no timer runs.
     pub(crate) fn next_deadline(&self, moment: &mut u64) -> u32
-        ensures { TellsDeadline moment.new self.now self.now result }
+        ensures { ReturnsDeadline moment.new self.now self.now result }
     {
         *moment = moment_or_never(self.side.next_deadline());
         DONE
@@ -132,7 +132,7 @@ impl HeldSide {
 
     /// Sets `count` to the number of discarded frames.
     pub(crate) fn discarded(&self, count: &mut u64) -> u32
-        ensures { TellsDiscarded count.new self.now self.now result }
+        ensures { ReturnsDiscarded count.new self.now self.now result }
     {
         *count = self.side.discarded();
         DONE
@@ -140,7 +140,7 @@ impl HeldSide {
 
     /// Sets `state` to the state of a link.
     pub(crate) fn state(&self, id: LinkId, state: &mut LinkState) -> u32
-        ensures { TellsState id state.new self.now self.now result }
+        ensures { ReturnsState id state.new self.now self.now result }
     {
         match self.side.table().link(id) {
             Some(link) => {
@@ -227,15 +227,15 @@ impl HeldSide {
 
     /// Fetches the first waiting primitive, and copies its octets to the beginning of the buffer.
     /// If the buffer is too small for them, the primitive still waits.
-    pub(crate) fn next_primitive(&mut self, told: &mut FlatPrimitive, buffer: &mut [u8]) -> u32
-        ensures { FetchesPrimitive self.old self.new result told.new
+    pub(crate) fn next_primitive(&mut self, delivered: &mut FlatPrimitive, buffer: &mut [u8]) -> u32
+        ensures { FetchesPrimitive self.old self.new result delivered.new
             (record { before = buffer.old; after = buffer.new }) }
     {
         let Some(primitive) = self.first_primitive() else {
-            *told = FlatPrimitive::nothing();
+            *delivered = FlatPrimitive::nothing();
             return DONE;
         };
-        *told = FlatPrimitive::of(primitive);
+        *delivered = FlatPrimitive::of(primitive);
         let octets = octets_of(primitive);
         if buffer.len() < octets.len() {
             return OUT_OF_RANGE;

@@ -11,8 +11,8 @@
 ghost use Rattle.std.specs.Prelude.{◌≡◌, ◌==◌, Some, None, not};
 ghost use Rattle.lapd_sides.specs.Either.{Takes, Answers};
 ghost use Rattle.lapd_frame.specs.Address.{number_at};
-ghost use Rattle.lapd_c.specs.Border.{AsksSide, AsksTei, AsksLink, AsksLinkWith, Makes, TellsStateOf, Through};
-ghost use Rattle.lapd_c.specs.Calls.{or_never, Ticks, TellsDeadline, TellsDiscarded, FetchesFrame, FetchesPrimitive, TellsTextOrNothing};
+ghost use Rattle.lapd_c.specs.Border.{AsksSide, AsksTei, AsksLink, AsksLinkWith, Makes, ReturnsStateOf, Through};
+ghost use Rattle.lapd_c.specs.Calls.{or_never, Ticks, ReturnsDeadline, ReturnsDiscarded, FetchesFrame, FetchesPrimitive, ReturnsTextOrNothing};
 ghost use Rattle.lapd_trace.specs.Trace.{trace_line};
 ghost use Rattle.lapd_c.specs.FlatPrimitives.{link_of, nothing, sender};
 ghost use Rattle.lapd_c.specs.Settings.{IsNewNetwork, IsNewUser, network_config, user_config};
@@ -277,7 +277,7 @@ pub extern "C" fn lapd_side_tick(
 /// nothing to do. `moment` is the greatest moment if no timer runs or the handle owns no side.
 #[unsafe(no_mangle)]
 pub extern "C" fn lapd_side_deadline(handle: &mut Handle, moment: &mut u64, alloc: Global) -> u32
-    ensures { Through (λ old new. TellsDeadline moment.new old new result)
+    ensures { Through (λ old new. ReturnsDeadline moment.new old new result)
         ((result ≡ 1) × (moment.new ≡ or_never None)) handle.old.held handle.new.held }
 {
     let Some(side) = opened(handle, alloc) else {
@@ -293,7 +293,7 @@ pub extern "C" fn lapd_side_deadline(handle: &mut Handle, moment: &mut u64, allo
 /// at the greatest number.
 #[unsafe(no_mangle)]
 pub extern "C" fn lapd_side_discarded(handle: &mut Handle, count: &mut u64, alloc: Global) -> u32
-    ensures { Through (λ old new. TellsDiscarded count.new old new result)
+    ensures { Through (λ old new. ReturnsDiscarded count.new old new result)
         ((result ≡ 1) × (count.new ≡ 0)) handle.old.held handle.new.held }
 {
     let Some(side) = opened(handle, alloc) else {
@@ -314,7 +314,7 @@ pub extern "C" fn lapd_side_state(
     state: &mut LinkState,
     alloc: Global,
 ) -> u32
-    ensures { TellsStateOf state.new result handle.old.held handle.new.held (link_of sapi tei) }
+    ensures { ReturnsStateOf state.new result handle.old.held handle.new.held (link_of sapi tei) }
 {
     *state = LinkState::nothing();
     let Some(id) = link_of(sapi, tei) else {
@@ -339,7 +339,7 @@ pub extern "C" fn lapd_frame_text(
     count: &mut usize,
     alloc: Global,
 ) -> u32
-    ensures { TellsTextOrNothing (trace_line (sender network) octets.now) result count.new
+    ensures { ReturnsTextOrNothing (trace_line (sender network) octets.now) result count.new
         (record { before = buffer.old; after = buffer.new }) }
 {
     let Ok(text) = line(alloc, sender(network), octets) else {
@@ -395,20 +395,20 @@ pub extern "C" fn lapd_side_frame(
 #[unsafe(no_mangle)]
 pub extern "C" fn lapd_side_primitive(
     handle: &mut Handle,
-    told: &mut FlatPrimitive,
+    delivered: &mut FlatPrimitive,
     buffer: &mut [u8],
     alloc: Global,
 ) -> u32
-    ensures { Through (λ old new. FetchesPrimitive old new result told.new
+    ensures { Through (λ old new. FetchesPrimitive old new result delivered.new
         (record { before = buffer.old; after = buffer.new }))
-        ((result ≡ 1) × (told.new ≡ nothing) × (buffer.new ≡ buffer.old))
+        ((result ≡ 1) × (delivered.new ≡ nothing) × (buffer.new ≡ buffer.old))
         handle.old.held handle.new.held }
 {
     let Some(mut side) = opened(handle, alloc) else {
-        *told = FlatPrimitive::nothing();
+        *delivered = FlatPrimitive::nothing();
         return NO_SIDE;
     };
-    let code = side.next_primitive(told, buffer);
+    let code = side.next_primitive(delivered, buffer);
     shut(handle, side);
     code
 }

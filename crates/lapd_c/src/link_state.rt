@@ -1,7 +1,7 @@
 //! The state of a link in the form that C reads.
 
 ghost use Rattle.std.specs.Prelude.{◌≡◌};
-ghost use Rattle.lapd_link.specs.Link.{LinkStandsFor};
+ghost use Rattle.lapd_link.specs.Link.{LinkRepresents};
 ghost use Rattle.lapd_link_definition.specs.End.{End};
 ghost use Rattle.lapd_c.specs.LinkStates.{flag, state_of, no_state};
 
@@ -51,7 +51,7 @@ impl LinkState {
 
     /// The state of a link.
     pub(crate) fn of(link: &Link) -> LinkState
-        ensures { (e : End) → LinkStandsFor link.now e → result ≡ state_of e }
+        ensures { (e : End) → LinkRepresents link.now e → result ≡ state_of e }
     {
         let window = link.window();
         LinkState {

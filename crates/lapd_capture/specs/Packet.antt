@@ -5,9 +5,9 @@ use Rattle.lapd_field.specs.declared.side.Side.{Side}
 use Rattle.lapd_field.specs.declared.side.Side.TheVariants.{Network, User}
 use Rattle.lapd_field.specs.Address.{other_side}
 use Rattle.lapd_capture.specs.declared.order.Order.TheVariants.{Big}
-use Rattle.lapd_capture.specs.declared.found.Found.{Found}
-use Rattle.lapd_capture.specs.declared.found.Found.TheVariants.{Frame, Other, Unreadable, End}
-use Rattle.lapd_capture.specs.declared.found.PacketFault.TheVariants.{BadLength, BadHeader, Partial}
+use Rattle.lapd_capture.specs.declared.item.CaptureItem.{CaptureItem}
+use Rattle.lapd_capture.specs.declared.item.CaptureItem.TheVariants.{Frame, Other, Unreadable, End}
+use Rattle.lapd_capture.specs.declared.item.PacketFault.TheVariants.{BadLength, BadHeader, Partial}
 use Rattle.lapd_capture.specs.declared.link_type.LinkType.{LinkType}
 use Rattle.lapd_capture.specs.declared.link_type.LinkType.TheVariants.{LinuxLapd, Lapd, Ethernet, Ip, NotServed}
 use Rattle.lapd_capture.specs.Octets.{number_at}
@@ -36,7 +36,7 @@ sender_of type side = if nat_lt type 3 then Some (other_side side) else (
 
 -- the frame after the 16 octets from `start` on: packet type, ARPHRD type, length of the address, 8
 -- octets of address, and the protocol, 0x0030
-abbrev pub linux_lapd : ℕ → ℕ → List ℕ → Found
+abbrev pub linux_lapd : ℕ → ℕ → List ℕ → CaptureItem
 linux_lapd start end octets = if nat_lt (end - start) 16 then Unreadable BadLength else (
     if number_at Big 2 (start + 14) octets == 0x0030 then Frame (record {
       from = sender_of (number_at Big 2 start octets)
@@ -52,7 +52,7 @@ abbrev pub gsmtap_sender : ℕ → Side
 gsmtap_sender channel = if channel / 0x4000 % 2 == 1 then User else Network
 
 -- the frame after a GSMTAP header of this length in octets
-abbrev pub gsmtap_frame : ℕ → ℕ → ℕ → List ℕ → Found
+abbrev pub gsmtap_frame : ℕ → ℕ → ℕ → List ℕ → CaptureItem
 gsmtap_frame header start end octets = if nat_lt header 16 then Unreadable BadLength else (
     if nat_lt (end - start) header then Unreadable BadLength else Frame (record {
       from = Some (gsmtap_sender (number_at Big 2 (start + 4) octets));
@@ -62,7 +62,7 @@ gsmtap_frame header start end octets = if nat_lt header 16 then Unreadable BadLe
 
 -- GSMTAP of version 2: the length of its header in words of four octets, its type, 0x13 for E1 and
 -- T1 lines, and at 12 its subtype, 1 for LAPD
-abbrev pub gsmtap : ℕ → ℕ → List ℕ → Found
+abbrev pub gsmtap : ℕ → ℕ → List ℕ → CaptureItem
 gsmtap start end octets = if nat_lt (end - start) 16 then Unreadable BadLength else (
     if not (slice_index octets start == 2) then Other else (
     if not (slice_index octets (start + 2) == 0x13) then Other else (
@@ -70,21 +70,21 @@ gsmtap start end octets = if nat_lt (end - start) 16 then Unreadable BadLength e
     gsmtap_frame (slice_index octets (start + 1) * 4) start end octets)))
 
 -- a UDP datagram to the port of GSMTAP, 4729, by its own length
-abbrev pub udp : ℕ → ℕ → List ℕ → Found
+abbrev pub udp : ℕ → ℕ → List ℕ → CaptureItem
 udp start end octets = if not (number_at Big 2 (start + 2) octets == 4729) then Other else (
     if nat_lt (number_at Big 2 (start + 4) octets) 8 then Unreadable BadLength else (
     if nat_lt (end - start) (number_at Big 2 (start + 4) octets) then Unreadable BadLength else
     gsmtap (start + 8) (start + number_at Big 2 (start + 4) octets) octets))
 
 -- the content after an IPv4 header of this length, in a packet of this total length
-abbrev pub ip_payload : ℕ → ℕ → ℕ → ℕ → List ℕ → Found
+abbrev pub ip_payload : ℕ → ℕ → ℕ → ℕ → List ℕ → CaptureItem
 ip_payload header total start end octets = if nat_lt header 20 then Unreadable BadLength else (
     if nat_lt total (header + 8) then Unreadable BadLength else (
     if nat_lt (end - start) total then Unreadable BadLength else
     udp (start + header) (start + total) octets))
 
 -- an IPv4 packet that is complete and carries UDP
-abbrev pub ip : ℕ → ℕ → List ℕ → Found
+abbrev pub ip : ℕ → ℕ → List ℕ → CaptureItem
 ip start end octets = if nat_lt (end - start) 20 then Unreadable BadLength else (
     if not (slice_index octets start / 16 == 4) then Other else (
     if not (slice_index octets (start + 9) == 17) then Other else (
@@ -93,14 +93,14 @@ ip start end octets = if nat_lt (end - start) 20 then Unreadable BadLength else 
     octets)))
 
 -- an Ethernet frame that carries IPv4
-abbrev pub ethernet : ℕ → ℕ → List ℕ → Found
+abbrev pub ethernet : ℕ → ℕ → List ℕ → CaptureItem
 ethernet start end octets = if nat_lt (end - start) 14 then Unreadable BadLength else (
     if number_at Big 2 (start + 12) octets == 0x0800 then ip (start + 14) end octets else Other)
 
 -- ---- All link types.
 
 -- the content of the octets from `start` to `end`, on an interface with this link type
-abbrev pub packet_at : LinkType → ℕ → ℕ → List ℕ → Found
+abbrev pub packet_at : LinkType → ℕ → ℕ → List ℕ → CaptureItem
 packet_at LinuxLapd start end octets = linux_lapd start end octets
 packet_at Lapd start end octets = Frame (record { from = None; start = start; end = end })
 packet_at Ethernet start end octets = ethernet start end octets
@@ -109,12 +109,12 @@ packet_at NotServed start end octets = Other
 
 -- the same for a packet of this original length: if fewer octets were captured, it was captured in
 -- part
-abbrev pub whole_packet_at : ℕ → LinkType → ℕ → ℕ → List ℕ → Found
+abbrev pub whole_packet_at : ℕ → LinkType → ℕ → ℕ → List ℕ → CaptureItem
 whole_packet_at original link start end octets =
     if nat_lt (end - start) original then Unreadable Partial else packet_at link start end octets
 
 -- a frame that was found lies within this many octets
-abbrev pub IsWithin : ℕ → Found → Type 0
+abbrev pub IsWithin : ℕ → CaptureItem → Type 0
 IsWithin count (Frame span) = (span.start ≤ span.end) × (span.end ≤ count)
 IsWithin count Other = ⊤
 IsWithin count (Unreadable fault) = ⊤

@@ -3,9 +3,9 @@
 use Rattle.std.specs.Prelude.{◌≡◌, ℕ, ◌+◌, ◌*◌, ◌/◌, ◌%◌, ◌-◌, ◌==◌, ◌||◌, nat_lt, not, if◌then◌else◌, Bool, true, false, List, [], ◌∷◌, ◌++◌, length, Option, Some, None, Result, Ok, Err, slice_get}
 use Rattle.lapd_capture.specs.declared.order.Order.{Order}
 use Rattle.lapd_capture.specs.declared.order.Order.TheVariants.{Big, Little}
-use Rattle.lapd_capture.specs.declared.found.Found.{Found}
-use Rattle.lapd_capture.specs.declared.found.Found.TheVariants.{Other, Unreadable, End}
-use Rattle.lapd_capture.specs.declared.found.PacketFault.TheVariants.{NoInterface, Partial, BadLength as BadPacketLength}
+use Rattle.lapd_capture.specs.declared.item.CaptureItem.{CaptureItem}
+use Rattle.lapd_capture.specs.declared.item.CaptureItem.TheVariants.{Other, Unreadable, End}
+use Rattle.lapd_capture.specs.declared.item.PacketFault.TheVariants.{NoInterface, Partial, BadLength as BadPacketLength}
 use Rattle.lapd_capture.specs.declared.fault.CaptureFault.{CaptureFault}
 use Rattle.lapd_capture.specs.declared.fault.CaptureFault.TheVariants.{NotACapture, LinkNotServed, Cut, BadLength, TooManyInterfaces}
 use Rattle.lapd_capture.specs.declared.link_type.LinkType.{LinkType}
@@ -28,7 +28,7 @@ pub record Reading : Type 0 where
 
 -- the item that was found, and the capture after it
 pub record Step : Type 0 where
-  pub found : Found
+  pub item : CaptureItem
   pub reading : Reading
 
 -- ---- pcap: a header of 24 octets, followed by records of a header of 16 octets and a packet.
@@ -46,9 +46,9 @@ abbrev pub number_in : Order → ℕ → ℕ → Reading → ℕ
 number_in order count behind reading = number_at order count (reading.place + behind) reading.octets
 
 -- the packet on the interface with this number
-abbrev pub found_on : Option LinkType → ℕ → ℕ → ℕ → List ℕ → Found
-found_on None original start end octets = Unreadable NoInterface
-found_on (Some link) original start end octets = whole_packet_at original link start end octets
+abbrev pub item_on : Option LinkType → ℕ → ℕ → ℕ → List ℕ → CaptureItem
+item_on None original start end octets = Unreadable NoInterface
+item_on (Some link) original start end octets = whole_packet_at original link start end octets
 
 -- whether a pcap file has nanoseconds instead of microseconds, by its first four octets
 abbrev pub has_nanoseconds : List ℕ → Bool
@@ -69,7 +69,7 @@ record_moment r = number_in r.order 4 0 r * 1000000
 abbrev pub record_packet : ℕ → ℕ → Reading → Result Step CaptureFault
 record_packet captured original r = if nat_lt most_packet captured then Err BadLength else (
     if nat_lt (left_of r - 16) captured then Err Cut else Ok (record {
-      found = found_on (slice_get r.links 0) original (r.place + 16) (r.place + 16 + captured)
+      item = item_on (slice_get r.links 0) original (r.place + 16) (r.place + 16 + captured)
           r.octets;
       reading = record r {
         place = r.place + 16 + captured;
@@ -107,17 +107,17 @@ block_length order r = length_checked (number_in order 4 4 r) order r
 
 -- an enhanced packet block of this length: interface, moment, number of captured octets, original
 -- length
-abbrev pub enhanced_packet : ℕ → Reading → Found
+abbrev pub enhanced_packet : ℕ → Reading → CaptureItem
 enhanced_packet n r = if nat_lt n 32 then Unreadable BadPacketLength else (
     if nat_lt (n - 32) (number_in r.order 4 20 r) then Unreadable BadPacketLength else
-    found_on (slice_get r.links (number_in r.order 4 8 r)) (number_in r.order 4 24 r)
+    item_on (slice_get r.links (number_in r.order 4 8 r)) (number_in r.order 4 24 r)
     (r.place + 28) (r.place + 28 + number_in r.order 4 20 r) r.octets)
 
 -- a simple packet block of this length: the original length of a packet on the first interface
-abbrev pub simple_packet : ℕ → Reading → Found
+abbrev pub simple_packet : ℕ → Reading → CaptureItem
 simple_packet n r = if nat_lt n 16 then Unreadable BadPacketLength else (
     if nat_lt (n - 16) (number_in r.order 4 8 r) then Unreadable Partial else
-    found_on (slice_get r.links 0) (number_in r.order 4 8 r)
+    item_on (slice_get r.links 0) (number_in r.order 4 8 r)
     (r.place + 12) (r.place + 12 + number_in r.order 4 8 r) r.octets)
 
 -- the reading after the block of this length
@@ -128,12 +128,12 @@ behind n r = record r { place = r.place + n }
 abbrev pub behind_packet : ℕ → Reading → Reading
 behind_packet n r = record r { place = r.place + n; packets = r.packets + 1; moment = None }
 
-abbrev pub packet_step : Found → ℕ → Reading → Result Step CaptureFault
-packet_step found n r = Ok (record { found = found; reading = behind_packet n r })
+abbrev pub packet_step : CaptureItem → ℕ → Reading → Result Step CaptureFault
+packet_step item n r = Ok (record { item = item; reading = behind_packet n r })
 
 -- a block without a packet
 abbrev pub other_step : ℕ → Reading → Result Step CaptureFault
-other_step n r = Ok (record { found = Other; reading = behind n r })
+other_step n r = Ok (record { item = Other; reading = behind n r })
 
 -- a section header: it forgets the interfaces of the section before
 abbrev pub section_step : ℕ → Reading → Result Step CaptureFault
@@ -174,14 +174,15 @@ step_of Blocks r = block_step r
 
 -- the next item
 abbrev pub next_step : Reading → Result Step CaptureFault
-next_step r = if left_of r == 0 then Ok (record { found = End; reading = r })
+next_step r = if left_of r == 0 then Ok (record { item = End; reading = r })
     else step_of r.layout r
 
 -- a call returns the item of this step and moves to the place after it; on a fault the capture is
 -- unchanged
-abbrev pub MakesStep : Result Step CaptureFault → Result Found CaptureFault → Reading → Reading
+abbrev pub MakesStep : Result Step CaptureFault → Result CaptureItem CaptureFault → Reading
+    → Reading
     → Type 0
-MakesStep step (Ok found) old new = step ≡ Ok (record { found = found; reading = new })
+MakesStep step (Ok item) old new = step ≡ Ok (record { item = item; reading = new })
 MakesStep step (Err fault) old new = (step ≡ Err fault) × (new ≡ old)
 
 -- ---- The head of a file.

@@ -1,9 +1,9 @@
 ghost use Rattle.std.specs.Prelude.{◌≡◌, ◌≤◌, ◌<◌, ◌-◌, ◌+◌, ◌^◌, Ok, Err, length, IfOk, slice_get, take, drop};
-ghost use Rattle.lapd_capture.specs.Reading.{MakesStep, behind, behind_packet, block_length, block_of_kind, block_order, block_step, enhanced_packet, found_on, has_nanoseconds, interface_step, left_of, length_checked, next_step, number_in, opened, order_of_magic, order_of_pcap, other_step, pcap_opened, record_moment, record_packet, record_step, section_step, simple_packet};
+ghost use Rattle.lapd_capture.specs.Reading.{MakesStep, behind, behind_packet, block_length, block_of_kind, block_order, block_step, enhanced_packet, item_on, has_nanoseconds, interface_step, left_of, length_checked, next_step, number_in, opened, order_of_magic, order_of_pcap, other_step, pcap_opened, record_moment, record_packet, record_step, section_step, simple_packet};
 ghost use Rattle.lapd_capture.specs.Packet.{IsWithin};
 
 use crate::fault::CaptureFault;
-use crate::found::{Found, PacketFault, Span};
+use crate::item::{CaptureItem, PacketFault, Span};
 use crate::link_type::LinkType;
 use crate::order::Order;
 use crate::packet::whole_packet_at;
@@ -155,7 +155,7 @@ impl<'a> Capture<'a> {
 
     /// The octets of a frame that was found.
     pub fn octets_of(&self, frame: Span) -> &'a [u8]
-        requires { IsWithin (length self.now.octets) (Found.Frame frame) }
+        requires { IsWithin (length self.now.octets) (CaptureItem.Frame frame) }
         ensures { result.now ≡ take (frame.end - frame.start) (drop frame.start self.now.octets) }
     {
         &self.octets[frame.start..frame.end]
@@ -167,13 +167,13 @@ impl<'a> Capture<'a> {
     ///
     /// `Cut`, `BadLength`, `TooManyInterfaces`, and `NotACapture` if a section of pcapng has an
     /// unknown byte order. The place is unchanged then, so each later call returns the same error.
-    pub fn next(&mut self) -> Result<Found, CaptureFault>
+    pub fn next(&mut self) -> Result<CaptureItem, CaptureFault>
         ensures step { MakesStep (next_step self.old) result self.old self.new }
         ensures within { IfOk result (IsWithin (length self.old.octets)) }
         ensures octets { self.new.octets ≡ self.old.octets }
     {
         if self.left() == 0 {
-            return Ok(Found::End);
+            return Ok(CaptureItem::End);
         }
         match self.layout {
             Layout::Records => self.next_record(),
@@ -207,21 +207,21 @@ impl<'a> Capture<'a> {
     }
 
     /// The content of a packet on an interface.
-    fn found_on(&self, interface: usize, original: usize, start: usize, end: usize) -> Found
+    fn item_on(&self, interface: usize, original: usize, start: usize, end: usize) -> CaptureItem
         requires order { start ≤ end }
         requires within { end ≤ length self.now.octets }
-        ensures exact { result ≡ found_on (slice_get self.now.links interface) original start end
+        ensures exact { result ≡ item_on (slice_get self.now.links interface) original start end
             self.now.octets }
         ensures within { IsWithin (length self.now.octets) result }
     {
         match self.links.as_slice().get(interface) {
-            None => Found::Unreadable(PacketFault::NoInterface),
+            None => CaptureItem::Unreadable(PacketFault::NoInterface),
             Some(link) => whole_packet_at(original, *link, start, end, self.octets),
         }
     }
 
     /// Reads the next record.
-    fn next_record(&mut self) -> Result<Found, CaptureFault>
+    fn next_record(&mut self) -> Result<CaptureItem, CaptureFault>
         ensures step { MakesStep (record_step self.old) result self.old self.new }
         ensures within { IfOk result (IsWithin (length self.old.octets)) }
         ensures octets { self.new.octets ≡ self.old.octets }
@@ -236,7 +236,7 @@ impl<'a> Capture<'a> {
     }
 
     /// Reads a record whose packet has this many captured octets and this original length.
-    fn take_record(&mut self, captured: usize, original: usize) -> Result<Found, CaptureFault>
+    fn take_record(&mut self, captured: usize, original: usize) -> Result<CaptureItem, CaptureFault>
         requires { RECORD_HEADER ≤ left_of self.old }
         ensures step { MakesStep (record_packet captured original self.old) result self.old
             self.new }
@@ -250,12 +250,12 @@ impl<'a> Capture<'a> {
             return Err(CaptureFault::Cut);
         }
         let start = self.place + RECORD_HEADER;
-        let found = self.found_on(0, original, start, start + captured);
+        let item = self.item_on(0, original, start, start + captured);
         let moment = self.record_moment();
         self.place = start + captured;
         self.packets += 1;
         self.moment = Some(moment);
-        Ok(found)
+        Ok(item)
     }
 
     /// When the next record was captured, in microseconds since 1970.
@@ -273,7 +273,7 @@ impl<'a> Capture<'a> {
     }
 
     /// Reads the next block.
-    fn next_block(&mut self) -> Result<Found, CaptureFault>
+    fn next_block(&mut self) -> Result<CaptureItem, CaptureFault>
         ensures step { MakesStep (block_step self.old) result self.old self.new }
         ensures within { IfOk result (IsWithin (length self.old.octets)) }
         ensures octets { self.new.octets ≡ self.old.octets }
@@ -322,7 +322,7 @@ impl<'a> Capture<'a> {
     }
 
     /// Reads a block with this byte order and length.
-    fn take_block(&mut self, order: Order, count: usize) -> Result<Found, CaptureFault>
+    fn take_block(&mut self, order: Order, count: usize) -> Result<CaptureItem, CaptureFault>
         requires least { LEAST_BLOCK ≤ count }
         requires most { count ≤ left_of self.old }
         ensures step { MakesStep (block_of_kind (number_in order 4 0 self.old) count
@@ -330,7 +330,7 @@ impl<'a> Capture<'a> {
         ensures within { IfOk result (IsWithin (length self.old.octets)) }
         ensures octets { self.new.octets ≡ self.old.octets }
     {
-        let found = match self.number(order, 0) {
+        let item = match self.number(order, 0) {
             SECTION => return self.take_section(order, count),
             INTERFACE => return self.take_interface(order, count),
             ENHANCED_PACKET => self.enhanced_packet(order, count),
@@ -338,7 +338,7 @@ impl<'a> Capture<'a> {
             _ => return self.take_other(order, count),
         };
         self.pass_packet(order, count);
-        Ok(found)
+        Ok(item)
     }
 
     /// Moves to the place after the packet block with this byte order and length.
@@ -354,23 +354,23 @@ impl<'a> Capture<'a> {
     }
 
     /// Skips a block.
-    fn take_other(&mut self, order: Order, count: usize) -> Result<Found, CaptureFault>
+    fn take_other(&mut self, order: Order, count: usize) -> Result<CaptureItem, CaptureFault>
         requires { count ≤ left_of self.old }
         ensures step { MakesStep (other_step count (record self.old { order = order })) result
             self.old self.new }
-        ensures other { IfOk result (λ found. found ≡ Found.Other) }
+        ensures other { IfOk result (λ item. item ≡ CaptureItem.Other) }
         ensures octets { self.new.octets ≡ self.old.octets }
     {
         self.go_behind(order, count);
-        Ok(Found::Other)
+        Ok(CaptureItem::Other)
     }
 
     /// Reads a section header, and forgets the interfaces of the section before.
-    fn take_section(&mut self, order: Order, count: usize) -> Result<Found, CaptureFault>
+    fn take_section(&mut self, order: Order, count: usize) -> Result<CaptureItem, CaptureFault>
         requires { count ≤ left_of self.old }
         ensures step { MakesStep (section_step count (record self.old { order = order })) result
             self.old self.new }
-        ensures other { IfOk result (λ found. found ≡ Found.Other) }
+        ensures other { IfOk result (λ item. item ≡ CaptureItem.Other) }
         ensures octets { self.new.octets ≡ self.old.octets }
     {
         if count < 28 {
@@ -378,15 +378,15 @@ impl<'a> Capture<'a> {
         }
         self.links.clear();
         self.go_behind(order, count);
-        Ok(Found::Other)
+        Ok(CaptureItem::Other)
     }
 
     /// Reads an interface description.
-    fn take_interface(&mut self, order: Order, count: usize) -> Result<Found, CaptureFault>
+    fn take_interface(&mut self, order: Order, count: usize) -> Result<CaptureItem, CaptureFault>
         requires { count ≤ left_of self.old }
         ensures step { MakesStep (interface_step count (record self.old { order = order })) result
             self.old self.new }
-        ensures other { IfOk result (λ found. found ≡ Found.Other) }
+        ensures other { IfOk result (λ item. item ≡ CaptureItem.Other) }
         ensures octets { self.new.octets ≡ self.old.octets }
     {
         if count < 20 {
@@ -398,42 +398,42 @@ impl<'a> Capture<'a> {
         let number = order.u16_at(self.place + 8, self.octets);
         self.links.push(LinkType::of(number));
         self.go_behind(order, count);
-        Ok(Found::Other)
+        Ok(CaptureItem::Other)
     }
 
     /// The packet of an enhanced packet block of this length.
-    fn enhanced_packet(&self, order: Order, count: usize) -> Found
+    fn enhanced_packet(&self, order: Order, count: usize) -> CaptureItem
         requires { count ≤ left_of self.now }
         ensures exact { result ≡ enhanced_packet count (record self.now { order = order }) }
         ensures within { IsWithin (length self.now.octets) result }
     {
         if count < 32 {
-            return Found::Unreadable(PacketFault::BadLength);
+            return CaptureItem::Unreadable(PacketFault::BadLength);
         }
         let captured = self.number(order, 20);
         if count - 32 < captured {
-            return Found::Unreadable(PacketFault::BadLength);
+            return CaptureItem::Unreadable(PacketFault::BadLength);
         }
         let (interface, original) = (self.number(order, 8), self.number(order, 24));
         let start = self.place + 28;
-        self.found_on(interface, original, start, start + captured)
+        self.item_on(interface, original, start, start + captured)
     }
 
     /// The packet of a simple packet block of this length.
-    fn simple_packet(&self, order: Order, count: usize) -> Found
+    fn simple_packet(&self, order: Order, count: usize) -> CaptureItem
         requires { count ≤ left_of self.now }
         ensures exact { result ≡ simple_packet count (record self.now { order = order }) }
         ensures within { IsWithin (length self.now.octets) result }
     {
         if count < 16 {
-            return Found::Unreadable(PacketFault::BadLength);
+            return CaptureItem::Unreadable(PacketFault::BadLength);
         }
         let original = self.number(order, 8);
         if count - 16 < original {
-            return Found::Unreadable(PacketFault::Partial);
+            return CaptureItem::Unreadable(PacketFault::Partial);
         }
         let start = self.place + 12;
-        self.found_on(0, original, start, start + original)
+        self.item_on(0, original, start, start + original)
     }
 }
 

@@ -3,7 +3,7 @@
 ghost use Rattle.std.specs.Prelude.{◌≡◌, ◌≤◌, ◌<◌, ◌+◌, length};
 ghost use Rattle.lapd_capture.specs.Packet.{ethernet, ip, ip_payload, udp, gsmtap, gsmtap_frame, gsmtap_sender, IsWithin};
 
-use crate::found::{Found, PacketFault, Span};
+use crate::item::{CaptureItem, PacketFault, Span};
 use crate::order::Order;
 use lapd_field::Side;
 
@@ -25,10 +25,10 @@ const LINE_TYPE: u8 = 0x13;
 /// The GSMTAP subtype of LAPD on them.
 const LAPD_SUBTYPE: u8 = 1;
 
-const BAD_LENGTH: Found = Found::Unreadable(PacketFault::BadLength);
+const BAD_LENGTH: CaptureItem = CaptureItem::Unreadable(PacketFault::BadLength);
 
 /// The content of an Ethernet frame.
-pub(crate) fn ethernet(start: usize, end: usize, octets: &[u8]) -> Found
+pub(crate) fn ethernet(start: usize, end: usize, octets: &[u8]) -> CaptureItem
     requires order { start ≤ end }
     requires within { end ≤ length octets.now }
     ensures exact { result ≡ ethernet start end octets.now }
@@ -40,12 +40,12 @@ pub(crate) fn ethernet(start: usize, end: usize, octets: &[u8]) -> Found
     if Order::Big.u16_at(start + 12, octets) == IP {
         ip(start + 14, end, octets)
     } else {
-        Found::Other
+        CaptureItem::Other
     }
 }
 
 /// The content of an IPv4 packet, if it is complete and carries UDP.
-pub(crate) fn ip(start: usize, end: usize, octets: &[u8]) -> Found
+pub(crate) fn ip(start: usize, end: usize, octets: &[u8]) -> CaptureItem
     requires order { start ≤ end }
     requires within { end ≤ length octets.now }
     ensures exact { result ≡ ip start end octets.now }
@@ -55,13 +55,13 @@ pub(crate) fn ip(start: usize, end: usize, octets: &[u8]) -> Found
         return BAD_LENGTH;
     }
     if octets[start] / 16 != 4 {
-        return Found::Other;
+        return CaptureItem::Other;
     }
     if octets[start + 9] != UDP {
-        return Found::Other;
+        return CaptureItem::Other;
     }
     if Order::Big.u16_at(start + 6, octets) % 0x4000 != 0 {
-        return Found::Other;
+        return CaptureItem::Other;
     }
     let header = usize::from(octets[start] % 16) * 4;
     let total = Order::Big.u16_at(start + 2, octets);
@@ -69,7 +69,7 @@ pub(crate) fn ip(start: usize, end: usize, octets: &[u8]) -> Found
 }
 
 /// The content after an IPv4 header of this length, in a packet of this total length.
-fn ip_payload(header: usize, total: usize, start: usize, end: usize, octets: &[u8]) -> Found
+fn ip_payload(header: usize, total: usize, start: usize, end: usize, octets: &[u8]) -> CaptureItem
     requires header { header < 64 }
     requires order { start ≤ end }
     requires within { end ≤ length octets.now }
@@ -89,14 +89,14 @@ fn ip_payload(header: usize, total: usize, start: usize, end: usize, octets: &[u
 }
 
 /// The content of a UDP datagram, if it is sent to the port of GSMTAP.
-fn udp(start: usize, end: usize, octets: &[u8]) -> Found
+fn udp(start: usize, end: usize, octets: &[u8]) -> CaptureItem
     requires order { start + 8 ≤ end }
     requires within { end ≤ length octets.now }
     ensures exact { result ≡ udp start end octets.now }
     ensures within { IsWithin (length octets.now) result }
 {
     if Order::Big.u16_at(start + 2, octets) != PORT {
-        return Found::Other;
+        return CaptureItem::Other;
     }
     let count = Order::Big.u16_at(start + 4, octets);
     if count < 8 {
@@ -109,7 +109,7 @@ fn udp(start: usize, end: usize, octets: &[u8]) -> Found
 }
 
 /// The frame after a GSMTAP header of version 2, if it is a LAPD frame.
-fn gsmtap(start: usize, end: usize, octets: &[u8]) -> Found
+fn gsmtap(start: usize, end: usize, octets: &[u8]) -> CaptureItem
     requires order { start ≤ end }
     requires within { end ≤ length octets.now }
     ensures exact { result ≡ gsmtap start end octets.now }
@@ -119,20 +119,20 @@ fn gsmtap(start: usize, end: usize, octets: &[u8]) -> Found
         return BAD_LENGTH;
     }
     if octets[start] != 2 {
-        return Found::Other;
+        return CaptureItem::Other;
     }
     if octets[start + 2] != LINE_TYPE {
-        return Found::Other;
+        return CaptureItem::Other;
     }
     if octets[start + 12] != LAPD_SUBTYPE {
-        return Found::Other;
+        return CaptureItem::Other;
     }
     let header = usize::from(octets[start + 1]) * 4;
     gsmtap_frame(header, start, end, octets)
 }
 
 /// The frame after a GSMTAP header of this length.
-fn gsmtap_frame(header: usize, start: usize, end: usize, octets: &[u8]) -> Found
+fn gsmtap_frame(header: usize, start: usize, end: usize, octets: &[u8]) -> CaptureItem
     requires order { start ≤ end }
     requires within { end ≤ length octets.now }
     ensures exact { result ≡ gsmtap_frame header start end octets.now }
@@ -145,7 +145,7 @@ fn gsmtap_frame(header: usize, start: usize, end: usize, octets: &[u8]) -> Found
         return BAD_LENGTH;
     }
     let channel = Order::Big.u16_at(start + 4, octets);
-    Found::Frame(Span {
+    CaptureItem::Frame(Span {
         from: Some(gsmtap_sender(channel)),
         start: start + header,
         end,

@@ -13,8 +13,8 @@
 mod capture;
 mod capture_writer;
 mod fault;
-mod found;
 mod gsmtap;
+mod item;
 mod link_type;
 mod order;
 mod packet;
@@ -23,7 +23,7 @@ mod written;
 pub use capture::Capture;
 pub use capture_writer::CaptureWriter;
 pub use fault::CaptureFault;
-pub use found::{Found, PacketFault, Span};
+pub use item::{CaptureItem, PacketFault, Span};
 pub use lapd_field::Side;
 pub use link_type::LinkType;
 pub use order::Order;

@@ -3,8 +3,8 @@
 ghost use Rattle.std.specs.Prelude.{◌≡◌, ◌≤◌, ◌+◌, length};
 ghost use Rattle.lapd_capture.specs.Packet.{linux_lapd, capturing_side, sender_of, packet_at, whole_packet_at, IsWithin};
 
-use crate::found::{Found, PacketFault, Span};
 use crate::gsmtap;
+use crate::item::{CaptureItem, PacketFault, Span};
 use crate::link_type::LinkType;
 use crate::order::Order;
 use lapd_field::Side;
@@ -22,20 +22,20 @@ pub(crate) fn whole_packet_at(
     start: usize,
     end: usize,
     octets: &[u8],
-) -> Found
+) -> CaptureItem
     requires order { start ≤ end }
     requires within { end ≤ length octets.now }
     ensures exact { result ≡ whole_packet_at original link start end octets.now }
     ensures within { IsWithin (length octets.now) result }
 {
     if end - start < original {
-        return Found::Unreadable(PacketFault::Partial);
+        return CaptureItem::Unreadable(PacketFault::Partial);
     }
     packet_at(link, start, end, octets)
 }
 
 /// The content of the octets from `start` to `end`, on an interface with this link type.
-fn packet_at(link: LinkType, start: usize, end: usize, octets: &[u8]) -> Found
+fn packet_at(link: LinkType, start: usize, end: usize, octets: &[u8]) -> CaptureItem
     requires order { start ≤ end }
     requires within { end ≤ length octets.now }
     ensures exact { result ≡ packet_at link start end octets.now }
@@ -43,32 +43,32 @@ fn packet_at(link: LinkType, start: usize, end: usize, octets: &[u8]) -> Found
 {
     match link {
         LinkType::LinuxLapd => linux_lapd(start, end, octets),
-        LinkType::Lapd => Found::Frame(Span {
+        LinkType::Lapd => CaptureItem::Frame(Span {
             from: None,
             start,
             end,
         }),
         LinkType::Ethernet => gsmtap::ethernet(start, end, octets),
         LinkType::Ip => gsmtap::ip(start, end, octets),
-        LinkType::NotServed => Found::Other,
+        LinkType::NotServed => CaptureItem::Other,
     }
 }
 
 /// The frame after the header of link type 177.
-fn linux_lapd(start: usize, end: usize, octets: &[u8]) -> Found
+fn linux_lapd(start: usize, end: usize, octets: &[u8]) -> CaptureItem
     requires order { start ≤ end }
     requires within { end ≤ length octets.now }
     ensures exact { result ≡ linux_lapd start end octets.now }
     ensures within { IsWithin (length octets.now) result }
 {
     if end - start < LINUX_HEADER {
-        return Found::Unreadable(PacketFault::BadLength);
+        return CaptureItem::Unreadable(PacketFault::BadLength);
     }
     if Order::Big.u16_at(start + 14, octets) != PROTOCOL {
-        return Found::Unreadable(PacketFault::BadHeader);
+        return CaptureItem::Unreadable(PacketFault::BadHeader);
     }
     let side = capturing_side(octets[start + 6]);
-    Found::Frame(Span {
+    CaptureItem::Frame(Span {
         from: sender_of(Order::Big.u16_at(start, octets), side),
         start: start + LINUX_HEADER,
         end,

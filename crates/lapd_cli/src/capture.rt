@@ -1,6 +1,6 @@
 //! The command `decode` for a capture.
 
-use crate::ending::say_memory;
+use crate::ending::print_memory;
 use crate::job::style_of;
 use lapd_cli_console::Watched;
 use lapd_cli_decode::{Capture, CaptureStop, CaptureStyle, decode_capture};
@@ -18,8 +18,8 @@ const UNREADABLE: u8 = 1;
 pub fn do_capture(rt: &HostRuntime, file: &str, options: DecodeOptions) -> ExitCode {
     match fs::read(rt, file) {
         Ok(octets) => print_capture(rt, file, octets.as_slice(), options),
-        Err(error) if error.kind() == ErrorKind::OutOfMemory => say_memory(rt),
-        Err(error) => say_no_file(rt, file, &error),
+        Err(error) if error.kind() == ErrorKind::OutOfMemory => print_memory(rt),
+        Err(error) => print_no_file(rt, file, &error),
     }
 }
 
@@ -27,15 +27,15 @@ pub fn do_capture(rt: &HostRuntime, file: &str, options: DecodeOptions) -> ExitC
 fn print_capture(rt: &HostRuntime, file: &str, octets: &[u8], options: DecodeOptions) -> ExitCode {
     let mut capture = match Capture::new(octets) {
         Ok(capture) => capture,
-        Err(fault) => return say_stop(rt, file, CaptureStop::Capture(fault, 0), None),
+        Err(fault) => return print_stop(rt, file, CaptureStop::Capture(fault, 0), None),
     };
     let how = CaptureStyle {
         style: style_of(options),
         sender: options.sender,
-        keeping: options.keep_going,
+        keeps_going: options.keep_going,
     };
     let Ok(mut out) = BufWriter::new(rt.alloc(), Watched::new(rt.stdout())) else {
-        return say_memory(rt);
+        return print_memory(rt);
     };
     let ended = decode_capture(rt.alloc(), &mut capture, &mut out, &mut rt.stderr(), how);
     let is_written = out.flush().is_ok();
@@ -43,13 +43,13 @@ fn print_capture(rt: &HostRuntime, file: &str, octets: &[u8], options: DecodeOpt
     let (watched, _left) = out.into_parts();
     match ended {
         Ok(()) if is_written => ExitCode::SUCCESS,
-        Ok(()) => say_stop(rt, file, CaptureStop::Device, watched.fault()),
-        Err(stop) => say_stop(rt, file, stop, watched.fault()),
+        Ok(()) => print_stop(rt, file, CaptureStop::Device, watched.fault()),
+        Err(stop) => print_stop(rt, file, stop, watched.fault()),
     }
 }
 
 // Reports why a file could not be read.
-fn say_no_file(rt: &HostRuntime, file: &str, error: &io::Error) -> ExitCode {
+fn print_no_file(rt: &HostRuntime, file: &str, error: &io::Error) -> ExitCode {
     let _ = eprintln!(rt; "{}", ScriptFault::Device);
     let _ = eprintln!(rt; "{file}: {}", Reason(error));
     ExitCode::from(ScriptFault::Device.status())
@@ -57,14 +57,14 @@ fn say_no_file(rt: &HostRuntime, file: &str, error: &io::Error) -> ExitCode {
 
 // Reports why a capture was not printed to its end. Prints nothing if the reader of standard output
 // has closed it.
-fn say_stop(
+fn print_stop(
     rt: &HostRuntime,
     file: &str,
     stop: CaptureStop,
     output: Option<ErrorKind>,
 ) -> ExitCode {
     match (stop, output) {
-        (CaptureStop::Memory, _) => return say_memory(rt),
+        (CaptureStop::Memory, _) => return print_memory(rt),
         (CaptureStop::Capture(..) | CaptureStop::Packet(..), _) => {
             let _ = eprintln!(rt; "{file}: {stop}");
             return ExitCode::from(UNREADABLE);

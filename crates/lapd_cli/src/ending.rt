@@ -54,22 +54,22 @@ pub struct Ending<'a> {
 }
 
 /// Reports how a script ended, and returns the exit status.
-pub fn say_ending(rt: &HostRuntime, ending: &Ending<'_>, ended: &Result<(), Stop>) -> ExitCode {
+pub fn print_ending(rt: &HostRuntime, ending: &Ending<'_>, ended: &Result<(), Stop>) -> ExitCode {
     let fault = match ended {
         Ok(()) => {
-            say_refusal(rt, ending);
+            print_refusal(rt, ending);
             None
         }
         Err(Stop::NoConnection(error)) => {
-            say_no_connection(rt, ending, error);
+            print_no_connection(rt, ending, error);
             Some(ScriptFault::Device)
         }
         Err(Stop::NoTaps(taps)) => {
-            say_no_taps(rt, ending, taps);
+            print_no_taps(rt, ending, taps);
             Some(ScriptFault::Device)
         }
         Err(Stop::Script(fault)) => {
-            say_fault(rt, ending, *fault);
+            print_fault(rt, ending, *fault);
             Some(*fault)
         }
         Err(Stop::Unmet) => {
@@ -94,7 +94,7 @@ fn status_of(fault: Option<ScriptFault>, strict: bool, is_refused: bool) -> u8
 }
 
 // Reports which line was refused first, under `--strict`.
-fn say_refusal(rt: &HostRuntime, ending: &Ending<'_>) {
+fn print_refusal(rt: &HostRuntime, ending: &Ending<'_>) {
     if ending.strict && !ending.refusal.is_empty() {
         let _ = eprintln!(rt; "a request was refused");
         let _ = eprintln!(rt; "the first: {}", text_of(ending.refusal));
@@ -103,14 +103,14 @@ fn say_refusal(rt: &HostRuntime, ending: &Ending<'_>) {
 
 // Reports the fault that ended a script, and the reason. Prints nothing if the reader of standard
 // output has closed it.
-fn say_fault(rt: &HostRuntime, ending: &Ending<'_>, fault: ScriptFault) {
+fn print_fault(rt: &HostRuntime, ending: &Ending<'_>, fault: ScriptFault) {
     if fault == ScriptFault::Device && ending.output == Some(ErrorKind::BrokenPipe) {
         return;
     }
     let _ = eprintln!(rt; "{fault}");
     match fault {
-        ScriptFault::BadLine(_) => say_bad_line(rt, ending),
-        ScriptFault::Device => say_device(rt, ending),
+        ScriptFault::BadLine(_) => print_bad_line(rt, ending),
+        ScriptFault::Device => print_device(rt, ending),
         ScriptFault::Port(fault) => {
             let _ = eprintln!(rt; "{}", words_of(fault));
         }
@@ -119,43 +119,43 @@ fn say_fault(rt: &HostRuntime, ending: &Ending<'_>, fault: ScriptFault) {
 }
 
 // Reports why the connection could not be established.
-fn say_no_connection(rt: &HostRuntime, ending: &Ending<'_>, error: &io::Error) {
+fn print_no_connection(rt: &HostRuntime, ending: &Ending<'_>, error: &io::Error) {
     let (what, whom) = match ending.script {
         Script::Net | Script::LiveNet => ("listen on", ending.address),
         Script::User | Script::LiveUser => ("connect to", ending.address),
         _ => ("connect to", "itself"),
     };
-    say_impossible(rt, what, whom, error);
+    print_impossible(rt, what, whom, error);
 }
 
 // Reports a device fault: what could not be done, with which file or address, and why.
-fn say_impossible(rt: &HostRuntime, what: &str, whom: &str, error: &io::Error) {
+fn print_impossible(rt: &HostRuntime, what: &str, whom: &str, error: &io::Error) {
     let _ = eprintln!(rt; "{}", ScriptFault::Device);
     let _ = eprintln!(rt; "cannot {what} {whom}: {}", Reason(error));
 }
 
 // Reports why the capture or the GSMTAP socket could not be opened.
-fn say_no_taps(rt: &HostRuntime, ending: &Ending<'_>, taps: &NoTaps) {
+fn print_no_taps(rt: &HostRuntime, ending: &Ending<'_>, taps: &NoTaps) {
     let (pcap, gsmtap) = match ending.clock {
         Clock::Real(options) => (options.pcap.unwrap_or(""), options.gsmtap.unwrap_or("")),
         Clock::Script => ("", ""),
     };
     match taps {
-        NoTaps::File(error) => say_impossible(rt, "write", pcap, error),
-        NoTaps::Socket(error) => say_impossible(rt, "send to", gsmtap, error),
+        NoTaps::File(error) => print_impossible(rt, "write", pcap, error),
+        NoTaps::Socket(error) => print_impossible(rt, "send to", gsmtap, error),
     }
 }
 
 // Reports what is wrong with the bad line, if it is known.
-fn say_bad_line(rt: &HostRuntime, ending: &Ending<'_>) {
+fn print_bad_line(rt: &HostRuntime, ending: &Ending<'_>) {
     if !ending.line.is_empty() {
-        say_reason(rt, ending.script, ending.line);
+        print_reason(rt, ending.script, ending.line);
     }
 }
 
 // Reports what is wrong with a line of this script. If a `tick` has a valid form, it takes the
 // clock past its end.
-fn say_reason(rt: &HostRuntime, script: Script, line: &[u8]) {
+fn print_reason(rt: &HostRuntime, script: Script, line: &[u8]) {
     let _ = match reason(rt.alloc(), script, line) {
         Ok(Some(reason)) => eprintln!(rt; "{reason}"),
         Ok(None) if line.starts_with(b"tick ") => eprintln!(rt;
@@ -166,7 +166,7 @@ fn say_reason(rt: &HostRuntime, script: Script, line: &[u8]) {
 }
 
 // Reports which standard stream failed, and why.
-fn say_device(rt: &HostRuntime, ending: &Ending<'_>) {
+fn print_device(rt: &HostRuntime, ending: &Ending<'_>) {
     let _ = match (ending.input, ending.output, ending.script) {
         (Some(kind), _, _) => eprintln!(rt; "standard input: {}", KindReason(kind)),
         (None, Some(kind), _) => eprintln!(rt; "standard output: {}", KindReason(kind)),
@@ -183,25 +183,25 @@ fn text_of(line: &[u8]) -> &str {
 }
 
 /// Reports that an allocation failed before the script began.
-pub fn say_memory(rt: &HostRuntime) -> ExitCode {
+pub fn print_memory(rt: &HostRuntime) -> ExitCode {
     let _ = eprintln!(rt; "{}", ScriptFault::Memory);
     ExitCode::from(ScriptFault::Memory.status())
 }
 
 /// Reports why the program's words could not be read.
-pub fn say_words_fault(rt: &HostRuntime, fault: WordsFault) -> ExitCode {
+pub fn print_words_fault(rt: &HostRuntime, fault: WordsFault) -> ExitCode {
     if fault == WordsFault::Memory {
-        return say_memory(rt);
+        return print_memory(rt);
     }
     let _ = eprintln!(rt; "{fault}");
     ExitCode::from(COMMAND_LINE)
 }
 
 /// Prints the requested help or version, or reports what is wrong with the words.
-pub fn say_no_invocation(rt: &HostRuntime, unchosen: &NoInvocation<'_>) -> ExitCode {
+pub fn print_no_invocation(rt: &HostRuntime, unchosen: &NoInvocation<'_>) -> ExitCode {
     match unchosen {
         NoInvocation::Shown(text) => show(rt, text.as_str()),
-        NoInvocation::Memory => say_memory(rt),
+        NoInvocation::Memory => print_memory(rt),
         _ => {
             let _ = eprint!(rt; "{unchosen}");
             ExitCode::from(COMMAND_LINE)

@@ -6,7 +6,7 @@ use std::io::{self, Read, Write};
 pub struct Greeting<R, E> {
     reader: R,
     errors: E,
-    is_said: bool,
+    is_printed: bool,
 }
 
 impl<R: Read, E: Write> Greeting<R, E> {
@@ -15,15 +15,15 @@ impl<R: Read, E: Write> Greeting<R, E> {
         Greeting {
             reader,
             errors,
-            is_said: false,
+            is_printed: false,
         }
     }
 }
 
 impl<R: Read, E: Write> Read for Greeting<R, E> {
     fn read(&mut self, octets: &mut [u8]) -> io::Result<usize> {
-        if !self.is_said {
-            self.is_said = true;
+        if !self.is_printed {
+            self.is_printed = true;
             let greeting = b"type a line; help lists the lines, quit ends the script\n";
             let _ = self.errors.write_all(greeting);
         }

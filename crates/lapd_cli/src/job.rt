@@ -180,7 +180,7 @@ fn do_net<R: Read, W: Write>(
         config_of(setup.interface, setup.interface.seed.unwrap_or(SCRIPT_SEED)),
         setup.interface.teis.as_slice(),
     );
-    connection::tell_closed(&notes, &stream);
+    connection::print_closed(&notes, &stream);
     ended.map_err(Stop::Script)
 }
 
@@ -203,7 +203,7 @@ fn do_user<R: Read, W: Write>(
         config_of(setup.interface, setup.interface.seed.unwrap_or(SCRIPT_SEED)),
         setup.interface.fixed(),
     );
-    connection::tell_closed(&notes, &stream);
+    connection::print_closed(&notes, &stream);
     ended.map_err(Stop::Script)
 }
 

@@ -111,7 +111,7 @@ fn close<W: Write>(live: LiveSide<Line<'_>, &mut W>) {
     let (line, out, _flushed) = live.into_parts();
     let _ = out.flush();
     let (line, _taps) = line.into_parts();
-    line.into_inner().tell_closed();
+    line.into_inner().print_closed();
 }
 
 /// Why the script of a running side did not run to its end.

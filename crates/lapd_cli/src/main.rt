@@ -20,10 +20,10 @@ mod live;
 mod person;
 
 use capture::do_capture;
-use ending::{Ending, Stop, say_ending, say_memory, say_no_invocation, say_words_fault};
+use ending::{Ending, Stop, print_ending, print_memory, print_no_invocation, print_words_fault};
 use greeting::Greeting;
 use job::{do_job, script_of};
-use lapd_cli_console::{KeptLines, Refusals, Session, Watched};
+use lapd_cli_console::{RecentLines, Refusals, Session, Watched};
 use lapd_cli_options::{Clock, Invocation, Job, parse_words, words};
 use lapd_cli_script::ScriptFault;
 use std::io::{BufWriter, IsTerminal, Read};
@@ -32,11 +32,11 @@ use std::process::ExitCode;
 fn main(rt: HostRuntime) -> ExitCode {
     let words = match words(rt.alloc(), &rt) {
         Ok(words) => words,
-        Err(fault) => return say_words_fault(&rt, fault),
+        Err(fault) => return print_words_fault(&rt, fault),
     };
     match parse_words(rt.alloc(), words.as_slice()) {
         Ok(chosen) => do_chosen(&rt, &chosen),
-        Err(unchosen) => say_no_invocation(&rt, &unchosen),
+        Err(unchosen) => print_no_invocation(&rt, &unchosen),
     }
 }
 
@@ -71,12 +71,12 @@ fn has_forms(chosen: &Invocation<'_>) -> bool {
 
 // Runs the chosen job over a script from this reader, and reports how it ended.
 fn do_script<R: Read + Drop>(rt: &HostRuntime, chosen: &Invocation<'_>, reader: R) -> ExitCode {
-    let mut kept = KeptLines::new(reader);
+    let mut recent = RecentLines::new(reader);
     let watched = Watched::new(Refusals::new(rt.stdout(), chosen.strict));
     let Ok(mut out) = BufWriter::new(rt.alloc(), watched) else {
-        return say_memory(rt);
+        return print_memory(rt);
     };
-    let ended = do_job(rt, chosen, &mut kept, &mut out);
+    let ended = do_job(rt, chosen, &mut recent, &mut out);
     // Text that a failed writer did not accept is dropped.
     let (watched, _left) = out.into_parts();
     let output = watched.fault();
@@ -86,16 +86,16 @@ fn do_script<R: Read + Drop>(rt: &HostRuntime, chosen: &Invocation<'_>, reader: 
         clock: chosen.clock,
         address: chosen.address.unwrap_or(""),
         strict: chosen.strict,
-        line: bad_line(&kept, &ended),
+        line: bad_line(&recent, &ended),
         refusal: refusals.first().unwrap_or(&[]),
-        input: kept.fault(),
+        input: recent.fault(),
         output,
     };
-    say_ending(rt, &ending, &ended)
+    print_ending(rt, &ending, &ended)
 }
 
 // The bad line; empty if no line was bad, or if it is no longer kept.
-fn bad_line<'a, R: Read>(lines: &'a KeptLines<R>, ended: &Result<(), Stop>) -> &'a [u8] {
+fn bad_line<'a, R: Read>(lines: &'a RecentLines<R>, ended: &Result<(), Stop>) -> &'a [u8] {
     match ended {
         Err(Stop::Script(ScriptFault::BadLine(number))) => lines.line(*number).unwrap_or(&[]),
         _ => &[],

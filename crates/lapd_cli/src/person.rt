@@ -35,7 +35,7 @@ impl<'a> Speaker<'a> {
 impl Person for Speaker<'_> {
     fn greet(&mut self) {
         self.notes
-            .say("type a line; help lists the lines, quit ends the session");
+            .print("type a line; help lists the lines, quit ends the session");
     }
 
     fn tidied(&self, line: &[u8]) -> Result<Vec<u8>, AllocError> {
@@ -44,15 +44,15 @@ impl Person for Speaker<'_> {
 
     fn refuse_line(&mut self, line: &[u8]) {
         match reason(self.alloc, self.script, line) {
-            Ok(Some(why)) => self.notes.say(format_args!("not executed: {why}")),
-            Ok(None) => self.notes.say("not executed"),
-            Err(_) => self.notes.say("not executed: out of memory"),
+            Ok(Some(why)) => self.notes.print(format_args!("not executed: {why}")),
+            Ok(None) => self.notes.print("not executed"),
+            Err(_) => self.notes.print("not executed: out of memory"),
         }
     }
 
     fn help(&mut self) {
         let text = self.help_text();
         let text = str::from_utf8(text.as_slice()).unwrap_or("");
-        self.notes.say(text.trim_end());
+        self.notes.print(text.trim_end());
     }
 }

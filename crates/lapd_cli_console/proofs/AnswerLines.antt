@@ -5,16 +5,16 @@ use Rattle.std.specs.Prelude.{Option, option_map, is_some}
 use Rattle.std.specs.List.{AllByRecursion}
 use Rattle.std.specs.Str.{bytes_eq}
 use Rattle.lapd_cli_script.specs.Line.{words_of, HasNoSpace, octets_behind}
-use Rattle.lapd_cli_script.specs.Script.{with_first, outcome_of, is_passed_over, Outcome}
+use Rattle.lapd_cli_script.specs.Script.{with_first, outcome_of, is_passed_over, LineOutcome}
 use Rattle.lapd_cli_script.proofs.WordsOf.{one_word}
-use Rattle.lapd_cli_link_commands.specs.Answer.{Session, alone, answer_step, answer_word, answer_words, busy, hear, link_step, state_line, with_octets}
+use Rattle.lapd_cli_link_commands.specs.Answer.{Session, alone, answer_step, answer_word, answer_words, busy, receive, link_step, state_line, with_octets}
 use Rattle.lapd_link.specs.Input.{Expiry, Establish, Release, BusyOn, BusyOff, UnitData, Give}
 use Rattle.lapd_link.specs.declared.Timer.TheVariants.{T200, T203}
 use Rattle.lapd_cli_console.specs.declared.form.Argument.{Argument}
 use Rattle.lapd_cli_console.specs.declared.form.Argument.TheVariants.{Hex, OnOff}
 use Rattle.lapd_cli_console.specs.declared.script.Script.{Script}
 use Rattle.lapd_cli_console.specs.declared.script.Script.TheVariants.{Answer}
-use Rattle.lapd_cli_console.specs.Forms.{Shape, are_said, are_words_of, by_arguments, fits, is_line_of, shape_named}
+use Rattle.lapd_cli_console.specs.Forms.{Shape, are_arguments, are_words_of, by_arguments, fits, is_line_of, shape_named}
 
 -- ---- No word of a line has a space.
 
@@ -49,46 +49,46 @@ some_mapped : {X Y : Type 0} (f : X → Y) (o : Option X) → is_some (option_ma
 some_mapped f None = refl
 some_mapped f (Some x) = refl
 
-octets_fit : (behind : List (List ℕ)) → HaveNoSpace behind → is_some (octets_behind behind) ≡ are_said (Hex ∷ []) behind
+octets_fit : (behind : List (List ℕ)) → HaveNoSpace behind → is_some (octets_behind behind) ≡ are_arguments (Hex ∷ []) behind
 octets_fit [] h = refl
 octets_fit (digits ∷ []) h = sym (and_true _ ∙ ap (λ words. is_some (octets_behind words)) (one_word digits h.0))
 octets_fit (digits ∷ word ∷ words) h = sym (and_false _)
 
-with_octets_fit : (behind : List (List ℕ)) (next : List ℕ → List ℕ × Session) → HaveNoSpace behind → is_some (with_octets behind next) ≡ are_said (Hex ∷ []) behind
+with_octets_fit : (behind : List (List ℕ)) (next : List ℕ → List ℕ × Session) → HaveNoSpace behind → is_some (with_octets behind next) ≡ are_arguments (Hex ∷ []) behind
 with_octets_fit behind next h = some_mapped next (octets_behind behind) ∙ octets_fit behind h
 
-alone_fit : (behind : List (List ℕ)) (next : List ℕ × Session) → is_some (alone behind next) ≡ are_said [] behind
+alone_fit : (behind : List (List ℕ)) (next : List ℕ × Session) → is_some (alone behind next) ≡ are_arguments [] behind
 alone_fit [] next = refl
 alone_fit (word ∷ words) next = refl
 
-either_fits : (b c : Bool) (one other : Outcome Session) (rest : Bool)
+either_fits : (b c : Bool) (one other : LineOutcome Session) (rest : Bool)
     → is_some one ≡ rest → is_some other ≡ rest
     → is_some (cond b one (cond c other None)) ≡ ((b || c) && rest)
 either_fits true c one other rest p q = p
 either_fits false true one other rest p q = q
 either_fits false false one other rest p q = refl
 
-busy_fits : (s : Session) (behind : List (List ℕ)) → is_some (busy s behind) ≡ are_said (OnOff ∷ []) behind
+busy_fits : (s : Session) (behind : List (List ℕ)) → is_some (busy s behind) ≡ are_arguments (OnOff ∷ []) behind
 busy_fits s [] = refl
 busy_fits s (word ∷ behind) =
-    either_fits (bytes_eq word (codes "on")) (bytes_eq word (codes "off")) (alone behind (link_step s BusyOn [])) (alone behind (link_step s BusyOff [])) (are_said [] behind)
+    either_fits (bytes_eq word (codes "on")) (bytes_eq word (codes "off")) (alone behind (link_step s BusyOn [])) (alone behind (link_step s BusyOff [])) (are_arguments [] behind)
     (alone_fit behind (link_step s BusyOn [])) (alone_fit behind (link_step s BusyOff []))
 
 -- ---- The first word.
 
-next_shape : (word text : List ℕ) (arguments : List Argument) (outcome more : Outcome Session) (shapes : Option Shape) (behind : List (List ℕ))
-    → is_some outcome ≡ are_said arguments (by_arguments arguments behind) → is_some more ≡ fits shapes behind
+next_shape : (word text : List ℕ) (arguments : List Argument) (outcome more : LineOutcome Session) (shapes : Option Shape) (behind : List (List ℕ))
+    → is_some outcome ≡ are_arguments arguments (by_arguments arguments behind) → is_some more ≡ fits shapes behind
     → is_some (cond (bytes_eq word text) outcome more) ≡ fits (cond (bytes_eq word text) (Some (text, arguments)) shapes) behind
 next_shape word text arguments outcome more shapes behind p q =
     let P : Bool → Type 0 = λ b. is_some (cond b outcome more) ≡ fits (cond b (Some (text, arguments)) shapes) behind in
     elim (bytes_eq word text) as P [ true ↦ p | false ↦ q ]
 
-alone_next : (word text : List ℕ) (next : List ℕ × Session) (more : Outcome Session) (shapes : Option Shape) (behind : List (List ℕ))
+alone_next : (word text : List ℕ) (next : List ℕ × Session) (more : LineOutcome Session) (shapes : Option Shape) (behind : List (List ℕ))
     → is_some more ≡ fits shapes behind
     → is_some (cond (bytes_eq word text) (alone behind next) more) ≡ fits (cond (bytes_eq word text) (Some (text, [])) shapes) behind
 alone_next word text next more shapes behind = next_shape word text [] (alone behind next) more shapes behind (alone_fit behind next)
 
-octets_next : (word text : List ℕ) (next : List ℕ → List ℕ × Session) (more : Outcome Session) (shapes : Option Shape) (behind : List (List ℕ)) → HaveNoSpace behind
+octets_next : (word text : List ℕ) (next : List ℕ → List ℕ × Session) (more : LineOutcome Session) (shapes : Option Shape) (behind : List (List ℕ)) → HaveNoSpace behind
     → is_some more ≡ fits shapes behind
     → is_some (cond (bytes_eq word text) (with_octets behind next) more) ≡ fits (cond (bytes_eq word text) (Some (text, Hex ∷ [])) shapes) behind
 octets_next word text next more shapes behind h =
@@ -97,7 +97,7 @@ octets_next word text next more shapes behind h =
 word_fits : (s : Session) (word : List ℕ) (behind : List (List ℕ)) → HaveNoSpace behind
     → is_some (answer_word s word behind) ≡ fits (shape_named Answer word) behind
 word_fits s word behind h =
-    octets_next word (codes "frame") (hear s) _ _ behind h (
+    octets_next word (codes "frame") (receive s) _ _ behind h (
     alone_next word (codes "t200") (link_step s (Expiry T200) []) _ _ behind (
     alone_next word (codes "t203") (link_step s (Expiry T203) []) _ _ behind (
     alone_next word (codes "establish") (link_step s Establish []) _ _ behind (
@@ -113,7 +113,7 @@ words_fit : (s : Session) (words : List (List ℕ)) → HaveNoSpace words → is
 words_fit s [] h = refl
 words_fit s (word ∷ behind) h = word_fits s word behind h.1
 
-unless_passed : (passed : Bool) (fits : Bool) (next : List ℕ × Session) (outcome : Outcome Session)
+unless_passed : (passed : Bool) (fits : Bool) (next : List ℕ × Session) (outcome : LineOutcome Session)
     → is_some outcome ≡ fits → (passed || fits) ≡ is_some (cond passed (Some next) outcome)
 unless_passed true fits next outcome e = refl
 unless_passed false fits next outcome e = sym e
@@ -122,8 +122,8 @@ pub answer_lines : (s : Session) (line : List ℕ) → is_line_of Answer line �
 answer_lines s line = unless_passed (is_passed_over line) _ ([], s) (answer_step s line) (words_fit s (words_of line) (words_have_no_space line))
 
 -- a test of the form of `answer`'s lines is a test of whether `answer` has a step for the line
-pub answer_told : (told : Bool) (script : Script) (line : List ℕ) → told ≡ is_line_of script line → script ≡ Answer
+pub answer_implied : (told : Bool) (script : Script) (line : List ℕ) → told ≡ is_line_of script line → script ≡ Answer
     → (s : Session) → told ≡ is_some (outcome_of answer_step s line)
-answer_told told script line e is s =
+answer_implied told script line e is s =
     let P : Script → Type 0 = λ command. told ≡ is_line_of command line in
     subst P is e ∙ answer_lines s line

@@ -2,27 +2,27 @@
 use Rattle.std.proofs.Common.{◌≡◌, ◌≢◌, ℕ, ◌==◌, List, [], ◌∷◌, ◌++◌, append-nil, refl, ap, ◌∙◌, sym}
 use Rattle.std.specs.List.{flat_map, slice_split}
 use Rattle.std.proofs.lemmas.Bool.{ne_eqb}
-use Rattle.lapd_cli_console.specs.Tidied.{HasNoColon, before_kept, digits_of_part, digits_of_word, without_end}
+use Rattle.lapd_cli_console.specs.Tidied.{HasNoColon, before_trimmed, digits_of_part, digits_of_word, without_end}
 
 -- ---- Spaces at the end.
 
 space_dropped : (front : List ℕ) → without_end (front ++ 32 ∷ []) ≡ without_end front
 space_dropped [] = refl
-space_dropped (octet ∷ front) = ap (before_kept octet) (space_dropped front)
+space_dropped (octet ∷ front) = ap (before_trimmed octet) (space_dropped front)
 
 pub last_space : (octets rest : List ℕ) → octets ≡ rest ++ 32 ∷ [] → without_end octets ≡ without_end rest
 last_space octets rest e = ap without_end e ∙ space_dropped rest
 
-before_some : (octet last : ℕ) (front : List ℕ) → before_kept octet (front ++ last ∷ []) ≡ octet ∷ front ++ last ∷ []
+before_some : (octet last : ℕ) (front : List ℕ) → before_trimmed octet (front ++ last ∷ []) ≡ octet ∷ front ++ last ∷ []
 before_some octet last [] = refl
 before_some octet last (next ∷ front) = refl
 
-other_kept : (front : List ℕ) (last : ℕ) → last ≢ 32 → without_end (front ++ last ∷ []) ≡ front ++ last ∷ []
-other_kept [] last h = rw (ne_eqb _ _ h) refl
-other_kept (octet ∷ front) last h = ap (before_kept octet) (other_kept front last h) ∙ before_some octet last front
+other_trimmed : (front : List ℕ) (last : ℕ) → last ≢ 32 → without_end (front ++ last ∷ []) ≡ front ++ last ∷ []
+other_trimmed [] last h = rw (ne_eqb _ _ h) refl
+other_trimmed (octet ∷ front) last h = ap (before_trimmed octet) (other_trimmed front last h) ∙ before_some octet last front
 
 pub last_other : (octets rest : List ℕ) (last : ℕ) → octets ≡ rest ++ last ∷ [] → last ≢ 32 → without_end octets ≡ octets
-last_other octets rest last e h = ap without_end e ∙ other_kept rest last h ∙ sym e
+last_other octets rest last e h = ap without_end e ∙ other_trimmed rest last h ∙ sym e
 
 -- ---- The parts between colons.
 

@@ -3,7 +3,7 @@ use Rattle.std.specs.Prelude.{ℕ, ◌-◌, ◌==◌, ◌&&◌, ◌||◌, nat_le
 use Rattle.std.specs.List.{join_with_byte}
 use Rattle.std.specs.Str.{bytes_eq, is_utf8}
 use Rattle.lapd_frame.specs.Address.{sapi_at, number_at}
-use Rattle.lapd_cli_script.specs.Line.{number_said, octets_behind, words_of}
+use Rattle.lapd_cli_script.specs.Line.{parsed_number, octets_behind, words_of}
 use Rattle.lapd_cli_script.specs.Script.{is_passed_over}
 use Rattle.lapd_cli_console.specs.declared.form.Argument.{Argument}
 use Rattle.lapd_cli_console.specs.declared.form.Argument.TheVariants.{Delay, Hex, Loss, Message, Milliseconds, OnOff, OptionalMilliseconds, OptionalSapi, Place, Reference, Sapi, Side, Tei, Terminal, Words}
@@ -96,12 +96,12 @@ shape_named script word = find (λ shape. bytes_eq word shape.0) (shapes_of scri
 abbrev pub octet_at : ℕ → Option ℕ
 octet_at n = if nat_le n 255 then Some n else None
 
-abbrev pub octet_said : List ℕ → Option ℕ
-octet_said word = option_and_then octet_at (number_said word)
+abbrev pub parsed_octet : List ℕ → Option ℕ
+parsed_octet word = option_and_then octet_at (parsed_number word)
 
 -- the octets that a word spells in hexadecimal digits
-abbrev pub octets_said : List ℕ → Option (List ℕ)
-octets_said word = octets_behind (words_of word)
+abbrev pub parsed_octets : List ℕ → Option (List ℕ)
+parsed_octets word = octets_behind (words_of word)
 
 abbrev pub is_span : ℕ → Bool
 is_span ms = nat_le 1 ms && nat_le ms 3600000
@@ -118,8 +118,8 @@ without_percent word = if slice_index word (length word - 1) == 37
 abbrev pub percent_at : ℕ → Option ℕ
 percent_at n = if nat_le n 100 then Some n else None
 
-abbrev pub loss_said : List ℕ → Option ℕ
-loss_said word = option_and_then percent_at (number_said (without_percent word))
+abbrev pub parsed_loss : List ℕ → Option ℕ
+parsed_loss word = option_and_then percent_at (parsed_number (without_percent word))
 
 -- the number of milliseconds by which frames are delayed
 abbrev pub delay_at : ℕ → Option ℕ
@@ -130,22 +130,22 @@ abbrev pub is_text : List ℕ → Bool
 is_text octets = not (length octets == 0) && is_utf8 octets
 
 -- the word is a valid value of this argument
-abbrev pub is_said : Argument → List ℕ → Bool
-is_said Delay word = is_some (option_and_then delay_at (number_said word))
-is_said Hex word = is_some (octets_said word)
-is_said Loss word = is_some (loss_said word)
-is_said Message word = is_some (number_said word)
-is_said Milliseconds word = is_some (option_and_then span_at (number_said word))
-is_said OnOff word = bytes_eq word (codes "on") || bytes_eq word (codes "off")
-is_said OptionalMilliseconds word = is_some (option_and_then span_at (number_said word))
-is_said OptionalSapi word = is_some (option_and_then sapi_at (octet_said word))
-is_said Place word = is_some (number_said word)
-is_said Reference word = (length word == 4) && is_some (octets_said word)
-is_said Sapi word = is_some (option_and_then sapi_at (octet_said word))
-is_said Side word = bytes_eq word (codes "user") || bytes_eq word (codes "net")
-is_said Tei word = is_some (option_and_then number_at (octet_said word))
-is_said Terminal word = is_some (number_said word)
-is_said Words word = is_text word
+abbrev pub is_argument : Argument → List ℕ → Bool
+is_argument Delay word = is_some (option_and_then delay_at (parsed_number word))
+is_argument Hex word = is_some (parsed_octets word)
+is_argument Loss word = is_some (parsed_loss word)
+is_argument Message word = is_some (parsed_number word)
+is_argument Milliseconds word = is_some (option_and_then span_at (parsed_number word))
+is_argument OnOff word = bytes_eq word (codes "on") || bytes_eq word (codes "off")
+is_argument OptionalMilliseconds word = is_some (option_and_then span_at (parsed_number word))
+is_argument OptionalSapi word = is_some (option_and_then sapi_at (parsed_octet word))
+is_argument Place word = is_some (parsed_number word)
+is_argument Reference word = (length word == 4) && is_some (parsed_octets word)
+is_argument Sapi word = is_some (option_and_then sapi_at (parsed_octet word))
+is_argument Side word = bytes_eq word (codes "user") || bytes_eq word (codes "net")
+is_argument Tei word = is_some (option_and_then number_at (parsed_octet word))
+is_argument Terminal word = is_some (parsed_number word)
+is_argument Words word = is_text word
 
 -- ---- The words of a line.
 
@@ -167,11 +167,12 @@ is_left_out Hex = true
 is_left_out argument = has_bracket argument
 
 -- these words are valid values of the arguments, in order, and no word is left
-abbrev pub are_said : List Argument → List (List ℕ) → Bool
-are_said [] [] = true
-are_said [] (word ∷ words) = false
-are_said (argument ∷ arguments) [] = is_left_out argument
-are_said (argument ∷ arguments) (word ∷ words) = is_said argument word && are_said arguments words
+abbrev pub are_arguments : List Argument → List (List ℕ) → Bool
+are_arguments [] [] = true
+are_arguments [] (word ∷ words) = false
+are_arguments (argument ∷ arguments) [] = is_left_out argument
+are_arguments (argument ∷ arguments)
+    (word ∷ words) = is_argument argument word && are_arguments arguments words
 
 -- the words up to the last one, and the last one
 abbrev pub words_before : List ℕ → List (List ℕ) → List (List ℕ)
@@ -209,7 +210,7 @@ by_arguments arguments words = if begin_with_words arguments then text_and_last 
 
 abbrev pub fits : Option Shape → List (List ℕ) → Bool
 fits None behind = false
-fits (Some shape) behind = are_said shape.1 (by_arguments shape.1 behind)
+fits (Some shape) behind = are_arguments shape.1 (by_arguments shape.1 behind)
 
 -- these are the words of a line of the command
 abbrev pub are_words_of : Script → List (List ℕ) → Bool

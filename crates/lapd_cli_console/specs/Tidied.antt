@@ -14,13 +14,13 @@ without_front [] = []
 without_front (octet ∷ octets) = if octet == 32 then without_front octets else octet ∷ octets
 
 -- prepends an octet to the tidied rest of a line: a space before an empty rest is dropped
-abbrev pub before_kept : ℕ → List ℕ → List ℕ
-before_kept octet [] = if octet == 32 then [] else octet ∷ []
-before_kept octet (next ∷ octets) = octet ∷ next ∷ octets
+abbrev pub before_trimmed : ℕ → List ℕ → List ℕ
+before_trimmed octet [] = if octet == 32 then [] else octet ∷ []
+before_trimmed octet (next ∷ octets) = octet ∷ next ∷ octets
 
 abbrev pub without_end : List ℕ → List ℕ
 without_end [] = []
-without_end (octet ∷ octets) = before_kept octet (without_end octets)
+without_end (octet ∷ octets) = before_trimmed octet (without_end octets)
 
 abbrev pub trimmed : List ℕ → List ℕ
 trimmed line = without_end (without_front line)

@@ -1,11 +1,11 @@
 //! The reason why a line is not valid for its command.
 
 ghost use Rattle.std.specs.Prelude.{◌≡◌, ◌∷◌, [], drop, is_none, is_some, IfOk};
-ghost use Rattle.std.specs.Str.{is_utf8 as utf8_told};
+ghost use Rattle.std.specs.Str.{is_utf8 as is_utf8_octets};
 ghost use Rattle.lapd_cli_script.specs.Line.{HasNoSpace, words_of};
 ghost use Rattle.lapd_cli_script.specs.Script.{outcome_of};
 ghost use Rattle.lapd_cli_link_commands.specs.Answer.{Session, answer_step};
-ghost use Rattle.lapd_cli_console.specs.Forms.{are_said, are_words_of, begin_with_words as arguments_begin_with_words, by_arguments, is_line_of, is_said, octet_said, octets_said, text_and_last, without_percent as digits_of_percent};
+ghost use Rattle.lapd_cli_console.specs.Forms.{are_arguments, are_words_of, begin_with_words as arguments_begin_with_words, by_arguments, is_line_of, is_argument, parsed_octet, parsed_octets, text_and_last, without_percent as digits_of_percent};
 
 use crate::complaint::Complaint;
 use crate::cuts::{behind_first_word, cut_at_last_space};
@@ -99,7 +99,7 @@ fn of_behind<'a>(
 ) -> Result<Option<Complaint<'a>>, AllocError>
     ensures { behind.entry ≡ drop 1 (words_of line.now)
         → IfOk result (λ complaint. is_none complaint
-        ≡ are_said form.arguments.now (by_arguments form.arguments.now behind.entry)) }
+        ≡ are_arguments form.arguments.now (by_arguments form.arguments.now behind.entry)) }
 {
     if begin_with_words(form.arguments) {
         of_text(alloc, form, line)
@@ -149,7 +149,7 @@ fn of_text<'a>(
     line: &'a [u8],
 ) -> Result<Option<Complaint<'a>>, AllocError>
     ensures { IfOk result (λ complaint. is_none complaint
-        ≡ are_said form.arguments.now (text_and_last (drop 1 (words_of line.now)))) }
+        ≡ are_arguments form.arguments.now (text_and_last (drop 1 (words_of line.now)))) }
 {
     match behind_first_word(line) {
         Some(behind) => of_text_behind(alloc, form, behind),
@@ -169,7 +169,7 @@ fn of_text_behind<'a>(
     behind: &'a [u8],
 ) -> Result<Option<Complaint<'a>>, AllocError>
     ensures { IfOk result (λ complaint. is_none complaint
-        ≡ are_said form.arguments.now (text_and_last (words_of behind.now))) }
+        ≡ are_arguments form.arguments.now (text_and_last (words_of behind.now))) }
 {
     match cut_at_last_space(behind) {
         Some((text, last)) => of_text_and_last(alloc, form, text, last),
@@ -189,7 +189,7 @@ fn of_text_and_last<'a>(
     last: &'a [u8],
 ) -> Result<Option<Complaint<'a>>, AllocError>
     ensures { HasNoSpace last.now → IfOk result (λ complaint. is_none complaint
-        ≡ are_said form.arguments.now (text.now ∷ last.now ∷ [])) }
+        ≡ are_arguments form.arguments.now (text.now ∷ last.now ∷ [])) }
 {
     let Some((argument, rest)) = form.arguments.split_first() else {
         return Ok(Some(Complaint::Behind(form, text)));
@@ -212,7 +212,7 @@ fn of_last<'a>(
     word: &'a [u8],
 ) -> Result<Option<Complaint<'a>>, AllocError>
     ensures { HasNoSpace word.now → IfOk result (λ complaint. is_none complaint
-        ≡ are_said arguments.now (word.now ∷ [])) }
+        ≡ are_arguments arguments.now (word.now ∷ [])) }
 {
     of_arguments(alloc, form, arguments, Words::of(word))
 }
@@ -228,7 +228,8 @@ fn of_arguments<'a>(
     arguments: &[Argument],
     mut words: Words<'a>,
 ) -> Result<Option<Complaint<'a>>, AllocError>
-    ensures { IfOk result (λ complaint. is_none complaint ≡ are_said arguments.now words.entry) }
+    ensures { IfOk result
+        (λ complaint. is_none complaint ≡ are_arguments arguments.now words.entry) }
 {
     let mut left = arguments;
     while let [argument, rest @ ..] = left {
@@ -248,7 +249,7 @@ fn of_arguments<'a>(
 
 /// Finds what is wrong if no words are left for these arguments.
 fn of_missing<'a>(form: Form, arguments: &[Argument]) -> Option<Complaint<'a>>
-    ensures { is_none result ≡ are_said arguments.now [] }
+    ensures { is_none result ≡ are_arguments arguments.now [] }
 {
     match arguments {
         [argument, ..] if !argument.may_be_left_out() => Some(Complaint::Missing(form, *argument)),
@@ -267,7 +268,7 @@ fn of_argument<'a>(
     argument: Argument,
     word: &'a [u8],
 ) -> Result<Option<Complaint<'a>>, AllocError>
-    ensures { IfOk result (λ complaint. is_none complaint ≡ is_said argument word.now) }
+    ensures { IfOk result (λ complaint. is_none complaint ≡ is_argument argument word.now) }
 {
     if is_in_range(alloc, argument, word)? {
         Ok(None)
@@ -282,7 +283,7 @@ fn of_argument<'a>(
 ///
 /// `AllocError` if an allocation fails.
 fn is_in_range(alloc: Global, argument: Argument, word: &[u8]) -> Result<bool, AllocError>
-    ensures { IfOk result (λ is. is ≡ is_said argument word.now) }
+    ensures { IfOk result (λ is. is ≡ is_argument argument word.now) }
 {
     match argument {
         Argument::Delay => Ok(number_of(word).is_some_and(|ms| ms <= MOST_MS)),
@@ -313,7 +314,7 @@ fn is_in_range(alloc: Global, argument: Argument, word: &[u8]) -> Result<bool, A
 ///
 /// `AllocError` if an allocation fails.
 fn are_octets(alloc: Global, word: &[u8]) -> Result<bool, AllocError>
-    ensures { IfOk result (λ are. are ≡ is_some (octets_said word.now)) }
+    ensures { IfOk result (λ are. are ≡ is_some (parsed_octets word.now)) }
 {
     match Words::of(word).octets(alloc) {
         Ok(_) => Ok(true),
@@ -334,7 +335,7 @@ fn without_percent(word: &[u8]) -> &[u8]
 
 /// The number below 256 that a word spells in decimal digits.
 fn octet_of(word: &[u8]) -> Option<u8>
-    ensures { result ≡ octet_said word.now }
+    ensures { result ≡ parsed_octet word.now }
 {
     u8::try_from(number_of(word)?).ok()
 }
@@ -355,7 +356,7 @@ fn of_word<'a>(form: Form, argument: Argument, word: &'a [u8]) -> Complaint<'a> 
 /// Whether octets are UTF-8.
 #[tactic(auto, using(crate::proofs::TextWords::are_utf8, crate::proofs::TextWords::not_utf8))]
 fn is_utf8(octets: &[u8]) -> bool
-    ensures { result ≡ utf8_told octets.now }
+    ensures { result ≡ is_utf8_octets octets.now }
 {
     match str::from_utf8(octets) {
         Ok(_) => true,

@@ -3,7 +3,7 @@
 //! - [`reason`] returns in one line of text what is wrong with a line of a command's script, and
 //!   [`forms`] lists the command's lines. The lines with the real clock are those of
 //!   [`Script::LiveNet`] and [`Script::LiveUser`].
-//! - [`KeptLines`] reads a script and keeps the lines it read last, so that a line can be shown by
+//! - [`RecentLines`] reads a script and keeps the lines it read last, so that a line can be shown by
 //!   its number.
 //! - [`Watched`] is a writer that remembers how a write failed, and [`Refusals`] one that notes the
 //!   first line that begins with `refused`.
@@ -16,9 +16,9 @@ mod cuts;
 mod form;
 mod help;
 mod judge;
-mod kept_lines;
 mod laws;
 mod line_forms;
+mod recent_lines;
 mod refusals;
 mod script;
 mod session;
@@ -29,9 +29,9 @@ mod watched;
 pub use form::{Argument, Form};
 pub use help::put_help;
 pub use judge::reason;
-pub use kept_lines::KeptLines;
 pub use laws::{worked_lines_by_form, worked_typed_lines};
 pub use line_forms::forms;
+pub use recent_lines::RecentLines;
 pub use refusals::Refusals;
 pub use script::Script;
 pub use session::Session;

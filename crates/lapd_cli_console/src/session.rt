@@ -59,7 +59,7 @@ impl<R: BufRead, E: Write> Session<R, E> {
 
     /// Reads up to the next line that is passed on. At the end of the input there is none.
     fn next_line(&mut self) -> io::Result<()> {
-        for _turn in 0..u64::MAX {
+        for _round in 0..u64::MAX {
             self.line.clear();
             self.given = 0;
             if self.is_ended {

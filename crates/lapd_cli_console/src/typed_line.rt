@@ -51,11 +51,11 @@ fn trimmed(octets: &[u8]) -> &[u8]
 fn without_front(octets: &[u8]) -> &[u8]
     ensures { result.now ≡ front_dropped octets.now }
 {
-    let mut kept = octets;
-    while let [b' ', rest @ ..] = kept {
-        kept = rest;
+    let mut remaining = octets;
+    while let [b' ', rest @ ..] = remaining {
+        remaining = rest;
     }
-    kept
+    remaining
 }
 
 /// The octets without trailing spaces.
@@ -63,11 +63,11 @@ fn without_front(octets: &[u8]) -> &[u8]
 fn without_end(octets: &[u8]) -> &[u8]
     ensures { result.now ≡ end_dropped octets.now }
 {
-    let mut kept = octets;
-    while let Some(rest) = without_last_space(kept) {
-        kept = rest;
+    let mut remaining = octets;
+    while let Some(rest) = without_last_space(remaining) {
+        remaining = rest;
     }
-    kept
+    remaining
 }
 
 /// The octets before the last one, if that is a space.

@@ -2,22 +2,22 @@
 use Rattle.std.proofs.Common.{◌≡◌, ℕ, List, [], ◌++◌, suc, Option, None, Ok, Err, true, false, refl, subst, append-nil}
 use Rattle.std.proofs.KnownBytes.{Appends-trans, Appends-nil}
 use Rattle.std.specs.Io.KnownBytes.{Appends}
-use Rattle.lapd_capture.specs.declared.Found.{Found}
+use Rattle.lapd_capture.specs.declared.CaptureItem.{CaptureItem}
 use Rattle.lapd_capture.specs.Reading.{Reading, next_step}
 use Rattle.lapd_cli_decode.specs.declared.capture_lines.CaptureStyle.{CaptureStyle}
-use Rattle.lapd_cli_decode.specs.Captured.{CaptureEnds, PrintsTo, TakesStep, found_text, packet_fault}
+use Rattle.lapd_cli_decode.specs.Captured.{CaptureEnds, PrintsTo, TakesStep, item_text, packet_fault}
 use Rattle.lapd_cli_decode.specs.declared.capture_lines.CaptureStop.{CaptureStop}
 use Rattle.lapd_cli_decode.specs.declared.capture_lines.CaptureStop.TheVariants.{Capture, Packet, Device, Memory}
 
-pub PrintsTo-more : (how : CaptureStyle) (start mid new : Reading) (found : Found) (a b d : Option (List ℕ))
-    → PrintsTo how start a b mid → next_step mid ≡ Ok (record { found = found; reading = new })
-    → packet_fault how.keeping found ≡ None → Appends b d (found_text how new found)
+pub PrintsTo-more : (how : CaptureStyle) (start mid new : Reading) (item : CaptureItem) (a b d : Option (List ℕ))
+    → PrintsTo how start a b mid → next_step mid ≡ Ok (record { item = item; reading = new })
+    → packet_fault how.keeps_going item ≡ None → Appends b d (item_text how new item)
     → PrintsTo how start a d new
-PrintsTo-more how start mid new found a b d p step kept grew = (
+PrintsTo-more how start mid new item a b d p step kept grew = (
   suc p.0,
-  p.1 ++ found_text how new found,
-  (mid, found, p.1, p.2, step, kept, refl),
-  Appends-trans a b d p.1 (found_text how new found) p.3 grew,
+  p.1 ++ item_text how new item,
+  (mid, item, p.1, p.2, step, kept, refl),
+  Appends-trans a b d p.1 (item_text how new item) p.3 grew,
 )
 
 -- nothing is printed at the beginning

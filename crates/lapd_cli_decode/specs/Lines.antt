@@ -6,7 +6,7 @@ use Rattle.lapd_frame.specs.declared.Side.{Side}
 use Rattle.lapd_frame.specs.declared.Side.TheVariants.{Network, User}
 use Rattle.lapd_field.specs.Address.{other_side}
 use Rattle.lapd_cli_script.specs.Line.{octets_behind, octets_of, text_line, words_of}
-use Rattle.lapd_cli_script.specs.Script.{Outcome}
+use Rattle.lapd_cli_script.specs.Script.{LineOutcome}
 use Rattle.lapd_cli_decode.specs.declared.line_form.LineForm.{LineForm}
 use Rattle.lapd_cli_decode.specs.declared.line_form.LineForm.TheVariants.{Strict, Loose}
 use Rattle.lapd_cli_decode.specs.declared.style.Style.{Style}
@@ -75,14 +75,14 @@ pub record Decoding : Type 0 where
   pub style : Style
 
 -- the result of each line; the state never changes
-abbrev pub line_step : Decoding → List ℕ → Outcome Decoding
+abbrev pub line_step : Decoding → List ℕ → LineOutcome Decoding
 line_step s line =
     option_map (λ sent. (text_line (styled_text s.style sent.0 sent.1), s)) (sent_in s.form line)
 
 -- the result if bad lines are skipped: nothing is printed for them
-abbrev pub or_nothing : Decoding → Outcome Decoding → Outcome Decoding
+abbrev pub or_nothing : Decoding → LineOutcome Decoding → LineOutcome Decoding
 or_nothing s None = Some ([], s)
 or_nothing s (Some next) = Some next
 
-abbrev pub keeping_step : Decoding → List ℕ → Outcome Decoding
-keeping_step s line = or_nothing s (line_step s line)
+abbrev pub decode_step_keeping_going : Decoding → List ℕ → LineOutcome Decoding
+decode_step_keeping_going s line = or_nothing s (line_step s line)

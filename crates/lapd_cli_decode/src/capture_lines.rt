@@ -3,10 +3,10 @@
 ghost use Rattle.std.specs.Prelude.{length, OnOk};
 ghost use Rattle.std.specs.Io.KnownBytes.{Appends};
 ghost use Rattle.lapd_capture.specs.Packet.{IsWithin};
-ghost use Rattle.lapd_cli_decode.specs.Captured.{CaptureEnds, found_text, IsOtherStop, TakesStep};
+ghost use Rattle.lapd_cli_decode.specs.Captured.{CaptureEnds, item_text, IsOtherStop, TakesStep};
 
 use crate::style::Style;
-use lapd_capture::{Capture, CaptureFault, Found, PacketFault, Span};
+use lapd_capture::{Capture, CaptureFault, CaptureItem, PacketFault, Span};
 use lapd_cli_render::Packet;
 use lapd_cli_script::{LineFault, put_line};
 use lapd_frame::Side;
@@ -40,10 +40,10 @@ pub struct CaptureStyle {
     /// The assumed sender of frames whose capture does not name it.
     pub sender: Side,
     /// Whether unreadable packets are skipped.
-    pub keeping: bool,
+    pub keeps_going: bool,
 }
 
-/// Prints the frames of a capture from its current place to its end. If `keeping` is set, an
+/// Prints the frames of a capture from its current place to its end. If `keeps_going` is set, an
 /// unreadable packet is reported on the error writer and skipped; failures of the error writer are
 /// ignored.
 ///
@@ -81,15 +81,15 @@ fn print_next<W: Write, E: Write>(
 {
     let place = capture.place();
     match capture.next() {
-        Ok(Found::End) => Ok(true),
-        Ok(Found::Other) => Ok(false),
-        Ok(Found::Frame(frame)) => {
+        Ok(CaptureItem::End) => Ok(true),
+        Ok(CaptureItem::Other) => Ok(false),
+        Ok(CaptureItem::Frame(frame)) => {
             put_frame(alloc, capture, frame, out, how)?;
             Ok(false)
         }
-        Ok(Found::Unreadable(fault)) => {
+        Ok(CaptureItem::Unreadable(fault)) => {
             let stop = CaptureStop::Packet(fault, place);
-            if !how.keeping {
+            if !how.keeps_going {
                 return Err(stop);
             }
             let _ = writeln!(errors, "skipped: {stop}");
@@ -107,9 +107,9 @@ fn put_frame<W: Write>(
     out: &mut W,
     how: CaptureStyle,
 ) -> Result<(), CaptureStop>
-    requires { IsWithin (length capture.now.octets) (Found.Frame frame) }
+    requires { IsWithin (length capture.now.octets) (CaptureItem.Frame frame) }
     ensures line { OnOk result (Appends (W.contents out.old) (W.contents out.new)
-        (found_text how capture.now (Found.Frame frame))) }
+        (item_text how capture.now (CaptureItem.Frame frame))) }
     ensures fault { IsOtherStop result }
 {
     let from = frame.from.unwrap_or(how.sender);

@@ -2,7 +2,7 @@
 
 ghost use Rattle.std.specs.Prelude.{◌≡◌, IfSome};
 ghost use Rattle.lapd_cli_script.specs.Script.{EndsAs, lines_of};
-ghost use Rattle.lapd_cli_decode.specs.Lines.{keeping_step, line_step};
+ghost use Rattle.lapd_cli_decode.specs.Lines.{decode_step_keeping_going, line_step};
 ghost use Rattle.lapd_cli_decode.specs.Decoder.{stood_for};
 
 use crate::line_form::LineForm;
@@ -57,7 +57,7 @@ pub fn decode_good_lines<R: Read, W: Write, E: Write + Drop>(
     style: Style,
     errors: E,
 ) -> Result<(), ScriptFault>
-    ensures { IfSome (R.remaining script.old) (λ octets. EndsAs keeping_step
+    ensures { IfSome (R.remaining script.old) (λ octets. EndsAs decode_step_keeping_going
         (record { form = form; style = style }) result (lines_of octets)
         (W.contents out.old) (W.contents out.new)) }
 {
@@ -105,7 +105,7 @@ impl Command for LineDecoder {
 
     ghost step = { line_step };
 
-    ghost stands_for = { λ decoder state. state ≡ stood_for decoder };
+    ghost represents = { λ decoder state. state ≡ stood_for decoder };
 
     fn run<W: Write>(&mut self, line: &[u8], out: &mut W) -> Result<(), LineFault> {
         self.decode(line, out)
@@ -124,9 +124,9 @@ impl<E: Write> Command for GoodLines<E> {
 
     ghost State = { Decoding };
 
-    ghost step = { keeping_step };
+    ghost step = { decode_step_keeping_going };
 
-    ghost stands_for = { λ lines state. state ≡ stood_for lines.decoder };
+    ghost represents = { λ lines state. state ≡ stood_for lines.decoder };
 
     fn run<W: Write>(&mut self, line: &[u8], out: &mut W) -> Result<(), LineFault> {
         match self.decoder.decode(line, out) {

@@ -50,7 +50,7 @@ pub fn accepted(rt: &HostRuntime, notes: &Notes<'_>, address: &str) -> io::Resul
 pub fn listening(rt: &HostRuntime, notes: &Notes<'_>, address: &str) -> io::Result<TcpListener> {
     let listener = TcpListener::bind(rt, address)?;
     let own = listener.local_addr()?;
-    notes.say(format_args!("listening on {own}"));
+    notes.print(format_args!("listening on {own}"));
     Ok(listener)
 }
 
@@ -61,7 +61,7 @@ pub fn listening(rt: &HostRuntime, notes: &Notes<'_>, address: &str) -> io::Resu
 /// The system's error.
 pub fn next(notes: &Notes<'_>, listener: &TcpListener) -> io::Result<(TcpStream, SocketAddr)> {
     let (stream, from) = listener.accept()?;
-    notes.say(format_args!("connected by {from}"));
+    notes.print(format_args!("connected by {from}"));
     stream.set_nodelay(true)?;
     Ok((stream, from))
 }
@@ -74,15 +74,15 @@ pub fn next(notes: &Notes<'_>, listener: &TcpListener) -> io::Result<(TcpStream,
 pub fn made(rt: &HostRuntime, notes: &Notes<'_>, address: &str) -> io::Result<TcpStream> {
     let stream = TcpStream::connect(rt, address)?;
     let peer = stream.peer_addr()?;
-    notes.say(format_args!("connected to {peer}"));
+    notes.print(format_args!("connected to {peer}"));
     stream.set_nodelay(true)?;
     Ok(stream)
 }
 
 /// Notes that the other side has closed the connection, if it has and everything it sent was read.
-pub fn tell_closed(notes: &Notes<'_>, stream: &TcpStream) {
+pub fn print_closed(notes: &Notes<'_>, stream: &TcpStream) {
     if is_closed(stream) {
-        notes.say(words_of(PortFault::End));
+        notes.print(words_of(PortFault::End));
     }
 }
 

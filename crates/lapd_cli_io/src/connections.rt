@@ -8,7 +8,7 @@ use crate::dialler::Dialler;
 use crate::discards::Discards;
 use crate::door::Door;
 use crate::frame_stream::FrameStream;
-use crate::further::{COMING, Coming, Further};
+use crate::further::{Further, INCOMING, Incoming};
 use crate::input::Input;
 use crate::lost::words_of;
 use crate::notes::Notes;
@@ -29,7 +29,7 @@ const INPUT: Token = Token(1000);
 const EVENTS: usize = 130;
 
 /// The most frames taken in a row before the next poll.
-const MOST_IN_TURN: u32 = 64;
+const MOST_IN_A_ROW: u32 = 64;
 
 /// Connections, and a clock that begins when they are created.
 #[derive(Drop)]
@@ -100,7 +100,7 @@ impl<'a> Connections<'a> {
     ///
     /// The system's error.
     pub fn accept_from(&mut self, listener: TcpListener) -> io::Result<()> {
-        self.further = Further::Door(Door::new(&self.poll, COMING, listener)?);
+        self.further = Further::Door(Door::new(&self.poll, INCOMING, listener)?);
         Ok(())
     }
 
@@ -117,9 +117,9 @@ impl<'a> Connections<'a> {
 
     /// Notes that the other side has closed the only connection, if it has and everything it sent
     /// was read.
-    pub fn tell_closed(&self) {
+    pub fn print_closed(&self) {
         if self.further.is_nowhere() && self.peers.is_closed() {
-            self.notes.say(words_of(PortFault::End));
+            self.notes.print(words_of(PortFault::End));
         }
     }
 
@@ -152,14 +152,14 @@ impl<'a> Connections<'a> {
             }
             (true, fault) => Err(fault),
             (false, _) => {
-                self.let_go(lost);
+                self.drop_peer(lost);
                 Ok(())
             }
         }
     }
 
     /// Removes a connection whose place the next one may take, and notes it.
-    fn let_go(&mut self, lost: LostPeer) {
+    fn drop_peer(&mut self, lost: LostPeer) {
         let is_alone = self.peers.is_alone();
         if let Some(peer) = self.peers.remove(lost.place) {
             let now = self.clock.latest();
@@ -175,21 +175,21 @@ impl<'a> Connections<'a> {
             }
             let now = self.clock.latest();
             match self.further.next(self.rt, &self.poll, self.notes, now) {
-                Some(coming) => self.greet(coming),
+                Some(incoming) => self.greet(incoming),
                 None => return,
             }
         }
     }
 
     /// Adds a further connection, and notes it.
-    fn greet(&mut self, coming: Coming) {
-        let Coming {
+    fn greet(&mut self, incoming: Incoming) {
+        let Incoming {
             stream,
             peer,
             words,
-        } = coming;
+        } = incoming;
         match self.add(stream, peer) {
-            Ok(()) => self.notes.say(format_args!("{words} {peer}")),
+            Ok(()) => self.notes.print(format_args!("{words} {peer}")),
             Err(error) => {
                 let now = self.clock.latest();
                 self.further.miss(peer, &error, now, self.notes);
@@ -205,7 +205,7 @@ impl<'a> Connections<'a> {
         };
         for _place in 0..self.peers.most() {
             match self.peers.idle_peer(limit, now) {
-                Some(lost) => self.let_go(lost),
+                Some(lost) => self.drop_peer(lost),
                 None => return,
             }
         }
@@ -220,7 +220,7 @@ impl<'a> Connections<'a> {
             let token = event.token();
             if token == INPUT {
                 self.input.wake();
-            } else if token == COMING {
+            } else if token == INCOMING {
                 self.further.wake();
             } else {
                 self.peers.wake(token.0);
@@ -286,7 +286,7 @@ impl<'a> Connections<'a> {
             if let Some(woken) = self.woken(lines) {
                 return Ok(woken);
             }
-            if has_come(until, self.clock.now()?) {
+            if is_reached(until, self.clock.now()?) {
                 return Ok(Woken::Due);
             }
         }
@@ -304,7 +304,7 @@ fn sooner(one: Option<u64>, other: Option<u64>) -> Option<u64> {
 }
 
 /// Whether a moment is set and has passed.
-fn has_come(until: Option<u64>, now: u64) -> bool {
+fn is_reached(until: Option<u64>, now: u64) -> bool {
     match until {
         Some(until) => until <= now,
         None => false,
@@ -322,7 +322,7 @@ impl Outside for Connections<'_> {
             self.peers.wake(0);
             return self.next_frame(frame);
         }
-        if self.taken < MOST_IN_TURN {
+        if self.taken < MOST_IN_A_ROW {
             if let Some(count) = self.next_frame(frame)? {
                 return Ok(Some(count));
             }
@@ -351,7 +351,7 @@ impl Outside for Connections<'_> {
 
     fn discarded(&mut self, id: LinkId) {
         if let Some(discard) = self.discards.add(id) {
-            self.notes.say(discard);
+            self.notes.print(discard);
         }
     }
 

@@ -67,7 +67,7 @@ impl Dialler {
         self.put_off(now)
     }
 
-    /// The next moment at which to call [`Dialler::go_on`], in milliseconds, unless an attempt ends
+    /// The next moment at which to call [`Dialler::advance`], in milliseconds, unless an attempt ends
     /// earlier. `None` if there is nothing to do.
     pub fn next_moment(&self) -> Option<u64> {
         match &self.state {
@@ -78,7 +78,7 @@ impl Dialler {
 
     /// Does what is due at this moment, in milliseconds. A poll reports the end of an attempt by
     /// this token.
-    pub fn go_on(&mut self, rt: &HostRuntime, poll: &Poll, token: Token, now: u64) -> Attempt {
+    pub fn advance(&mut self, rt: &HostRuntime, poll: &Poll, token: Token, now: u64) -> Attempt {
         match self.take_state() {
             Dialling::Pausing(moment) if moment <= now => match self.connect(rt, poll, token) {
                 Ok(stream) => self.wait_for(stream, now.saturating_add(ATTEMPT)),

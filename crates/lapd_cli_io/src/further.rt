@@ -11,7 +11,7 @@ use std::io;
 use std::net::SocketAddr;
 
 /// The token of the listener.
-pub const COMING: Token = Token(1001);
+pub const INCOMING: Token = Token(1001);
 
 /// The token of a connection that is being established.
 const DIALLED: Token = Token(1002);
@@ -29,7 +29,7 @@ pub enum Further {
 
 /// A further connection.
 #[derive(Drop)]
-pub struct Coming {
+pub struct Incoming {
     pub stream: TcpStream,
     /// The address of the other side.
     pub peer: SocketAddr,
@@ -68,13 +68,13 @@ impl Further {
         poll: &Poll,
         notes: &Notes<'_>,
         now: u64,
-    ) -> Option<Coming> {
+    ) -> Option<Incoming> {
         match self {
             Further::Nowhere => None,
             Further::Door(door) => accepted(door.accept(now), notes),
             Further::Dialler(dialler) => {
                 let peer = dialler.address();
-                made(dialler.go_on(rt, poll, DIALLED, now), peer, notes)
+                made(dialler.advance(rt, poll, DIALLED, now), peer, notes)
             }
         }
     }
@@ -94,14 +94,14 @@ impl Further {
             Further::Door(door) => {
                 door.retry();
                 if is_alone {
-                    notes.say(format_args!("connection lost: {why}; waiting for the next"));
+                    notes.print(format_args!("connection lost: {why}; waiting for the next"));
                 } else {
-                    notes.say(format_args!("{peer}: {why}"));
+                    notes.print(format_args!("{peer}: {why}"));
                 }
             }
             Further::Dialler(dialler) => {
                 let pause = dialler.begin(now);
-                notes.say(format_args!("connection lost: {why}; connecting again in {pause} ms"));
+                notes.print(format_args!("connection lost: {why}; connecting again in {pause} ms"));
             }
         }
     }
@@ -111,10 +111,10 @@ impl Further {
     pub fn miss(&mut self, peer: SocketAddr, why: &io::Error, now: u64, notes: &Notes<'_>) {
         let why = Reason(why);
         match self {
-            Further::Nowhere | Further::Door(_) => notes.say(format_args!("{peer}: {why}")),
+            Further::Nowhere | Further::Door(_) => notes.print(format_args!("{peer}: {why}")),
             Further::Dialler(dialler) => {
                 let pause = dialler.begin(now);
-                notes.say(format_args!("cannot connect: {why}; connecting again in {pause} ms"));
+                notes.print(format_args!("cannot connect: {why}; connecting again in {pause} ms"));
             }
         }
     }
@@ -124,33 +124,33 @@ impl Further {
 fn accepted(
     accepted: io::Result<Option<(TcpStream, SocketAddr)>>,
     notes: &Notes<'_>,
-) -> Option<Coming> {
+) -> Option<Incoming> {
     match accepted {
-        Ok(Some((stream, peer))) => Some(Coming {
+        Ok(Some((stream, peer))) => Some(Incoming {
             stream,
             peer,
             words: "connected by",
         }),
         Ok(None) => None,
         Err(error) => {
-            notes.say(format_args!("cannot accept connections: {}", Reason(&error)));
+            notes.print(format_args!("cannot accept connections: {}", Reason(&error)));
             None
         }
     }
 }
 
 /// The result of connecting to this address.
-fn made(attempt: Attempt, peer: SocketAddr, notes: &Notes<'_>) -> Option<Coming> {
+fn made(attempt: Attempt, peer: SocketAddr, notes: &Notes<'_>) -> Option<Incoming> {
     match attempt {
         Attempt::Open => None,
-        Attempt::Made(stream) => Some(Coming {
+        Attempt::Made(stream) => Some(Incoming {
             stream,
             peer,
             words: "connected to",
         }),
         Attempt::Failed(error, pause) => {
             let why = Reason(&error);
-            notes.say(format_args!("cannot connect: {why}; connecting again in {pause} ms"));
+            notes.print(format_args!("cannot connect: {why}; connecting again in {pause} ms"));
             None
         }
     }

@@ -53,15 +53,15 @@ impl<'a> Notes<'a> {
     }
 
     /// Writes a note and a line feed, or drops the note. A note is cut to 4,095 octets.
-    pub fn say<D: Display + Drop>(&self, note: D) {
+    pub fn print<D: Display + Drop>(&self, note: D) {
         if let Ok(mut errors) = self.errors.try_borrow_mut() {
-            errors.say(self.rt, note);
+            errors.print(self.rt, note);
         }
     }
 }
 
 impl Errors {
-    fn say<D: Display + Drop>(&mut self, rt: &HostRuntime, note: D) {
+    fn print<D: Display + Drop>(&mut self, rt: &HostRuntime, note: D) {
         if !self.is_ready() {
             self.give_up();
             return;

@@ -18,7 +18,7 @@ pub struct Peers {
     /// The most connections.
     most: usize,
     /// The place to look for the next frame first.
-    turn: usize,
+    next_place: usize,
 }
 
 /// A connection.
@@ -26,7 +26,7 @@ pub struct Peers {
 struct Peer {
     stream: FrameStream,
     /// The moment when it was established or last sent a whole frame, in milliseconds.
-    heard: u64,
+    last_frame_at: u64,
 }
 
 /// A connection that is lost.
@@ -44,7 +44,7 @@ impl Peers {
         Peers {
             streams: Slab::new(rt.alloc()),
             most: usize::from(most),
-            turn: 0,
+            next_place: 0,
         }
     }
 
@@ -70,7 +70,11 @@ impl Peers {
     ///
     /// The system's error, or out of memory.
     pub fn add(&mut self, poll: &Poll, stream: FrameStream, now: u64) -> io::Result<()> {
-        let Ok(place) = self.streams.insert(Peer { stream, heard: now }) else {
+        let Ok(place) = self.streams.insert(Peer {
+            stream,
+            last_frame_at: now,
+        })
+        else {
             return Err(io::Error::from(ErrorKind::OutOfMemory));
         };
         let registered = match self.streams.get_mut(place) {
@@ -122,8 +126,8 @@ impl Peers {
         ensures { IfOk result (λ count. IfSome count (λ count. count ≤ MOST_OCTETS)) }
     {
         for _place in 0..self.most {
-            let place = self.turn;
-            self.turn = place_behind(place, self.most);
+            let place = self.next_place;
+            self.next_place = place_behind(place, self.most);
             match self.next_frame_at(place, frame, now) {
                 Ok(Some(count)) => return Ok(Some(count)),
                 Ok(None) => {}
@@ -146,7 +150,7 @@ impl Peers {
         };
         let count = peer.stream.next_frame(frame)?;
         if count.is_some() {
-            peer.heard = now;
+            peer.last_frame_at = now;
         }
         Ok(count)
     }
@@ -206,7 +210,7 @@ impl Peers {
 impl Peer {
     /// The moment at which it will have sent no whole frame for `limit` milliseconds.
     fn idle_moment(&self, limit: u64) -> u64 {
-        self.heard.saturating_add(limit)
+        self.last_frame_at.saturating_add(limit)
     }
 }
 

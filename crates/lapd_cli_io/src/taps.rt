@@ -93,7 +93,7 @@ impl Taps<'_> {
         self.begun = Some(begun);
         if let Err(error) = capture.write(from, begun.saturating_add(moment), frame) {
             self.notes
-                .say(format_args!("capture stopped: {}", Reason(&error)));
+                .print(format_args!("capture stopped: {}", Reason(&error)));
             self.capture = None;
         }
     }
@@ -107,7 +107,7 @@ impl Taps<'_> {
         };
         if let Err(error) = gsmtap.send(from, frame) {
             self.notes
-                .say(format_args!("GSMTAP ends here: {}", Reason(&error)));
+                .print(format_args!("GSMTAP ends here: {}", Reason(&error)));
             self.gsmtap = None;
         }
     }

@@ -23,11 +23,11 @@ ended step w v (Ok done) lines old mid new is walked close err = (walked.0, appe
 ended step w v (Err fault) lines old mid new is walked close err = subst (λ f. ClosesAs step w (Err f) lines old new) (sym err) tt
 
 -- a run to the end of its script, and then the closing lines
-pub closed : {M : Type 0} (step : Step World) (stands_for : M → World → Type 0) (known : Option (List ℕ)) (w : World) (mover : M) (result : Result ⊤ ScriptFault) (old mid new : Option (List ℕ))
+pub closed : {M : Type 0} (step : Step World) (represents : M → World → Type 0) (known : Option (List ℕ)) (w : World) (mover : M) (result : Result ⊤ ScriptFault) (old mid new : Option (List ℕ))
     → IfSome known (λ octets. EndsAs step w (Ok tt) (lines_of octets) old mid)
-    → IfSome known (λ octets. stands_for mover (state_after step w (lines_of octets)))
-    → ((v : World) → stands_for mover v → OnOk result (Appends mid new (closing_lines v))) → IsOkUnless result Device
+    → IfSome known (λ octets. represents mover (state_after step w (lines_of octets)))
+    → ((v : World) → represents mover v → OnOk result (Appends mid new (closing_lines v))) → IsOkUnless result Device
     → IfSome known (λ octets. ClosesAs step w result (lines_of octets) old new)
-closed step stands_for None w mover result old mid new walked stands close err = tt
-closed step stands_for (Some octets) w mover result old mid new walked stands close err =
-    ended step w _ result (lines_of octets) old mid new refl walked (close _ stands) err
+closed step represents None w mover result old mid new walked representation close err = tt
+closed step represents (Some octets) w mover result old mid new walked representation close err =
+    ended step w _ result (lines_of octets) old mid new refl walked (close _ representation) err

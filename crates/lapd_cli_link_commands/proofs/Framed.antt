@@ -18,7 +18,7 @@ use Rattle.lapd_link.specs.SentFrame.{link_address, made_frame, message_frame, s
 use Rattle.lapd_link.specs.declared.link.Link.{Link}
 use Rattle.lapd_link.proofs.Frames.{short_unit}
 use Rattle.lapd_mod128.specs.Counting.{Tagged}
-use Rattle.lapd_pair.specs.Runs.{PairStandsFor}
+use Rattle.lapd_pair.specs.Runs.{PairRepresents}
 use Rattle.lapd_pair.specs.Setup.{setup_for}
 use Rattle.lapd_pair.specs.declared.pair.Pair.{Pair}
 use Rattle.lapd_pair.proofs.Framed.{frames_of_move}
@@ -33,15 +33,15 @@ use Rattle.lapd_cli_script.specs.Line.{text_line}
 use Rattle.lapd_sides_links.specs.declared.primitive.What.{What}
 use Rattle.lapd_trace.specs.Trace.{frame_line}
 use Rattle.lapd_trace.proofs.FrameLines.{line_of_spelling}
-use Rattle.lapd_pair_laws.specs.Kept.{IsKeptWorld}
-use Rattle.lapd_pair_laws.specs.Move.{Deed, UnitData, Move, Refusal, Station, View, stepped, takes, acts}
+use Rattle.lapd_pair_laws.specs.Consistent.{IsConsistentWorld}
+use Rattle.lapd_pair_laws.specs.Move.{PairEvent, UnitData, Move, Refusal, Station, View, stepped, takes, acts}
 use Rattle.lapd_pair_laws.specs.World.{World, Happened, view_of, in_world, happens}
 use Rattle.lapd_cli_link_commands.specs.Answer.{Session, IsSession, messages_of}
 use Rattle.lapd_cli_link_commands.specs.Outputs.{handed_in, out_line, outs_text}
-use Rattle.lapd_cli_link_commands.specs.Pair.{move_made, move_told, side_line, spoken_of, told_line, told_lines, unit_of}
-use Rattle.lapd_cli_link_commands.specs.StandsForWorld.{made_side_line, made_side_lines}
-use Rattle.lapd_cli_link_commands.specs.Session.{IsHandedWith, made_line, made_text}
-use Rattle.lapd_cli_link_commands.specs.Told.{Spoken, told, told_as, told_with, what_told}
+use Rattle.lapd_cli_link_commands.specs.Pair.{move_made, move_printed, side_line, output_octets_of, printed_line, printed_lines, unit_of}
+use Rattle.lapd_cli_link_commands.specs.RepresentsWorld.{made_side_line, made_side_lines}
+use Rattle.lapd_cli_link_commands.specs.Session.{HasInputOctets, made_line, made_text}
+use Rattle.lapd_cli_link_commands.specs.PrintedOutput.{OutputOctets, printed_output, printed_as, printed_with, what_printed}
 
 -- the frame built from an output is the specified one
 abbrev IsSent : Setup → List (List ℕ) → List ℕ → Out → Type 0
@@ -58,7 +58,7 @@ same_lines {P} f g (output ∷ outs) same h =
 
 same_text : (setup : Setup) (messages : List (List ℕ)) (handed : List ℕ) (outs : List Out) → All (IsSent setup messages handed) outs → made_text setup messages handed outs ≡ outs_text setup messages handed outs
 same_text setup messages handed outs h =
-    let line : Option Fields → Out → List ℕ = λ made output. out_line setup.side (told_with made (handed_in handed) output) in
+    let line : Option Fields → Out → List ℕ = λ made output. out_line setup.side (printed_with made (handed_in handed) output) in
     same_lines (made_line setup messages (handed_in handed)) (λ output. line (sent_frame setup messages handed output) output) outs (λ output same. ap (λ made. line made output) same) h
 
 pub text_of_step : (link : Link) (s : Session) (handed : List ℕ) (outs : List Out) → HasFramesOf link outs → IsSession link s → length handed ≤ n201
@@ -67,7 +67,7 @@ text_of_step link s handed outs has session fits =
     same_text s.setup (messages_of s.end) handed outs (subst (λ (setup : Setup). HaveFrames setup (messages_of s.end) outs) session.setup (has s.end session.end) handed fits)
 
 -- octets passed with an accepted input fit into a frame
-pub fits_with : (input : Input) (handed : List ℕ) (e : End) (s : StepState) → IsHandedWith input handed → step Tagged input e ≡ Ok s → length handed ≤ n201
+pub fits_with : (input : Input) (handed : List ℕ) (e : End) (s : StepState) → HasInputOctets input handed → step Tagged input e ≡ Ok s → length handed ≤ n201
 fits_with (input.UnitData len) handed e s same done = subst (λ (n : ℕ). n ≤ n201) same (short_unit len e s done)
 fits_with input handed e s fits done = fits
 
@@ -93,29 +93,29 @@ made_has_content setup messages handed out.SendUnit = frame_has_content (link_ad
 made_has_content setup messages handed output = tt
 
 -- an output without a frame has the same line in both forms
-line_of_unsent : (side : Side) (what : Option What) (output : Out) → side_line (frame_line side) side (told_as what output) ≡ told_line side (told_as what output)
+line_of_unsent : (side : Side) (what : Option What) (output : Out) → side_line (frame_line side) side (printed_as what output) ≡ printed_line side (printed_as what output)
 line_of_unsent side (Some what) output = refl
 line_of_unsent side None (out.Start timer) = refl
 line_of_unsent side None (out.Stop timer) = refl
 line_of_unsent side None output = refl
 
-line_of_made : (side : Side) (made : Option Fields) (s : Spoken) (output : Out) → HasContent made → side_line (frame_line side) side (told_with made s output) ≡ told_line side (told_with made s output)
-line_of_made side None s output h = line_of_unsent side (what_told s output) output
+line_of_made : (side : Side) (made : Option Fields) (s : OutputOctets) (output : Out) → HasContent made → side_line (frame_line side) side (printed_with made s output) ≡ printed_line side (printed_with made s output)
+line_of_made side None s output h = line_of_unsent side (what_printed s output) output
 line_of_made side (Some f) s output h = ap (λ (t : List ℕ). text_line t) (sym (line_of_spelling side f h))
 
 -- ---- A pair.
 
-same_side_line : (side : Side) (messages : List (List ℕ)) (s : Spoken) (output : Out) → IsSent (setup_for side) messages s.sent output
-    → made_side_line side messages s output ≡ told_line side (told (setup_for side) messages s output)
+same_side_line : (side : Side) (messages : List (List ℕ)) (s : OutputOctets) (output : Out) → IsSent (setup_for side) messages s.sent output
+    → made_side_line side messages s output ≡ printed_line side (printed_output (setup_for side) messages s output)
 same_side_line side messages s output h =
     line_of_made side _ s output (made_has_content (setup_for side) messages s.sent output)
-    ∙ ap (λ (made : Option Fields). told_line side (told_with made s output)) h
+    ∙ ap (λ (made : Option Fields). printed_line side (printed_with made s output)) h
 
-same_side_lines : (side : Side) (s : Station) (unit : List ℕ) (outs : List Out) → All (IsSent (setup_for side) (messages_of s.end) unit) outs → made_side_lines side s unit outs ≡ told_lines side s unit outs
+same_side_lines : (side : Side) (s : Station) (unit : List ℕ) (outs : List Out) → All (IsSent (setup_for side) (messages_of s.end) unit) outs → made_side_lines side s unit outs ≡ printed_lines side s unit outs
 same_side_lines side s unit outs h =
     let messages = messages_of s.end in
-    let spoken = spoken_of s.history unit in
-    same_lines (made_side_line side messages spoken) (λ output. told_line side (told (setup_for side) messages spoken output)) outs (same_side_line side messages spoken) h
+    let output_octets = output_octets_of s.history unit in
+    same_lines (made_side_line side messages output_octets) (λ output. printed_line side (printed_output (setup_for side) messages output_octets output)) outs (same_side_line side messages output_octets) h
 
 -- unit data of an accepted move
 unit_stepped : (who : Side) (w : World) (octets : List ℕ) (v : View) (happened : Happened) (result : Result StepState LinkFault) → step Tagged (input.UnitData (length octets)) v.station.end ≡ result
@@ -123,31 +123,31 @@ unit_stepped : (who : Side) (w : World) (octets : List ℕ) (v : View) (happened
 unit_stepped who w octets v happened (Ok s) done is = short_unit (length octets) v.station.end s done
 unit_stepped who w octets v happened (Err fault) done is = absurd (cc)
 
-short_deed : (who : Side) (deed : Deed) (w : World) (happened : Happened) → in_world who w (acts Tagged who deed (view_of who w)) ≡ Ok happened → length (unit_of deed) ≤ n201
+short_event : (who : Side) (event : PairEvent) (w : World) (happened : Happened) → in_world who w (acts Tagged who event (view_of who w)) ≡ Ok happened → length (unit_of event) ≤ n201
 unfolding acts takes
-short_deed who (UnitData octets) w happened is = unit_stepped who w octets (view_of who w) happened (step Tagged (input.UnitData (length octets)) (view_of who w).station.end) refl is
-short_deed who deed w happened is = omega arith
+short_event who (UnitData octets) w happened is = unit_stepped who w octets (view_of who w) happened (step Tagged (input.UnitData (length octets)) (view_of who w).station.end) refl is
+short_event who event w happened is = omega arith
 
-short_move : (move : Move) (w : World) (happened : Happened) → happens Tagged move w ≡ Ok happened → length (unit_of move.deed) ≤ n201
+short_move : (move : Move) (w : World) (happened : Happened) → happens Tagged move w ≡ Ok happened → length (unit_of move.event) ≤ n201
 unfolding happens
-short_move move w happened is = short_deed move.side move.deed w happened is
+short_move move w happened is = short_event move.side move.event w happened is
 
 -- the printed lines of a move
-pub lines_of_move : (move : Move) (w : World) (happened : Happened) → IsKeptWorld Tagged w → happens Tagged move w ≡ Ok happened
-    → made_side_lines move.side (view_of move.side happened.world).station (unit_of move.deed) happened.outs ≡ told_lines move.side (view_of move.side happened.world).station (unit_of move.deed) happened.outs
+pub lines_of_move : (move : Move) (w : World) (happened : Happened) → IsConsistentWorld Tagged w → happens Tagged move w ≡ Ok happened
+    → made_side_lines move.side (view_of move.side happened.world).station (unit_of move.event) happened.outs ≡ printed_lines move.side (view_of move.side happened.world).station (unit_of move.event) happened.outs
 lines_of_move move w happened kept is =
-    same_side_lines move.side (view_of move.side happened.world).station (unit_of move.deed) happened.outs (frames_of_move move w happened kept is (unit_of move.deed) (short_move move w happened is))
+    same_side_lines move.side (view_of move.side happened.world).station (unit_of move.event) happened.outs (frames_of_move move w happened kept is (unit_of move.event) (short_move move w happened is))
 
 -- the text that is written for a move
 pub move_written : (w : World) (move : Move) (happened : Happened) (p : Pair) (side : Side) (unit : List ℕ) (outs : List Out) (text written : List ℕ) (old new : Option (List ℕ))
-    → IsKeptWorld Tagged w → happens Tagged move w ≡ Ok happened → happened.outs ≡ outs → PairStandsFor p happened.world → side ≡ move.side → unit ≡ unit_of move.deed
+    → IsConsistentWorld Tagged w → happens Tagged move w ≡ Ok happened → happened.outs ≡ outs → PairRepresents p happened.world → side ≡ move.side → unit ≡ unit_of move.event
     → text ≡ made_side_lines side (view_of side happened.world).station unit outs → written ≡ text → Appends old new written
-    → PairStandsFor p (move_made w move).1 × Appends old new (move_made w move).0
-move_written w move happened p side unit outs text written old new kept is given stands its_side its_unit made whole appends =
-    let Made : Result Happened Refusal → Type 0 = λ outcome. PairStandsFor p (move_told w move outcome).1 × Appends old new (move_told w move outcome).0 in
+    → PairRepresents p (move_made w move).1 × Appends old new (move_made w move).0
+move_written w move happened p side unit outs text written old new kept is given representation its_side its_unit made whole appends =
+    let Made : Result Happened Refusal → Type 0 = λ outcome. PairRepresents p (move_printed w move outcome).1 × Appends old new (move_printed w move outcome).0 in
     let lines = whole ∙ made
     ∙ ap (λ (s : Side). made_side_lines s (view_of s happened.world).station unit outs) its_side
     ∙ ap (λ (u : List ℕ). made_side_lines move.side (view_of move.side happened.world).station u outs) its_unit
-    ∙ ap (λ (o : List Out). made_side_lines move.side (view_of move.side happened.world).station (unit_of move.deed) o) (sym given)
+    ∙ ap (λ (o : List Out). made_side_lines move.side (view_of move.side happened.world).station (unit_of move.event) o) (sym given)
     ∙ lines_of_move move w happened kept is in
-    subst Made (sym is) (stands, subst (λ (t : List ℕ). Appends old new t) lines appends)
+    subst Made (sym is) (representation, subst (λ (t : List ℕ). Appends old new t) lines appends)

@@ -2,16 +2,16 @@
 use Rattle.std.proofs.Common.{◌≡◌, ℕ, List, Option, Some, Result, Ok, Err, Bool, false, if◌then◌else◌, sym, subst}
 use Rattle.std.specs.Prelude.{⊤, codes}
 use Rattle.std.specs.Str.{bytes_eq}
-use Rattle.lapd_cli_script.specs.Script.{LineEndsAs, Outcome}
+use Rattle.lapd_cli_script.specs.Script.{LineEndsAs, LineOutcome}
 use Rattle.lapd_cli_script.specs.declared.script.LineFault.{LineFault}
 use Rattle.lapd_cli_script.specs.declared.script.LineFault.TheVariants.{Bad, Device, Memory}
 use Rattle.lapd_pair_laws.specs.World.{World}
 use Rattle.lapd_cli_link_commands.specs.declared.settler.Settler.{Settler}
 use Rattle.lapd_cli_link_commands.specs.Pair.{move_step, pair_step, settle_made}
-use Rattle.lapd_cli_link_commands.specs.StandsForWorld.{IsMover, IsSettler}
+use Rattle.lapd_cli_link_commands.specs.RepresentsWorld.{IsMover, IsSettler}
 
 -- a line ends for the command as it does for its mover
-ends_around : (o : Outcome World) (result : Result ⊤ LineFault) (settler : Settler) (old new : Option (List ℕ))
+ends_around : (o : LineOutcome World) (result : Result ⊤ LineFault) (settler : Settler) (old new : Option (List ℕ))
     → LineEndsAs IsMover o result settler.mover old new → LineEndsAs IsSettler o result settler old new
 ends_around o (Ok done) settler old new h = h
 ends_around o (Err Bad) settler old new h = h

@@ -17,12 +17,12 @@ use Rattle.lapd_link.specs.declared.LinkFault.{LinkFault}
 use Rattle.lapd_link.specs.declared.link.Link.{Link}
 use Rattle.lapd_link.specs.End.{End, StepState, new_end}
 use Rattle.lapd_link.specs.Input.{Input, Heard, Faulty, Expiry, Establish, Release, BusyOn, BusyOff, UnitData, Give}
-use Rattle.lapd_link.specs.Link.{LinkStandsFor, Setup, setup_of, is_address_of}
+use Rattle.lapd_link.specs.Link.{LinkRepresents, Setup, setup_of, is_address_of}
 use Rattle.lapd_link.specs.Parameters.{Parameters}
 use Rattle.lapd_link.specs.State.{state_number}
 use Rattle.lapd_link.specs.Table.{step}
 use Rattle.lapd_cli_script.specs.Line.{words_of, nothing_of, octets_behind, text_line}
-use Rattle.lapd_cli_script.specs.Script.{Outcome}
+use Rattle.lapd_cli_script.specs.Script.{LineOutcome}
 use Rattle.lapd_cli_link_commands.specs.Outputs.{outs_text, refusal_line}
 
 -- a link: its side and address, and its current end
@@ -65,17 +65,17 @@ abbrev pub hear_fault : Session → FaultKind → Option Address → List ℕ ×
 hear_fault s kind None = (text_line (codes "discarded " ++ fault_name kind), s)
 hear_fault s kind (Some a) = if_mine s (is_address_of s.setup a) (link_step s (Faulty kind) [])
 
-abbrev pub hear_frame : Session → Fields → List ℕ × Session
-hear_frame s f = if_mine s (is_address_of s.setup f.address)
+abbrev pub receive_frame : Session → Fields → List ℕ × Session
+receive_frame s f = if_mine s (is_address_of s.setup f.address)
     (link_step s (Heard f.control f.address.role) f.info)
 
 -- a valid frame, or the first fault of the octets
-abbrev pub hear_read : Session → Result Fields FrameFault → List ℕ × Session
-hear_read s (Ok f) = hear_frame s f
-hear_read s (Err fault) = hear_fault s fault.kind fault.address
+abbrev pub receive_read : Session → Result Fields FrameFault → List ℕ × Session
+receive_read s (Ok f) = receive_frame s f
+receive_read s (Err fault) = hear_fault s fault.kind fault.address
 
-abbrev pub hear : Session → List ℕ → List ℕ × Session
-hear s octets = hear_read s (frame_at (other_side s.setup.side) octets)
+abbrev pub receive : Session → List ℕ → List ℕ × Session
+receive s octets = receive_read s (frame_at (other_side s.setup.side) octets)
 
 abbrev pub state_line : End → List ℕ
 state_line e = text_line (codes "state " ++ decimal (state_number e.state))
@@ -83,23 +83,23 @@ state_line e = text_line (codes "state " ++ decimal (state_number e.state))
 -- ---- The result of a line, by its first word and the words after it.
 
 -- a word with nothing after it
-abbrev pub alone : List (List ℕ) → List ℕ × Session → Outcome Session
+abbrev pub alone : List (List ℕ) → List ℕ × Session → LineOutcome Session
 alone behind next = option_map (λ none. next) (nothing_of behind)
 
 -- a word with octets after it
-abbrev pub with_octets : List (List ℕ) → (List ℕ → List ℕ × Session) → Outcome Session
+abbrev pub with_octets : List (List ℕ) → (List ℕ → List ℕ × Session) → LineOutcome Session
 with_octets behind next = option_map next (octets_behind behind)
 
 -- `busy on` and `busy off`
-abbrev pub busy : Session → List (List ℕ) → Outcome Session
+abbrev pub busy : Session → List (List ℕ) → LineOutcome Session
 busy s [] = None
 busy s (word ∷ behind) =
     if bytes_eq word (codes "on") then alone behind (link_step s BusyOn []) else (
     if bytes_eq word (codes "off") then alone behind (link_step s BusyOff []) else None)
 
-abbrev pub answer_word : Session → List ℕ → List (List ℕ) → Outcome Session
+abbrev pub answer_word : Session → List ℕ → List (List ℕ) → LineOutcome Session
 answer_word s word behind =
-    if bytes_eq word (codes "frame") then with_octets behind (hear s) else (
+    if bytes_eq word (codes "frame") then with_octets behind (receive s) else (
     if bytes_eq word (codes "t200") then alone behind (link_step s (Expiry T200) []) else (
     if bytes_eq word (codes "t203") then alone behind (link_step s (Expiry T203) []) else (
     if bytes_eq word (codes "establish") then alone behind (link_step s Establish []) else (
@@ -111,12 +111,12 @@ answer_word s word behind =
     if bytes_eq word (codes "busy") then busy s behind else (
     if bytes_eq word (codes "state") then alone behind (state_line s.end, s) else None))))))))
 
-abbrev pub answer_words : Session → List (List ℕ) → Outcome Session
+abbrev pub answer_words : Session → List (List ℕ) → LineOutcome Session
 answer_words s [] = None
 answer_words s (word ∷ behind) = answer_word s word behind
 
 -- the result of each line
-abbrev pub answer_step : Session → List ℕ → Outcome Session
+abbrev pub answer_step : Session → List ℕ → LineOutcome Session
 answer_step s line = answer_words s (words_of line)
 
 -- ---- A link and its session.
@@ -124,4 +124,4 @@ answer_step s line = answer_words s (words_of line)
 -- the link represents the session's end
 pub record IsSession (link : Link) (s : Session) : Type 0 where
   pub setup : setup_of link ≡ s.setup
-  pub end : LinkStandsFor link s.end
+  pub end : LinkRepresents link s.end

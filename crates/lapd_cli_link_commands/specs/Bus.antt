@@ -1,7 +1,7 @@
 -- The command `bus`: the result of each line.
 use Rattle.std.specs.Prelude.{ℕ, List, option_map, Result, Ok, Err}
 use Rattle.lapd_cli_script.specs.Line.{words_of}
-use Rattle.lapd_cli_script.specs.Script.{Outcome}
+use Rattle.lapd_cli_script.specs.Script.{LineOutcome}
 use Rattle.lapd_tei.specs.declared.bus_move.BusMove.{BusMove}
 use Rattle.lapd_tei.specs.declared.bus_move.BusFault.{BusFault}
 use Rattle.lapd_tei.specs.Bus.{BusState, BusStep, bus_step}
@@ -16,5 +16,5 @@ move_ended b m (Err fault) = (refusal_line fault, b)
 abbrev pub made : BusState → BusMove → List ℕ × BusState
 made b m = move_ended b m (bus_step b m)
 
-abbrev pub bus_line : BusState → List ℕ → Outcome BusState
+abbrev pub bus_line : BusState → List ℕ → LineOutcome BusState
 bus_line b line = option_map (made b) (move_of (words_of line))

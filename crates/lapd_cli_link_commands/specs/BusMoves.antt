@@ -1,7 +1,7 @@
 -- The words of a line of the command `bus`, and the move they name.
 use Rattle.std.specs.Prelude.{ℕ, ◌+◌, ◌-◌, ◌*◌, ◌&&◌, nat_le, if◌then◌else◌, List, [], ◌∷◌, codes, Option, Some, None, option_map, option_and_then}
 use Rattle.std.specs.Str.{bytes_eq}
-use Rattle.lapd_cli_script.specs.Line.{is_digit, number_behind, number_said}
+use Rattle.lapd_cli_script.specs.Line.{is_digit, number_behind, parsed_number}
 use Rattle.lapd_tei.specs.declared.bus_move.BusMove.{BusMove}
 use Rattle.lapd_tei.specs.declared.bus_move.BusMove.TheVariants.{Ask, T202, Hear, Drop, HearUp, DropUp, Check, T201, Leave}
 
@@ -37,7 +37,7 @@ both a b = None
 
 -- a terminal and a reference
 abbrev pub terminal_and_reference : List (List ℕ) → Option (ℕ × ℕ)
-terminal_and_reference (t ∷ ri ∷ []) = both (number_said t) (reference_of ri)
+terminal_and_reference (t ∷ ri ∷ []) = both (parsed_number t) (reference_of ri)
 terminal_and_reference behind = None
 
 -- a message, then a terminal and a reference number
@@ -45,9 +45,9 @@ abbrev pub hear_of : Option ℕ → Option (ℕ × ℕ) → Option BusMove
 hear_of (Some i) (Some (t, ri)) = Some (Hear i t ri)
 hear_of i answer = None
 
-abbrev pub hear : List (List ℕ) → Option BusMove
-hear [] = None
-hear (i ∷ behind) = hear_of (number_said i) (terminal_and_reference behind)
+abbrev pub receive : List (List ℕ) → Option BusMove
+receive [] = None
+receive (i ∷ behind) = hear_of (parsed_number i) (terminal_and_reference behind)
 
 -- a TEI, with nothing after it
 abbrev pub tei_behind : List (List ℕ) → Option ℕ
@@ -65,7 +65,7 @@ move_by word behind =
     then option_map (λ p. Ask p.0 p.1) (terminal_and_reference behind) else (
     if bytes_eq word (codes "t202")
     then option_map (λ p. T202 p.0 p.1) (terminal_and_reference behind) else (
-    if bytes_eq word (codes "hear") then hear behind else (
+    if bytes_eq word (codes "hear") then receive behind else (
     if bytes_eq word (codes "drop") then option_map Drop (number_behind behind) else (
     if bytes_eq word (codes "hear-up") then option_map HearUp (number_behind behind) else (
     if bytes_eq word (codes "drop-up") then option_map DropUp (number_behind behind) else (

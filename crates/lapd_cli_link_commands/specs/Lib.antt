@@ -8,7 +8,7 @@ pub mod LoopState
 pub mod Moves
 pub mod Outputs
 pub mod Pair
-pub mod StandsForWorld
+pub mod RepresentsWorld
 pub mod Session
-pub mod Told
-pub mod ToldValues
+pub mod PrintedOutput
+pub mod PrintedOutputs

@@ -6,7 +6,7 @@ use Rattle.lapd_frame.specs.declared.Side.TheVariants.{Network, User}
 use Rattle.lapd_frame.specs.Address.{other_side}
 use Rattle.lapd_frame.specs.Frame.{spelling}
 use Rattle.lapd_pair.specs.Line.{fields_of}
-use Rattle.lapd_cli_script.specs.Script.{Outcome, outcome_of}
+use Rattle.lapd_cli_script.specs.Script.{LineOutcome, outcome_of}
 use Rattle.lapd_cli_script.specs.declared.script.ScriptFault.{ScriptFault}
 use Rattle.lapd_pair_laws.specs.World.{World, view_of}
 use Rattle.lapd_cli_link_commands.specs.Pair.{ClosesAs, move_step}
@@ -23,7 +23,7 @@ put_to to w v = drop (length (line_to to w)) (line_to to v)
 abbrev pub put_between : World → World → List (List ℕ)
 put_between w v = put_to User w v ++ put_to Network w v
 
-abbrev pub put_first : World → Outcome World → (World → List (List ℕ)) → List (List ℕ)
+abbrev pub put_first : World → LineOutcome World → (World → List (List ℕ)) → List (List ℕ)
 put_first w None rest = []
 put_first w (Some (text, v)) rest = put_between w v ++ rest v
 

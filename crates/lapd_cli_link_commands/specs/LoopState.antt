@@ -3,7 +3,7 @@ use Rattle.std.specs.Prelude.{ℕ, List, [], ◌++◌, Option, option_map}
 use Rattle.lapd_cli_script.specs.Script.{Step}
 use Rattle.lapd_pair_laws.specs.World.{World}
 use Rattle.lapd_cli_link_commands.specs.Pair.{move_step}
-use Rattle.lapd_cli_link_commands.specs.StandsForWorld.{IsMover}
+use Rattle.lapd_cli_link_commands.specs.RepresentsWorld.{IsMover}
 use Rattle.lapd_cli_link_commands.specs.declared.mover.Mover.{Mover}
 use Rattle.lapd_cli_link_commands.specs.Crossing.{HaveCrossed}
 use Rattle.lapd_cli_link_commands.specs.Loop.{put_between}
@@ -37,6 +37,6 @@ new_loop w rest written = record { world = w; crossed = []; rest = rest; written
 
 -- the mover represents the state's world, with these octets left in the source and those received
 -- by the sink
-abbrev pub IsLooped : Mover → Option (List ℕ) → Option (List ℕ) → LoopState → Type 0
-IsLooped mover left grown s = IsMover mover s.world
+abbrev pub RepresentsLoop : Mover → Option (List ℕ) → Option (List ℕ) → LoopState → Type 0
+RepresentsLoop mover left grown s = IsMover mover s.world
     × HaveCrossed s.rest left s.written grown s.crossed

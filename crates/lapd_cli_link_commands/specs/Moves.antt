@@ -4,7 +4,7 @@ use Rattle.std.specs.Str.{bytes_eq}
 use Rattle.lapd_frame.specs.declared.Side.{Side}
 use Rattle.lapd_frame.specs.declared.Side.TheVariants.{Network, User}
 use Rattle.lapd_cli_script.specs.Line.{words_of, nothing_of, number_behind, octets_behind}
-use Rattle.lapd_pair_laws.specs.Move.{Deed, Move, Give, Establish, Release, Deliver, Lose, Expire200, Expire203, Busy, UnitData, Restart}
+use Rattle.lapd_pair_laws.specs.Move.{PairEvent, Move, Give, Establish, Release, Deliver, Lose, Expire200, Expire203, Busy, UnitData, Restart}
 
 -- the side with this name
 abbrev pub side_named : List ℕ → Option Side
@@ -12,12 +12,12 @@ side_named word =
     if bytes_eq word (codes "user") then Some User else (
     if bytes_eq word (codes "net") then Some Network else None)
 
-abbrev pub move_by : Side → Deed → Move
-move_by side deed = record { side = side; deed = deed }
+abbrev pub move_by : Side → PairEvent → Move
+move_by side event = record { side = side; event = event }
 
 -- a word with nothing after its side
-abbrev pub bare_move : Side → Deed → List (List ℕ) → Option Move
-bare_move side deed behind = option_map (λ none. move_by side deed) (nothing_of behind)
+abbrev pub bare_move : Side → PairEvent → List (List ℕ) → Option Move
+bare_move side event behind = option_map (λ none. move_by side event) (nothing_of behind)
 
 -- `busy SIDE on` and `busy SIDE off`
 abbrev pub busy_move : Side → List (List ℕ) → Option Move

@@ -7,26 +7,27 @@ use Rattle.lapd_link.specs.declared.LinkFault.{LinkFault}
 use Rattle.lapd_link.specs.Link.{Setup}
 use Rattle.lapd_link.specs.Refusal.{refusal_name}
 use Rattle.lapd_cli_script.specs.Line.{text_line, digits_of}
-use Rattle.lapd_cli_link_commands.specs.Told.{Spoken, Told, Sent, Primitive, Timer, Nothing, told}
+use Rattle.lapd_cli_link_commands.specs.PrintedOutput.{OutputOctets, PrintedOutput, Sent, Primitive, Timer, Nothing, printed_output}
 
 -- a frame that is sent: all its octets
 abbrev pub send_line : Side → Fields → List ℕ
 send_line from frame = text_line (codes "send" ++ digits_of (spelling from frame))
 
-abbrev pub out_line : Side → Told → List ℕ
+abbrev pub out_line : Side → PrintedOutput → List ℕ
 out_line from (Sent frame) = send_line from frame
 out_line from (Primitive line) = line
 out_line from (Timer line) = line
 out_line from Nothing = []
 
 -- the octets of the outputs, which are those the line carried: a frame's information or unit data
-abbrev pub handed_in : List ℕ → Spoken
+abbrev pub handed_in : List ℕ → OutputOctets
 handed_in handed = record { message = handed; unit = handed; sent = handed }
 
 -- `messages`: those neither acknowledged nor dropped after the step
 abbrev pub outs_text : Setup → List (List ℕ) → List ℕ → List Out → List ℕ
 outs_text setup messages handed outs =
-    flat_map (λ output. out_line setup.side (told setup messages (handed_in handed) output)) outs
+    flat_map (λ output. out_line setup.side
+    (printed_output setup messages (handed_in handed) output)) outs
 
 -- a request refused by the link
 abbrev pub refusal_line : LinkFault → List ℕ

@@ -18,13 +18,13 @@ use Rattle.lapd_cli_script.specs.Line.{text_line}
 use Rattle.lapd_cli_script.specs.Script.{EndsAs, Step, bad_line, output_of, state_after}
 use Rattle.lapd_cli_script.specs.declared.script.ScriptFault.{ScriptFault}
 use Rattle.lapd_pair_laws.specs.Histories.{History}
-use Rattle.lapd_pair_laws.specs.Move.{Deed, Move, Refusal, Station, UnitData, NothingThere, NotRunning, NotYet, Refused}
+use Rattle.lapd_pair_laws.specs.Move.{PairEvent, Move, Refusal, Station, UnitData, NothingThere, NotRunning, NotYet, Refused}
 use Rattle.lapd_pair_laws.specs.World.{Happened, World, happens, view_of}
 use Rattle.lapd_cli_link_commands.specs.declared.mover.Figures.{Figures}
 use Rattle.lapd_cli_link_commands.specs.Answer.{messages_of}
 use Rattle.lapd_cli_link_commands.specs.Moves.{move_of_line}
 use Rattle.lapd_cli_link_commands.specs.Outputs.{refusal_line}
-use Rattle.lapd_cli_link_commands.specs.Told.{Spoken, Told, Sent, Primitive, told}
+use Rattle.lapd_cli_link_commands.specs.PrintedOutput.{OutputOctets, PrintedOutput, Sent, Primitive, printed_output}
 
 -- ---- The output of one side in a move.
 
@@ -42,8 +42,8 @@ last_message all = (get_or all (length all - 1) ([], 0)).0
 
 -- the octets that a side's outputs refer to, by its history after the move: the message and the
 -- unit data received last, and the unit data sent
-abbrev pub spoken_of : History → List ℕ → Spoken
-spoken_of h unit = record {
+abbrev pub output_octets_of : History → List ℕ → OutputOctets
+output_octets_of h unit = record {
   message = last_message (map octets_and_establishment h.received);
   unit = last_octets h.units;
   sent = unit;
@@ -51,19 +51,21 @@ spoken_of h unit = record {
 
 -- the line of a frame, in the format `written`, or of a primitive or report after the side's name;
 -- timers are not printed
-abbrev pub side_line : (Fields → List ℕ) → Side → Told → List ℕ
+abbrev pub side_line : (Fields → List ℕ) → Side → PrintedOutput → List ℕ
 side_line written side (Sent frame) = text_line (written frame)
 side_line written side (Primitive line) = side_name side ++ (32 ∷ line)
 side_line written side other = []
 
 -- a frame is printed as the trace line of its octets
-abbrev pub told_line : Side → Told → List ℕ
-told_line side told = side_line (λ frame. trace_line side (spelling side frame)) side told
+abbrev pub printed_line : Side → PrintedOutput → List ℕ
+printed_line side printed_output = side_line
+    (λ frame. trace_line side (spelling side frame)) side printed_output
 
 -- the lines of a side's outputs, by the side's state after the move; `unit` is the unit data sent
-abbrev pub told_lines : Side → Station → List ℕ → List Out → List ℕ
-told_lines side s unit outs = flat_map (λ output. told_line side
-    (told (setup_for side) (messages_of s.end) (spoken_of s.history unit) output)) outs
+abbrev pub printed_lines : Side → Station → List ℕ → List Out → List ℕ
+printed_lines side s unit outs = flat_map (λ output. printed_line side
+    (printed_output (setup_for side) (messages_of s.end)
+    (output_octets_of s.history unit) output)) outs
 
 -- ---- The result of a move.
 
@@ -76,20 +78,21 @@ not_admitted (NotYet to at) =
 not_admitted (Refused fault) = refusal_line fault
 
 -- the unit data that a move sends
-abbrev pub unit_of : Deed → List ℕ
+abbrev pub unit_of : PairEvent → List ℕ
 unit_of (UnitData octets) = octets
-unit_of deed = []
+unit_of event = []
 
 -- the text of a move, and the world after it
-abbrev pub move_told : World → Move → Result Happened Refusal → List ℕ × World
-move_told w move (Ok happened) = (
-  told_lines move.side (view_of move.side happened.world).station (unit_of move.deed) happened.outs,
+abbrev pub move_printed : World → Move → Result Happened Refusal → List ℕ × World
+move_printed w move (Ok happened) = (
+  printed_lines move.side (view_of move.side happened.world).station
+      (unit_of move.event) happened.outs,
   happened.world,
 )
-move_told w move (Err refusal) = (not_admitted refusal, w)
+move_printed w move (Err refusal) = (not_admitted refusal, w)
 
 abbrev pub move_made : World → Move → List ℕ × World
-move_made w move = move_told w move (happens Tagged move w)
+move_made w move = move_printed w move (happens Tagged move w)
 
 -- the result of a line that names a move
 abbrev pub move_step : Step World

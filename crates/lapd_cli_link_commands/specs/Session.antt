@@ -7,21 +7,21 @@ use Rattle.lapd_link.specs.Link.{Setup}
 use Rattle.lapd_cli_link_commands.specs.declared.answerer.Answerer.{Answerer}
 use Rattle.lapd_cli_link_commands.specs.Answer.{Session, IsSession}
 use Rattle.lapd_cli_link_commands.specs.Outputs.{handed_in, out_line}
-use Rattle.lapd_cli_link_commands.specs.Told.{Spoken}
-use Rattle.lapd_cli_link_commands.specs.ToldValues.{made_told}
+use Rattle.lapd_cli_link_commands.specs.PrintedOutput.{OutputOctets}
+use Rattle.lapd_cli_link_commands.specs.PrintedOutputs.{made_output}
 
 abbrev pub IsAnswerer : Answerer → Session → Type 0
 IsAnswerer answerer s = IsSession answerer.link s
 
 -- the octets that an input carries: unit data of the input's length, or at most the information of
 -- a frame
-abbrev pub IsHandedWith : Input → List ℕ → Type 0
-IsHandedWith (UnitData len) octets = len ≡ length octets
-IsHandedWith input octets = length octets ≤ n201
+abbrev pub HasInputOctets : Input → List ℕ → Type 0
+HasInputOctets (UnitData len) octets = len ≡ length octets
+HasInputOctets input octets = length octets ≤ n201
 
 -- the line of an output, by the frame built from it
-abbrev pub made_line : Setup → List (List ℕ) → Spoken → Out → List ℕ
-made_line setup messages s output = out_line setup.side (made_told setup messages s output)
+abbrev pub made_line : Setup → List (List ℕ) → OutputOctets → Out → List ℕ
+made_line setup messages s output = out_line setup.side (made_output setup messages s output)
 
 abbrev pub made_text : Setup → List (List ℕ) → List ℕ → List Out → List ℕ
 made_text setup messages handed outs = flat_map (made_line setup messages (handed_in handed)) outs

@@ -57,7 +57,7 @@ pub fn answer<R: Read, W: Write>(
 impl Answerer {
     ghost use Rattle.lapd_cli_link_commands.specs.Answer.{Session};
     ghost use Rattle.lapd_cli_link_commands.specs.Session.{IsAnswerer};
-    ghost use Rattle.lapd_link.specs.Link.{LinkStandsFor};
+    ghost use Rattle.lapd_link.specs.Link.{LinkRepresents};
 
     /// A new link of this side with SAPI 0, TEI 64 and these parameters.
     ///
@@ -99,7 +99,7 @@ impl Answerer {
 
     /// The link in its current state.
     pub fn link(&self) -> &Link
-        ensures { (s : Session) → IsAnswerer self.now s → LinkStandsFor result.now s.end }
+        ensures { (s : Session) → IsAnswerer self.now s → LinkRepresents result.now s.end }
     {
         &self.link
     }
@@ -113,7 +113,7 @@ impl Command for Answerer {
 
     ghost step = { answer_step };
 
-    ghost stands_for = { IsAnswerer };
+    ghost represents = { IsAnswerer };
 
     fn run<W: Write>(&mut self, line: &[u8], out: &mut W) -> Result<(), LineFault> {
         let mut words = Words::of(line);
@@ -129,8 +129,8 @@ impl Answerer {
     ghost use Rattle.lapd_link.specs.Input.{Give, UnitData, input_of};
     ghost use Rattle.lapd_link.specs.Link.{IsForLink, is_address_of, setup_of};
     ghost use Rattle.lapd_frame.specs.declared.Address.{Address};
-    ghost use Rattle.lapd_cli_link_commands.specs.Answer.{Session, alone, with_octets, answer_word, hear, hear_frame, hear_fault, busy, link_step, state_line, messages_of};
-    ghost use Rattle.lapd_cli_link_commands.specs.Session.{IsAnswerer, IsHandedWith, made_text};
+    ghost use Rattle.lapd_cli_link_commands.specs.Answer.{Session, alone, with_octets, answer_word, receive, receive_frame, hear_fault, busy, link_step, state_line, messages_of};
+    ghost use Rattle.lapd_cli_link_commands.specs.Session.{IsAnswerer, HasInputOctets, made_text};
 
     /// Executes a line, given as its first word and the words after it.
     fn word<W: Write>(
@@ -144,7 +144,7 @@ impl Answerer {
             (W.contents out.old) (W.contents out.new) }
     {
         if is(word, b"frame") {
-            self.hear(behind, out)
+            self.receive(behind, out)
         } else if is(word, b"t200") {
             self.alone(behind, Event::T200, out)
         } else if is(word, b"t203") {
@@ -174,7 +174,7 @@ impl Answerer {
         out: &mut W,
     ) -> Result<(), LineFault>
         requires for_link { IsForLink self.old.link event }
-        requires handed { IsHandedWith (input_of event) [] }
+        requires handed { HasInputOctets (input_of event) [] }
         ensures { (s : Session) → IsAnswerer self.old s
             → LineEndsAs IsAnswerer (alone behind.entry (link_step s (input_of event.entry) []))
             result self.new (W.contents out.old) (W.contents out.new) }
@@ -207,40 +207,40 @@ impl Answerer {
     }
 
     /// Processes received octets, which follow the word.
-    fn hear<W: Write>(&mut self, behind: Words<'_>, out: &mut W) -> Result<(), LineFault>
+    fn receive<W: Write>(&mut self, behind: Words<'_>, out: &mut W) -> Result<(), LineFault>
         ensures { (s : Session) → IsAnswerer self.old s
-            → LineEndsAs IsAnswerer (with_octets behind.entry (hear s)) result self.new
+            → LineEndsAs IsAnswerer (with_octets behind.entry (receive s)) result self.new
             (W.contents out.old) (W.contents out.new) }
     {
         let mut octets = mem::replace(&mut self.octets, Vec::new(self.alloc));
-        let ended = self.hear_into(behind, &mut octets, out);
+        let ended = self.receive_into(behind, &mut octets, out);
         self.octets = octets;
         ended
     }
 
     /// Processes received octets, which are read into `octets`.
-    fn hear_into<W: Write>(
+    fn receive_into<W: Write>(
         &mut self,
         behind: Words<'_>,
         octets: &mut Vec<u8>,
         out: &mut W,
     ) -> Result<(), LineFault>
         ensures { (s : Session) → IsAnswerer self.old s
-            → LineEndsAs IsAnswerer (with_octets behind.entry (hear s)) result self.new
+            → LineEndsAs IsAnswerer (with_octets behind.entry (receive s)) result self.new
             (W.contents out.old) (W.contents out.new) }
     {
         behind.octets_into(octets)?;
         match lapd_frame::read(octets.as_slice(), self.link.side().other()) {
-            Ok(frame) => self.hear_frame(&frame, out),
+            Ok(frame) => self.receive_frame(&frame, out),
             Err(fault) => self.hear_fault(&fault, out),
         }
     }
 
     /// Processes a frame if it has this link's address.
-    fn hear_frame<W: Write>(&mut self, frame: &Frame<'_>, out: &mut W) -> Result<(), LineFault>
+    fn receive_frame<W: Write>(&mut self, frame: &Frame<'_>, out: &mut W) -> Result<(), LineFault>
         requires fits { length frame.now.info ≤ N201 }
         ensures { (s : Session) → IsAnswerer self.old s
-            → LineEndsAs IsAnswerer (Some (hear_frame s frame.now)) result self.new
+            → LineEndsAs IsAnswerer (Some (receive_frame s frame.now)) result self.new
             (W.contents out.old) (W.contents out.new) }
     {
         if self.link.is_for(&frame.address()) {
@@ -273,7 +273,7 @@ impl Answerer {
     /// Runs a step of the link with an event and its octets, and prints the outputs.
     fn step<W: Write>(&mut self, event: Event, handed: &[u8], out: &mut W) -> Result<(), LineFault>
         requires for_link { IsForLink self.old.link event }
-        requires handed { IsHandedWith (input_of event) handed.now }
+        requires handed { HasInputOctets (input_of event) handed.now }
         ensures { (s : Session) → IsAnswerer self.old s
             → LineEndsAs IsAnswerer (Some (link_step s (input_of event.entry) handed.now)) result
             self.new (W.contents out.old) (W.contents out.new) }

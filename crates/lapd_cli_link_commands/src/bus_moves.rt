@@ -1,8 +1,8 @@
 //! The moves that a script's lines name.
 
 ghost use Rattle.std.specs.Prelude.{◌≡◌, ◌<◌, IfSome, None, Some};
-ghost use Rattle.lapd_cli_script.specs.Line.{number_behind, number_said, words_of};
-ghost use Rattle.lapd_cli_link_commands.specs.BusMoves.{move_of, move_by, hear, nothing_behind, terminal_and_reference, tei_at, tei_behind, reference_of, digit_value};
+ghost use Rattle.lapd_cli_script.specs.Line.{number_behind, parsed_number, words_of};
+ghost use Rattle.lapd_cli_link_commands.specs.BusMoves.{move_of, move_by, receive, nothing_behind, terminal_and_reference, tei_at, tei_behind, reference_of, digit_value};
 
 use crate::words::is;
 use lapd_cli_script::{Words, number_of};
@@ -28,7 +28,7 @@ fn move_by(word: &[u8], behind: Words<'_>) -> Option<BusMove>
         let (t, ri) = terminal_and_reference(behind)?;
         Some(BusMove::T202(t, ri))
     } else if is(word, b"hear") {
-        hear(behind)
+        receive(behind)
     } else if is(word, b"drop") {
         Some(BusMove::Drop(place_alone(behind)?))
     } else if is(word, b"hear-up") {
@@ -47,8 +47,8 @@ fn move_by(word: &[u8], behind: Words<'_>) -> Option<BusMove>
 }
 
 /// A received message: its number, the terminal and its reference number.
-fn hear(mut behind: Words<'_>) -> Option<BusMove>
-    ensures { result ≡ hear behind.entry }
+fn receive(mut behind: Words<'_>) -> Option<BusMove>
+    ensures { result ≡ receive behind.entry }
 {
     let i = place_of(behind.next_word()?)?;
     let (t, ri) = terminal_and_reference(behind)?;
@@ -108,7 +108,7 @@ fn tei_at(number: usize) -> Option<Tei>
 
 /// The number that a word spells in decimal digits.
 fn place_of(word: &[u8]) -> Option<usize>
-    ensures { result ≡ number_said word.now }
+    ensures { result ≡ parsed_number word.now }
 {
     Some(number_of(word)? as usize)
 }

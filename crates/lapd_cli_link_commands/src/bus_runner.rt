@@ -50,7 +50,7 @@ impl Command for BusRunner {
 
     ghost step = { bus_line };
 
-    ghost stands_for = { λ runner b. runner.bus ≡ b };
+    ghost represents = { λ runner b. runner.bus ≡ b };
 
     fn run<W: Write>(&mut self, line: &[u8], out: &mut W) -> Result<(), LineFault> {
         match move_of(line) {

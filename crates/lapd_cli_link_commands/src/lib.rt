@@ -24,8 +24,8 @@ mod move_lines;
 mod mover;
 mod moves;
 mod outputs;
+mod printed_output;
 mod settler;
-mod told;
 mod words;
 
 pub use answerer::{Answerer, answer};

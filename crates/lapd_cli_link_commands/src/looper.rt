@@ -66,13 +66,13 @@ struct OnLine {
 }
 
 impl<S: Source, K: Sink> Command for Looper<S, K> {
-    ghost use Rattle.lapd_cli_link_commands.specs.LoopState.{IsLooped, LoopState, loop_step};
+    ghost use Rattle.lapd_cli_link_commands.specs.LoopState.{RepresentsLoop, LoopState, loop_step};
 
     ghost State = { LoopState };
 
     ghost step = { loop_step };
 
-    ghost stands_for = { λ looper s. IsLooped looper.mover (S.rest looper.port.source)
+    ghost represents = { λ looper s. RepresentsLoop looper.mover (S.rest looper.port.source)
         (K.written looper.port.sink) s };
 
     fn run<W: Write>(&mut self, line: &[u8], out: &mut W) -> Result<(), LineFault> {
@@ -89,7 +89,7 @@ impl<S: Source, K: Sink> Command for Looper<S, K> {
 
 impl<S: Source, K: Sink> Looper<S, K> {
     ghost use Rattle.std.specs.Prelude.{◌++◌, length, IsOkUnless};
-    ghost use Rattle.lapd_cli_link_commands.specs.StandsForWorld.{IsMover};
+    ghost use Rattle.lapd_cli_link_commands.specs.RepresentsWorld.{IsMover};
     ghost use Rattle.lapd_frame.specs.declared.Side.TheVariants.{Network, User};
     ghost use Rattle.lapd_cli_link_commands.specs.Loop.{line_to};
     ghost use Rattle.lapd_pair_laws.specs.World.{World};

@@ -2,15 +2,15 @@
 
 ghost use Rattle.std.specs.Prelude.{◌≡◌, ◌∷◌, ◌++◌, IsOkUnless, OnOk};
 ghost use Rattle.lapd_cli_link_commands.specs.Answer.{messages_of};
-ghost use Rattle.lapd_cli_link_commands.specs.Pair.{side_name as name_of, spoken_of};
-ghost use Rattle.lapd_cli_link_commands.specs.StandsForWorld.{made_side_line, made_side_lines};
-ghost use Rattle.lapd_cli_link_commands.specs.ToldValues.{phrase_line};
-ghost use Rattle.lapd_pair.specs.Runs.{PairStandsFor};
+ghost use Rattle.lapd_cli_link_commands.specs.Pair.{side_name as name_of, output_octets_of};
+ghost use Rattle.lapd_cli_link_commands.specs.RepresentsWorld.{made_side_line, made_side_lines};
+ghost use Rattle.lapd_cli_link_commands.specs.PrintedOutputs.{phrase_line};
+ghost use Rattle.lapd_pair.specs.Runs.{PairRepresents};
 ghost use Rattle.lapd_cli_script.specs.Line.{text_line};
 ghost use Rattle.lapd_trace.specs.Trace.{frame_line};
 ghost use Rattle.lapd_pair_laws.specs.World.{World, view_of};
 
-use crate::told::{Phrase, Spoken, Told, put_phrase};
+use crate::printed_output::{OutputOctets, Phrase, PrintedOutput, put_phrase};
 use lapd_cli_script::{LineFault, put_line};
 use lapd_frame::{Frame, Side};
 use lapd_link::Out;
@@ -31,24 +31,24 @@ pub(crate) fn write_lines(
     outs: &[Out],
     text: &mut Vec<u8>,
 ) -> Result<(), LineFault>
-    ensures ok { (w : World) → PairStandsFor pair.now w → OnOk result
+    ensures ok { (w : World) → PairRepresents pair.now w → OnOk result
         (text.new.items ≡ made_side_lines side (view_of side w).station unit.now outs.now) }
     ensures err { IsOkUnless result LineFault.Memory }
 {
     text.clear();
-    let spoken = spoken_of(pair, side, unit);
+    let output_octets = output_octets_of(pair, side, unit);
     for given in outs {
-        push_line(alloc, pair, side, &spoken, given, text)?;
+        push_line(alloc, pair, side, &output_octets, given, text)?;
     }
     Ok(())
 }
 
 /// The octets that this side's outputs refer to, if it sent the unit data `unit`.
-fn spoken_of<'a>(pair: &'a Pair, side: Side, unit: &'a [u8]) -> Spoken<'a>
-    ensures { (w : World) → PairStandsFor pair.now w
-        → result ≡ spoken_of (view_of side w).station.history unit.now }
+fn output_octets_of<'a>(pair: &'a Pair, side: Side, unit: &'a [u8]) -> OutputOctets<'a>
+    ensures { (w : World) → PairRepresents pair.now w
+        → result ≡ output_octets_of (view_of side w).station.history unit.now }
 {
-    Spoken {
+    OutputOctets {
         message: match pair.received(side).last() {
             Some(message) => message.octets.as_slice(),
             None => &[],
@@ -66,19 +66,19 @@ fn push_line(
     alloc: Global,
     pair: &Pair,
     side: Side,
-    spoken: &Spoken<'_>,
+    output_octets: &OutputOctets<'_>,
     given: &Out,
     text: &mut Vec<u8>,
 ) -> Result<(), LineFault>
-    ensures ok { (w : World) → PairStandsFor pair.now w → OnOk result (text.new.items
+    ensures ok { (w : World) → PairRepresents pair.now w → OnOk result (text.new.items
         ≡ text.old.items ++ made_side_line side (messages_of (view_of side w).station.end)
-        spoken.now given.now) }
+        output_octets.now given.now) }
     ensures err { IsOkUnless result LineFault.Memory }
 {
-    match Told::of(pair.link(side), spoken, given) {
-        Told::Sent(frame) => push_frame(alloc, side, &frame, text),
-        Told::Primitive(phrase) => push_phrase(side, &phrase, text),
-        Told::Timer(_) | Told::Nothing => Ok(()),
+    match PrintedOutput::of(pair.link(side), output_octets, given) {
+        PrintedOutput::Sent(frame) => push_frame(alloc, side, &frame, text),
+        PrintedOutput::Primitive(phrase) => push_phrase(side, &phrase, text),
+        PrintedOutput::Timer(_) | PrintedOutput::Nothing => Ok(()),
     }
 }
 

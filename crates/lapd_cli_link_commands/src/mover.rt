@@ -2,7 +2,7 @@
 
 ghost use Rattle.std.specs.Prelude.{◌≡◌, IsOkUnless, OnOk};
 ghost use Rattle.std.specs.Io.KnownBytes.{Appends};
-ghost use Rattle.lapd_cli_link_commands.specs.StandsForWorld.{IsMover};
+ghost use Rattle.lapd_cli_link_commands.specs.RepresentsWorld.{IsMover};
 ghost use Rattle.lapd_cli_link_commands.specs.Pair.{figures_line, not_admitted, settled_line, side_name as name_of, unit_of as unit_data_of};
 ghost use Rattle.lapd_pair.specs.Moves.{move_of};
 ghost use Rattle.lapd_pair_laws.specs.Move.{NotYet};
@@ -30,7 +30,7 @@ pub struct Mover {
 
 impl Mover {
     ghost use Rattle.std.specs.Prelude.{IfOk};
-    ghost use Rattle.lapd_pair.specs.Runs.{PairStandsFor};
+    ghost use Rattle.lapd_pair.specs.Runs.{PairRepresents};
 
     /// Two ends in state 4, with an empty line between them.
     ///
@@ -53,7 +53,7 @@ impl Mover {
 
     /// The two ends and the line between them.
     pub fn pair(&self) -> &Pair
-        ensures { (w : World) → IsMover self.now w → PairStandsFor result.now w }
+        ensures { (w : World) → IsMover self.now w → PairRepresents result.now w }
     {
         &self.pair
     }
@@ -66,11 +66,11 @@ impl Command for Mover {
 
     ghost step = { move_step };
 
-    ghost stands_for = { IsMover };
+    ghost represents = { IsMover };
 
     fn run<W: Write>(&mut self, line: &[u8], out: &mut W) -> Result<(), LineFault> {
-        let deed = read_move(self.alloc, line)?;
-        self.make(&deed, out)
+        let mv = read_move(self.alloc, line)?;
+        self.make(&mv, out)
     }
 }
 
@@ -81,18 +81,18 @@ impl Mover {
     ghost use Rattle.lapd_pair_laws.specs.World.{view_of};
 
     /// Makes a move, and prints its outputs or why it is refused.
-    fn make<W: Write>(&mut self, deed: &Move, out: &mut W) -> Result<(), LineFault>
+    fn make<W: Write>(&mut self, mv: &Move, out: &mut W) -> Result<(), LineFault>
         ensures { (w : World) → IsMover self.old w
-            → LineEndsAs IsMover (Some (move_made w (move_of deed.now))) result self.new
+            → LineEndsAs IsMover (Some (move_made w (move_of mv.now))) result self.new
             (W.contents out.old) (W.contents out.new) }
     {
-        match self.pair.apply_into(deed, &mut self.outs) {
+        match self.pair.apply_into(mv, &mut self.outs) {
             Ok(()) => {
                 write_lines(
                     self.alloc,
                     &self.pair,
-                    deed.side(),
-                    unit_of(deed),
+                    mv.side(),
+                    unit_of(mv),
                     self.outs.as_slice(),
                     &mut self.text,
                 )?;
@@ -214,10 +214,10 @@ fn put_settled<W: Write>(settled: Settled, out: &mut W) -> Result<(), LineFault>
 }
 
 /// The unit data that a move sends.
-fn unit_of(deed: &Move) -> &[u8]
-    ensures { result.now ≡ unit_data_of (move_of deed.now).deed }
+fn unit_of(mv: &Move) -> &[u8]
+    ensures { result.now ≡ unit_data_of (move_of mv.now).event }
 {
-    match deed {
+    match mv {
         Move::Unit(_, octets) => octets.as_slice(),
         _ => &[],
     }

@@ -73,12 +73,12 @@ fn move_by(alloc: Global, word: &[u8], side: Side, behind: Words<'_>) -> Result<
 }
 
 /// This move, if nothing is left.
-fn alone(behind: Words<'_>, deed: Move) -> Result<Move, LineFault>
+fn alone(behind: Words<'_>, mv: Move) -> Result<Move, LineFault>
     ensures { Reads move_of result
-        (bare_move (move_of deed).side (move_of deed).deed behind.entry) }
+        (bare_move (move_of mv).side (move_of mv).event behind.entry) }
 {
     behind.nothing()?;
-    Ok(deed)
+    Ok(mv)
 }
 
 /// This side's receiver becomes busy, or stops being busy.

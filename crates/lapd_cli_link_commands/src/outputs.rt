@@ -3,12 +3,12 @@
 ghost use Rattle.std.specs.Prelude.{◌≡◌, IsOkUnless, OnOk};
 ghost use Rattle.std.specs.Io.KnownBytes.{Appends};
 ghost use Rattle.lapd_link.specs.End.{End};
-ghost use Rattle.lapd_link.specs.Link.{LinkStandsFor, setup_of};
+ghost use Rattle.lapd_link.specs.Link.{LinkRepresents, setup_of};
 ghost use Rattle.lapd_cli_link_commands.specs.Answer.{messages_of};
 ghost use Rattle.lapd_cli_link_commands.specs.Outputs.{refusal_line, send_line};
 ghost use Rattle.lapd_cli_link_commands.specs.Session.{made_line, made_text};
 
-use crate::told::{Spoken, Told, put_phrase};
+use crate::printed_output::{OutputOctets, PrintedOutput, put_phrase};
 use lapd_cli_script::{LineFault, put_line, put_octets};
 use lapd_frame::{Frame, MOST_OCTETS, Side, write};
 use lapd_link::{Link, LinkFault, Out};
@@ -25,19 +25,19 @@ pub fn put_outs<W: Write>(
     outs: &[Out],
     out: &mut W,
 ) -> Result<(), LineFault>
-    ensures ok { (e : End) → LinkStandsFor link.now e
+    ensures ok { (e : End) → LinkRepresents link.now e
         → OnOk result
         (Appends (W.contents out.old) (W.contents out.new)
         (made_text (setup_of link.now) (messages_of e) handed.now outs.now)) }
     ensures err { IsOkUnless result LineFault.Device }
 {
-    let spoken = Spoken {
+    let output_octets = OutputOctets {
         message: handed,
         unit: handed,
         sent: handed,
     };
     for given in outs {
-        put_out(link, &spoken, given, out)?;
+        put_out(link, &output_octets, given, out)?;
     }
     Ok(())
 }
@@ -45,20 +45,20 @@ pub fn put_outs<W: Write>(
 /// Prints one output: a frame, or a primitive, a timer or a report.
 fn put_out<W: Write>(
     link: &Link,
-    spoken: &Spoken<'_>,
+    output_octets: &OutputOctets<'_>,
     given: &Out,
     out: &mut W,
 ) -> Result<(), LineFault>
-    ensures ok { (e : End) → LinkStandsFor link.now e
+    ensures ok { (e : End) → LinkRepresents link.now e
         → OnOk result
         (Appends (W.contents out.old) (W.contents out.new)
-        (made_line (setup_of link.now) (messages_of e) spoken.now given.now)) }
+        (made_line (setup_of link.now) (messages_of e) output_octets.now given.now)) }
     ensures err { IsOkUnless result LineFault.Device }
 {
-    match Told::of(link, spoken, given) {
-        Told::Sent(frame) => put_send(&frame, link.side(), out),
-        Told::Primitive(phrase) | Told::Timer(phrase) => put_phrase(&phrase, out),
-        Told::Nothing => Ok(()),
+    match PrintedOutput::of(link, output_octets, given) {
+        PrintedOutput::Sent(frame) => put_send(&frame, link.side(), out),
+        PrintedOutput::Primitive(phrase) | PrintedOutput::Timer(phrase) => put_phrase(&phrase, out),
+        PrintedOutput::Nothing => Ok(()),
     }
 }
 

@@ -3,7 +3,7 @@
 
 ghost use Rattle.std.specs.Prelude.{IfSome};
 ghost use Rattle.lapd_cli_link_commands.specs.Pair.{PairEndsAs};
-ghost use Rattle.lapd_cli_link_commands.specs.StandsForWorld.{IsSettler};
+ghost use Rattle.lapd_cli_link_commands.specs.RepresentsWorld.{IsSettler};
 ghost use Rattle.lapd_cli_script.specs.Script.{lines_of};
 ghost use Rattle.lapd_pair_laws.specs.World.{World, new_world};
 
@@ -71,7 +71,7 @@ impl Command for Settler {
 
     ghost step = { pair_step };
 
-    ghost stands_for = { IsSettler };
+    ghost represents = { IsSettler };
 
     fn run<W: Write>(&mut self, line: &[u8], out: &mut W) -> Result<(), LineFault> {
         if is(line, b"settle") {

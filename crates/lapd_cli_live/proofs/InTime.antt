@@ -2,60 +2,60 @@
 use Rattle.std.proofs.Common.{◌≡◌, ℕ, List, [], ◌∷◌, ◌++◌, Option, None, Some, refl, sym, ap, subst, ◌∙◌, append_assoc, append-nil, inl, inr}
 use Rattle.std.specs.Prelude.{◌⊎◌}
 use Rattle.lapd_cli_live.specs.declared.service.Until.{Until}
-use Rattle.lapd_cli_outside.specs.Deeds.{Adds, Comes, Deed, FindsNone, Reads, Sends, Waits}
-use Rattle.lapd_cli_live.specs.Log.{LiveState, deeds_in, moment_of}
+use Rattle.lapd_cli_outside.specs.IoEvents.{Adds, Arrives, IoEvent, FindsNone, Reads, Sends, Waits}
+use Rattle.lapd_cli_live.specs.Log.{LiveState, io_events_in, moment_of}
 use Rattle.lapd_cli_live.specs.Steps.{CatchesUp, LooksInVain, Receives, TakesAll, TakesMost}
 use Rattle.lapd_cli_live.specs.PromptLine.{Arrival, ExpiresInTime, HasAllThatArrived, IsPrompt, arrived_by, frames_received}
 
-received_before : (deeds : List Deed) (now : ℕ) → frames_received (deeds ++ (Reads now ∷ FindsNone ∷ [])) ≡ frames_received deeds
+received_before : (io_events : List IoEvent) (now : ℕ) → frames_received (io_events ++ (Reads now ∷ FindsNone ∷ [])) ≡ frames_received io_events
 received_before [] now = refl
-received_before (Comes frame ∷ deeds) now = ap (λ (frames : List (List ℕ)). frame ∷ frames) (received_before deeds now)
-received_before (Reads at ∷ deeds) now = received_before deeds now
-received_before (FindsNone ∷ deeds) now = received_before deeds now
-received_before (Waits until woken ∷ deeds) now = received_before deeds now
-received_before (Sends frame ∷ deeds) now = received_before deeds now
+received_before (Arrives frame ∷ io_events) now = ap (λ (frames : List (List ℕ)). frame ∷ frames) (received_before io_events now)
+received_before (Reads at ∷ io_events) now = received_before io_events now
+received_before (FindsNone ∷ io_events) now = received_before io_events now
+received_before (Waits until woken ∷ io_events) now = received_before io_events now
+received_before (Sends frame ∷ io_events) now = received_before io_events now
 
 -- if the calls are recorded by now, they were recorded before
-pub record Knew (a b : Option (List Deed)) (deeds more : List Deed) : Type 0 where
-  pub before : List Deed
+pub record Knew (a b : Option (List IoEvent)) (io_events more : List IoEvent) : Type 0 where
+  pub before : List IoEvent
   pub was : a ≡ Some before
-  pub is : deeds ≡ before ++ more
+  pub is : io_events ≡ before ++ more
 
-knew : (a b : Option (List Deed)) (deeds more : List Deed) → b ≡ Some deeds → Adds a b more → Knew a b deeds more
-knew None None deeds more known adds = let never : None ≡ Some deeds = known in cc
-knew None (Some after) deeds more known adds = absurd adds
-knew (Some before) None deeds more known adds = absurd adds
-knew (Some before) (Some after) deeds more known adds =
-    let same : after ≡ deeds = cc in
+knew : (a b : Option (List IoEvent)) (io_events more : List IoEvent) → b ≡ Some io_events → Adds a b more → Knew a b io_events more
+knew None None io_events more known adds = let never : None ≡ Some io_events = known in cc
+knew None (Some after) io_events more known adds = absurd adds
+knew (Some before) None io_events more known adds = absurd adds
+knew (Some before) (Some after) io_events more known adds =
+    let same : after ≡ io_events = cc in
     record { before = before; was = refl; is = sym same ∙ adds }
 
-pub has_all : (arrivals : List Arrival) (a b : LiveState) (deeds rest known : List Deed) → LooksInVain a b → b.deeds ≡ Some deeds → known ≡ deeds ++ rest
+pub has_all : (arrivals : List Arrival) (a b : LiveState) (io_events rest known : List IoEvent) → LooksInVain a b → b.io_events ≡ Some io_events → known ≡ io_events ++ rest
     → IsPrompt arrivals known → HasAllThatArrived arrivals b
-has_all arrivals a b deeds rest known looks are all prompt =
+has_all arrivals a b io_events rest known looks are all prompt =
     let now = moment_of b in
-    let before : Knew a.deeds b.deeds deeds (Reads now ∷ FindsNone ∷ []) = knew a.deeds b.deeds deeds (Reads now ∷ FindsNone ∷ []) are looks.happen.deeds in
+    let before : Knew a.io_events b.io_events io_events (Reads now ∷ FindsNone ∷ []) = knew a.io_events b.io_events io_events (Reads now ∷ FindsNone ∷ []) are looks.happen.io_events in
     let whole : known ≡ before.before ++ (Reads now ∷ FindsNone ∷ rest) =
-    all ∙ ap (λ (x : List Deed). x ++ rest) before.is ∙ append_assoc before.before (Reads now ∷ FindsNone ∷ []) rest in
+    all ∙ ap (λ (x : List IoEvent). x ++ rest) before.is ∙ append_assoc before.before (Reads now ∷ FindsNone ∷ []) rest in
     record {
-      deeds = deeds;
+      io_events = io_events;
       are = are;
       received = ap frames_received before.is ∙ received_before before.before now ∙ prompt before.before rest now whole;
     }
 
-in_time : (arrivals : List Arrival) (until : Until) (a b : LiveState) (deeds rest known : List Deed) → Receives until a b → b.deeds ≡ Some deeds
-    → known ≡ deeds ++ rest → IsPrompt arrivals known → HasAllThatArrived arrivals b ⊎ TakesMost until a b
-in_time arrivals until a b deeds rest known (inl all) are is prompt = inl (has_all arrivals all.last b deeds rest known all.looks are is prompt)
-in_time arrivals until a b deeds rest known (inr most) are is prompt = inr most
+in_time : (arrivals : List Arrival) (until : Until) (a b : LiveState) (io_events rest known : List IoEvent) → Receives until a b → b.io_events ≡ Some io_events
+    → known ≡ io_events ++ rest → IsPrompt arrivals known → HasAllThatArrived arrivals b ⊎ TakesMost until a b
+in_time arrivals until a b io_events rest known (inl all) are is prompt = inl (has_all arrivals all.last b io_events rest known all.looks are is prompt)
+in_time arrivals until a b io_events rest known (inr most) are is prompt = inr most
 
-pub expires_in_time : (arrivals : List Arrival) (until : Until) (a b : LiveState) (deeds : List Deed) → CatchesUp until a b → b.deeds ≡ Some deeds
-    → IsPrompt arrivals deeds → ExpiresInTime arrivals until a b
-expires_in_time arrivals until a b deeds caught known prompt =
-    let before : Knew caught.received.deeds b.deeds deeds (deeds_in caught.due.events) =
-    knew caught.received.deeds b.deeds deeds (deeds_in caught.due.events) known caught.due.happen.deeds in
+pub expires_in_time : (arrivals : List Arrival) (until : Until) (a b : LiveState) (io_events : List IoEvent) → CatchesUp until a b → b.io_events ≡ Some io_events
+    → IsPrompt arrivals io_events → ExpiresInTime arrivals until a b
+expires_in_time arrivals until a b io_events caught known prompt =
+    let before : Knew caught.received.io_events b.io_events io_events (io_events_in caught.due.events) =
+    knew caught.received.io_events b.io_events io_events (io_events_in caught.due.events) known caught.due.happen.io_events in
     record {
       received = caught.received;
       receives = caught.receives;
       due = caught.due;
       moment = caught.due.moment;
-      in_time = in_time arrivals until a caught.received before.before (deeds_in caught.due.events) deeds caught.receives before.was before.is prompt;
+      in_time = in_time arrivals until a caught.received before.before (io_events_in caught.due.events) io_events caught.receives before.was before.is prompt;
     }

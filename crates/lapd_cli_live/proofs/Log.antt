@@ -18,22 +18,22 @@ use Rattle.lapd_cli_outside.specs.declared.outside.Sending.{Sending}
 use Rattle.lapd_cli_outside.specs.declared.outside.Sending.TheVariants.{Sent as WasSent, Lost as WasLost}
 use Rattle.lapd_cli_live.specs.declared.style.Style.{Style}
 use Rattle.lapd_cli_live.specs.declared.printer.Printer.{Printer}
-use Rattle.lapd_cli_outside.specs.Deeds.{Adds, Deed, Sends, SendsFront, all_sent}
-use Rattle.lapd_cli_live.specs.Entries.{Entry, Outgoing, Prints, Sent, Shown, Told, counted, entries_text, entry_text, is_awaited, moment_after, octets_of, outgoing_entry, sent_entry}
+use Rattle.lapd_cli_outside.specs.IoEvents.{Adds, IoEvent, Sends, SendsFront, all_sent}
+use Rattle.lapd_cli_live.specs.Entries.{Entry, Outgoing, Prints, Sent, Shown, Delivered, counted, entries_text, entry_text, is_awaited, moment_after, octets_of, outgoing_entry, sent_entry}
 use Rattle.lapd_cli_live.specs.Printers.{PrintsOn, SendsAll, shown}
-use Rattle.lapd_cli_live.specs.Log.{Around, CarriesOut, CarriesOutAll, Chain, Happen, HappenBeside, IsCarriedOut, LiveEvent, LiveState, Shows, deeds_in, entries_in, moment_of, sending_events, told_event}
-use Rattle.lapd_cli_outside.proofs.Deeds.{adds_both, adds_none}
+use Rattle.lapd_cli_live.specs.Log.{Around, CarriesOut, CarriesOutAll, Chain, Happen, HappenBeside, IsCarriedOut, LiveEvent, LiveState, Shows, io_events_in, entries_in, moment_of, sending_events, primitive_event}
+use Rattle.lapd_cli_outside.proofs.IoEvents.{adds_both, adds_none}
 
 -- ---- Events.
 
-deeds_both : (xs ys : List LiveEvent) → deeds_in (xs ++ ys) ≡ deeds_in xs ++ deeds_in ys
-deeds_both [] ys = refl
-deeds_both (Around deed ∷ xs) ys = ap (λ (deeds : List Deed). deed ∷ deeds) (deeds_both xs ys)
-deeds_both (Shows entry ∷ xs) ys = deeds_both xs ys
+io_events_both : (xs ys : List LiveEvent) → io_events_in (xs ++ ys) ≡ io_events_in xs ++ io_events_in ys
+io_events_both [] ys = refl
+io_events_both (Around io_event ∷ xs) ys = ap (λ (io_events : List IoEvent). io_event ∷ io_events) (io_events_both xs ys)
+io_events_both (Shows entry ∷ xs) ys = io_events_both xs ys
 
 entries_both : (xs ys : List LiveEvent) → entries_in (xs ++ ys) ≡ entries_in xs ++ entries_in ys
 entries_both [] ys = refl
-entries_both (Around deed ∷ xs) ys = entries_both xs ys
+entries_both (Around io_event ∷ xs) ys = entries_both xs ys
 entries_both (Shows entry ∷ xs) ys = ap (λ (entries : List Entry). entry ∷ entries) (entries_both xs ys)
 
 -- ---- Entries.
@@ -60,7 +60,7 @@ prints_none style own a = record {
   now = refl;
   stats = refl;
   awaited = refl;
-  found = or_none a.found;
+  matched = or_none a.matched;
 }
 
 pub prints_both : (style : Style) (own : Side) (xs ys : List Entry) (a b c : Shown) → Prints style own xs a b → Prints style own ys b c
@@ -75,10 +75,10 @@ prints_both style own xs ys a b c p q =
       now = q.now ∙ ap (λ (now : ℕ). fold moment_after now ys) p.now ∙ sym (fold-append moment_after a.now xs ys);
       stats = q.stats ∙ ap (λ stats. fold (counted own) stats ys) p.stats ∙ sym (fold-append (counted own) a.stats xs ys);
       awaited = q.awaited ∙ p.awaited;
-      found = q.found ∙ ap (λ (found : Bool). found || list_any (is_awaited style own b.awaited) ys) p.found
-          ∙ ap (λ (found : Bool). (a.found || list_any (is_awaited style own a.awaited) xs) || found) any
-          ∙ or_both a.found (list_any (is_awaited style own a.awaited) xs) (list_any (is_awaited style own a.awaited) ys)
-          ∙ ap (λ (found : Bool). a.found || found) (sym (list_any-append (is_awaited style own a.awaited) xs ys));
+      matched = q.matched ∙ ap (λ (matched : Bool). matched || list_any (is_awaited style own b.awaited) ys) p.matched
+          ∙ ap (λ (matched : Bool). (a.matched || list_any (is_awaited style own a.awaited) xs) || matched) any
+          ∙ or_both a.matched (list_any (is_awaited style own a.awaited) xs) (list_any (is_awaited style own a.awaited) ys)
+          ∙ ap (λ (matched : Bool). a.matched || matched) (sym (list_any-append (is_awaited style own a.awaited) xs ys));
     }
 
 prints_as : (style other : Style) (own same : Side) (xs : List Entry) (a b : Shown) → style ≡ other → own ≡ same → Prints style own xs a b
@@ -103,14 +103,14 @@ pub happen_both : (xs ys : List LiveEvent) (a b c : LiveState) → Happen xs a b
 happen_both xs ys a b c p q = record {
   own = q.own ∙ p.own;
   style = q.style ∙ p.style;
-  deeds = subst (Adds a.deeds c.deeds) (sym (deeds_both xs ys)) (adds_both a.deeds b.deeds c.deeds _ _ p.deeds q.deeds);
+  io_events = subst (Adds a.io_events c.io_events) (sym (io_events_both xs ys)) (adds_both a.io_events b.io_events c.io_events _ _ p.io_events q.io_events);
   shown = subst (λ (entries : List Entry). Prints a.style (side_of a.side) entries a.shown c.shown) (sym (entries_both xs ys))
       (prints_both a.style (side_of a.side) (entries_in xs) (entries_in ys) a.shown b.shown c.shown p.shown
       (prints_as b.style a.style (side_of b.side) (side_of a.side) (entries_in ys) b.shown c.shown p.style p.own q.shown));
 }
 
 pub happen_none : (a : LiveState) → Happen [] a a
-happen_none a = record { own = refl; style = refl; deeds = adds_none a.deeds; shown = prints_none a.style (side_of a.side) a.shown }
+happen_none a = record { own = refl; style = refl; io_events = adds_none a.io_events; shown = prints_none a.style (side_of a.side) a.shown }
 
 -- ---- Frames that are sent, and primitives.
 
@@ -123,30 +123,30 @@ sent_moment now [] = refl
 sent_moment now (first ∷ outgoing) =
     ap (λ (x : ℕ). fold moment_after x (map outgoing_entry outgoing)) (one_moment now first.octets first.sending) ∙ sent_moment now outgoing
 
-told_moment : (now : ℕ) (primitives : List Primitive) → fold moment_after now (map Told primitives) ≡ now
-told_moment now [] = refl
-told_moment now (primitive ∷ primitives) = told_moment now primitives
+primitives_moment : (now : ℕ) (primitives : List Primitive) → fold moment_after now (map Delivered primitives) ≡ now
+primitives_moment now [] = refl
+primitives_moment now (primitive ∷ primitives) = primitives_moment now primitives
 
-deeds_of_told : (primitives : List Primitive) → deeds_in (map told_event primitives) ≡ []
-deeds_of_told [] = refl
-deeds_of_told (primitive ∷ primitives) = deeds_of_told primitives
+io_events_of_primitives : (primitives : List Primitive) → io_events_in (map primitive_event primitives) ≡ []
+io_events_of_primitives [] = refl
+io_events_of_primitives (primitive ∷ primitives) = io_events_of_primitives primitives
 
-entries_of_told : (primitives : List Primitive) → entries_in (map told_event primitives) ≡ map Told primitives
-entries_of_told [] = refl
-entries_of_told (primitive ∷ primitives) = ap (λ (entries : List Entry). Told primitive ∷ entries) (entries_of_told primitives)
+entries_of_primitives : (primitives : List Primitive) → entries_in (map primitive_event primitives) ≡ map Delivered primitives
+entries_of_primitives [] = refl
+entries_of_primitives (primitive ∷ primitives) = ap (λ (entries : List Entry). Delivered primitive ∷ entries) (entries_of_primitives primitives)
 
-deeds_of_sent : (outgoing : List Outgoing) → deeds_in (flat_map sending_events outgoing) ≡ all_sent (map octets_of outgoing)
-deeds_of_sent [] = refl
-deeds_of_sent (first ∷ outgoing) = ap (λ (deeds : List Deed). Sends first.octets ∷ deeds) (deeds_of_sent outgoing)
+io_events_of_sent : (outgoing : List Outgoing) → io_events_in (flat_map sending_events outgoing) ≡ all_sent (map octets_of outgoing)
+io_events_of_sent [] = refl
+io_events_of_sent (first ∷ outgoing) = ap (λ (io_events : List IoEvent). Sends first.octets ∷ io_events) (io_events_of_sent outgoing)
 
 entries_of_sent : (outgoing : List Outgoing) → entries_in (flat_map sending_events outgoing) ≡ map outgoing_entry outgoing
 entries_of_sent [] = refl
 entries_of_sent (first ∷ outgoing) = ap (λ (entries : List Entry). outgoing_entry first ∷ entries) (entries_of_sent outgoing)
 
-pub sends_none : {W : Type 0} (own : Side) (contents : W → Option (List ℕ)) (a : Option (List Deed)) (p : Printer W) → SendsAll own [] a a contents p p
-sends_none own contents a p = record { outgoing = []; octets = refl; deeds = adds_none a; prints = prints_on_none contents own p }
+pub sends_none : {W : Type 0} (own : Side) (contents : W → Option (List ℕ)) (a : Option (List IoEvent)) (p : Printer W) → SendsAll own [] a a contents p p
+sends_none own contents a p = record { outgoing = []; octets = refl; io_events = adds_none a; prints = prints_on_none contents own p }
 
-pub sends_more : {W : Type 0} (own : Side) (frames : List (List ℕ)) (frame : List ℕ) (sending : Sending) (a b c : Option (List Deed))
+pub sends_more : {W : Type 0} (own : Side) (frames : List (List ℕ)) (frame : List ℕ) (sending : Sending) (a b c : Option (List IoEvent))
     (contents : W → Option (List ℕ)) (p q r : Printer W) → SendsAll own frames a b contents p q → Adds b c (Sends frame ∷ [])
     → PrintsOn contents own (sent_entry frame sending ∷ []) q r → SendsAll own (frames ++ frame ∷ []) a c contents p r
 sends_more own frames frame sending a b c contents p q r some adds prints =
@@ -154,14 +154,14 @@ sends_more own frames frame sending a b c contents p q r some adds prints =
     record {
       outgoing = some.outgoing ++ one ∷ [];
       octets = map-append octets_of some.outgoing (one ∷ []) ∙ ap (λ xs. xs ++ frame ∷ []) some.octets;
-      deeds = subst (Adds a c) (sym (map-append Sends frames (frame ∷ []))) (adds_both a b c _ _ some.deeds adds);
+      io_events = subst (Adds a c) (sym (map-append Sends frames (frame ∷ []))) (adds_both a b c _ _ some.io_events adds);
       prints = subst (λ (entries : List Entry). PrintsOn contents own entries p r) (sym (map-append outgoing_entry some.outgoing (one ∷ [])))
           (prints_on_both contents own (map outgoing_entry some.outgoing) (outgoing_entry one ∷ []) p q r some.prints prints);
     }
 
 -- the next of some frames is sent
 pub sends_next : {F W : Type 0} (octets : F → List ℕ) (own : Side) (frames : List F) (at : ℕ) (frame : F) (item : List ℕ) (sending : Sending)
-    (a b c : Option (List Deed)) (contents : W → Option (List ℕ)) (p q r : Printer W) → at < length frames → frame ≡ get_or frames at frame
+    (a b c : Option (List IoEvent)) (contents : W → Option (List ℕ)) (p q r : Printer W) → at < length frames → frame ≡ get_or frames at frame
     → item ≡ octets frame → SendsAll own (map octets (take at frames)) a b contents p q → Adds b c (Sends item ∷ [])
     → PrintsOn contents own (sent_entry item sending ∷ []) q r → SendsAll own (map octets (take (at + 1) frames)) a c contents p r
 sends_next octets own frames at frame item sending a b c contents p q r within is says some adds prints =
@@ -172,52 +172,52 @@ sends_next octets own frames at frame item sending a b c contents p q r within i
     (sends_more own (map octets (take at frames)) item sending a b c contents p q r some adds prints)
 
 -- the next of some primitives is printed
-pub told_next : {W : Type 0} (own : Side) (primitives : List Primitive) (at : ℕ) (primitive : Primitive) (contents : W → Option (List ℕ)) (p q r : Printer W)
-    → at < length primitives → primitive ≡ get_or primitives at primitive → PrintsOn contents own (map Told (take at primitives)) p q
-    → PrintsOn contents own (Told primitive ∷ []) q r → PrintsOn contents own (map Told (take (at + 1) primitives)) p r
-told_next own primitives at primitive contents p q r within is some now =
+pub next_primitive : {W : Type 0} (own : Side) (primitives : List Primitive) (at : ℕ) (primitive : Primitive) (contents : W → Option (List ℕ)) (p q r : Printer W)
+    → at < length primitives → primitive ≡ get_or primitives at primitive → PrintsOn contents own (map Delivered (take at primitives)) p q
+    → PrintsOn contents own (Delivered primitive ∷ []) q r → PrintsOn contents own (map Delivered (take (at + 1) primitives)) p r
+next_primitive own primitives at primitive contents p q r within is some now =
     let one : take (at + 1) primitives ≡ take at primitives ++ primitive ∷ [] =
     take_more primitives at primitive within ∙ ap (λ x. take at primitives ++ x ∷ []) (sym is) in
-    let all : map Told (take (at + 1) primitives) ≡ map Told (take at primitives) ++ Told primitive ∷ [] =
-    ap (map Told) one ∙ map-append Told (take at primitives) (primitive ∷ []) in
+    let all : map Delivered (take (at + 1) primitives) ≡ map Delivered (take at primitives) ++ Delivered primitive ∷ [] =
+    ap (map Delivered) one ∙ map-append Delivered (take at primitives) (primitive ∷ []) in
     subst (λ (entries : List Entry). PrintsOn contents own entries p r) (sym all)
-    (prints_on_both contents own (map Told (take at primitives)) (Told primitive ∷ []) p q r some now)
+    (prints_on_both contents own (map Delivered (take at primitives)) (Delivered primitive ∷ []) p q r some now)
 
 -- a running side, by its parts
-abbrev pub live : {W : Type 0} → EitherSide → Option (List Deed) → (W → Option (List ℕ)) → Printer W → LiveState
-live side deeds contents printer = record { side = side; style = printer.style; deeds = deeds; shown = shown contents printer }
+abbrev pub live : {W : Type 0} → EitherSide → Option (List IoEvent) → (W → Option (List ℕ)) → Printer W → LiveState
+live side io_events contents printer = record { side = side; style = printer.style; io_events = io_events; shown = shown contents printer }
 
 pub carried : {W : Type 0} (contents : W → Option (List ℕ)) (side : EitherSide) (own : Side) (frames : List (List ℕ)) (primitives : List Primitive) (acts : Effects)
-    (a b : Option (List Deed)) (p q r : Printer W) → own ≡ side_of side → frames ≡ acts.frames → primitives ≡ acts.primitives
-    → SendsAll own frames a b contents p q → PrintsOn contents own (map Told primitives) q r
+    (a b : Option (List IoEvent)) (p q r : Printer W) → own ≡ side_of side → frames ≡ acts.frames → primitives ≡ acts.primitives
+    → SendsAll own frames a b contents p q → PrintsOn contents own (map Delivered primitives) q r
     → IsCarriedOut acts (live side a contents p) (live side b contents r)
-carried contents side own frames primitives acts a b p q r is are same sends found =
-    let told : PrintsOn contents own (map Told acts.primitives) q r =
-    subst (λ (x : List Primitive). PrintsOn contents own (map Told x) q r) same found in
-    let events : List LiveEvent = flat_map sending_events sends.outgoing ++ map told_event acts.primitives in
-    let deeds : deeds_in events ≡ all_sent frames =
-    deeds_both (flat_map sending_events sends.outgoing) (map told_event acts.primitives)
-    ∙ ap (λ (deeds : List Deed). deeds_in (flat_map sending_events sends.outgoing) ++ deeds) (deeds_of_told acts.primitives)
-    ∙ append-nil (deeds_in (flat_map sending_events sends.outgoing)) ∙ deeds_of_sent sends.outgoing ∙ ap all_sent sends.octets in
-    let entries : entries_in events ≡ map outgoing_entry sends.outgoing ++ map Told acts.primitives =
-    entries_both (flat_map sending_events sends.outgoing) (map told_event acts.primitives)
-    ∙ ap (λ (entries : List Entry). entries ++ entries_in (map told_event acts.primitives)) (entries_of_sent sends.outgoing)
-    ∙ ap (λ (entries : List Entry). map outgoing_entry sends.outgoing ++ entries) (entries_of_told acts.primitives) in
-    let prints : PrintsOn contents own (map outgoing_entry sends.outgoing ++ map Told acts.primitives) p r =
-    prints_on_both contents own (map outgoing_entry sends.outgoing) (map Told acts.primitives) p q r sends.prints told in
+carried contents side own frames primitives acts a b p q r is are same sends matched =
+    let printed_primitives : PrintsOn contents own (map Delivered acts.primitives) q r =
+    subst (λ (x : List Primitive). PrintsOn contents own (map Delivered x) q r) same matched in
+    let events : List LiveEvent = flat_map sending_events sends.outgoing ++ map primitive_event acts.primitives in
+    let io_events : io_events_in events ≡ all_sent frames =
+    io_events_both (flat_map sending_events sends.outgoing) (map primitive_event acts.primitives)
+    ∙ ap (λ (io_events : List IoEvent). io_events_in (flat_map sending_events sends.outgoing) ++ io_events) (io_events_of_primitives acts.primitives)
+    ∙ append-nil (io_events_in (flat_map sending_events sends.outgoing)) ∙ io_events_of_sent sends.outgoing ∙ ap all_sent sends.octets in
+    let entries : entries_in events ≡ map outgoing_entry sends.outgoing ++ map Delivered acts.primitives =
+    entries_both (flat_map sending_events sends.outgoing) (map primitive_event acts.primitives)
+    ∙ ap (λ (entries : List Entry). entries ++ entries_in (map primitive_event acts.primitives)) (entries_of_sent sends.outgoing)
+    ∙ ap (λ (entries : List Entry). map outgoing_entry sends.outgoing ++ entries) (entries_of_primitives acts.primitives) in
+    let prints : PrintsOn contents own (map outgoing_entry sends.outgoing ++ map Delivered acts.primitives) p r =
+    prints_on_both contents own (map outgoing_entry sends.outgoing) (map Delivered acts.primitives) p q r sends.prints printed_primitives in
     record {
       events = events;
       carries = record { outgoing = sends.outgoing; frames = sends.octets ∙ are; are = refl };
       beside = record {
         side = refl;
-        moment = prints.prints.now ∙ fold-append moment_after p.moment (map outgoing_entry sends.outgoing) (map Told acts.primitives)
-            ∙ ap (λ (now : ℕ). fold moment_after now (map Told acts.primitives)) (sent_moment p.moment sends.outgoing) ∙ told_moment p.moment acts.primitives;
+        moment = prints.prints.now ∙ fold-append moment_after p.moment (map outgoing_entry sends.outgoing) (map Delivered acts.primitives)
+            ∙ ap (λ (now : ℕ). fold moment_after now (map Delivered acts.primitives)) (sent_moment p.moment sends.outgoing) ∙ primitives_moment p.moment acts.primitives;
         happen = record {
           own = refl;
           style = prints.style;
-          deeds = subst (Adds a b) (sym deeds) sends.deeds;
+          io_events = subst (Adds a b) (sym io_events) sends.io_events;
           shown = subst (λ (xs : List Entry). Prints p.style (side_of side) xs (shown contents p) (shown contents r)) (sym entries)
-              (subst (λ (x : Side). Prints p.style x (map outgoing_entry sends.outgoing ++ map Told acts.primitives) (shown contents p) (shown contents r)) is prints.prints);
+              (subst (λ (x : Side). Prints p.style x (map outgoing_entry sends.outgoing ++ map Delivered acts.primitives) (shown contents p) (shown contents r)) is prints.prints);
         };
       };
     }
@@ -231,16 +231,16 @@ chain_more R (mid ∷ states) a b c are one = (are.0, chain_more R states mid b 
 -- ---- Calls that fail.
 
 -- this many frames were sent, and then nothing
-pub front_of : {F : Type 0} (octets : F → List ℕ) (frames : List F) (count : ℕ) (a b c : Option (List Deed)) → Adds a b (all_sent (map octets (take count frames))) → c ≡ b
+pub front_of : {F : Type 0} (octets : F → List ℕ) (frames : List F) (count : ℕ) (a b c : Option (List IoEvent)) → Adds a b (all_sent (map octets (take count frames))) → c ≡ b
     → SendsFront (map octets frames) a c
 front_of octets frames count a b c adds stays = (
   count,
   subst (λ (x : List (List ℕ)). Adds a c (all_sent x)) (sym (take-map octets count frames))
-      (subst (λ (x : Option (List Deed)). Adds a x (all_sent (map octets (take count frames)))) (sym stays) adds),
+      (subst (λ (x : Option (List IoEvent)). Adds a x (all_sent (map octets (take count frames)))) (sym stays) adds),
 )
 
 -- or one more was
-pub front_next : {F : Type 0} (octets : F → List ℕ) (frames : List F) (at : ℕ) (frame : F) (item : List ℕ) (a b c : Option (List Deed)) → at < length frames
+pub front_next : {F : Type 0} (octets : F → List ℕ) (frames : List F) (at : ℕ) (frame : F) (item : List ℕ) (a b c : Option (List IoEvent)) → at < length frames
     → frame ≡ get_or frames at frame → item ≡ octets frame → Adds a b (all_sent (map octets (take at frames))) → Adds b c (Sends item ∷ [])
     → SendsFront (map octets frames) a c
 front_next octets frames at frame item a b c within is says before now =
@@ -251,6 +251,6 @@ front_next octets frames at frame item a b c within is says before now =
     front_of octets frames (at + 1) a c c (subst (Adds a c) (sym sent) (adds_both a b c _ _ before now)) refl
 
 -- or all were sent
-pub front_is_all : (frames all : List (List ℕ)) (a b : Option (List Deed)) → frames ≡ all → Adds a b (all_sent frames) → SendsFront all a b
+pub front_is_all : (frames all : List (List ℕ)) (a b : Option (List IoEvent)) → frames ≡ all → Adds a b (all_sent frames) → SendsFront all a b
 front_is_all frames all a b same adds =
     (length all, subst (λ (x : List (List ℕ)). Adds a b (all_sent x)) (same ∙ sym (take-length all)) adds)

@@ -19,7 +19,7 @@ pub record IsBeside {W : Type 0} (old mid : Printer W) : Type 0 where
   pub moment : mid.moment ≡ old.moment
   pub awaited : mid.awaited ≡ old.awaited
   pub text : mid.text ≡ old.text
-  pub found : mid.is_found ≡ old.is_found
+  pub matched : mid.is_matched ≡ old.is_matched
 
 -- a line is printed from a printer that differs in the buffer for it
 pub puts_same : {W : Type 0} (line other object : List ℕ) (old mid new : Printer W) → IsBeside old mid → mid.stats ≡ old.stats → line ≡ other
@@ -34,8 +34,8 @@ puts_same line other object old mid new beside stats is puts = record {
       ∙ ap (λ style. old.text.items ++ printed_line style mid.moment line object) beside.style
       ∙ ap (λ moment. old.text.items ++ printed_line old.style moment line object) beside.moment
       ∙ ap (λ line. old.text.items ++ printed_line old.style old.moment line object) is;
-  found = puts.found ∙ ap (λ found. found || begins_so mid.awaited.items line) beside.found
-      ∙ ap (λ awaited. old.is_found || begins_so awaited.items line) beside.awaited ∙ ap (λ line. old.is_found || begins_so old.awaited.items line) is;
+  matched = puts.matched ∙ ap (λ matched. matched || begins_so mid.awaited.items line) beside.matched
+      ∙ ap (λ awaited. old.is_matched || begins_so awaited.items line) beside.awaited ∙ ap (λ line. old.is_matched || begins_so old.awaited.items line) is;
 }
 
 or_false : (a : Bool) → a ≡ (a || false)
@@ -54,11 +54,11 @@ prints_entry {W = W} contents own entry line object old mid new beside stats sta
     ∙ ap (λ line. old.text.items ++ printed_line old.style old.moment line object) is
     ∙ ap (λ object. old.text.items ++ printed_line old.style old.moment (line_of old.style own entry) object) of
     ∙ ap (λ text. old.text.items ++ text) (sym (append-nil (entry_text old.style own old.moment entry))) in
-    let found : new.is_found ≡ (old.is_found || (begins_so old.awaited.items (line_of old.style own entry) || false)) =
-    puts.found ∙ ap (λ found. found || begins_so mid.awaited.items line) beside.found
-    ∙ ap (λ awaited. old.is_found || begins_so awaited.items line) beside.awaited
-    ∙ ap (λ line. old.is_found || begins_so old.awaited.items line) is
-    ∙ ap (λ found. old.is_found || found) (or_false (begins_so old.awaited.items (line_of old.style own entry))) in
+    let matched : new.is_matched ≡ (old.is_matched || (begins_so old.awaited.items (line_of old.style own entry) || false)) =
+    puts.matched ∙ ap (λ matched. matched || begins_so mid.awaited.items line) beside.matched
+    ∙ ap (λ awaited. old.is_matched || begins_so awaited.items line) beside.awaited
+    ∙ ap (λ line. old.is_matched || begins_so old.awaited.items line) is
+    ∙ ap (λ matched. old.is_matched || matched) (or_false (begins_so old.awaited.items (line_of old.style own entry))) in
     record {
       style = puts.style ∙ beside.style;
       prints = record {
@@ -70,6 +70,6 @@ prints_entry {W = W} contents own entry line object old mid new beside stats sta
         now = puts.moment ∙ beside.moment ∙ sym stays;
         stats = puts.stats ∙ stats;
         awaited = ap (λ awaited. awaited.items) (puts.awaited ∙ beside.awaited);
-        found = found;
+        matched = matched;
       };
     }

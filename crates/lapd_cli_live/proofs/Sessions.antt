@@ -5,7 +5,7 @@ use Rattle.std.specs.Io.KnownBytes.{Consumes, IsAtEnd, Keeps}
 use Rattle.std.proofs.KnownBytes.{Consumes-kept, Consumes-nil}
 use Rattle.std.proofs.lemmas.Bool.{ne_eqb}
 use Rattle.lapd_sides.specs.Either.{side_of}
-use Rattle.lapd_cli_live_text.specs.LiveWishes.{live_wish_of, live_wish_of_line}
+use Rattle.lapd_cli_live_text.specs.LiveRequests.{live_request_of, live_request_of_line}
 use Rattle.lapd_cli_live_text.specs.declared.words.LiveLine.{LiveLine}
 use Rattle.lapd_cli_script.specs.Script.{is_passed_over, lines_of, with_first}
 use Rattle.lapd_cli_script.specs.WalkState.{HasNoFeed}
@@ -19,12 +19,12 @@ use Rattle.lapd_cli_live.specs.declared.obeyed.Obeyed.{Obeyed}
 use Rattle.lapd_cli_live.specs.declared.obeyed.Obeyed.TheVariants as obeyed
 use Rattle.lapd_cli_outside.specs.declared.outside.Lines.{Lines}
 use Rattle.lapd_cli_outside.specs.declared.outside.Lines.TheVariants.{Ignored}
-use Rattle.lapd_cli_live.specs.declared.service.Came.{Came}
-use Rattle.lapd_cli_live.specs.declared.service.Came.TheVariants as came
+use Rattle.lapd_cli_live.specs.declared.service.EndReason.{EndReason}
+use Rattle.lapd_cli_live.specs.declared.service.EndReason.TheVariants as end_reason
 use Rattle.lapd_cli_live.specs.Log.{Chain, HappenBeside, LiveState}
 use Rattle.lapd_cli_live.specs.LineDone.{HasOwnTei}
 use Rattle.lapd_cli_live.specs.Typed.{IsFirstLine}
-use Rattle.lapd_cli_live.specs.Sessions.{AreTaken, Awaits, AwaitsInput, AwaitsQuietly, DoesLine, GreetedAndEnds, Greets, Hears, InOrder, LineEnds, LinesEnd, LinesType, ObeysAs, Quits, ReadsPart, RequestEnds, ScriptEnds, ServesOn, Session, SessionEnds, StopsAt, StopsBy, TakesLines, Told, Types, TypesLast, TypesOn, stop_of}
+use Rattle.lapd_cli_live.specs.Sessions.{AreTaken, Awaits, AwaitsInput, AwaitsQuietly, DoesLine, GreetedAndEnds, Greets, Hears, InOrder, LineEnds, LinesEnd, LinesType, ObeysAs, Quits, ReadsPart, RequestEnds, ScriptEnds, ServesOn, Session, SessionEnds, StopsAt, StopsBy, TakesLines, Delivered, Types, TypesLast, TypesOn, stop_of}
 
 -- ---- Waits.
 
@@ -35,8 +35,8 @@ chain_both R (mid ∷ xs) ys a b c p q = (p.0, chain_both R xs ys mid b c p.1 q)
 awaits_none : (a : LiveState) → Awaits a a
 awaits_none a = record { passed = []; are = refl }
 
-awaits_one : (came : Came) (a b : LiveState) → AwaitsInput came a b → Awaits a b
-awaits_one came a b served = record { passed = b ∷ []; are = ((came, served), refl) }
+awaits_one : (end_reason : EndReason) (a b : LiveState) → AwaitsInput end_reason a b → Awaits a b
+awaits_one end_reason a b served = record { passed = b ∷ []; are = ((end_reason, served), refl) }
 
 awaits_both : (a b c : LiveState) → Awaits a b → Awaits b c → Awaits a c
 awaits_both a b c p q = record { passed = p.passed ++ q.passed; are = chain_both _ p.passed q.passed a b c p.are q.are }
@@ -302,13 +302,13 @@ around_ends (Some octets) serve_on result fault a b is =
     script_stops serve_on result (stop_of fault) (lines_of octets) a b is (around_stops fault 0 (lines_of octets) a b)
 
 -- one of the lines that end in a part stops the script
-pub part_stops : (initial now new : Option (List ℕ)) (held holds : List ℕ) (n : ℕ) (came : Came) (serve_on : Bool) (result : Result ⊤ LiveStop) (stop : LiveStop)
-    (a b c d : LiveState) → ComesTo Awaits DoesLine initial now held n a b → AwaitsInput came b c → ReadsPart true now new held holds
+pub part_stops : (initial now new : Option (List ℕ)) (held holds : List ℕ) (n : ℕ) (end_reason : EndReason) (serve_on : Bool) (result : Result ⊤ LiveStop) (stop : LiveStop)
+    (a b c d : LiveState) → ComesTo Awaits DoesLine initial now held n a b → AwaitsInput end_reason b c → ReadsPart true now new held holds
     → ((more : List ℕ) → StopsBy stop n (lines_of (holds ++ more)) c d) → IsErrAnd result (λ x. x ≡ stop)
     → IfSome initial (λ octets. ScriptEnds serve_on result (lines_of octets) a d)
-part_stops None now new held holds n came serve_on result stop a b c d comes awaits reads stops is = tt
-part_stops (Some octets) now new held holds n came serve_on result stop a b c d comes awaits reads stops is =
-    let w = part_read Awaits awaits_can DoesLine octets held holds now new n a b c comes (awaits_one came b c awaits) reads in
+part_stops None now new held holds n end_reason serve_on result stop a b c d comes awaits reads stops is = tt
+part_stops (Some octets) now new held holds n end_reason serve_on result stop a b c d comes awaits reads stops is =
+    let w = part_read Awaits awaits_can DoesLine octets held holds now new n a b c comes (awaits_one end_reason b c awaits) reads in
     let takes : TakesLines Awaits DoesLine octets (holds ++ w.0) 0 n a c = w.2 in
     script_stops serve_on result stop (lines_of octets) a d is
     (subst (λ (xs : List (List ℕ)). StopsBy stop 0 xs a d) (sym (taken_all takes.lines octets (holds ++ w.0) takes.taken))
@@ -335,29 +335,29 @@ last_stops stop octets (o ∷ held) n a b c none takes stops =
     subst (λ (xs : List (List ℕ)). StopsBy stop 0 xs a c) (sym all)
     (stops_after stop 0 n takes.lines ((o ∷ held) ∷ []) a b c takes.counted takes.done stops)
 
-pub script_further : (initial now new : Option (List ℕ)) (held holds left : List ℕ) (n m : ℕ) (came : Came) (a b c d : LiveState) → ComesTo Awaits DoesLine initial now held n a b
-    → AwaitsInput came b c → ReadsPart true now new held holds → TakesLines Awaits DoesLine holds left n m c d × HasNoFeed left
+pub script_further : (initial now new : Option (List ℕ)) (held holds left : List ℕ) (n m : ℕ) (end_reason : EndReason) (a b c d : LiveState) → ComesTo Awaits DoesLine initial now held n a b
+    → AwaitsInput end_reason b c → ReadsPart true now new held holds → TakesLines Awaits DoesLine holds left n m c d × HasNoFeed left
     → ComesTo Awaits DoesLine initial new left m a d
-script_further initial now new held holds left n m came a b c d comes awaits reads ends =
+script_further initial now new held holds left n m end_reason a b c d comes awaits reads ends =
     let takes : TakesLines Awaits DoesLine holds left n m c d = ends.0 in
     let counted = takes.counted in
-    comes_further Awaits awaits_can DoesLine initial now new held holds left n n m m a b c d comes (awaits_one came b c awaits) reads ends.0 ends.1 (omega arith)
+    comes_further Awaits awaits_can DoesLine initial now new held holds left n n m m a b c d comes (awaits_one end_reason b c awaits) reads ends.0 ends.1 (omega arith)
 
-pub script_ends : (initial now new : Option (List ℕ)) (held holds : List ℕ) (n m : ℕ) (came : Came) (serve_on : Bool) (a b c d e : LiveState)
-    → ComesTo Awaits DoesLine initial now held n a b → AwaitsInput came b c → ReadsPart false now new held holds → LineEnds (Ok tt) holds n m c d → ServesOn serve_on d e
+pub script_ends : (initial now new : Option (List ℕ)) (held holds : List ℕ) (n m : ℕ) (end_reason : EndReason) (serve_on : Bool) (a b c d e : LiveState)
+    → ComesTo Awaits DoesLine initial now held n a b → AwaitsInput end_reason b c → ReadsPart false now new held holds → LineEnds (Ok tt) holds n m c d → ServesOn serve_on d e
     → IfSome initial (λ octets. ScriptEnds serve_on (Ok tt) (lines_of octets) a e)
-script_ends None now new held holds n m came serve_on a b c d e comes awaits reads last serves = tt
-script_ends (Some octets) now new held holds n m came serve_on a b c d e comes awaits reads last serves =
-    let w = at_end Awaits awaits_can DoesLine octets held holds now new n a b c comes (awaits_one came b c awaits) reads in
+script_ends None now new held holds n m end_reason serve_on a b c d e comes awaits reads last serves = tt
+script_ends (Some octets) now new held holds n m end_reason serve_on a b c d e comes awaits reads last serves =
+    let w = at_end Awaits awaits_can DoesLine octets held holds now new n a b c comes (awaits_one end_reason b c awaits) reads in
     (d, last_done octets holds n a c d w.1 w.0 last.0, serves)
 
-pub end_stops : (initial now new : Option (List ℕ)) (held holds : List ℕ) (n : ℕ) (came : Came) (serve_on : Bool) (result : Result ⊤ LiveStop) (stop : LiveStop)
-    (a b c d : LiveState) → ComesTo Awaits DoesLine initial now held n a b → AwaitsInput came b c → ReadsPart false now new held holds
+pub end_stops : (initial now new : Option (List ℕ)) (held holds : List ℕ) (n : ℕ) (end_reason : EndReason) (serve_on : Bool) (result : Result ⊤ LiveStop) (stop : LiveStop)
+    (a b c d : LiveState) → ComesTo Awaits DoesLine initial now held n a b → AwaitsInput end_reason b c → ReadsPart false now new held holds
     → ((behind : List (List ℕ)) → StopsBy stop n (holds ∷ behind) c d) → IsErrAnd result (λ x. x ≡ stop)
     → IfSome initial (λ octets. ScriptEnds serve_on result (lines_of octets) a d)
-end_stops None now new held holds n came serve_on result stop a b c d comes awaits reads stops is = tt
-end_stops (Some octets) now new held holds n came serve_on result stop a b c d comes awaits reads stops is =
-    let w = at_end Awaits awaits_can DoesLine octets held holds now new n a b c comes (awaits_one came b c awaits) reads in
+end_stops None now new held holds n end_reason serve_on result stop a b c d comes awaits reads stops is = tt
+end_stops (Some octets) now new held holds n end_reason serve_on result stop a b c d comes awaits reads stops is =
+    let w = at_end Awaits awaits_can DoesLine octets held holds now new n a b c comes (awaits_one end_reason b c awaits) reads in
     script_stops serve_on result stop (lines_of octets) a d is (last_stops stop octets holds n a c d w.1 w.0 (stops []))
 
 -- ---- Reads.
@@ -373,15 +373,15 @@ reads_none before after (o ∷ part) held consumes none end = absurd (omega arit
 -- ---- The outcome of a line.
 
 pub obeyed_as : (why : Obeyed) (octets : List ℕ) (lines : Lines) (own : ℕ) (asked : LiveLine) (a mid b : LiveState) → HasOwnTei a.side own
-    → live_wish_of_line (side_of a.side) own octets ≡ Some (live_wish_of asked) → RequestEnds why asked lines a mid → HappenBeside [] mid b → ObeysAs why octets lines a b
+    → live_request_of_line (side_of a.side) own octets ≡ Some (live_request_of asked) → RequestEnds why asked lines a mid → HappenBeside [] mid b → ObeysAs why octets lines a b
 obeyed_as obeyed.Done octets lines own asked a mid b own_is is ends beside = record { own = own; own_is = own_is; asked = asked; is = is; done_at = mid; does = ends; beside = beside }
 obeyed_as obeyed.Unmet octets lines own asked a mid b own_is is ends beside = record { own = own; own_is = own_is; asked = asked; is = is; missed_at = mid; misses = ends; beside = beside }
 obeyed_as obeyed.Bad octets lines own asked a mid b own_is is ends beside = absurd ends
 
 -- the first complete line of the held octets
-pub first_held : {V : Type 0} (items : V → List ℕ) (found : Option V) (line : V) (octets before after : List ℕ) → found ≡ Some line → octets ≡ items line
-    → IsFirstLine before (option_map items found) after → IsFirstLine before (Some octets) after
-first_held items found line octets before after is says first =
+pub first_held : {V : Type 0} (items : V → List ℕ) (matched : Option V) (line : V) (octets before after : List ℕ) → matched ≡ Some line → octets ≡ items line
+    → IsFirstLine before (option_map items matched) after → IsFirstLine before (Some octets) after
+first_held items matched line octets before after is says first =
     subst (λ (x : List ℕ). IsFirstLine before (Some x) after) (sym says) (subst (λ x. IsFirstLine before (option_map items x) after) is first)
 
 pub part_by : (more is : Bool) (before after : Option (List ℕ)) (held holds : List ℕ) → more ≡ is → ReadsPart more before after held holds → ReadsPart is before after held holds
@@ -433,14 +433,14 @@ SessionComes tidy initial now held a b = (n : ℕ) × ComesTo AwaitsQuietly (Typ
 abbrev pub after_wait : LiveState → Session → Session
 after_wait live a = record { live = live; told = a.told }
 
-pub session_further : (tidy : Tidy) (goes_on : Bool) (initial now new : Option (List ℕ)) (held holds left : List ℕ) (came : Came) (a b : Session) (live : LiveState) (d : Session)
-    → SessionComes tidy initial now held a b → AwaitsInput came b.live live → ReadsPart true now new held holds → LinesType tidy goes_on holds left (after_wait live b) d
+pub session_further : (tidy : Tidy) (goes_on : Bool) (initial now new : Option (List ℕ)) (held holds left : List ℕ) (end_reason : EndReason) (a b : Session) (live : LiveState) (d : Session)
+    → SessionComes tidy initial now held a b → AwaitsInput end_reason b.live live → ReadsPart true now new held holds → LinesType tidy goes_on holds left (after_wait live b) d
     → goes_on ≡ true → SessionComes tidy initial new left a d
-session_further tidy goes_on initial now new held holds left came a b live d comes awaits reads types is =
+session_further tidy goes_on initial now new held holds left end_reason a b live d comes awaits reads types is =
     let ends : LinesType tidy true holds left (after_wait live b) d = subst (λ (x : Bool). LinesType tidy x holds left (after_wait live b) d) is types in (
       comes.0 + (ends.0 - 0),
       comes_further AwaitsQuietly quiet_can (TypesOn tidy) initial now new held holds left comes.0 0 ends.0 (comes.0 + (ends.0 - 0)) a b (after_wait live b) d comes.1
-          (awaits_one came b.live live awaits, refl) reads ends.1 ends.2 refl,
+          (awaits_one end_reason b.live live awaits, refl) reads ends.1 ends.2 refl,
     )
 
 more_quits : (tidy : Tidy) (done lines : List (List ℕ)) (a b c : Session) → InOrder AwaitsQuietly (TypesOn tidy) done a b → Quits tidy lines b c → Quits tidy (done ++ lines) a c
@@ -454,19 +454,19 @@ more_quits tidy done lines a b c p q = record {
   quits = q.quits;
 }
 
-pub session_quits : (tidy : Tidy) (serve_on goes_on : Bool) (initial now new : Option (List ℕ)) (held holds left : List ℕ) (came : Came) (a b : Session) (live : LiveState)
-    (d : Session) → SessionComes tidy initial now held a b → AwaitsInput came b.live live → ReadsPart true now new held holds
+pub session_quits : (tidy : Tidy) (serve_on goes_on : Bool) (initial now new : Option (List ℕ)) (held holds left : List ℕ) (end_reason : EndReason) (a b : Session) (live : LiveState)
+    (d : Session) → SessionComes tidy initial now held a b → AwaitsInput end_reason b.live live → ReadsPart true now new held holds
     → LinesType tidy goes_on holds left (after_wait live b) d → goes_on ≡ false → IfSome initial (λ octets. SessionEnds tidy serve_on (lines_of octets) a d)
-session_quits tidy serve_on goes_on None now new held holds left came a b live d comes awaits reads types is = tt
-session_quits tidy serve_on goes_on (Some octets) now new held holds left came a b live d comes awaits reads types is =
-    let w = part_read AwaitsQuietly quiet_can (TypesOn tidy) octets held holds now new comes.0 a b (after_wait live b) comes.1 (awaits_one came b.live live awaits, refl) reads in
+session_quits tidy serve_on goes_on None now new held holds left end_reason a b live d comes awaits reads types is = tt
+session_quits tidy serve_on goes_on (Some octets) now new held holds left end_reason a b live d comes awaits reads types is =
+    let w = part_read AwaitsQuietly quiet_can (TypesOn tidy) octets held holds now new comes.0 a b (after_wait live b) comes.1 (awaits_one end_reason b.live live awaits, refl) reads in
     let t : TakesLines AwaitsQuietly (TypesOn tidy) octets (holds ++ w.0) 0 comes.0 a (after_wait live b) = w.2 in
     let quits : LinesType tidy false holds left (after_wait live b) d = subst (λ (x : Bool). LinesType tidy x holds left (after_wait live b) d) is types in
     inr (inl (subst (λ (xs : List (List ℕ)). Quits tidy xs a d) (sym (taken_all t.lines octets (holds ++ w.0) t.taken))
     (more_quits tidy t.lines (lines_of (holds ++ w.0)) a (after_wait live b) d t.done (quits w.0))))
 
-pub session_closed : (tidy : Tidy) (serve_on : Bool) (initial now : Option (List ℕ)) (held : List ℕ) (why : Came) (a b : Session) (live : LiveState)
-    → SessionComes tidy initial now held a b → AwaitsInput why b.live live → why ≡ came.Closed
+pub session_closed : (tidy : Tidy) (serve_on : Bool) (initial now : Option (List ℕ)) (held : List ℕ) (why : EndReason) (a b : Session) (live : LiveState)
+    → SessionComes tidy initial now held a b → AwaitsInput why b.live live → why ≡ end_reason.Closed
     → IfSome initial (λ octets. SessionEnds tidy serve_on (lines_of octets) a (after_wait live b))
 session_closed tidy serve_on None now held why a b live comes awaits is = tt
 session_closed tidy serve_on (Some octets) now held why a b live comes awaits is =
@@ -479,7 +479,7 @@ session_closed tidy serve_on (Some octets) now held why a b live comes awaits is
       are = taken_all t.lines octets (held ++ p.0) t.taken;
       met = b;
       done = t.done;
-      closes = subst (λ (x : Came). AwaitsInput x b.live live) is awaits;
+      closes = subst (λ (x : EndReason). AwaitsInput x b.live live) is awaits;
       told = refl;
     }))
 
@@ -495,13 +495,13 @@ last_typed tidy octets (o ∷ held) n a b c none takes types =
     subst (λ (xs : List (List ℕ)). InOrder AwaitsQuietly (TypesOn tidy) xs a c) (sym all)
     (in_order_more AwaitsQuietly quiet_can (TypesOn tidy) takes.lines (o ∷ held) a b c takes.done types)
 
-pub session_ended : (tidy : Tidy) (serve_on goes_on : Bool) (initial now new : Option (List ℕ)) (held holds : List ℕ) (came : Came) (a b : Session) (live : LiveState) (d : Session)
-    (last : LiveState) → SessionComes tidy initial now held a b → AwaitsInput came b.live live → ReadsPart false now new held holds
+pub session_ended : (tidy : Tidy) (serve_on goes_on : Bool) (initial now new : Option (List ℕ)) (held holds : List ℕ) (end_reason : EndReason) (a b : Session) (live : LiveState) (d : Session)
+    (last : LiveState) → SessionComes tidy initial now held a b → AwaitsInput end_reason b.live live → ReadsPart false now new held holds
     → TypesLast tidy holds goes_on (after_wait live b) d → goes_on ≡ true → ServesOn serve_on d.live last
     → IfSome initial (λ octets. SessionEnds tidy serve_on (lines_of octets) a (after_wait last d))
-session_ended tidy serve_on goes_on None now new held holds came a b live d last comes awaits reads types is serves = tt
-session_ended tidy serve_on goes_on (Some octets) now new held holds came a b live d last comes awaits reads types is serves =
-    let w = at_end AwaitsQuietly quiet_can (TypesOn tidy) octets held holds now new comes.0 a b (after_wait live b) comes.1 (awaits_one came b.live live awaits, refl) reads in
+session_ended tidy serve_on goes_on None now new held holds end_reason a b live d last comes awaits reads types is serves = tt
+session_ended tidy serve_on goes_on (Some octets) now new held holds end_reason a b live d last comes awaits reads types is serves =
+    let w = at_end AwaitsQuietly quiet_can (TypesOn tidy) octets held holds now new comes.0 a b (after_wait live b) comes.1 (awaits_one end_reason b.live live awaits, refl) reads in
     inl (record {
       ended = d;
       done = last_typed tidy octets holds comes.0 a (after_wait live b) d w.1 w.0 (subst (λ (x : Bool). TypesLast tidy holds x (after_wait live b) d) is types);
@@ -517,12 +517,12 @@ last_quits tidy octets (o ∷ held) n a b c none takes types =
     taken_all takes.lines octets (o ∷ held) takes.taken ∙ ap (λ x. takes.lines ++ x) (lines_of_last o held none) in
     subst (λ (xs : List (List ℕ)). Quits tidy xs a c) (sym all) (quits_after tidy takes.lines (o ∷ held) [] a b c takes.done types)
 
-pub session_last_quits : (tidy : Tidy) (serve_on goes_on : Bool) (initial now new : Option (List ℕ)) (held holds : List ℕ) (came : Came) (a b : Session) (live : LiveState)
-    (d : Session) → SessionComes tidy initial now held a b → AwaitsInput came b.live live → ReadsPart false now new held holds
+pub session_last_quits : (tidy : Tidy) (serve_on goes_on : Bool) (initial now new : Option (List ℕ)) (held holds : List ℕ) (end_reason : EndReason) (a b : Session) (live : LiveState)
+    (d : Session) → SessionComes tidy initial now held a b → AwaitsInput end_reason b.live live → ReadsPart false now new held holds
     → TypesLast tidy holds goes_on (after_wait live b) d → goes_on ≡ false → IfSome initial (λ octets. SessionEnds tidy serve_on (lines_of octets) a d)
-session_last_quits tidy serve_on goes_on None now new held holds came a b live d comes awaits reads types is = tt
-session_last_quits tidy serve_on goes_on (Some octets) now new held holds came a b live d comes awaits reads types is =
-    let w = at_end AwaitsQuietly quiet_can (TypesOn tidy) octets held holds now new comes.0 a b (after_wait live b) comes.1 (awaits_one came b.live live awaits, refl) reads in
+session_last_quits tidy serve_on goes_on None now new held holds end_reason a b live d comes awaits reads types is = tt
+session_last_quits tidy serve_on goes_on (Some octets) now new held holds end_reason a b live d comes awaits reads types is =
+    let w = at_end AwaitsQuietly quiet_can (TypesOn tidy) octets held holds now new comes.0 a b (after_wait live b) comes.1 (awaits_one end_reason b.live live awaits, refl) reads in
     inr (inl (last_quits tidy octets holds comes.0 a (after_wait live b) d w.1 w.0 (subst (λ (x : Bool). TypesLast tidy holds x (after_wait live b) d) is types)))
 
 -- an error implies nothing about a session
@@ -532,19 +532,19 @@ err_says_nothing None result fault P is = tt
 err_says_nothing (Some octets) (Ok done) fault P is = absurd is
 err_says_nothing (Some octets) (Err other) fault P is = tt
 
-pub session_served : (tidy : Tidy) (serve_on goes_on : Bool) (result : Result ⊤ LiveFault) (initial now new : Option (List ℕ)) (held holds : List ℕ) (came : Came) (a b : Session)
-    (live : LiveState) (d : Session) (last : LiveState) → SessionComes tidy initial now held a b → AwaitsInput came b.live live → ReadsPart false now new held holds
+pub session_served : (tidy : Tidy) (serve_on goes_on : Bool) (result : Result ⊤ LiveFault) (initial now new : Option (List ℕ)) (held holds : List ℕ) (end_reason : EndReason) (a b : Session)
+    (live : LiveState) (d : Session) (last : LiveState) → SessionComes tidy initial now held a b → AwaitsInput end_reason b.live live → ReadsPart false now new held holds
     → TypesLast tidy holds goes_on (after_wait live b) d → goes_on ≡ true → OnOk result (ServesOn serve_on d.live last)
     → IfSome initial (λ octets. OnOk result (SessionEnds tidy serve_on (lines_of octets) a (after_wait last d)))
-session_served tidy serve_on goes_on (Ok done) initial now new held holds came a b live d last comes awaits reads types is serves =
-    session_ended tidy serve_on goes_on initial now new held holds came a b live d last comes awaits reads types is serves
-session_served tidy serve_on goes_on (Err fault) None now new held holds came a b live d last comes awaits reads types is serves = tt
-session_served tidy serve_on goes_on (Err fault) (Some octets) now new held holds came a b live d last comes awaits reads types is serves = tt
+session_served tidy serve_on goes_on (Ok done) initial now new held holds end_reason a b live d last comes awaits reads types is serves =
+    session_ended tidy serve_on goes_on initial now new held holds end_reason a b live d last comes awaits reads types is serves
+session_served tidy serve_on goes_on (Err fault) None now new held holds end_reason a b live d last comes awaits reads types is serves = tt
+session_served tidy serve_on goes_on (Err fault) (Some octets) now new held holds end_reason a b live d last comes awaits reads types is serves = tt
 
 pub last_by : (tidy : Tidy) (octets held : List ℕ) (goes_on : Bool) (a b : Session) → octets ≡ held → TypesLast tidy octets goes_on a b → TypesLast tidy held goes_on a b
 last_by tidy octets held goes_on a b is types = subst (λ (x : List ℕ). TypesLast tidy x goes_on a b) is types
 
-pub greeted_ends : (tidy : Tidy) (serve_on : Bool) (initial : Option (List ℕ)) (a : Session) (greeted : Option (List Told)) (b : Session) → Hears a.told greeted (Greets ∷ [])
+pub greeted_ends : (tidy : Tidy) (serve_on : Bool) (initial : Option (List ℕ)) (a : Session) (greeted : Option (List Delivered)) (b : Session) → Hears a.told greeted (Greets ∷ [])
     → IfSome initial (λ octets. SessionEnds tidy serve_on (lines_of octets) (record { live = a.live; told = greeted }) b)
     → IfSome initial (λ octets. GreetedAndEnds tidy serve_on (lines_of octets) a b)
 greeted_ends tidy serve_on None a greeted b greets ends = tt

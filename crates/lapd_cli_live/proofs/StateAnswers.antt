@@ -13,19 +13,19 @@ use Rattle.lapd_cli_outside.specs.declared.outside.Lines.{Lines}
 use Rattle.lapd_cli_live.specs.WaitingLines.{Expects}
 use Rattle.lapd_cli_live.specs.LineDone.{MissesLine}
 use Rattle.lapd_cli_live.specs.declared.printer.Printer.{Printer}
-use Rattle.lapd_cli_outside.specs.Deeds.{Deed}
+use Rattle.lapd_cli_outside.specs.IoEvents.{IoEvent}
 use Rattle.lapd_cli_live.specs.Entries.{Named, Worded, refused, stats_entries}
 use Rattle.lapd_cli_live.specs.Printers.{PrintsOn}
 use Rattle.lapd_cli_live.specs.Log.{HappenBeside, LiveState, Shows}
 use Rattle.lapd_cli_live.specs.StateLines.{PutsLink, PutsNoLink, PutsState, RefusesLink, StateEach, line_unless_empty, management_events, shown_event}
-use Rattle.lapd_cli_outside.proofs.Deeds.{adds_none}
+use Rattle.lapd_cli_outside.proofs.IoEvents.{adds_none}
 use Rattle.lapd_cli_live.proofs.Log.{live}
 
-pub puts_link : (id : LinkId) (found : Bool) (a b : LiveState) → found ≡ true → PutsState id found a b → PutsLink id a b
-puts_link id found a b is puts = subst (λ (x : Bool). PutsState id x a b) is puts
+pub puts_link : (id : LinkId) (matched : Bool) (a b : LiveState) → matched ≡ true → PutsState id matched a b → PutsLink id a b
+puts_link id matched a b is puts = subst (λ (x : Bool). PutsState id x a b) is puts
 
-pub puts_no_link : (id : LinkId) (found : Bool) (a b : LiveState) → found ≡ false → PutsState id found a b → PutsNoLink id a b
-puts_no_link id found a b is puts = subst (λ (x : Bool). PutsState id x a b) is puts
+pub puts_no_link : (id : LinkId) (matched : Bool) (a b : LiveState) → matched ≡ false → PutsState id matched a b → PutsNoLink id a b
+puts_no_link id matched a b is puts = subst (λ (x : Bool). PutsState id x a b) is puts
 
 pub refuses_link : (id : LinkId) (a m b : LiveState) → PutsNoLink id a m → HappenBeside (Shows (refused NoLink) ∷ []) m b → RefusesLink id a b
 refuses_link id a m b none prints = record {
@@ -33,25 +33,25 @@ refuses_link id a m b none prints = record {
   prints = subst (λ (x : LiveState). HappenBeside (Shows (refused NoLink) ∷ []) x b) none.same prints;
 }
 
-pub counts_printed : {W : Type 0} (contents : W → Option (List ℕ)) (side : EitherSide) (deeds : Option (List Deed)) (p q : Printer W) (discarded : ℕ)
+pub counts_printed : {W : Type 0} (contents : W → Option (List ℕ)) (side : EitherSide) (io_events : Option (List IoEvent)) (p q : Printer W) (discarded : ℕ)
     → PrintsOn contents (side_of side) (stats_entries p.stats discarded) p q
-    → HappenBeside (map shown_event (stats_entries p.stats discarded)) (live side deeds contents p) (live side deeds contents q)
-counts_printed contents side deeds p q discarded prints = record {
+    → HappenBeside (map shown_event (stats_entries p.stats discarded)) (live side io_events contents p) (live side io_events contents q)
+counts_printed contents side io_events p q discarded prints = record {
   side = refl;
   moment = prints.prints.now;
-  happen = record { own = refl; style = prints.style; deeds = adds_none deeds; shown = prints.prints };
+  happen = record { own = refl; style = prints.style; io_events = adds_none io_events; shown = prints.prints };
 }
 
-pub state_more : (ids : List LinkId) (id : LinkId) (found : Bool) (a b c : LiveState) → StateEach ids a b → PutsState id found b c → StateEach (ids ++ id ∷ []) a c
-state_more [] id found a b c same puts = (c, found, subst (λ (x : LiveState). PutsState id found x c) same puts, refl)
-state_more (first ∷ ids) id found a b c each puts = (each.0, each.1, each.2, state_more ids id found each.0 b c each.3 puts)
+pub state_more : (ids : List LinkId) (id : LinkId) (matched : Bool) (a b c : LiveState) → StateEach ids a b → PutsState id matched b c → StateEach (ids ++ id ∷ []) a c
+state_more [] id matched a b c same puts = (c, matched, subst (λ (x : LiveState). PutsState id matched x c) same puts, refl)
+state_more (first ∷ ids) id matched a b c each puts = (each.0, each.1, each.2, state_more ids id matched each.0 b c each.3 puts)
 
 -- the next of some links
-pub state_next : (ids : List LinkId) (at : ℕ) (id : LinkId) (found : Bool) (a b c : LiveState) → at < length ids → id ≡ get_or ids at id
-    → StateEach (take at ids) a b → PutsState id found b c → StateEach (take (at + 1) ids) a c
-state_next ids at id found a b c within is each puts =
+pub state_next : (ids : List LinkId) (at : ℕ) (id : LinkId) (matched : Bool) (a b c : LiveState) → at < length ids → id ≡ get_or ids at id
+    → StateEach (take at ids) a b → PutsState id matched b c → StateEach (take (at + 1) ids) a c
+state_next ids at id matched a b c within is each puts =
     subst (λ (xs : List LinkId). StateEach xs a c) (sym (take_more ids at id within ∙ ap (λ (x : LinkId). take at ids ++ x ∷ []) (sym is)))
-    (state_more (take at ids) id found a b c each puts)
+    (state_more (take at ids) id matched a b c each puts)
 
 -- the line of TEI management is printed, since it is not empty
 pub management_printed : (timers : Option Timers) (t : Timers) (now : ℕ) (words : List ℕ) (a b : LiveState) → timers ≡ Some t → words ≡ management_text t now
@@ -62,9 +62,9 @@ management_printed timers t now (first ∷ words) a b is are some prints =
     (subst (λ (x : List ℕ). HappenBeside (line_unless_empty x) a b) are prints)
 
 -- no line was found, and this is printed
-pub misses_line : (words : List ℕ) (ms : ℕ) (lines : Lines) (found : Bool) (a m b : LiveState) → found ≡ false → Expects words ms lines found a m
+pub misses_line : (words : List ℕ) (ms : ℕ) (lines : Lines) (matched : Bool) (a m b : LiveState) → matched ≡ false → Expects words ms lines matched a m
     → HappenBeside (Shows (Named (codes "expected") (shown_words words)) ∷ []) m b → MissesLine words ms lines a b
-misses_line words ms lines found a m b none expects prints = record {
+misses_line words ms lines matched a m b none expects prints = record {
   served_to = m;
   expects = subst (λ (x : Bool). Expects words ms lines x a m) none expects;
   prints = prints;

@@ -7,22 +7,22 @@ use Rattle.lapd_sides_links.specs.Effects.{Effects}
 use Rattle.lapd_sides_links.specs.declared.side_fault.SideFault.{SideFault}
 use Rattle.lapd_sides.specs.declared.request.Request.{Request}
 use Rattle.lapd_sides.specs.declared.either_side.EitherSide.{EitherSide}
-use Rattle.lapd_sides.specs.Either.{Answers, Expires, Rests, Takes, side_of}
+use Rattle.lapd_sides.specs.Either.{Answers, Expires, StaysIdle, Takes, side_of}
 use Rattle.lapd_cli_side_lines.proofs.Calls.{AreExpired, one_more, then_none}
-use Rattle.lapd_cli_side_lines.specs.Calls.{ExpireInTurn}
+use Rattle.lapd_cli_side_lines.specs.Calls.{ExpireInOrder}
 use Rattle.lapd_cli_live.specs.declared.printer.Printer.{Printer}
 use Rattle.lapd_cli_live.specs.declared.service.Service.{Service}
 use Rattle.lapd_cli_live.specs.declared.service.Until.{Until}
 use Rattle.lapd_cli_live.specs.declared.service.Until.TheVariants as until
-use Rattle.lapd_cli_live.specs.declared.service.Came.{Came}
-use Rattle.lapd_cli_live.specs.declared.service.Came.TheVariants as came
+use Rattle.lapd_cli_live.specs.declared.service.EndReason.{EndReason}
+use Rattle.lapd_cli_live.specs.declared.service.EndReason.TheVariants as end_reason
 use Rattle.lapd_cli_outside.specs.declared.outside.Woken.{Woken}
-use Rattle.lapd_cli_outside.specs.Deeds.{Adds, Comes, Deed, Waits}
+use Rattle.lapd_cli_outside.specs.IoEvents.{Adds, Arrives, IoEvent, Waits}
 use Rattle.lapd_cli_live.specs.Entries.{Entry, Prints, Received, moment_after, refused}
 use Rattle.lapd_cli_live.specs.Printers.{PrintsOn, shown}
-use Rattle.lapd_cli_live.specs.Log.{Around, CarriesOut, CarriesOutAll, Chain, Happen, HappenBeside, IsCarriedOut, LiveEvent, LiveState, ReadsClock, Shows, entries_in, deeds_in, is_found, moment_of, read_at}
-use Rattle.lapd_cli_live.specs.Steps.{CatchesUp, DoesDue, EndsByFrame, GoesOn, HasCome, HasReceived, IsAsked, IsServed, Looks, LooksInVain, Receives, Step, TakesAll, TakesAndGoesOn, TakesAt, TakesFrame, TakesMost, WaitsFor, ended_by, most_frames, refusal_events}
-use Rattle.lapd_cli_outside.proofs.Deeds.{adds_none, adds_same}
+use Rattle.lapd_cli_live.specs.Log.{Around, CarriesOut, CarriesOutAll, Chain, Happen, HappenBeside, IsCarriedOut, LiveEvent, LiveState, ReadsClock, Shows, entries_in, io_events_in, is_matched, moment_of, read_at}
+use Rattle.lapd_cli_live.specs.Steps.{CatchesUp, DoesDue, EndsByFrame, Continues, IsReached, HasReceived, IsAsked, IsServed, Looks, LooksInVain, Receives, Step, TakesAll, TakesAndContinues, TakesAt, TakesFrame, TakesMost, WaitsFor, ended_by, most_frames, refusal_events}
+use Rattle.lapd_cli_outside.proofs.IoEvents.{adds_none, adds_same}
 use Rattle.lapd_cli_live.proofs.Log.{chain_more, happen_both, happen_none, live, prints_none}
 
 true_is_not_false : true ≡ false → ⊥
@@ -31,23 +31,23 @@ true_is_not_false is = cc
 -- ---- One event.
 
 -- a call to the surroundings
-pub deed_happens : (a : LiveState) (deeds : Option (List Deed)) (deed : Deed) → Adds a.deeds deeds (deed ∷ []) → Happen (Around deed ∷ []) a (record a { deeds = deeds })
-deed_happens a deeds deed adds = record { own = refl; style = refl; deeds = adds; shown = prints_none a.style (side_of a.side) a.shown }
+pub io_event_happens : (a : LiveState) (io_events : Option (List IoEvent)) (io_event : IoEvent) → Adds a.io_events io_events (io_event ∷ []) → Happen (Around io_event ∷ []) a (record a { io_events = io_events })
+io_event_happens a io_events io_event adds = record { own = refl; style = refl; io_events = adds; shown = prints_none a.style (side_of a.side) a.shown }
 
 -- an entry is printed, and the side may have changed
-pub entry_happens : {W : Type 0} (contents : W → Option (List ℕ)) (old new : EitherSide) (own : Side) (a b : Option (List Deed)) (p q : Printer W) (entry : Entry)
+pub entry_happens : {W : Type 0} (contents : W → Option (List ℕ)) (old new : EitherSide) (own : Side) (a b : Option (List IoEvent)) (p q : Printer W) (entry : Entry)
     → side_of new ≡ side_of old → own ≡ side_of old → b ≡ a → PrintsOn contents own (entry ∷ []) p q
     → Happen (Shows entry ∷ []) (live old a contents p) (live new b contents q)
 entry_happens contents old new own a b p q entry is same stays prints = record {
   own = is;
   style = prints.style;
-  deeds = adds_same a b stays;
+  io_events = adds_same a b stays;
   shown = subst (λ (x : Side). Prints p.style x (entry ∷ []) (shown contents p) (shown contents q)) same prints.prints;
 }
 
 -- ---- Receiving.
 
-pub taken_at : {W : Type 0} (contents : W → Option (List ℕ)) (frame : List ℕ) (now : ℕ) (old new : EitherSide) (own : Side) (a b : Option (List Deed)) (p q : Printer W)
+pub taken_at : {W : Type 0} (contents : W → Option (List ℕ)) (frame : List ℕ) (now : ℕ) (old new : EitherSide) (own : Side) (a b : Option (List IoEvent)) (p q : Printer W)
     (acts : Effects) (c : LiveState) → own ≡ side_of old → PrintsOn contents own (Received frame ∷ []) p q → Takes frame now (Ok tt) old new acts
     → side_of new ≡ side_of old → b ≡ a → IsCarriedOut acts (live new b contents q) c → TakesAt frame now (live old a contents p) c
 taken_at contents frame now old new own a b p q acts c is prints takes same stays carried = record {
@@ -60,13 +60,13 @@ taken_at contents frame now old new own a b p q acts c is prints takes same stay
       (entry_happens contents old new own a b p q (Received frame) same is stays prints) carried.beside.happen;
 }
 
-pub looked : (frame : List ℕ) (now : ℕ) (a m b : LiveState) (deeds : Option (List Deed)) → ReadsClock now a m → Adds m.deeds deeds (Comes frame ∷ [])
-    → TakesAt frame now (record m { deeds = deeds }) b → TakesFrame a b
-looked frame now a m b deeds reads adds takes =
+pub looked : (frame : List ℕ) (now : ℕ) (a m b : LiveState) (io_events : Option (List IoEvent)) → ReadsClock now a m → Adds m.io_events io_events (Arrives frame ∷ [])
+    → TakesAt frame now (record m { io_events = io_events }) b → TakesFrame a b
+looked frame now a m b io_events reads adds takes =
     let is : now ≡ moment_of b = sym (takes.moment ∙ reads.moment) in
-    let all : Happen (read_at now ++ (Around (Comes frame) ∷ Shows (Received frame) ∷ takes.given)) a b =
-    happen_both (read_at now) (Around (Comes frame) ∷ Shows (Received frame) ∷ takes.given) a m b reads.happen
-    (happen_both (Around (Comes frame) ∷ []) (Shows (Received frame) ∷ takes.given) m (record m { deeds = deeds }) b (deed_happens m deeds (Comes frame) adds) takes.happen) in
+    let all : Happen (read_at now ++ (Around (Arrives frame) ∷ Shows (Received frame) ∷ takes.given)) a b =
+    happen_both (read_at now) (Around (Arrives frame) ∷ Shows (Received frame) ∷ takes.given) a m b reads.happen
+    (happen_both (Around (Arrives frame) ∷ []) (Shows (Received frame) ∷ takes.given) m (record m { io_events = io_events }) b (io_event_happens m io_events (Arrives frame) adds) takes.happen) in
     record {
       frame = frame;
       acts = takes.acts;
@@ -75,23 +75,23 @@ looked frame now a m b deeds reads adds takes =
       given = takes.given;
       carries = takes.carries;
       rises = subst (λ (x : ℕ). moment_of a ≤ x) is reads.rises;
-      happen = subst (λ (x : ℕ). Happen (read_at x ++ (Around (Comes frame) ∷ Shows (Received frame) ∷ takes.given)) a b) is all;
+      happen = subst (λ (x : ℕ). Happen (read_at x ++ (Around (Arrives frame) ∷ Shows (Received frame) ∷ takes.given)) a b) is all;
     }
 
 -- this many frames are processed, and the service continues
 pub record SomeTaken (until : Until) (count : ℕ) (a b : LiveState) : Type 0 where
   pub taken : List LiveState
-  pub are : Chain (TakesAndGoesOn until) taken a b
+  pub are : Chain (TakesAndContinues until) taken a b
   pub count_is : length taken ≡ count
 
 pub none_taken : (until : Until) (a : LiveState) → SomeTaken until 0 a a
 none_taken until a = record { taken = []; are = refl; count_is = refl }
 
-pub more_taken : (until : Until) (count : ℕ) (a b c : LiveState) → SomeTaken until count a b → TakesFrame b c → ended_by until true (is_found c) ≡ None
+pub more_taken : (until : Until) (count : ℕ) (a b c : LiveState) → SomeTaken until count a b → TakesFrame b c → ended_by until true (is_matched c) ≡ None
     → SomeTaken until (count + 1) a c
-more_taken until count a b c some takes going = record {
+more_taken until count a b c some takes continuing = record {
   taken = some.taken ++ c ∷ [];
-  are = chain_more (TakesAndGoesOn until) some.taken a b c some.are (record { takes = takes; going = going });
+  are = chain_more (TakesAndContinues until) some.taken a b c some.are (record { takes = takes; continuing = continuing });
   count_is = length-append some.taken (c ∷ []) ∙ ap (λ (n : ℕ). n + 1) some.count_is;
 }
 
@@ -107,27 +107,27 @@ takes_all until count a b c some within looks = inl (record {
 pub takes_most : (until : Until) (count : ℕ) (a b : LiveState) → SomeTaken until count a b → count ≡ most_frames → Receives until a b
 takes_most until count a b some all = inr (record { taken = some.taken; count = some.count_is ∙ all; are = some.are })
 
-pub ends_by_frame : (until : Until) (count : ℕ) (why : Came) (a b c : LiveState) → SomeTaken until count a b → TakesFrame b c
-    → ended_by until true (is_found c) ≡ Some why → EndsByFrame until why a c
+pub ends_by_frame : (until : Until) (count : ℕ) (why : EndReason) (a b c : LiveState) → SomeTaken until count a b → TakesFrame b c
+    → ended_by until true (is_matched c) ≡ Some why → EndsByFrame until why a c
 ends_by_frame until count why a b c some takes ends = record { taken = some.taken; last = b; are = some.are; takes = takes; ends = ends }
 
-pub looked_in_vain : (found : Bool) (a b : LiveState) → found ≡ false → Looks found a b → LooksInVain a b
-looked_in_vain found a b is looks = subst (λ (x : Bool). Looks x a b) is looks
+pub looked_in_vain : (matched : Bool) (a b : LiveState) → matched ≡ false → Looks matched a b → LooksInVain a b
+looked_in_vain matched a b is looks = subst (λ (x : Bool). Looks x a b) is looks
 
-pub taken_by : (found : Bool) (a b : LiveState) → found ≡ true → Looks found a b → TakesFrame a b
-taken_by found a b is looks = subst (λ (x : Bool). Looks x a b) is looks
+pub taken_by : (matched : Bool) (a b : LiveState) → matched ≡ true → Looks matched a b → TakesFrame a b
+taken_by matched a b is looks = subst (λ (x : Bool). Looks x a b) is looks
 
-pub none_came : (came other : Option Came) → came ≡ other → is_some came ≡ false → other ≡ None
-none_came None other is none = sym is
-none_came (Some why) other is none = absurd (true_is_not_false none)
+pub none_ended : (end_reason other : Option EndReason) → end_reason ≡ other → is_some end_reason ≡ false → other ≡ None
+none_ended None other is none = sym is
+none_ended (Some why) other is none = absurd (true_is_not_false none)
 
-pub received_by : (until : Until) (count : ℕ) (came : Option Came) (a b c : LiveState) → SomeTaken until count a b → TakesFrame b c
-    → came ≡ ended_by until true (is_found c) → is_some came ≡ true → HasReceived until came a c
+pub received_by : (until : Until) (count : ℕ) (end_reason : Option EndReason) (a b c : LiveState) → SomeTaken until count a b → TakesFrame b c
+    → end_reason ≡ ended_by until true (is_matched c) → is_some end_reason ≡ true → HasReceived until end_reason a c
 received_by until count None a b c some takes is one = absurd (true_is_not_false (sym one))
 received_by until count (Some why) a b c some takes is one = ends_by_frame until count why a b c some takes (sym is)
 
 -- no frame ends a service that lasts to its end
-pub received_end : (came : Option Came) (a b : LiveState) → HasReceived until.End came a b → Receives until.End a b
+pub received_end : (end_reason : Option EndReason) (a b : LiveState) → HasReceived until.End end_reason a b → Receives until.End a b
 received_end None a b receives = receives
 received_end (Some why) a b ends = let never : None ≡ Some why = ends.ends in cc
 
@@ -159,7 +159,7 @@ none_due now a = record { calls = []; are = refl; events = []; carries = refl; m
 
 -- the side changes, and nothing else
 pub side_changes : (a : LiveState) (side : EitherSide) → side_of side ≡ side_of a.side → Happen [] a (record a { side = side })
-side_changes a side is = record { own = is; style = refl; deeds = adds_none a.deeds; shown = prints_none a.style (side_of a.side) a.shown }
+side_changes a side is = record { own = is; style = refl; io_events = adds_none a.io_events; shown = prints_none a.style (side_of a.side) a.shown }
 
 pub more_due : (now : ℕ) (a b c : LiveState) (side : EitherSide) (acts : Effects) → SomeDue now a b → Expires now b.side side acts → side_of side ≡ side_of b.side
     → IsCarriedOut acts (record b { side = side }) c → SomeDue now a c
@@ -173,11 +173,11 @@ more_due now a b c side acts some due is carried = record {
       (happen_both [] carried.events b (record b { side = side }) c (side_changes b side is) carried.beside.happen);
 }
 
-pub all_due : (now : ℕ) (a b : LiveState) (side : EitherSide) → now ≡ moment_of a → SomeDue now a b → Rests now b.side side → side_of side ≡ side_of b.side
+pub all_due : (now : ℕ) (a b : LiveState) (side : EitherSide) → now ≡ moment_of a → SomeDue now a b → StaysIdle now b.side side → side_of side ≡ side_of b.side
     → DoesDue a (record b { side = side })
 all_due now a b side at some rests is = record {
   calls = some.calls;
-  in_turn = subst (λ (x : ℕ). ExpireInTurn x some.calls a.side side) at (then_none now some.calls a.side b.side side some.are rests);
+  in_order = subst (λ (x : ℕ). ExpireInOrder x some.calls a.side side) at (then_none now some.calls a.side b.side side some.are rests);
   events = some.events;
   carries = some.carries;
   moment = some.moment;
@@ -207,57 +207,57 @@ asked request a b c side result acts refusal d caught answers is carried refuses
 pub beside_none : (a : LiveState) → HappenBeside [] a a
 beside_none a = record { side = refl; moment = refl; happen = happen_none a }
 
-pub beside_printed : {W : Type 0} (contents : W → Option (List ℕ)) (side : EitherSide) (deeds : Option (List Deed)) (p q : Printer W) (entry : Entry)
+pub beside_printed : {W : Type 0} (contents : W → Option (List ℕ)) (side : EitherSide) (io_events : Option (List IoEvent)) (p q : Printer W) (entry : Entry)
     → PrintsOn contents (side_of side) (entry ∷ []) p q → moment_after p.moment entry ≡ p.moment
-    → HappenBeside (Shows entry ∷ []) (live side deeds contents p) (live side deeds contents q)
-beside_printed contents side deeds p q entry prints stays = record {
+    → HappenBeside (Shows entry ∷ []) (live side io_events contents p) (live side io_events contents q)
+beside_printed contents side io_events p q entry prints stays = record {
   side = refl;
   moment = prints.prints.now ∙ stays;
-  happen = entry_happens contents side side (side_of side) deeds deeds p q entry refl refl refl prints;
+  happen = entry_happens contents side side (side_of side) io_events io_events p q entry refl refl refl prints;
 }
 
 -- ---- Steps.
 
 -- the printed text is passed to the writer, and then the side waits
-pub flushed_and_waited : {W : Type 0} (contents : W → Option (List ℕ)) (side : EitherSide) (a b : Option (List Deed)) (p q : Printer W) (until : Option ℕ) (woken : Woken)
+pub flushed_and_waited : {W : Type 0} (contents : W → Option (List ℕ)) (side : EitherSide) (a b : Option (List IoEvent)) (p q : Printer W) (until : Option ℕ) (woken : Woken)
     → PrintsOn contents (side_of side) [] p q → Adds a b (Waits until woken ∷ [])
     → HappenBeside (Around (Waits until woken) ∷ []) (live side a contents p) (live side b contents q)
 flushed_and_waited contents side a b p q until woken prints adds = record {
   side = refl;
   moment = prints.prints.now;
-  happen = record { own = refl; style = prints.style; deeds = adds; shown = prints.prints };
+  happen = record { own = refl; style = prints.style; io_events = adds; shown = prints.prints };
 }
 
-pub caught_up : (until : Until) (came : Option Came) (a b c : LiveState) → HasReceived until came a b → is_some came ≡ false → DoesDue b c → CatchesUp until a c
+pub caught_up : (until : Until) (end_reason : Option EndReason) (a b c : LiveState) → HasReceived until end_reason a b → is_some end_reason ≡ false → DoesDue b c → CatchesUp until a c
 caught_up until None a b c receives none due = record { received = b; receives = receives; due = due }
 caught_up until (Some why) a b c receives none due = absurd (true_is_not_false none)
 
-pub then_found : (service : Service) (a b : LiveState) (outcome : Option Came) → CatchesUp service.until a b → outcome ≡ ended_by service.until false (is_found b)
+pub then_matched : (service : Service) (a b : LiveState) (outcome : Option EndReason) → CatchesUp service.until a b → outcome ≡ ended_by service.until false (is_matched b)
     → is_some outcome ≡ true → Step service a b outcome
-then_found service a b None caught is one = absurd (true_is_not_false (sym one))
-then_found service a b (Some why) caught is one =
-    inr (record { ready = b; catches_up = caught; then = inl (record { why = why; found = sym is; is = refl; same = refl }) })
+then_matched service a b None caught is one = absurd (true_is_not_false (sym one))
+then_matched service a b (Some why) caught is one =
+    inr (record { ready = b; catches_up = caught; then = inl (record { why = why; matched = sym is; is = refl; same = refl }) })
 
-none_found : (outcome other : Option Came) → outcome ≡ other → is_some outcome ≡ false → other ≡ None
-none_found outcome other is none = none_came outcome other is none
+none_matched : (outcome other : Option EndReason) → outcome ≡ other → is_some outcome ≡ false → other ≡ None
+none_matched outcome other is none = none_ended outcome other is none
 
-pub then_over : (service : Service) (a b : LiveState) (outcome : Option Came) → CatchesUp service.until a b → outcome ≡ ended_by service.until false (is_found b)
-    → is_some outcome ≡ false → HasCome service.end (moment_of b) → Step service a b (Some came.End)
-then_over service a b outcome caught is none come =
+pub then_over : (service : Service) (a b : LiveState) (outcome : Option EndReason) → CatchesUp service.until a b → outcome ≡ ended_by service.until false (is_matched b)
+    → is_some outcome ≡ false → IsReached service.end (moment_of b) → Step service a b (Some end_reason.End)
+then_over service a b outcome caught is none reached =
     inr (record {
       ready = b;
       catches_up = caught;
-      then = inr (inl (record { going = none_found outcome (ended_by service.until false (is_found b)) is none; come = come; is = refl; same = refl }));
+      then = inr (inl (record { continuing = none_matched outcome (ended_by service.until false (is_matched b)) is none; reached = reached; is = refl; same = refl }));
     })
 
-pub then_waits : (service : Service) (a b c : LiveState) (outcome came : Option Came) → CatchesUp service.until a b
-    → outcome ≡ ended_by service.until false (is_found b) → is_some outcome ≡ false → ¬ HasCome service.end (moment_of b) → WaitsFor service came b c
-    → Step service a c came
-then_waits service a b c outcome came caught is none not waits =
+pub then_waits : (service : Service) (a b c : LiveState) (outcome end_reason : Option EndReason) → CatchesUp service.until a b
+    → outcome ≡ ended_by service.until false (is_matched b) → is_some outcome ≡ false → ¬ IsReached service.end (moment_of b) → WaitsFor service end_reason b c
+    → Step service a c end_reason
+then_waits service a b c outcome end_reason caught is none not waits =
     inr (record {
       ready = b;
       catches_up = caught;
-      then = inr (inr (record { going = none_found outcome (ended_by service.until false (is_found b)) is none; not_over = not; waits = waits }));
+      then = inr (inr (record { continuing = none_matched outcome (ended_by service.until false (is_matched b)) is none; not_over = not; waits = waits }));
     })
 
 pub if_ok : {A E : Type 0} (r : Result A E) (P Q : A → Type 0) → ((x : A) → P x → Q x) → IfOk r P → IfOk r Q
@@ -266,19 +266,19 @@ if_ok (Err fault) P Q f holds = tt
 
 pub record SomeSteps (service : Service) (a b : LiveState) : Type 0 where
   pub passed : List LiveState
-  pub are : Chain (GoesOn service) passed a b
+  pub are : Chain (Continues service) passed a b
 
 pub no_steps : (service : Service) (a : LiveState) → SomeSteps service a a
 no_steps service a = record { passed = []; are = refl }
 
-pub more_steps : (service : Service) (a b c : LiveState) → SomeSteps service a b → GoesOn service b c → SomeSteps service a c
+pub more_steps : (service : Service) (a b c : LiveState) → SomeSteps service a b → Continues service b c → SomeSteps service a c
 more_steps service a b c some step = record {
   passed = some.passed ++ c ∷ [];
-  are = chain_more (GoesOn service) some.passed a b c some.are step;
+  are = chain_more (Continues service) some.passed a b c some.are step;
 }
 
-pub all_steps : (service : Service) (came : Came) (a b c : LiveState) → SomeSteps service a b → Step service b c (Some came) → IsServed service came a c
-all_steps service came a b c some step = record { passed = some.passed; last = b; are = some.are; ends = step }
+pub all_steps : (service : Service) (end_reason : EndReason) (a b c : LiveState) → SomeSteps service a b → Step service b c (Some end_reason) → IsServed service end_reason a c
+all_steps service end_reason a b c some step = record { passed = some.passed; last = b; are = some.are; ends = step }
 
 pub on_ok : {A E : Type 0} (r : Result A E) (P Q : Type 0) → (P → Q) → OnOk r P → OnOk r Q
 on_ok (Ok done) P Q f holds = f holds
@@ -289,10 +289,10 @@ on_err (Ok done) P holds = tt
 on_err (Err fault) P holds = holds
 
 -- the printed text is passed to the writer
-pub flushed : {W : Type 0} (contents : W → Option (List ℕ)) (side : EitherSide) (deeds : Option (List Deed)) (p q : Printer W)
-    → PrintsOn contents (side_of side) [] p q → HappenBeside [] (live side deeds contents p) (live side deeds contents q)
-flushed contents side deeds p q prints = record {
+pub flushed : {W : Type 0} (contents : W → Option (List ℕ)) (side : EitherSide) (io_events : Option (List IoEvent)) (p q : Printer W)
+    → PrintsOn contents (side_of side) [] p q → HappenBeside [] (live side io_events contents p) (live side io_events contents q)
+flushed contents side io_events p q prints = record {
   side = refl;
   moment = prints.prints.now;
-  happen = record { own = refl; style = prints.style; deeds = adds_none deeds; shown = prints.prints };
+  happen = record { own = refl; style = prints.style; io_events = adds_none io_events; shown = prints.prints };
 }

@@ -16,7 +16,7 @@ use Rattle.lapd_cli_side_lines.specs.declared.line_style.LineStyle.TheVariants.{
 use Rattle.lapd_cli_side_lines.specs.SideTexts.{frame_text_line, primitive_line}
 use Rattle.lapd_cli_live_text.specs.LineObjects.{words_object}
 use Rattle.lapd_cli_live_text.specs.declared.stats.Stats.{Stats}
-use Rattle.lapd_cli_live_text.specs.Stats.{received_counted, received_words, reports_words, sent_counted, sent_words, told_counted}
+use Rattle.lapd_cli_live_text.specs.Stats.{received_counted, received_words, reports_words, sent_counted, sent_words, primitive_counted}
 use Rattle.lapd_cli_outside.specs.declared.outside.Sending.{Sending}
 use Rattle.lapd_cli_outside.specs.declared.outside.Sending.TheVariants as sending
 use Rattle.lapd_cli_live.specs.declared.style.Style.{Style}
@@ -28,7 +28,7 @@ pub data Entry : Type 0 where
   Received : (frame : List ℕ) → Entry
   Sent : (frame : List ℕ) → Entry
   Lost : (frame : List ℕ) → Entry
-  Told : (primitive : Primitive) → Entry
+  Delivered : (primitive : Primitive) → Entry
   Named : (name text : List ℕ) → Entry
   Worded : (words : List ℕ) → Entry
 
@@ -60,7 +60,7 @@ words_line own (Dated now) = []
 words_line own (Received frame) = frame_text_line Text (other_side own) frame
 words_line own (Sent frame) = frame_text_line Text own frame
 words_line own (Lost frame) = text_line (codes "lost" ++ 32 ∷ trace_line own frame)
-words_line own (Told primitive) = primitive_line Text primitive
+words_line own (Delivered primitive) = primitive_line Text primitive
 words_line own (Named name text) = text_line (name ++ 32 ∷ text)
 words_line own (Worded words) = text_line words
 
@@ -70,7 +70,7 @@ object_of own (Dated now) = []
 object_of own (Received frame) = object_text (frame_members (other_side own) frame)
 object_of own (Sent frame) = object_text (frame_members own frame)
 object_of own (Lost frame) = object_text (text_members (codes "lost") (trace_line own frame))
-object_of own (Told primitive) = object_text (primitive_members primitive)
+object_of own (Delivered primitive) = object_text (primitive_members primitive)
 object_of own (Named name text) = object_text (text_members name text)
 object_of own (Worded words) = words_object words
 
@@ -134,7 +134,7 @@ abbrev pub counted : Side → Stats → Entry → Stats
 counted own stats (Received frame) = received_counted stats (other_side own) frame
 counted own stats (Sent frame) = sent_counted stats own frame
 counted own stats (Lost frame) = sent_counted stats own frame
-counted own stats (Told primitive) = told_counted stats primitive
+counted own stats (Delivered primitive) = primitive_counted stats primitive
 counted own stats entry = stats
 
 -- a line begins with the awaited words; if there are no words, no line is awaited
@@ -153,7 +153,7 @@ pub record Shown : Type 0 where
   pub now : ℕ
   pub stats : Stats
   pub awaited : List ℕ
-  pub found : Bool
+  pub matched : Bool
 
 -- a printer has printed and counted exactly these entries
 pub record Prints (style : Style) (own : Side) (entries : List Entry) (old new : Shown) : Type 0
@@ -162,8 +162,8 @@ pub record Prints (style : Style) (own : Side) (entries : List Entry) (old new :
     pub now : new.now ≡ fold moment_after old.now entries
     pub stats : new.stats ≡ fold (counted own) old.stats entries
     pub awaited : new.awaited ≡ old.awaited
-    pub found : new.found
-        ≡ (old.found || list_any (is_awaited style own old.awaited) entries)
+    pub matched : new.matched
+        ≡ (old.matched || list_any (is_awaited style own old.awaited) entries)
 
 -- the three lines of statistics, including the number of discarded frames
 abbrev pub stats_entries : Stats → ℕ → List Entry

@@ -7,7 +7,7 @@ use Rattle.lapd_sides.specs.declared.either_side.EitherSide.{EitherSide}
 use Rattle.lapd_sides.specs.declared.either_side.EitherSide.TheVariants as either
 use Rattle.lapd_sides.specs.Either.{side_of}
 use Rattle.lapd_sides.specs.ShowsUser as user
-use Rattle.lapd_cli_live_text.specs.LiveWishes.{live_wish_of, live_wish_of_line}
+use Rattle.lapd_cli_live_text.specs.LiveRequests.{live_request_of, live_request_of_line}
 use Rattle.lapd_cli_live_text.specs.AwaitedText.{shown_words}
 use Rattle.lapd_cli_outside.specs.declared.outside.Lines.{Lines}
 use Rattle.lapd_cli_live.specs.Entries.{Named}
@@ -53,7 +53,7 @@ pub record Obeys (octets : List ℕ) (lines : Lines) (a b : LiveState) : Type 0 
   pub own : ℕ
   pub own_is : HasOwnTei a.side own
   pub asked : LiveLine
-  pub is : live_wish_of_line (side_of a.side) own octets ≡ Some (live_wish_of asked)
+  pub is : live_request_of_line (side_of a.side) own octets ≡ Some (live_request_of asked)
   pub done_at : LiveState
   pub does : LineDone asked lines a done_at
   pub beside : HappenBeside [] done_at b

@@ -7,24 +7,24 @@ use Rattle.lapd_sides.specs.declared.either_side.EitherSide.{EitherSide}
 use Rattle.lapd_sides.specs.Either.{side_of}
 use Rattle.lapd_cli_live.specs.declared.style.Style.{Style}
 use Rattle.lapd_cli_live.specs.declared.live_side.LiveSide.{LiveSide}
-use Rattle.lapd_cli_outside.specs.Deeds.{Adds, Comes, Deed, FindsNone, Reads, Sends}
-use Rattle.lapd_cli_live.specs.Entries.{Dated, Entry, Outgoing, Prints, Received, Shown, Told, octets_of, outgoing_entry}
+use Rattle.lapd_cli_outside.specs.IoEvents.{Adds, Arrives, IoEvent, FindsNone, Reads, Sends}
+use Rattle.lapd_cli_live.specs.Entries.{Dated, Entry, Outgoing, Prints, Received, Shown, Delivered, octets_of, outgoing_entry}
 use Rattle.lapd_cli_live.specs.Printers.{shown}
 
 -- a call to the surroundings, or an entry that is printed and counted
 pub data LiveEvent : Type 0 where
-  Around : (deed : Deed) → LiveEvent
+  Around : (io_event : IoEvent) → LiveEvent
   Shows : (entry : Entry) → LiveEvent
 
 -- the calls among some events, and the entries
-abbrev pub deeds_in : List LiveEvent → List Deed
-deeds_in [] = []
-deeds_in (Around deed ∷ events) = deed ∷ deeds_in events
-deeds_in (Shows entry ∷ events) = deeds_in events
+abbrev pub io_events_in : List LiveEvent → List IoEvent
+io_events_in [] = []
+io_events_in (Around io_event ∷ events) = io_event ∷ io_events_in events
+io_events_in (Shows entry ∷ events) = io_events_in events
 
 abbrev pub entries_in : List LiveEvent → List Entry
 entries_in [] = []
-entries_in (Around deed ∷ events) = entries_in events
+entries_in (Around io_event ∷ events) = entries_in events
 entries_in (Shows entry ∷ events) = entry ∷ entries_in events
 
 -- A running side: its style, its calls to the surroundings, if they are recorded, and what it has
@@ -32,34 +32,35 @@ entries_in (Shows entry ∷ events) = entry ∷ entries_in events
 pub record LiveState : Type 0 where
   pub side : EitherSide
   pub style : Style
-  pub deeds : Option (List Deed)
+  pub io_events : Option (List IoEvent)
   pub shown : Shown
 
-abbrev pub state_of : {O W : Type 0} → (O → Option (List Deed)) → (W → Option (List ℕ))
+abbrev pub state_of : {O W : Type 0} → (O → Option (List IoEvent)) → (W → Option (List ℕ))
     → LiveSide O W → LiveState
-state_of deeds contents live = record {
+state_of io_events contents live = record {
   side = live.side;
   style = live.printer.style;
-  deeds = deeds live.outside;
+  io_events = io_events live.outside;
   shown = shown contents live.printer;
 }
 
 abbrev pub moment_of : LiveState → ℕ
 moment_of s = s.shown.now
 
-abbrev pub is_found : LiveState → Bool
-is_found s = s.shown.found
+abbrev pub is_matched : LiveState → Bool
+is_matched s = s.shown.matched
 
 -- this holds for a live side before and after a call
-abbrev pub Between : {O W : Type 0} → (O → Option (List Deed)) → (W → Option (List ℕ))
+abbrev pub Between : {O W : Type 0} → (O → Option (List IoEvent)) → (W → Option (List ℕ))
     → LiveSide O W → LiveSide O W → (LiveState → LiveState → Type 0) → Type 0
-Between deeds contents old new R = R (state_of deeds contents old) (state_of deeds contents new)
+Between io_events contents old new R = R (state_of io_events contents old)
+    (state_of io_events contents new)
 
 -- exactly these events happen
 pub record Happen (events : List LiveEvent) (a b : LiveState) : Type 0 where
   pub own : side_of b.side ≡ side_of a.side
   pub style : b.style ≡ a.style
-  pub deeds : Adds a.deeds b.deeds (deeds_in events)
+  pub io_events : Adds a.io_events b.io_events (io_events_in events)
   pub shown : Prints a.style (side_of a.side) (entries_in events) a.shown b.shown
 
 -- they happen, and the side and the moment of its lines are unchanged
@@ -87,15 +88,15 @@ abbrev pub sending_events : Outgoing → List LiveEvent
 sending_events outgoing =
     Around (Sends outgoing.octets) ∷ Shows (outgoing_entry outgoing) ∷ []
 
-abbrev pub told_event : Primitive → LiveEvent
-told_event primitive = Shows (Told primitive)
+abbrev pub primitive_event : Primitive → LiveEvent
+primitive_event primitive = Shows (Delivered primitive)
 
 -- each frame of a call's output is sent and printed, in order, and then its primitives are printed
 pub record CarriesOut (acts : Effects) (events : List LiveEvent) : Type 0 where
   pub outgoing : List Outgoing
   pub frames : map octets_of outgoing ≡ acts.frames
   pub are : events
-      ≡ flat_map sending_events outgoing ++ map told_event acts.primitives
+      ≡ flat_map sending_events outgoing ++ map primitive_event acts.primitives
 
 -- the same for several calls, one after another
 abbrev pub CarriesOutAll : List Effects → List LiveEvent → Type 0

@@ -3,7 +3,7 @@ use Rattle.std.specs.Prelude.{◌≡◌, ℕ, ◌||◌, false, List, ◌++◌, m
 use Rattle.std.specs.Io.KnownBytes.{append_known}
 use Rattle.lapd_frame.specs.declared.Side.{Side}
 use Rattle.lapd_cli_live.specs.declared.printer.Printer.{Printer}
-use Rattle.lapd_cli_outside.specs.Deeds.{Adds, Deed, all_sent}
+use Rattle.lapd_cli_outside.specs.IoEvents.{Adds, IoEvent, all_sent}
 use Rattle.lapd_cli_live.specs.Entries.{Entry, Outgoing, Prints, Shown, begins_so, octets_of, outgoing_entry, printed_line}
 
 -- the printed text is what the writer has, followed by the text that is not written yet
@@ -13,7 +13,7 @@ shown contents printer = record {
   now = printer.moment;
   stats = printer.stats;
   awaited = printer.awaited.items;
-  found = printer.is_found;
+  matched = printer.is_matched;
 }
 
 -- exactly these entries are printed and counted, in the same style
@@ -31,7 +31,7 @@ pub record PutsLine {W : Type 0} (line object : List ℕ) (old new : Printer W) 
   pub awaited : new.awaited ≡ old.awaited
   pub text : new.text.items
       ≡ old.text.items ++ printed_line old.style old.moment line object
-  pub found : new.is_found ≡ (old.is_found || begins_so old.awaited.items line)
+  pub matched : new.is_matched ≡ (old.is_matched || begins_so old.awaited.items line)
 
 -- from here on a line that begins with these words is awaited, and none was printed since
 pub record Awaits {W : Type 0} (words : List ℕ) (old new : Printer W) : Type 0 where
@@ -41,12 +41,12 @@ pub record Awaits {W : Type 0} (words : List ℕ) (old new : Printer W) : Type 0
   pub stats : new.stats ≡ old.stats
   pub text : new.text ≡ old.text
   pub awaited : new.awaited.items ≡ words
-  pub found : new.is_found ≡ false
+  pub matched : new.is_matched ≡ false
 
 -- these frames are sent, and each is printed once it is sent
-pub record SendsAll {W : Type 0} (own : Side) (frames : List (List ℕ)) (before after : Option (List Deed))
+pub record SendsAll {W : Type 0} (own : Side) (frames : List (List ℕ)) (before after : Option (List IoEvent))
     (contents : W → Option (List ℕ)) (old new : Printer W) : Type 0 where
   pub outgoing : List Outgoing
   pub octets : map octets_of outgoing ≡ frames
-  pub deeds : Adds before after (all_sent frames)
+  pub io_events : Adds before after (all_sent frames)
   pub prints : PrintsOn contents own (map outgoing_entry outgoing) old new

@@ -3,7 +3,7 @@
 use Rattle.std.specs.Prelude.{◌≡◌, ◌⊎◌, ℕ, ◌+◌, Bool, true, false, List, [], ◌∷◌, ◌++◌, length, Option, None, Some, Result, Ok, Err, ⊤, IfSome}
 use Rattle.std.specs.Io.KnownBytes.{Consumes, IsAtEnd}
 use Rattle.lapd_sides.specs.Either.{side_of}
-use Rattle.lapd_cli_live_text.specs.LiveWishes.{live_wish_of, live_wish_of_line}
+use Rattle.lapd_cli_live_text.specs.LiveRequests.{live_request_of, live_request_of_line}
 use Rattle.lapd_cli_live_text.specs.declared.words.LiveLine.{LiveLine}
 use Rattle.lapd_cli_live_text.specs.declared.words.LiveLine.TheVariants as line
 use Rattle.lapd_cli_script.specs.Script.{is_passed_over, lines_of}
@@ -13,19 +13,19 @@ use Rattle.lapd_cli_script.specs.declared.script.ScriptFault.TheVariants.{BadLin
 use Rattle.lapd_cli_live.specs.declared.fault.LiveFault.{LiveFault}
 use Rattle.lapd_cli_live.specs.declared.fault.LiveFault.TheVariants as fault
 use Rattle.lapd_cli_live.specs.declared.input.LiveStop.{LiveStop}
-use Rattle.lapd_cli_live.specs.declared.input.TypedDeed.{TypedDeed}
-use Rattle.lapd_cli_live.specs.declared.input.TypedDeed.TheVariants.{Pass, Help, Quit, Obey}
+use Rattle.lapd_cli_live.specs.declared.input.TypedAction.{TypedAction}
+use Rattle.lapd_cli_live.specs.declared.input.TypedAction.TheVariants.{Pass, Help, Quit, Obey}
 use Rattle.lapd_cli_live.specs.declared.live_side.LiveSide.{LiveSide}
 use Rattle.lapd_cli_live.specs.declared.input.LiveStop.TheVariants.{Script, Unmet}
 use Rattle.lapd_cli_live.specs.declared.obeyed.Obeyed.{Obeyed}
 use Rattle.lapd_cli_live.specs.declared.obeyed.Obeyed.TheVariants as obeyed
 use Rattle.lapd_cli_outside.specs.declared.outside.Lines.{Lines}
 use Rattle.lapd_cli_outside.specs.declared.outside.Lines.TheVariants.{Awaited, Ignored}
-use Rattle.lapd_cli_live.specs.declared.service.Came.{Came}
-use Rattle.lapd_cli_live.specs.declared.service.Came.TheVariants as came
+use Rattle.lapd_cli_live.specs.declared.service.EndReason.{EndReason}
+use Rattle.lapd_cli_live.specs.declared.service.EndReason.TheVariants as end_reason
 use Rattle.lapd_cli_live.specs.declared.service.Until.TheVariants as until
-use Rattle.lapd_cli_outside.specs.Deeds.{Deed}
-use Rattle.lapd_cli_live.specs.Typed.{deed_of}
+use Rattle.lapd_cli_outside.specs.IoEvents.{IoEvent}
+use Rattle.lapd_cli_live.specs.Typed.{typed_action_of}
 use Rattle.lapd_cli_live.specs.Log.{Chain, HappenBeside, LiveState, state_of}
 use Rattle.lapd_cli_live.specs.Steps.{IsServed}
 use Rattle.lapd_cli_live.specs.WaitingLines.{Runs, service}
@@ -44,7 +44,7 @@ RequestEnds obeyed.Bad asked lines a b = ⊥
 pub record IsBad (octets : List ℕ) (a b : LiveState) : Type 0 where
   pub own : ℕ
   pub own_is : HasOwnTei a.side own
-  pub none : live_wish_of_line (side_of a.side) own octets ≡ None
+  pub none : live_request_of_line (side_of a.side) own octets ≡ None
   pub same : b ≡ a
 
 -- a valid request expects a line that was not printed in time
@@ -52,7 +52,7 @@ pub record IsUnmet (octets : List ℕ) (lines : Lines) (a b : LiveState) : Type 
   pub own : ℕ
   pub own_is : HasOwnTei a.side own
   pub asked : LiveLine
-  pub is : live_wish_of_line (side_of a.side) own octets ≡ Some (live_wish_of asked)
+  pub is : live_request_of_line (side_of a.side) own octets ≡ Some (live_request_of asked)
   pub missed_at : LiveState
   pub misses : RequestEnds obeyed.Unmet asked lines a missed_at
   pub beside : HappenBeside [] missed_at b
@@ -66,11 +66,11 @@ ObeysAs obeyed.Unmet octets lines a b = IsUnmet octets lines a b
 -- ---- Waits for input.
 
 -- the side runs until a line of input can be read, or the connection is closed
-abbrev pub AwaitsInput : Came → LiveState → LiveState → Type 0
-AwaitsInput came a b = IsServed (service None until.End Awaited) came a b
+abbrev pub AwaitsInput : EndReason → LiveState → LiveState → Type 0
+AwaitsInput end_reason a b = IsServed (service None until.End Awaited) end_reason a b
 
 abbrev pub AwaitsOnce : LiveState → LiveState → Type 0
-AwaitsOnce a b = (came : Came) × AwaitsInput came a b
+AwaitsOnce a b = (end_reason : EndReason) × AwaitsInput end_reason a b
 
 -- input is awaited any number of times, and nothing else happens
 pub record Awaits (a b : LiveState) : Type 0 where
@@ -171,13 +171,13 @@ ScriptEnds serve_on (Err stop) lines a b = StopsBy stop 0 lines a b
 
 -- messages to a person: that lines can be typed, the lines of the side, or that a line is not
 -- executed
-pub data Told : Type 0 where
-  Greets : Told
-  Helps : Told
-  Refuses : (octets : List ℕ) → Told
+pub data Delivered : Type 0 where
+  Greets : Delivered
+  Helps : Delivered
+  Refuses : (octets : List ℕ) → Delivered
 
 -- if the messages are recorded, exactly these were sent since
-abbrev pub Hears : Option (List Told) → Option (List Told) → List Told → Type 0
+abbrev pub Hears : Option (List Delivered) → Option (List Delivered) → List Delivered → Type 0
 Hears None after told = ⊤
 Hears (Some before) None told = ⊥
 Hears (Some before) (Some after) told = after ≡ before ++ told
@@ -185,12 +185,12 @@ Hears (Some before) (Some after) told = after ≡ before ++ told
 -- a running side, and the messages to the person
 pub record Session : Type 0 where
   pub live : LiveState
-  pub told : Option (List Told)
+  pub told : Option (List Delivered)
 
-abbrev pub session_of : {O W P : Type 0} → (O → Option (List Deed)) → (W → Option (List ℕ))
-    → (P → Option (List Told)) → LiveSide O W → P → Session
-session_of deeds contents told live person = record {
-  live = state_of deeds contents live;
+abbrev pub session_of : {O W P : Type 0} → (O → Option (List IoEvent)) → (W → Option (List ℕ))
+    → (P → Option (List Delivered)) → LiveSide O W → P → Session
+session_of io_events contents told live person = record {
+  live = state_of io_events contents live;
   told = told person;
 }
 
@@ -199,13 +199,13 @@ abbrev pub AwaitsQuietly : Session → Session → Type 0
 AwaitsQuietly a b = Awaits a.live b.live × (b.told ≡ a.told)
 
 -- a bad line is refused
-abbrev pub refusals : Obeyed → List ℕ → List Told
+abbrev pub refusals : Obeyed → List ℕ → List Delivered
 refusals obeyed.Bad octets = Refuses octets ∷ []
 refusals obeyed.Done octets = []
 refusals obeyed.Unmet octets = []
 
 -- how a line is handled, and whether the session continues
-abbrev pub TypedEnds : TypedDeed → List ℕ → Bool → Session → Session → Type 0
+abbrev pub TypedEnds : TypedAction → List ℕ → Bool → Session → Session → Type 0
 TypedEnds Pass octets goes_on a b = (goes_on ≡ true) × (b ≡ a)
 TypedEnds Help octets goes_on a b = (goes_on ≡ true) × (b.live ≡ a.live)
     × Hears a.told b.told (Helps ∷ [])
@@ -218,7 +218,7 @@ pub record Types (tidy : List ℕ → Option (List ℕ)) (octets : List ℕ) (go
     (a b : Session) : Type 0 where
   pub tidied : List ℕ
   pub is_tidied : IfSome (tidy octets) (λ text. tidied ≡ text)
-  pub does : TypedEnds (deed_of tidied) tidied goes_on a b
+  pub does : TypedEnds (typed_action_of tidied) tidied goes_on a b
 
 abbrev pub TypesOn : (List ℕ → Option (List ℕ)) → List ℕ → Session → Session → Type 0
 TypesOn tidy octets a b = Types tidy octets true a b
@@ -262,7 +262,7 @@ pub record EndsByClose (tidy : List ℕ → Option (List ℕ)) (lines : List (Li
   pub are : lines ≡ before ++ behind
   pub met : Session
   pub done : InOrder AwaitsQuietly (TypesOn tidy) before a met
-  pub closes : AwaitsInput came.Closed met.live b.live
+  pub closes : AwaitsInput end_reason.Closed met.live b.live
   pub told : b.told ≡ met.told
 
 -- how a session ends without a fault
@@ -273,7 +273,7 @@ SessionEnds tidy serve_on lines a b = EndsByInput tidy serve_on lines a b ⊎ Qu
 -- the person is greeted first
 pub record GreetedAndEnds (tidy : List ℕ → Option (List ℕ)) (serve_on : Bool)
     (lines : List (List ℕ)) (a b : Session) : Type 0 where
-  pub greeted : Option (List Told)
+  pub greeted : Option (List Delivered)
   pub greets : Hears a.told greeted (Greets ∷ [])
   pub ends : SessionEnds tidy serve_on lines (record { live = a.live; told = greeted }) b
 

@@ -16,7 +16,7 @@ use Rattle.lapd_cli_live.specs.Log.{HappenBeside, LiveEvent, LiveState, Shows, m
 use Rattle.lapd_cli_live.specs.Steps.{CatchesUp}
 
 -- these words are the state of a link of the side, at the side's moment
-pub record TellsLink (id : LinkId) (s : LiveState) (words : List ℕ) : Type 0 where
+pub record StatesOneLink (id : LinkId) (s : LiveState) (words : List ℕ) : Type 0 where
   pub table : LinkTable
   pub has : HasTable s.side table
   pub link : Link
@@ -34,7 +34,7 @@ pub record LacksLink (id : LinkId) (s : LiveState) : Type 0 where
 -- the line of a link is printed
 pub record PutsLink (id : LinkId) (a b : LiveState) : Type 0 where
   pub words : List ℕ
-  pub tells : TellsLink id a words
+  pub tells : StatesOneLink id a words
   pub prints : HappenBeside (Shows (Worded words) ∷ []) a b
 
 -- or nothing is printed, since the side does not have it
@@ -71,7 +71,7 @@ pub record StatesCounts (a b : LiveState) : Type 0 where
 -- the lines of these links are printed, one after another
 abbrev pub StateEach : List LinkId → LiveState → LiveState → Type 0
 StateEach [] a b = b ≡ a
-StateEach (id ∷ ids) a b = (mid : LiveState) × (found : Bool) × PutsState id found a mid
+StateEach (id ∷ ids) a b = (mid : LiveState) × (matched : Bool) × PutsState id matched a mid
     × StateEach ids mid b
 
 -- a line, unless it is empty
@@ -98,6 +98,6 @@ pub record StatesAll (a b : LiveState) : Type 0 where
   pub ids : List LinkId
   pub rising : IsStrictlySortedBy id_cmp ids
   pub all : (id : LinkId) → Contains ids id ↔ IsSome (link_at table id)
-  pub told : LiveState
-  pub each : StateEach ids ready told
-  pub management : PutsManagement told b
+  pub links_done : LiveState
+  pub each : StateEach ids ready links_done
+  pub management : PutsManagement links_done b

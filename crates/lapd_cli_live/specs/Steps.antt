@@ -5,7 +5,7 @@ use Rattle.lapd_sides_links.specs.Effects.{Effects}
 use Rattle.lapd_sides_links.specs.declared.side_fault.SideFault.{SideFault}
 use Rattle.lapd_sides.specs.declared.request.Request.{Request}
 use Rattle.lapd_sides.specs.Either.{Answers, HasNextDeadline, Takes}
-use Rattle.lapd_cli_side_lines.specs.Calls.{ExpireInTurn}
+use Rattle.lapd_cli_side_lines.specs.Calls.{ExpireInOrder}
 use Rattle.lapd_cli_outside.specs.declared.outside.Lines.{Lines}
 use Rattle.lapd_cli_outside.specs.declared.outside.Lines.TheVariants.{Awaited, Ignored}
 use Rattle.lapd_cli_outside.specs.declared.outside.Woken.{Woken}
@@ -13,34 +13,34 @@ use Rattle.lapd_cli_outside.specs.declared.outside.Woken.TheVariants as woken
 use Rattle.lapd_cli_live.specs.declared.service.Service.{Service}
 use Rattle.lapd_cli_live.specs.declared.service.Until.{Until}
 use Rattle.lapd_cli_live.specs.declared.service.Until.TheVariants as until
-use Rattle.lapd_cli_live.specs.declared.service.Came.{Came}
-use Rattle.lapd_cli_live.specs.declared.service.Came.TheVariants as came
-use Rattle.lapd_cli_outside.specs.Deeds.{Comes, FindsNone, Waits}
+use Rattle.lapd_cli_live.specs.declared.service.EndReason.{EndReason}
+use Rattle.lapd_cli_live.specs.declared.service.EndReason.TheVariants as end_reason
+use Rattle.lapd_cli_outside.specs.IoEvents.{Arrives, FindsNone, Waits}
 use Rattle.lapd_cli_live.specs.Entries.{Received, refused}
-use Rattle.lapd_cli_live.specs.Log.{Around, CarriesOut, CarriesOutAll, Chain, Happen, HappenBeside, LiveEvent, LiveState, ReadsClock, Shows, is_found, moment_of, read_at}
+use Rattle.lapd_cli_live.specs.Log.{Around, CarriesOut, CarriesOutAll, Chain, Happen, HappenBeside, LiveEvent, LiveState, ReadsClock, Shows, is_matched, moment_of, read_at}
 
 -- ---- What ends a service.
 
 -- a received frame ends it, or a printed line, if the service lasts until then
-abbrev pub ended_by : Until → Bool → Bool → Option Came
-ended_by until.End taken found = None
-ended_by until.Frame true found = Some came.Frame
-ended_by until.Frame false found = None
-ended_by until.Found taken true = Some came.Found
-ended_by until.Found taken false = None
+abbrev pub ended_by : Until → Bool → Bool → Option EndReason
+ended_by until.End taken matched = None
+ended_by until.Frame true matched = Some end_reason.Frame
+ended_by until.Frame false matched = None
+ended_by until.Matched taken true = Some end_reason.Matched
+ended_by until.Matched taken false = None
 
 -- the end of a wait ends the service, or it does not
-abbrev pub came_of : Lines → Woken → Option Came
-came_of lines woken.Arrival = None
-came_of lines woken.Due = None
-came_of lines woken.Closed = Some came.Closed
-came_of Awaited woken.Line = Some came.Line
-came_of Ignored woken.Line = None
+abbrev pub end_by_wait : Lines → Woken → Option EndReason
+end_by_wait lines woken.Arrival = None
+end_by_wait lines woken.Due = None
+end_by_wait lines woken.Closed = Some end_reason.Closed
+end_by_wait Awaited woken.Line = Some end_reason.Line
+end_by_wait Ignored woken.Line = None
 
 -- there is an end, and it is reached
-abbrev pub HasCome : Option ℕ → ℕ → Type 0
-HasCome None now = ⊥
-HasCome (Some end) now = end ≤ now
+abbrev pub IsReached : Option ℕ → ℕ → Type 0
+IsReached None now = ⊥
+IsReached (Some end) now = end ≤ now
 
 -- the earlier of two optional moments
 abbrev pub sooner : Option ℕ → Option ℕ → Option ℕ
@@ -60,7 +60,7 @@ pub record TakesFrame (a b : LiveState) : Type 0 where
   pub carries : CarriesOut acts given
   pub rises : moment_of a ≤ moment_of b
   pub happen : Happen
-      (read_at (moment_of b) ++ (Around (Comes frame) ∷ Shows (Received frame) ∷ given)) a b
+      (read_at (moment_of b) ++ (Around (Arrives frame) ∷ Shows (Received frame) ∷ given)) a b
 
 -- no frame had arrived by that moment that was not received
 pub record LooksInVain (a b : LiveState) : Type 0 where
@@ -69,9 +69,9 @@ pub record LooksInVain (a b : LiveState) : Type 0 where
   pub happen : Happen (read_at (moment_of b) ++ (Around FindsNone ∷ [])) a b
 
 -- a frame is processed, and it does not end the service
-pub record TakesAndGoesOn (until : Until) (a b : LiveState) : Type 0 where
+pub record TakesAndContinues (until : Until) (a b : LiveState) : Type 0 where
   pub takes : TakesFrame a b
-  pub going : ended_by until true (is_found b) ≡ None
+  pub continuing : ended_by until true (is_matched b) ≡ None
 
 -- the most frames of a step, so that timers expire however many frames arrive
 abbrev pub most_frames : ℕ
@@ -82,25 +82,25 @@ pub record TakesAll (until : Until) (a b : LiveState) : Type 0 where
   pub taken : List LiveState
   pub within : length taken < most_frames
   pub last : LiveState
-  pub are : Chain (TakesAndGoesOn until) taken a last
+  pub are : Chain (TakesAndContinues until) taken a last
   pub looks : LooksInVain last b
 
 -- or as many as a step receives
 pub record TakesMost (until : Until) (a b : LiveState) : Type 0 where
   pub taken : List LiveState
   pub count : length taken ≡ most_frames
-  pub are : Chain (TakesAndGoesOn until) taken a b
+  pub are : Chain (TakesAndContinues until) taken a b
 
 abbrev pub Receives : Until → LiveState → LiveState → Type 0
 Receives until a b = TakesAll until a b ⊎ TakesMost until a b
 
 -- or one of the frames ends the service, and no more is received
-pub record EndsByFrame (until : Until) (why : Came) (a b : LiveState) : Type 0 where
+pub record EndsByFrame (until : Until) (why : EndReason) (a b : LiveState) : Type 0 where
   pub taken : List LiveState
   pub last : LiveState
-  pub are : Chain (TakesAndGoesOn until) taken a last
+  pub are : Chain (TakesAndContinues until) taken a last
   pub takes : TakesFrame last b
-  pub ends : ended_by until true (is_found b) ≡ Some why
+  pub ends : ended_by until true (is_matched b) ≡ Some why
 
 -- a frame is processed at this moment
 pub record TakesAt (frame : List ℕ) (now : ℕ) (a b : LiveState) : Type 0 where
@@ -117,7 +117,7 @@ Looks true a b = TakesFrame a b
 Looks false a b = LooksInVain a b
 
 -- all frames that had arrived are received, or a frame ends the service
-abbrev pub HasReceived : Until → Option Came → LiveState → LiveState → Type 0
+abbrev pub HasReceived : Until → Option EndReason → LiveState → LiveState → Type 0
 HasReceived until None a b = Receives until a b
 HasReceived until (Some why) a b = EndsByFrame until why a b
 
@@ -126,7 +126,7 @@ HasReceived until (Some why) a b = EndsByFrame until why a b
 -- all timers that are due at the moment expire in turn, and the output is carried out
 pub record DoesDue (a b : LiveState) : Type 0 where
   pub calls : List Effects
-  pub in_turn : ExpireInTurn (moment_of a) calls a.side b.side
+  pub in_order : ExpireInOrder (moment_of a) calls a.side b.side
   pub events : List LiveEvent
   pub carries : CarriesOutAll calls events
   pub moment : moment_of b ≡ moment_of a
@@ -141,21 +141,23 @@ pub record CatchesUp (until : Until) (a b : LiveState) : Type 0 where
 -- ---- Steps.
 
 -- an awaited line was printed, for which the service lasts
-pub record IsFound (service : Service) (a b : LiveState) (outcome : Option Came) : Type 0 where
-  pub why : Came
-  pub found : ended_by service.until false (is_found a) ≡ Some why
+pub record IsMatched (service : Service) (a b : LiveState)
+    (outcome : Option EndReason) : Type 0 where
+  pub why : EndReason
+  pub matched : ended_by service.until false (is_matched a) ≡ Some why
   pub is : outcome ≡ Some why
   pub same : b ≡ a
 
 -- or its end is reached
-pub record IsOver (service : Service) (a b : LiveState) (outcome : Option Came) : Type 0 where
-  pub going : ended_by service.until false (is_found a) ≡ None
-  pub come : HasCome service.end (moment_of a)
-  pub is : outcome ≡ Some came.End
+pub record IsOver (service : Service) (a b : LiveState) (outcome : Option EndReason) : Type 0 where
+  pub continuing : ended_by service.until false (is_matched a) ≡ None
+  pub reached : IsReached service.end (moment_of a)
+  pub is : outcome ≡ Some end_reason.End
   pub same : b ≡ a
 
 -- one wait: until the next deadline or until the end, whichever is first; then the clock is read
-pub record WaitsFor (service : Service) (outcome : Option Came) (a b : LiveState) : Type 0 where
+pub record WaitsFor (service : Service) (outcome : Option EndReason)
+    (a b : LiveState) : Type 0 where
   pub deadline : Option ℕ
   pub is_next : HasNextDeadline a.side deadline
   pub woken : Woken
@@ -163,41 +165,43 @@ pub record WaitsFor (service : Service) (outcome : Option Came) (a b : LiveState
   pub waits : HappenBeside (Around (Waits (sooner deadline service.end) woken) ∷ []) a waited
   pub now : ℕ
   pub reads : ReadsClock now waited b
-  pub is : outcome ≡ came_of service.lines woken
+  pub is : outcome ≡ end_by_wait service.lines woken
 
 -- or neither, and there is one wait
-pub record WaitsOnce (service : Service) (a b : LiveState) (outcome : Option Came) : Type 0 where
-  pub going : ended_by service.until false (is_found a) ≡ None
-  pub not_over : ¬ HasCome service.end (moment_of a)
+pub record WaitsOnce (service : Service) (a b : LiveState)
+    (outcome : Option EndReason) : Type 0 where
+  pub continuing : ended_by service.until false (is_matched a) ≡ None
+  pub not_over : ¬ IsReached service.end (moment_of a)
   pub waits : WaitsFor service outcome a b
 
 -- a step that no frame ends
-pub record WholeStep (service : Service) (a b : LiveState) (outcome : Option Came) : Type 0 where
+pub record WholeStep (service : Service) (a b : LiveState)
+    (outcome : Option EndReason) : Type 0 where
   pub ready : LiveState
   pub catches_up : CatchesUp service.until a ready
-  pub then : IsFound service ready b outcome ⊎ IsOver service ready b outcome
+  pub then : IsMatched service ready b outcome ⊎ IsOver service ready b outcome
       ⊎ WaitsOnce service ready b outcome
 
 -- A step of a service. The service continues if the outcome is `None`.
-pub record CutStep (service : Service) (a b : LiveState) (outcome : Option Came) : Type 0 where
-  pub why : Came
+pub record CutStep (service : Service) (a b : LiveState) (outcome : Option EndReason) : Type 0 where
+  pub why : EndReason
   pub ends : EndsByFrame service.until why a b
   pub is : outcome ≡ Some why
 
-abbrev pub Step : Service → LiveState → LiveState → Option Came → Type 0
+abbrev pub Step : Service → LiveState → LiveState → Option EndReason → Type 0
 Step service a b outcome = CutStep service a b outcome ⊎ WholeStep service a b outcome
 
 -- a step after which the service continues
-abbrev pub GoesOn : Service → LiveState → LiveState → Type 0
-GoesOn service a b = Step service a b None
+abbrev pub Continues : Service → LiveState → LiveState → Type 0
+Continues service a b = Step service a b None
 
 -- A side runs: step after step, at least one, until one of them ends the service, for exactly this
 -- reason.
-pub record IsServed (service : Service) (came : Came) (a b : LiveState) : Type 0 where
+pub record IsServed (service : Service) (end_reason : EndReason) (a b : LiveState) : Type 0 where
   pub passed : List LiveState
   pub last : LiveState
-  pub are : Chain (GoesOn service) passed a last
-  pub ends : Step service last b (Some came)
+  pub are : Chain (Continues service) passed a last
+  pub ends : Step service last b (Some end_reason)
 
 -- ---- Requests.
 

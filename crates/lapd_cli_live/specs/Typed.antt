@@ -3,8 +3,8 @@ use Rattle.std.specs.Prelude.{◌≡◌, ℕ, List, ◌∷◌, ◌++◌, ◌||�
 use Rattle.std.specs.Str.{bytes_eq}
 use Rattle.lapd_cli_script.specs.WalkState.{HasNoFeed}
 use Rattle.lapd_cli_script.specs.Script.{is_passed_over}
-use Rattle.lapd_cli_live.specs.declared.input.TypedDeed.{TypedDeed}
-use Rattle.lapd_cli_live.specs.declared.input.TypedDeed.TheVariants.{Pass, Help, Quit, Obey}
+use Rattle.lapd_cli_live.specs.declared.input.TypedAction.{TypedAction}
+use Rattle.lapd_cli_live.specs.declared.input.TypedAction.TheVariants.{Pass, Help, Quit, Obey}
 
 -- the first complete line is removed with its line feed, and nothing else; or no line is complete,
 -- and nothing is removed
@@ -14,7 +14,7 @@ IsFirstLine before (Some line) after = HasNoFeed line × (before ≡ line ++ 10 
 
 -- A line is executed like a line of a script, unless it is skipped, lists the lines or ends the
 -- session.
-abbrev pub deed_of : List ℕ → TypedDeed
-deed_of line = if is_passed_over line then Pass else (
+abbrev pub typed_action_of : List ℕ → TypedAction
+typed_action_of line = if is_passed_over line then Pass else (
     if bytes_eq line (codes "help") then Help else (
     if bytes_eq line (codes "quit") || bytes_eq line (codes "exit") then Quit else Obey))

@@ -10,8 +10,8 @@ abbrev pub line_octets : List (Vec ℕ Global) → List (List ℕ)
 line_octets lines = map (λ line. line.items) lines
 
 -- the octets of the kept lines, in the order in which they were printed
-abbrev pub kept_lines : Unseen → List (List ℕ)
-kept_lines unseen = line_octets unseen.lines.items
+abbrev pub recent_lines : Unseen → List (List ℕ)
+recent_lines unseen = line_octets unseen.lines.items
 
 -- A line is printed. If lines are kept, it is kept after the others; if these are 1,000, they are
 -- forgotten first.

@@ -5,14 +5,14 @@ ghost use Rattle.lapd_cli_script.specs.Script.{lines_of};
 ghost use Rattle.lapd_cli_script.specs.declared.script.ScriptFault.TheVariants.{Memory};
 ghost use Rattle.lapd_cli_live.specs.declared.input.LiveStop.TheVariants.{Script};
 ghost use Rattle.lapd_cli_live.specs.Log.{Between};
-ghost use Rattle.lapd_cli_live.specs.Sessions.{GreetedAndEnds, Greets, Hears, Helps, LineEnds, LinesEnd, LinesType, ReadsPart, Refuses, ScriptEnds, ServesOn, SessionEnds, Told, TypedEnds, Types, TypesLast, session_of, stop_of};
-ghost use Rattle.lapd_cli_live.specs.declared.input.TypedDeed.TheVariants.{Obey};
-ghost use Rattle.lapd_cli_live.specs.Typed.{deed_of};
+ghost use Rattle.lapd_cli_live.specs.Sessions.{GreetedAndEnds, Greets, Hears, Helps, LineEnds, LinesEnd, LinesType, ReadsPart, Refuses, ScriptEnds, ServesOn, SessionEnds, Delivered, TypedEnds, Types, TypesLast, session_of, stop_of};
+ghost use Rattle.lapd_cli_live.specs.declared.input.TypedAction.TheVariants.{Obey};
+ghost use Rattle.lapd_cli_live.specs.Typed.{typed_action_of};
 
 use crate::fault::LiveFault;
 use crate::live_side::LiveSide;
 use crate::obeyed::Obeyed;
-use crate::service::Came;
+use crate::service::EndReason;
 use crate::typed_lines::TypedLines;
 use lapd_cli_outside::{Lines, Outside};
 use lapd_cli_script::{LineFault, ScriptFault, is_passed_over};
@@ -61,7 +61,7 @@ pub trait Person {
     ghost tidy: { List ℕ → Option (List ℕ) } = { λ _. None };
 
     /// The messages so far, if they are recorded.
-    ghost told: { Self → Option (List Told) } = { λ _. None };
+    ghost told: { Self → Option (List Delivered) } = { λ _. None };
 
     /// Says that lines can be typed.
     fn greet(&mut self)
@@ -87,7 +87,7 @@ pub trait Person {
 
 /// How a typed line is handled.
 #[derive(Clone, Copy)]
-pub(crate) enum TypedDeed {
+pub(crate) enum TypedAction {
     /// Skip it: it is empty or a comment.
     Pass,
     /// List the lines of the side.
@@ -114,10 +114,11 @@ pub fn live_script<R: Read, O: Outside, W: Write>(
     script: &mut R,
     serve_on: bool,
 ) -> (Result<(), LiveStop>, LiveSide<O, W>)
-    ensures { IfSome (R.remaining script.old) (λ octets. Between O.deeds W.contents live result.1
+    ensures { IfSome (R.remaining script.old)
+        (λ octets. Between O.io_events W.contents live result.1
         (ScriptEnds serve_on result.0 (lines_of octets))) }
 {
-    let ended = go_over(alloc, &mut live, script, serve_on);
+    let ended = run_script(alloc, &mut live, script, serve_on);
     (ended, live)
 }
 
@@ -142,8 +143,8 @@ pub fn live_session<R: Read, P: Person, O: Outside, W: Write>(
 ) -> (Result<(), LiveStop>, LiveSide<O, W>)
     ensures { IfSome (R.remaining lines.old) (λ octets. OnOk result.0
         (GreetedAndEnds P.tidy serve_on (lines_of octets)
-        (session_of O.deeds W.contents P.told live person.old)
-        (session_of O.deeds W.contents P.told result.1 person.new))) }
+        (session_of O.io_events W.contents P.told live person.old)
+        (session_of O.io_events W.contents P.told result.1 person.new))) }
 {
     person.greet();
     match converse(alloc, &mut live, lines, person, serve_on) {
@@ -153,13 +154,13 @@ pub fn live_session<R: Read, P: Person, O: Outside, W: Write>(
 }
 
 /// Runs a side on a script.
-fn go_over<R: Read, O: Outside, W: Write>(
+fn run_script<R: Read, O: Outside, W: Write>(
     alloc: Global,
     live: &mut LiveSide<O, W>,
     script: &mut R,
     serve_on: bool,
 ) -> Result<(), LiveStop>
-    ensures { IfSome (R.remaining script.old) (λ octets. Between O.deeds W.contents live.old live.new
+    ensures { IfSome (R.remaining script.old) (λ octets. Between O.io_events W.contents live.old live.new
         (ScriptEnds serve_on result (lines_of octets))) }
 {
     let mut lines = TypedLines::new(alloc);
@@ -183,7 +184,7 @@ fn do_script_lines<O: Outside, W: Write>(
     lines: &mut TypedLines,
     number: &mut u64,
 ) -> Result<(), LiveStop>
-    ensures { Between O.deeds W.contents live.old live.new
+    ensures { Between O.io_events W.contents live.old live.new
         (LinesEnd result lines.old.text.items lines.new.text.items number.old number.new) }
 {
     for _line in 0..u64::MAX {
@@ -201,7 +202,7 @@ fn do_script_line<O: Outside, W: Write>(
     line: &[u8],
     number: &mut u64,
 ) -> Result<(), LiveStop>
-    ensures { Between O.deeds W.contents live.old live.new
+    ensures { Between O.io_events W.contents live.old live.new
         (LineEnds result line.now number.old number.new) }
 {
     let Some(this) = number.checked_add(1) else {
@@ -228,12 +229,12 @@ fn converse<R: Read, P: Person, O: Outside, W: Write>(
 ) -> Result<(), LiveFault>
     ensures { IfSome (R.remaining lines.old) (λ octets. OnOk result
         (SessionEnds P.tidy serve_on (lines_of octets)
-        (session_of O.deeds W.contents P.told live.old person.old)
-        (session_of O.deeds W.contents P.told live.new person.new))) }
+        (session_of O.io_events W.contents P.told live.old person.old)
+        (session_of O.io_events W.contents P.told live.new person.new))) }
 {
     let mut typed = TypedLines::new(alloc);
     for _read in 0..u64::MAX {
-        if let Came::Closed = live.await_input()? {
+        if let EndReason::Closed = live.await_input()? {
             return Ok(());
         }
         if !read_part(lines, &mut typed)? {
@@ -257,8 +258,8 @@ fn do_typed_lines<P: Person, O: Outside, W: Write>(
 ) -> Result<bool, LiveFault>
     ensures { IfOk result (λ goes_on.
         LinesType P.tidy goes_on typed.old.text.items typed.new.text.items
-        (session_of O.deeds W.contents P.told live.old person.old)
-        (session_of O.deeds W.contents P.told live.new person.new)) }
+        (session_of O.io_events W.contents P.told live.old person.old)
+        (session_of O.io_events W.contents P.told live.new person.new)) }
 {
     for _line in 0..u64::MAX {
         let Some(line) = typed.next_line()? else {
@@ -278,8 +279,8 @@ fn do_last<P: Person, O: Outside, W: Write>(
     person: &mut P,
 ) -> Result<bool, LiveFault>
     ensures { IfOk result (λ goes_on. TypesLast P.tidy line.now goes_on
-        (session_of O.deeds W.contents P.told live.old person.old)
-        (session_of O.deeds W.contents P.told live.new person.new)) }
+        (session_of O.io_events W.contents P.told live.old person.old)
+        (session_of O.io_events W.contents P.told live.new person.new)) }
 {
     match line {
         [] => Ok(true),
@@ -294,19 +295,19 @@ fn do_typed<P: Person, O: Outside, W: Write>(
     person: &mut P,
 ) -> Result<bool, LiveFault>
     ensures { IfOk result (λ goes_on. Types P.tidy line.now goes_on
-        (session_of O.deeds W.contents P.told live.old person.old)
-        (session_of O.deeds W.contents P.told live.new person.new)) }
+        (session_of O.io_events W.contents P.told live.old person.old)
+        (session_of O.io_events W.contents P.told live.new person.new)) }
 {
     let line = person.tidied(line)?;
     let line = line.as_slice();
-    match typed_deed(line) {
-        TypedDeed::Pass => Ok(true),
-        TypedDeed::Help => {
+    match typed_action(line) {
+        TypedAction::Pass => Ok(true),
+        TypedAction::Help => {
             person.help();
             Ok(true)
         }
-        TypedDeed::Quit => Ok(false),
-        TypedDeed::Obey => {
+        TypedAction::Quit => Ok(false),
+        TypedAction::Obey => {
             obey_typed(live, line, person)?;
             Ok(true)
         }
@@ -314,17 +315,17 @@ fn do_typed<P: Person, O: Outside, W: Write>(
 }
 
 /// How a line is handled.
-pub(crate) fn typed_deed(line: &[u8]) -> TypedDeed
-    ensures { result ≡ deed_of line.now }
+pub(crate) fn typed_action(line: &[u8]) -> TypedAction
+    ensures { result ≡ typed_action_of line.now }
 {
     if is_passed_over(line) {
-        TypedDeed::Pass
+        TypedAction::Pass
     } else if line == b"help".as_slice() {
-        TypedDeed::Help
+        TypedAction::Help
     } else if line == b"quit".as_slice() || line == b"exit".as_slice() {
-        TypedDeed::Quit
+        TypedAction::Quit
     } else {
-        TypedDeed::Obey
+        TypedAction::Obey
     }
 }
 
@@ -335,8 +336,8 @@ fn obey_typed<P: Person, O: Outside, W: Write>(
     person: &mut P,
 ) -> Result<(), LiveFault>
     ensures { OnOk result (TypedEnds Obey line.now true
-        (session_of O.deeds W.contents P.told live.old person.old)
-        (session_of O.deeds W.contents P.told live.new person.new)) }
+        (session_of O.io_events W.contents P.told live.old person.old)
+        (session_of O.io_events W.contents P.told live.new person.new)) }
 {
     match live.obey(line, Lines::Awaited)? {
         Obeyed::Bad => {
@@ -352,7 +353,7 @@ fn serve_to_end<O: Outside, W: Write>(
     live: &mut LiveSide<O, W>,
     serve_on: bool,
 ) -> Result<(), LiveFault>
-    ensures { OnOk result (Between O.deeds W.contents live.old live.new (ServesOn serve_on)) }
+    ensures { OnOk result (Between O.io_events W.contents live.old live.new (ServesOn serve_on)) }
 {
     if serve_on {
         return live.run(None, Lines::Ignored);

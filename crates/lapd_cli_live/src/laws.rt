@@ -2,7 +2,7 @@
 
 ghost use Rattle.std.specs.Prelude.{◌≡◌, List, Some};
 ghost use Rattle.lapd_cli_live.specs.declared.service.Until.{Until};
-ghost use Rattle.lapd_cli_outside.specs.Deeds.{Deed};
+ghost use Rattle.lapd_cli_outside.specs.IoEvents.{IoEvent};
 ghost use Rattle.lapd_cli_live.specs.Log.{LiveState};
 ghost use Rattle.lapd_cli_live.specs.Steps.{CatchesUp};
 ghost use Rattle.lapd_cli_live.specs.PromptLine.{Arrival, ExpiresInTime, IsPrompt};
@@ -11,7 +11,7 @@ ghost use Rattle.lapd_cli_live.specs.PromptLine.{Arrival, ExpiresInTime, IsPromp
 /// after every frame that had arrived by then was received, and so also its response. The only
 /// exception is a flood of 4,096 frames at once. So T200 does not expire if its response has arrived.
 pub fn no_timer_expires_early()
-    ensures { (arrivals : List Arrival) (until : Until) (a b : LiveState) (deeds : List Deed)
-        → CatchesUp until a b → b.deeds ≡ Some deeds → IsPrompt arrivals deeds
+    ensures { (arrivals : List Arrival) (until : Until) (a b : LiveState) (io_events : List IoEvent)
+        → CatchesUp until a b → b.io_events ≡ Some io_events → IsPrompt arrivals io_events
         → ExpiresInTime arrivals until a b }
 {}

@@ -32,5 +32,5 @@ pub use laws::no_timer_expires_early;
 pub use live_side::LiveSide;
 pub use obeyed::Obeyed;
 pub use printer::Printer;
-pub use service::{Came, Service, Until};
+pub use service::{EndReason, Service, Until};
 pub use style::Style;

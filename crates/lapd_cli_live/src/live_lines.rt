@@ -5,7 +5,7 @@ ghost use Rattle.std.specs.Prelude.{◌≡◌, IfOk, OnOk};
 use crate::fault::LiveFault;
 use crate::live_side::LiveSide;
 use crate::obeyed::Obeyed;
-use crate::service::{Came, Service, Until};
+use crate::service::{EndReason, Service, Until};
 use lapd_cli_live_text::{LiveLine, awaited_text, push_link, push_management, read_live_line};
 use lapd_cli_outside::{Lines, Outside};
 use lapd_cli_script::LineFault;
@@ -18,7 +18,7 @@ impl<O: Outside, W: Write> LiveSide<O, W> {
     ghost use Rattle.lapd_cli_live.specs.StateLines.{PutsManagement, PutsState, StateEach, StatesAll, StatesCounts, StatesLink};
     ghost use Rattle.lapd_cli_live.specs.LineDone.{ExpectDone, ExpectsFromHere, HasOwnTei};
     ghost use Rattle.lapd_cli_live.specs.Sessions.{AwaitsInput, ObeysAs, RequestEnds};
-    ghost use Rattle.lapd_cli_live.specs.Unseen.{has_line, kept_lines, lines_behind};
+    ghost use Rattle.lapd_cli_live.specs.Unseen.{has_line, recent_lines, lines_behind};
     ghost use Rattle.lapd_cli_live.specs.WaitingLines.{Expects, Reads, Runs};
 
     /// Executes a line of input, without its line feed, and returns what became of it. If `lines`
@@ -30,7 +30,7 @@ impl<O: Outside, W: Write> LiveSide<O, W> {
     ///
     /// `Line(Device)`, `Line(Memory)` and `Port`.
     pub fn obey(&mut self, line: &[u8], lines: Lines) -> Result<Obeyed, LiveFault>
-        ensures { IfOk result (λ obeyed. Between O.deeds W.contents self.old self.new
+        ensures { IfOk result (λ obeyed. Between O.io_events W.contents self.old self.new
             (ObeysAs obeyed line.now lines)) }
     {
         let side = self.side.side();
@@ -58,8 +58,8 @@ impl<O: Outside, W: Write> LiveSide<O, W> {
         ensures same { self.new ≡ record self.old {
           printer = record self.old.printer { unseen = self.new.printer.unseen };
         } }
-        ensures lines { kept_lines self.new.printer.unseen
-            ≡ (if is_expect then kept_lines self.old.printer.unseen else []) }
+        ensures lines { recent_lines self.new.printer.unseen
+            ≡ (if is_expect then recent_lines self.old.printer.unseen else []) }
     {
         if !is_expect {
             self.printer.forget_unseen();
@@ -69,7 +69,7 @@ impl<O: Outside, W: Write> LiveSide<O, W> {
     /// Executes a request. Returns `Unmet` if an expected line was not printed in time, else
     /// `Done`.
     fn do_line(&mut self, line: LiveLine<'_>, lines: Lines) -> Result<Obeyed, LiveFault>
-        ensures { IfOk result (λ obeyed. Between O.deeds W.contents self.old self.new
+        ensures { IfOk result (λ obeyed. Between O.io_events W.contents self.old self.new
             (RequestEnds obeyed line.entry lines)) }
     {
         match line {
@@ -101,11 +101,11 @@ impl<O: Outside, W: Write> LiveSide<O, W> {
     }
 
     /// Serves the side until a line of input can be read or the connection is closed.
-    pub(crate) fn await_input(&mut self) -> Result<Came, LiveFault>
-        ensures { IfOk result (λ came. Between O.deeds W.contents self.old self.new
-            (AwaitsInput came)) }
+    pub(crate) fn await_input(&mut self) -> Result<EndReason, LiveFault>
+        ensures { IfOk result (λ end_reason. Between O.io_events W.contents self.old self.new
+            (AwaitsInput end_reason)) }
     {
-        self.printer.keep_unseen();
+        self.printer.retain_unseen();
         self.serve(Service {
             end: None,
             until: Until::End,
@@ -115,7 +115,7 @@ impl<O: Outside, W: Write> LiveSide<O, W> {
 
     /// Serves the side for `ms` milliseconds, or until the connection is closed.
     pub(crate) fn run(&mut self, ms: Option<u64>, lines: Lines) -> Result<(), LiveFault>
-        ensures { OnOk result (Between O.deeds W.contents self.old self.new (Runs ms lines)) }
+        ensures { OnOk result (Between O.io_events W.contents self.old self.new (Runs ms lines)) }
     {
         let end = self.end_after(ms)?;
         self.serve(Service {
@@ -129,7 +129,7 @@ impl<O: Outside, W: Write> LiveSide<O, W> {
     /// Serves the side until it has processed the next frame, but for at most `ms` milliseconds if
     /// given.
     fn read(&mut self, ms: Option<u64>, lines: Lines) -> Result<(), LiveFault>
-        ensures { OnOk result (Between O.deeds W.contents self.old self.new (Reads ms lines)) }
+        ensures { OnOk result (Between O.io_events W.contents self.old self.new (Reads ms lines)) }
     {
         let end = self.end_after(ms)?;
         let service = Service {
@@ -138,9 +138,9 @@ impl<O: Outside, W: Write> LiveSide<O, W> {
             lines,
         };
         match self.serve(service)? {
-            Came::Closed => self.printer.put_named("refused", "S1 End"),
-            Came::End => self.printer.put_words("nothing"),
-            Came::Frame | Came::Found | Came::Line => Ok(()),
+            EndReason::Closed => self.printer.put_named("refused", "S1 End"),
+            EndReason::End => self.printer.put_words("nothing"),
+            EndReason::Frame | EndReason::Matched | EndReason::Line => Ok(()),
         }
     }
 
@@ -148,15 +148,16 @@ impl<O: Outside, W: Write> LiveSide<O, W> {
     /// `ms` milliseconds among those that are printed while the side is served. Returns whether
     /// there was one, and prints it if not.
     fn expect(&mut self, words: &[u8], ms: u64, lines: Lines) -> Result<bool, LiveFault>
-        ensures done { IfOk result (λ found. Between O.deeds W.contents self.old self.new
-            (ExpectDone words.now ms lines found)) }
+        ensures done { IfOk result (λ matched. Between O.io_events W.contents self.old self.new
+            (ExpectDone words.now ms lines matched)) }
         ensures seen { has_line words.now self.old.printer.unseen ≡ true
-            → (result ≡ Ok true) × Between O.deeds W.contents self.old self.new (HappenBeside [])
-            × (kept_lines self.new.printer.unseen
-            ≡ lines_behind words.now (kept_lines self.old.printer.unseen)) }
+            → (result ≡ Ok true) × Between O.io_events W.contents self.old self.new
+            (HappenBeside [])
+            × (recent_lines self.new.printer.unseen
+            ≡ lines_behind words.now (recent_lines self.old.printer.unseen)) }
         ensures unseen { has_line words.now self.old.printer.unseen ≡ false → IfOk result
-            (λ found. Between O.deeds W.contents self.old self.new
-            (ExpectsFromHere words.now ms lines found)) }
+            (λ matched. Between O.io_events W.contents self.old self.new
+            (ExpectsFromHere words.now ms lines matched)) }
     {
         if self.printer.take_unseen(words) {
             return Ok(true);
@@ -172,14 +173,14 @@ impl<O: Outside, W: Write> LiveSide<O, W> {
     /// Serves the side until it prints a line that begins with these words, but for at most `ms`
     /// milliseconds. Returns whether it printed one.
     fn await_words(&mut self, words: &[u8], ms: u64, lines: Lines) -> Result<bool, LiveFault>
-        ensures { IfOk result (λ found. Between O.deeds W.contents self.old self.new
-            (Expects words.now ms lines found)) }
+        ensures { IfOk result (λ matched. Between O.io_events W.contents self.old self.new
+            (Expects words.now ms lines matched)) }
     {
         let end = self.end_after(Some(ms))?;
         self.printer.await_line(words)?;
         self.serve(Service {
             end,
-            until: Until::Found,
+            until: Until::Matched,
             lines,
         })?;
         Ok(self.printer.end_wait())
@@ -187,7 +188,7 @@ impl<O: Outside, W: Write> LiveSide<O, W> {
 
     /// Prints the statistics.
     fn put_stats(&mut self) -> Result<(), LiveFault>
-        ensures { OnOk result (Between O.deeds W.contents self.old self.new StatesCounts) }
+        ensures { OnOk result (Between O.io_events W.contents self.old self.new StatesCounts) }
     {
         self.catch_up()?;
         let discarded = self.side.discarded();
@@ -196,7 +197,8 @@ impl<O: Outside, W: Write> LiveSide<O, W> {
 
     /// Prints the state of a link, or that the link does not exist.
     fn put_link(&mut self, id: &LinkId) -> Result<(), LiveFault>
-        ensures { OnOk result (Between O.deeds W.contents self.old self.new (StatesLink id.now)) }
+        ensures { OnOk result
+            (Between O.io_events W.contents self.old self.new (StatesLink id.now)) }
     {
         self.catch_up()?;
         if self.put_state(id)? {
@@ -207,7 +209,7 @@ impl<O: Outside, W: Write> LiveSide<O, W> {
 
     /// Prints the state of each link, and the timer of TEI management if one runs.
     fn put_links(&mut self) -> Result<(), LiveFault>
-        ensures { OnOk result (Between O.deeds W.contents self.old self.new StatesAll) }
+        ensures { OnOk result (Between O.io_events W.contents self.old self.new StatesAll) }
     {
         self.catch_up()?;
         let ids = self.side.table().ids()?;
@@ -217,7 +219,8 @@ impl<O: Outside, W: Write> LiveSide<O, W> {
 
     /// Prints the state of each of these links that exists.
     fn put_each(&mut self, ids: &[LinkId]) -> Result<(), LiveFault>
-        ensures { OnOk result (Between O.deeds W.contents self.old self.new (StateEach ids.now)) }
+        ensures { OnOk result
+            (Between O.io_events W.contents self.old self.new (StateEach ids.now)) }
     {
         for id in ids {
             self.put_state(id)?;
@@ -227,7 +230,7 @@ impl<O: Outside, W: Write> LiveSide<O, W> {
 
     /// Prints the time left of TEI management's timer, if one runs.
     fn put_management(&mut self) -> Result<(), LiveFault>
-        ensures { OnOk result (Between O.deeds W.contents self.old self.new PutsManagement) }
+        ensures { OnOk result (Between O.io_events W.contents self.old self.new PutsManagement) }
     {
         let Some(timers) = self.side.timers(None) else {
             return Ok(());
@@ -245,8 +248,8 @@ impl<O: Outside, W: Write> LiveSide<O, W> {
     /// Prints the state of a link at the printer's moment. Returns `false` if the link does not
     /// exist.
     fn put_state(&mut self, id: &LinkId) -> Result<bool, LiveFault>
-        ensures { IfOk result (λ found. Between O.deeds W.contents self.old self.new
-            (PutsState id.now found)) }
+        ensures { IfOk result (λ matched. Between O.io_events W.contents self.old self.new
+            (PutsState id.now matched)) }
     {
         let Some(link) = self.side.table().link(*id) else {
             return Ok(false);

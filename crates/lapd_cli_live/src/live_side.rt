@@ -4,15 +4,15 @@ ghost use Rattle.std.specs.Prelude.{◌≡◌, map, true, false, IfOk, OnErr, On
 ghost use Rattle.std.specs.List.{All};
 ghost use Rattle.lapd_sides_links.specs.Effects.{HasLeastOctets};
 ghost use Rattle.lapd_frame.specs.declared.Side.{Side as SideValue};
-ghost use Rattle.lapd_cli_outside.specs.Deeds.{SendsFront};
-ghost use Rattle.lapd_cli_live.specs.Entries.{Told};
+ghost use Rattle.lapd_cli_outside.specs.IoEvents.{SendsFront};
+ghost use Rattle.lapd_cli_live.specs.Entries.{Delivered};
 ghost use Rattle.std.specs.Io.KnownBytes.{Keeps};
 ghost use Rattle.lapd_cli_live.specs.Printers.{PrintsOn, SendsAll, shown};
-ghost use Rattle.lapd_cli_live.specs.Steps.{came_of as came_from, ended_by as ends_by, HasCome, sooner as sooner_of};
+ghost use Rattle.lapd_cli_live.specs.Steps.{end_by_wait as end_of_wait, ended_by as ends_by, IsReached, sooner as sooner_of};
 
 use crate::fault::LiveFault;
 use crate::printer::Printer;
-use crate::service::{Came, Service, Until};
+use crate::service::{EndReason, Service, Until};
 use arrayvec::ArrayVec;
 use lapd_cli_outside::{Lines, Outside, Woken};
 use lapd_cli_script::LineFault;
@@ -80,7 +80,7 @@ impl<O: Outside, W: Write> LiveSide<O, W> {
     /// Reads the clock. It is a fault if the clock has gone back.
     pub(crate) fn read_clock(&mut self) -> Result<u64, LiveFault>
         ensures { IfOk result (λ now.
-            Between O.deeds W.contents self.old self.new (ReadsClock now)) }
+            Between O.io_events W.contents self.old self.new (ReadsClock now)) }
     {
         let now = self.outside.moment()?;
         if now < self.printer.moment() {
@@ -92,21 +92,21 @@ impl<O: Outside, W: Write> LiveSide<O, W> {
 
     /// Sends and prints the output of the last call. On an error, a front of the frames was sent.
     fn carry_out(&mut self) -> Result<(), LiveFault>
-        ensures carried { OnOk result (Between O.deeds W.contents self.old self.new
+        ensures carried { OnOk result (Between O.io_events W.contents self.old self.new
             (IsCarriedOut self.old.acts)) }
-        ensures err { OnErr result (SendsFront self.old.acts.frames (O.deeds self.old.outside)
-            (O.deeds self.new.outside)) }
+        ensures err { OnErr result (SendsFront self.old.acts.frames (O.io_events self.old.outside)
+            (O.io_events self.new.outside)) }
     {
         let own = self.side.side();
         let (frames, primitives) = (self.acts.frames(), self.acts.primitives());
         send_all(own, frames, &mut self.outside, &mut self.printer)?;
-        put_all_told(primitives, &mut self.printer)
+        put_primitives(primitives, &mut self.printer)
     }
 
     /// Processes a frame at the moment `now`, and sends and prints the output. `now` was read just
     /// before the frame was received.
     fn take(&mut self, frame: &[u8], now: u64) -> Result<(), LiveFault>
-        ensures { OnOk result (Between O.deeds W.contents self.old self.new
+        ensures { OnOk result (Between O.io_events W.contents self.old self.new
             (TakesAt frame.now now)) }
     {
         let own = self.side.side();
@@ -122,8 +122,8 @@ impl<O: Outside, W: Write> LiveSide<O, W> {
 
     /// Processes the next frame that has arrived. Returns `false` if none has.
     fn look(&mut self) -> Result<bool, LiveFault>
-        ensures { IfOk result (λ found. Between O.deeds W.contents self.old self.new
-            (Looks found)) }
+        ensures { IfOk result (λ matched. Between O.io_events W.contents self.old self.new
+            (Looks matched)) }
     {
         let now = self.read_clock()?;
         let mut frame = [0; MOST_OCTETS];
@@ -138,17 +138,17 @@ impl<O: Outside, W: Write> LiveSide<O, W> {
 
     /// Processes the frames that have arrived, at most 4,096 of them, and none behind one that ends
     /// the service.
-    fn receive_all(&mut self, until: Until) -> Result<Option<Came>, LiveFault>
-        ensures { IfOk result (λ came. Between O.deeds W.contents self.old self.new
-            (HasReceived until came)) }
+    fn receive_all(&mut self, until: Until) -> Result<Option<EndReason>, LiveFault>
+        ensures { IfOk result (λ end_reason. Between O.io_events W.contents self.old self.new
+            (HasReceived until end_reason)) }
     {
         for _frame in 0..MOST_FRAMES {
             if !self.look()? {
                 return Ok(None);
             }
-            let came = ended_by(until, true, self.printer.is_found());
-            if came.is_some() {
-                return Ok(came);
+            let end_reason = ended_by(until, true, self.printer.is_matched());
+            if end_reason.is_some() {
+                return Ok(end_reason);
             }
         }
         Ok(None)
@@ -157,7 +157,7 @@ impl<O: Outside, W: Write> LiveSide<O, W> {
     /// Expires all timers that are due at the printer's moment, one after another, and sends and
     /// prints the output. The bound is never reached; it only proves termination.
     fn do_due(&mut self) -> Result<(), LiveFault>
-        ensures { OnOk result (Between O.deeds W.contents self.old self.new DoesDue) }
+        ensures { OnOk result (Between O.io_events W.contents self.old self.new DoesDue) }
     {
         let now = self.printer.moment();
         for _tick in 0..u64::MAX {
@@ -173,7 +173,7 @@ impl<O: Outside, W: Write> LiveSide<O, W> {
     /// the moment.
     pub(crate) fn catch_up(&mut self) -> Result<u64, LiveFault>
         ensures moment { IfOk result (λ now. now ≡ self.new.printer.moment) }
-        ensures does { OnOk result (Between O.deeds W.contents self.old self.new
+        ensures does { OnOk result (Between O.io_events W.contents self.old self.new
             (CatchesUp Until.End)) }
     {
         self.receive_all(Until::End)?;
@@ -188,7 +188,7 @@ impl<O: Outside, W: Write> LiveSide<O, W> {
     ///
     /// Those of [`Outside`], `Device` and `Memory`.
     pub fn ask(&mut self, request: Request) -> Result<(), LiveFault>
-        ensures { OnOk result (Between O.deeds W.contents self.old self.new (IsAsked request)) }
+        ensures { OnOk result (Between O.io_events W.contents self.old self.new (IsAsked request)) }
     {
         let now = self.catch_up()?;
         let answered = self.side.request(request, now, &mut self.acts);
@@ -201,7 +201,7 @@ impl<O: Outside, W: Write> LiveSide<O, W> {
 
     /// The moment `ms` milliseconds from now, if given.
     pub(crate) fn end_after(&mut self, ms: Option<u64>) -> Result<Option<u64>, LiveFault>
-        ensures { IfOk result (λ end. Between O.deeds W.contents self.old self.new
+        ensures { IfOk result (λ end. Between O.io_events W.contents self.old self.new
             (EndsAfter ms end)) }
     {
         let now = self.read_clock()?;
@@ -213,34 +213,34 @@ impl<O: Outside, W: Write> LiveSide<O, W> {
 
     /// Waits once, until the next deadline or the end of the service, whichever comes first. Then
     /// it reads the clock, so that the next lines have the moment at which the wait ended.
-    fn wait(&mut self, service: Service) -> Result<Option<Came>, LiveFault>
-        ensures { IfOk result (λ came. Between O.deeds W.contents self.old self.new
-            (WaitsFor service came)) }
+    fn wait(&mut self, service: Service) -> Result<Option<EndReason>, LiveFault>
+        ensures { IfOk result (λ end_reason. Between O.io_events W.contents self.old self.new
+            (WaitsFor service end_reason)) }
     {
         self.printer.flush()?;
         let until = sooner(self.side.next_deadline(), service.end);
         let woken = self.outside.wait(until, service.lines)?;
         self.read_clock()?;
-        Ok(came_of(service.lines, woken))
+        Ok(end_by_wait(service.lines, woken))
     }
 
     /// One step: processes the frames that have arrived, expires the timers that are due, and
     /// waits. Returns why the service ends, if it does.
-    fn step(&mut self, service: Service) -> Result<Option<Came>, LiveFault>
-        ensures { IfOk result (λ came. Between O.deeds W.contents self.old self.new
-            (λ a b. Step service a b came)) }
+    fn step(&mut self, service: Service) -> Result<Option<EndReason>, LiveFault>
+        ensures { IfOk result (λ end_reason. Between O.io_events W.contents self.old self.new
+            (λ a b. Step service a b end_reason)) }
     {
-        let came = self.receive_all(service.until)?;
-        if came.is_some() {
-            return Ok(came);
+        let end_reason = self.receive_all(service.until)?;
+        if end_reason.is_some() {
+            return Ok(end_reason);
         }
         self.do_due()?;
-        let came = ended_by(service.until, false, self.printer.is_found());
-        if came.is_some() {
-            return Ok(came);
+        let end_reason = ended_by(service.until, false, self.printer.is_matched());
+        if end_reason.is_some() {
+            return Ok(end_reason);
         }
-        if has_come(service.end, self.printer.moment()) {
-            return Ok(Some(Came::End));
+        if is_reached(service.end, self.printer.moment()) {
+            return Ok(Some(EndReason::End));
         }
         self.wait(service)
     }
@@ -250,13 +250,13 @@ impl<O: Outside, W: Write> LiveSide<O, W> {
     /// # Errors
     ///
     /// Those of [`Outside`], `Device` and `Memory`.
-    pub fn serve(&mut self, service: Service) -> Result<Came, LiveFault>
-        ensures { IfOk result (λ came. Between O.deeds W.contents self.old self.new
-            (IsServed service came)) }
+    pub fn serve(&mut self, service: Service) -> Result<EndReason, LiveFault>
+        ensures { IfOk result (λ end_reason. Between O.io_events W.contents self.old self.new
+            (IsServed service end_reason)) }
     {
         for _step in 0..u64::MAX {
-            if let Some(came) = self.step(service)? {
-                return Ok(came);
+            if let Some(end_reason) = self.step(service)? {
+                return Ok(end_reason);
             }
         }
         Err(LiveFault::Line(LineFault::Device))
@@ -265,7 +265,7 @@ impl<O: Outside, W: Write> LiveSide<O, W> {
 
 /// Reports that a frame of the other side was discarded, if it was and it names a link.
 fn report_discarded<O: Outside>(is_discarded: bool, own: Side, frame: &[u8], outside: &mut O)
-    ensures { O.deeds outside.new ≡ O.deeds outside.old }
+    ensures { O.io_events outside.new ≡ O.io_events outside.old }
 {
     match read(frame, own.other()) {
         Ok(frame) if is_discarded => {
@@ -287,10 +287,11 @@ fn send_all<O: Outside, W: Write>(
     printer: &mut Printer<W>,
 ) -> Result<(), LiveFault>
     requires { All (λ f. HasLeastOctets f.items) frames.now }
-    ensures sent { OnOk result (SendsAll own (map (λ f. f.items) frames.now) (O.deeds outside.old)
-        (O.deeds outside.new) W.contents printer.old printer.new) }
-    ensures err { OnErr result (SendsFront (map (λ f. f.items) frames.now) (O.deeds outside.old)
-        (O.deeds outside.new)) }
+    ensures sent { OnOk result
+        (SendsAll own (map (λ f. f.items) frames.now) (O.io_events outside.old)
+        (O.io_events outside.new) W.contents printer.old printer.new) }
+    ensures err { OnErr result (SendsFront (map (λ f. f.items) frames.now) (O.io_events outside.old)
+        (O.io_events outside.new)) }
 {
     for frame in frames {
         let octets = frame.as_slice();
@@ -301,37 +302,37 @@ fn send_all<O: Outside, W: Write>(
 }
 
 /// Prints these primitives to layer 3.
-fn put_all_told<W: Write>(
+fn put_primitives<W: Write>(
     primitives: &[Primitive],
     printer: &mut Printer<W>,
 ) -> Result<(), LiveFault>
     ensures { (own : SideValue) → OnOk result
-        (PrintsOn W.contents own (map Told primitives.now) printer.old printer.new) }
+        (PrintsOn W.contents own (map Delivered primitives.now) printer.old printer.new) }
 {
     for primitive in primitives {
-        printer.put_told(primitive)?;
+        printer.put_primitive(primitive)?;
     }
     Ok(())
 }
 
 /// Why a service ends, if a processed frame or the awaited line ends it.
-fn ended_by(until: Until, is_taken: bool, is_found: bool) -> Option<Came>
-    ensures { result ≡ ends_by until is_taken is_found }
+fn ended_by(until: Until, is_taken: bool, is_matched: bool) -> Option<EndReason>
+    ensures { result ≡ ends_by until is_taken is_matched }
 {
     match until {
-        Until::Frame if is_taken => Some(Came::Frame),
-        Until::Found if is_found => Some(Came::Found),
-        Until::End | Until::Frame | Until::Found => None,
+        Until::Frame if is_taken => Some(EndReason::Frame),
+        Until::Matched if is_matched => Some(EndReason::Matched),
+        Until::End | Until::Frame | Until::Matched => None,
     }
 }
 
 /// Why a service ends, if the reason that ended a wait ends the service too.
-fn came_of(lines: Lines, woken: Woken) -> Option<Came>
-    ensures { result ≡ came_from lines woken }
+fn end_by_wait(lines: Lines, woken: Woken) -> Option<EndReason>
+    ensures { result ≡ end_of_wait lines woken }
 {
     match (woken, lines) {
-        (Woken::Closed, _) => Some(Came::Closed),
-        (Woken::Line, Lines::Awaited) => Some(Came::Line),
+        (Woken::Closed, _) => Some(EndReason::Closed),
+        (Woken::Line, Lines::Awaited) => Some(EndReason::Line),
         (Woken::Line, Lines::Ignored) | (Woken::Arrival | Woken::Due, _) => None,
     }
 }
@@ -348,9 +349,9 @@ fn sooner(one: Option<u64>, other: Option<u64>) -> Option<u64>
 }
 
 /// Whether there is an end and it is reached.
-fn has_come(end: Option<u64>, now: u64) -> bool
-    ensures come { result ≡ true → HasCome end now }
-    ensures not { result ≡ false → ¬ HasCome end now }
+fn is_reached(end: Option<u64>, now: u64) -> bool
+    ensures reached { result ≡ true → IsReached end now }
+    ensures not { result ≡ false → ¬ IsReached end now }
 {
     match end {
         Some(end) => end <= now,

@@ -5,7 +5,7 @@ ghost use Rattle.std.specs.String.{string_bytes};
 ghost use Rattle.lapd_cli_render.specs.Json.{frame_members, object_text, primitive_members, text_members};
 ghost use Rattle.lapd_trace.specs.Trace.{trace_line};
 ghost use Rattle.lapd_cli_live_text.specs.Stats.{received_words, reports_words, sent_words};
-ghost use Rattle.lapd_cli_live.specs.Entries.{Dated, Lost, Named, Received, Sent, Told, Worded, begins_so as begins, moment_text, refused, sent_entry, stats_entries, timed_object, unless_quiet, with_moment};
+ghost use Rattle.lapd_cli_live.specs.Entries.{Dated, Lost, Named, Received, Sent, Delivered, Worded, begins_so as begins, moment_text, refused, sent_entry, stats_entries, timed_object, unless_quiet, with_moment};
 ghost use Rattle.lapd_frame.specs.declared.Side.{Side as SideValue};
 ghost use Rattle.lapd_cli_script.specs.Line.{text_line};
 ghost use Rattle.lapd_cli_side_lines.specs.SideTexts.{frame_text_line};
@@ -37,7 +37,7 @@ pub struct Printer<W> {
     pub(crate) line: String,
     /// The words that an awaited line begins with; empty if no line is awaited.
     pub(crate) awaited: Vec<u8>,
-    pub(crate) is_found: bool,
+    pub(crate) is_matched: bool,
     pub(crate) stats: Stats,
     /// The lines that were printed while a line of input was awaited.
     pub(crate) unseen: Unseen,
@@ -47,7 +47,7 @@ impl<W: Write> Printer<W> {
     ghost use Rattle.std.specs.Prelude.{true, false};
     ghost use Rattle.std.specs.Io.KnownBytes.{Keeps};
     ghost use Rattle.lapd_cli_live.specs.Printers.{Awaits, PrintsOn, PutsLine, shown};
-    ghost use Rattle.lapd_cli_live.specs.Unseen.{has_line, kept_lines, lines_behind, with_line};
+    ghost use Rattle.lapd_cli_live.specs.Unseen.{has_line, recent_lines, lines_behind, with_line};
 
     /// Prints lines of this style.
     pub fn new(alloc: Global, out: W, style: Style) -> Printer<W>
@@ -55,8 +55,8 @@ impl<W: Write> Printer<W> {
         ensures text { result.text.items ≡ [] }
         ensures style { result.style ≡ style }
         ensures moment { result.moment ≡ 0 }
-        ensures lines { kept_lines result.unseen ≡ [] }
-        ensures kept { result.unseen.is_kept ≡ false }
+        ensures lines { recent_lines result.unseen ≡ [] }
+        ensures kept { result.unseen.is_retained ≡ false }
     {
         Printer {
             alloc,
@@ -66,7 +66,7 @@ impl<W: Write> Printer<W> {
             text: Vec::new(alloc),
             line: String::new(alloc),
             awaited: Vec::new(alloc),
-            is_found: false,
+            is_matched: false,
             stats: Stats::new(),
             unseen: Unseen::new(alloc),
         }
@@ -105,37 +105,37 @@ impl<W: Write> Printer<W> {
     pub(crate) fn await_line(&mut self, words: &[u8]) -> Result<(), AllocError>
         ensures { OnOk result (Awaits words.now self.old self.new) }
     {
-        self.is_found = false;
+        self.is_matched = false;
         self.awaited.clear();
         self.awaited.extend_from_slice(words)
     }
 
     /// Stops awaiting a line. Returns whether the awaited line was printed.
     pub(crate) fn end_wait(&mut self) -> bool
-        ensures found { result ≡ self.old.is_found }
+        ensures matched { result ≡ self.old.is_matched }
         ensures ends { Awaits [] self.old self.new }
     {
-        let was_found = self.is_found;
+        let was_matched = self.is_matched;
         self.awaited.clear();
-        self.is_found = false;
-        was_found
+        self.is_matched = false;
+        was_matched
     }
 
     /// Keeps the lines that are printed from now on for the next `expect`, as a line of input is
     /// awaited.
-    pub(crate) fn keep_unseen(&mut self)
+    pub(crate) fn retain_unseen(&mut self)
         ensures same { self.new ≡ record self.old { unseen = self.new.unseen } }
-        ensures lines { kept_lines self.new.unseen ≡ kept_lines self.old.unseen }
-        ensures kept { self.new.unseen.is_kept ≡ true }
+        ensures lines { recent_lines self.new.unseen ≡ recent_lines self.old.unseen }
+        ensures kept { self.new.unseen.is_retained ≡ true }
     {
-        self.unseen.keep();
+        self.unseen.retain();
     }
 
     /// Forgets the kept lines, as a line of input is executed that isn't an `expect`.
     pub(crate) fn forget_unseen(&mut self)
         ensures same { self.new ≡ record self.old { unseen = self.new.unseen } }
-        ensures lines { kept_lines self.new.unseen ≡ [] }
-        ensures kept { self.new.unseen.is_kept ≡ false }
+        ensures lines { recent_lines self.new.unseen ≡ [] }
+        ensures kept { self.new.unseen.is_retained ≡ false }
     {
         self.unseen.forget();
     }
@@ -144,19 +144,19 @@ impl<W: Write> Printer<W> {
     /// the lines before it, or all lines if there is none.
     pub(crate) fn take_unseen(&mut self, words: &[u8]) -> bool
         ensures same { self.new ≡ record self.old { unseen = self.new.unseen } }
-        ensures found { result ≡ has_line words.now self.old.unseen }
-        ensures lines { kept_lines self.new.unseen
-            ≡ lines_behind words.now (kept_lines self.old.unseen) }
-        ensures kept { self.new.unseen.is_kept ≡ false }
+        ensures matched { result ≡ has_line words.now self.old.unseen }
+        ensures lines { recent_lines self.new.unseen
+            ≡ lines_behind words.now (recent_lines self.old.unseen) }
+        ensures kept { self.new.unseen.is_retained ≡ false }
     {
         self.unseen.take(words)
     }
 
     /// Whether the awaited line was printed.
-    pub(crate) fn is_found(&self) -> bool
-        ensures { result ≡ self.now.is_found }
+    pub(crate) fn is_matched(&self) -> bool
+        ensures { result ≡ self.now.is_matched }
     {
-        self.is_found
+        self.is_matched
     }
 
     /// Counts a frame that the other side sent, and prints its line. `own` is this side.
@@ -231,11 +231,11 @@ impl<W: Write> Printer<W> {
     /// # Errors
     ///
     /// `Memory`.
-    pub(crate) fn put_told(&mut self, primitive: &Primitive) -> Result<(), LiveFault>
+    pub(crate) fn put_primitive(&mut self, primitive: &Primitive) -> Result<(), LiveFault>
         ensures { (own : SideValue) → OnOk result
-            (PrintsOn W.contents own (Told primitive.now ∷ []) self.old self.new) }
+            (PrintsOn W.contents own (Delivered primitive.now ∷ []) self.old self.new) }
     {
-        self.stats.count_told(primitive);
+        self.stats.count_primitive(primitive);
         self.line.clear();
         push_primitive(self.alloc, LineStyle::Text, primitive, &mut self.line)?;
         match self.style.lines {
@@ -409,16 +409,16 @@ impl<W: Write> Printer<W> {
 
     /// Notes whether the buffered line is the awaited one, and keeps it for a later `expect`.
     fn notice_line(&mut self) -> Result<(), AllocError>
-        ensures found { OnOk result (self.new ≡ record self.old {
-          is_found = self.old.is_found || begins self.old.awaited.items (string_bytes self.old.line);
+        ensures matched { OnOk result (self.new ≡ record self.old {
+          is_matched = self.old.is_matched || begins self.old.awaited.items (string_bytes self.old.line);
           unseen = self.new.unseen;
         }) }
-        ensures lines { OnOk result (kept_lines self.new.unseen ≡ with_line
-            self.old.unseen.is_kept (string_bytes self.old.line) (kept_lines self.old.unseen)) }
-        ensures kept { OnOk result (self.new.unseen.is_kept ≡ self.old.unseen.is_kept) }
+        ensures lines { OnOk result (recent_lines self.new.unseen ≡ with_line
+            self.old.unseen.is_retained (string_bytes self.old.line) (recent_lines self.old.unseen)) }
+        ensures kept { OnOk result (self.new.unseen.is_retained ≡ self.old.unseen.is_retained) }
     {
         if begins_so(self.awaited.as_slice(), self.line.as_bytes()) {
-            self.is_found = true;
+            self.is_matched = true;
         }
         self.unseen.add(self.line.as_bytes())
     }

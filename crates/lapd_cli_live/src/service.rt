@@ -21,16 +21,16 @@ pub enum Until {
     /// One frame was received.
     Frame,
     /// An awaited line was printed.
-    Found,
+    Matched,
 }
 
 /// Why a service has ended.
 #[derive(Clone, Copy, PartialEq, Eq)]
-pub enum Came {
+pub enum EndReason {
     /// A frame was received.
     Frame,
     /// An awaited line was printed.
-    Found,
+    Matched,
     /// A line of input can be read.
     Line,
     /// The other side has closed the connection.

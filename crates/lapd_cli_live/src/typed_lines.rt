@@ -64,7 +64,7 @@ impl TypedLines {
 
 /// The octets before the first line feed, and those after it.
 fn first_line(octets: &[u8]) -> Option<(&[u8], &[u8])>
-    ensures found { IfSome result (λ parts. HasNoFeed parts.0.now
+    ensures matched { IfSome result (λ parts. HasNoFeed parts.0.now
         × (octets.now ≡ parts.0.now ++ 10 ∷ parts.1.now)) }
     ensures none { IfNone result (HasNoFeed octets.now) }
 {

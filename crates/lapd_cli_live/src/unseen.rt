@@ -13,39 +13,39 @@ const MOST_LINES: usize = 1000;
 pub(crate) struct Unseen {
     alloc: Global,
     lines: Vec<Vec<u8>>,
-    is_kept: bool,
+    is_retained: bool,
 }
 
 impl Unseen {
     ghost use Rattle.std.specs.Prelude.{[], false, true, OnOk};
-    ghost use Rattle.lapd_cli_live.specs.Unseen.{has_line, kept_lines, with_line};
+    ghost use Rattle.lapd_cli_live.specs.Unseen.{has_line, recent_lines, with_line};
 
     /// No lines. Printed lines are not kept yet.
     pub(crate) fn new(alloc: Global) -> Unseen
-        ensures lines { kept_lines result ≡ [] }
-        ensures kept { result.is_kept ≡ false }
+        ensures lines { recent_lines result ≡ [] }
+        ensures kept { result.is_retained ≡ false }
     {
         Unseen {
             alloc,
             lines: Vec::new(alloc),
-            is_kept: false,
+            is_retained: false,
         }
     }
 
     /// Keeps the lines that are printed from now on.
-    pub(crate) fn keep(&mut self)
-        ensures lines { kept_lines self.new ≡ kept_lines self.old }
-        ensures kept { self.new.is_kept ≡ true }
+    pub(crate) fn retain(&mut self)
+        ensures lines { recent_lines self.new ≡ recent_lines self.old }
+        ensures kept { self.new.is_retained ≡ true }
     {
-        self.is_kept = true;
+        self.is_retained = true;
     }
 
     /// Forgets all lines, and stops keeping them.
     pub(crate) fn forget(&mut self)
-        ensures lines { kept_lines self.new ≡ [] }
-        ensures kept { self.new.is_kept ≡ false }
+        ensures lines { recent_lines self.new ≡ [] }
+        ensures kept { self.new.is_retained ≡ false }
     {
-        self.is_kept = false;
+        self.is_retained = false;
         self.lines.clear();
     }
 
@@ -55,11 +55,11 @@ impl Unseen {
     ///
     /// `AllocError`.
     pub(crate) fn add(&mut self, line: &[u8]) -> Result<(), AllocError>
-        ensures lines { OnOk result (kept_lines self.new
-            ≡ with_line self.old.is_kept line.now (kept_lines self.old)) }
-        ensures kept { self.new.is_kept ≡ self.old.is_kept }
+        ensures lines { OnOk result (recent_lines self.new
+            ≡ with_line self.old.is_retained line.now (recent_lines self.old)) }
+        ensures kept { self.new.is_retained ≡ self.old.is_retained }
     {
-        if !self.is_kept {
+        if !self.is_retained {
             return Ok(());
         }
         if self.lines.len() >= MOST_LINES {
@@ -74,11 +74,11 @@ impl Unseen {
     /// Returns whether a kept line begins with these words. The first such line is forgotten with
     /// the lines before it, or all lines if there is none. Stops keeping lines.
     pub(crate) fn take(&mut self, words: &[u8]) -> bool
-        ensures found { result ≡ has_line words.now self.old }
-        ensures lines { kept_lines self.new ≡ lines_behind words.now (kept_lines self.old) }
-        ensures kept { self.new.is_kept ≡ false }
+        ensures matched { result ≡ has_line words.now self.old }
+        ensures lines { recent_lines self.new ≡ lines_behind words.now (recent_lines self.old) }
+        ensures kept { self.new.is_retained ≡ false }
     {
-        self.is_kept = false;
+        self.is_retained = false;
         match place_of(self.lines.as_slice(), words) {
             Some(place) => {
                 let _ = self.lines.drain(..=place);
@@ -95,7 +95,7 @@ impl Unseen {
 /// The index of the first of these lines that begins with these words.
 fn place_of(lines: &[Vec<u8>], words: &[u8]) -> Option<usize>
     ensures within { IfSome result (λ place. place < length lines.now) }
-    ensures found { is_some result ≡ list_any (begins_with words.now) lines.now }
+    ensures matched { is_some result ≡ list_any (begins_with words.now) lines.now }
     ensures first { IfSome result (λ place. line_octets (drop (place + 1) lines.now)
         ≡ lines_behind words.now (line_octets lines.now)) }
     ensures none { result ≡ None → lines_behind words.now (line_octets lines.now) ≡ [] }

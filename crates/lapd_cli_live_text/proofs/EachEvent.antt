@@ -18,8 +18,8 @@ use Rattle.lapd_cli_live_text.specs.declared.frame_kind.FrameKind.TheVariants.{I
 use Rattle.lapd_cli_live_text.specs.declared.stats.Stats.{Stats}
 use Rattle.lapd_cli_live_text.specs.declared.traffic.Traffic.{Traffic}
 use Rattle.lapd_cli_live_text.specs.FrameKinds.{kind_of, kind_place}
-use Rattle.lapd_cli_live_text.specs.Histories.{CountsEvents, CountsFrames, SideEvent, Sent, Received, Told, received_in, reports_in, sent_in, stats_after}
-use Rattle.lapd_cli_live_text.specs.Stats.{after_received, after_received_control, after_sent, after_sent_control, counted, letter_place, link_place, no_traffic, nothing_counted, numbered, received_counted, sent_counted, told_counted, up_to_most}
+use Rattle.lapd_cli_live_text.specs.Histories.{CountsEvents, CountsFrames, StatsEvent, Sent, Received, Delivered, received_in, reports_in, sent_in, stats_after}
+use Rattle.lapd_cli_live_text.specs.Stats.{after_received, after_received_control, after_sent, after_sent_control, counted, letter_place, link_place, no_traffic, nothing_counted, numbered, received_counted, sent_counted, primitive_counted, up_to_most}
 use Rattle.lapd_cli_live_text.proofs.Tallies.{Fits, few, more, tally, tally_at, tally_sum}
 
 -- ---- Frames of one sender.
@@ -86,67 +86,67 @@ counts_frames from frames = record {
 
 -- ---- What a step leaves of the counts.
 
-record KeepsCounts (old new : Stats) : Type 0 where
+record PreservesCounts (old new : Stats) : Type 0 where
   sent : new.sent ≡ old.sent
   received : new.received ≡ old.received
   reports : new.reports ≡ old.reports
 
-keeps_either : (test : Bool) (old first second : Stats) → KeepsCounts old first → KeepsCounts old second → KeepsCounts old (if test then first else second)
-keeps_either true old first second f g = f
-keeps_either false old first second f g = g
+preserves_either : (test : Bool) (old first second : Stats) → PreservesCounts old first → PreservesCounts old second → PreservesCounts old (if test then first else second)
+preserves_either true old first second f g = f
+preserves_either false old first second f g = g
 
-keeps_numbered : (place ns : ℕ) (stats : Stats) → KeepsCounts stats (numbered place ns stats)
-keeps_numbered place ns stats = keeps_either _ stats _ _ (record { sent = refl; received = refl; reports = refl }) (record { sent = refl; received = refl; reports = refl })
+preserves_numbered : (place ns : ℕ) (stats : Stats) → PreservesCounts stats (numbered place ns stats)
+preserves_numbered place ns stats = preserves_either _ stats _ _ (record { sent = refl; received = refl; reports = refl }) (record { sent = refl; received = refl; reports = refl })
 
-keeps_sent_control : (c : Control) (place : ℕ) (stats : Stats) → KeepsCounts stats (after_sent_control c place stats)
-keeps_sent_control (control.I ns nr p) place stats = keeps_numbered place ns stats
-keeps_sent_control (control.Ua f) place stats = record { sent = refl; received = refl; reports = refl }
-keeps_sent_control other place stats = record { sent = refl; received = refl; reports = refl }
+preserves_sent_control : (c : Control) (place : ℕ) (stats : Stats) → PreservesCounts stats (after_sent_control c place stats)
+preserves_sent_control (control.I ns nr p) place stats = preserves_numbered place ns stats
+preserves_sent_control (control.Ua f) place stats = record { sent = refl; received = refl; reports = refl }
+preserves_sent_control other place stats = record { sent = refl; received = refl; reports = refl }
 
-keeps_sent : (frame : Result Fields FrameFault) (stats : Stats) → KeepsCounts stats (after_sent frame stats)
-keeps_sent (Ok frame) stats = keeps_sent_control frame.control (link_place frame.address) stats
-keeps_sent (Err fault) stats = record { sent = refl; received = refl; reports = refl }
+preserves_sent : (frame : Result Fields FrameFault) (stats : Stats) → PreservesCounts stats (after_sent frame stats)
+preserves_sent (Ok frame) stats = preserves_sent_control frame.control (link_place frame.address) stats
+preserves_sent (Err fault) stats = record { sent = refl; received = refl; reports = refl }
 
-keeps_received_control : (c : Control) (place : ℕ) (stats : Stats) → KeepsCounts stats (after_received_control c place stats)
-keeps_received_control (control.Ua f) place stats = record { sent = refl; received = refl; reports = refl }
-keeps_received_control other place stats = record { sent = refl; received = refl; reports = refl }
+preserves_received_control : (c : Control) (place : ℕ) (stats : Stats) → PreservesCounts stats (after_received_control c place stats)
+preserves_received_control (control.Ua f) place stats = record { sent = refl; received = refl; reports = refl }
+preserves_received_control other place stats = record { sent = refl; received = refl; reports = refl }
 
-keeps_received : (frame : Result Fields FrameFault) (stats : Stats) → KeepsCounts stats (after_received frame stats)
-keeps_received (Ok frame) stats = keeps_received_control frame.control (link_place frame.address) stats
-keeps_received (Err fault) stats = record { sent = refl; received = refl; reports = refl }
+preserves_received : (frame : Result Fields FrameFault) (stats : Stats) → PreservesCounts stats (after_received frame stats)
+preserves_received (Ok frame) stats = preserves_received_control frame.control (link_place frame.address) stats
+preserves_received (Err fault) stats = record { sent = refl; received = refl; reports = refl }
 
 -- ---- The three parts of the counts over a history.
 
-sent_after : (own : Side) (events : List SideEvent) (stats : Stats) → (stats_after own events stats).sent ≡ traffic_after own (sent_in events) stats.sent
-unfolding sent_counted received_counted told_counted
+sent_after : (own : Side) (events : List StatsEvent) (stats : Stats) → (stats_after own events stats).sent ≡ traffic_after own (sent_in events) stats.sent
+unfolding sent_counted received_counted primitive_counted
 sent_after own [] stats = refl
 sent_after own (Sent octets ∷ events) stats = sent_after own events (sent_counted stats own octets)
-    ∙ ap (traffic_after own (sent_in events)) (keeps_sent (frame_at own octets) _).sent
+    ∙ ap (traffic_after own (sent_in events)) (preserves_sent (frame_at own octets) _).sent
 sent_after own (Received octets ∷ events) stats = sent_after own events (received_counted stats (other_side own) octets)
-    ∙ ap (traffic_after own (sent_in events)) (keeps_received (frame_at (other_side own) octets) _).sent
-sent_after own (Told (Of id (what.Report letter)) ∷ events) stats = sent_after own events (told_counted stats (Of id (what.Report letter)))
-sent_after own (Told primitive ∷ events) stats = sent_after own events stats
+    ∙ ap (traffic_after own (sent_in events)) (preserves_received (frame_at (other_side own) octets) _).sent
+sent_after own (Delivered (Of id (what.Report letter)) ∷ events) stats = sent_after own events (primitive_counted stats (Of id (what.Report letter)))
+sent_after own (Delivered primitive ∷ events) stats = sent_after own events stats
 
-received_after : (own : Side) (events : List SideEvent) (stats : Stats)
+received_after : (own : Side) (events : List StatsEvent) (stats : Stats)
     → (stats_after own events stats).received ≡ traffic_after (other_side own) (received_in events) stats.received
-unfolding sent_counted received_counted told_counted
+unfolding sent_counted received_counted primitive_counted
 received_after own [] stats = refl
 received_after own (Sent octets ∷ events) stats = received_after own events (sent_counted stats own octets)
-    ∙ ap (traffic_after (other_side own) (received_in events)) (keeps_sent (frame_at own octets) _).received
+    ∙ ap (traffic_after (other_side own) (received_in events)) (preserves_sent (frame_at own octets) _).received
 received_after own (Received octets ∷ events) stats = received_after own events (received_counted stats (other_side own) octets)
-    ∙ ap (traffic_after (other_side own) (received_in events)) (keeps_received (frame_at (other_side own) octets) _).received
-received_after own (Told (Of id (what.Report letter)) ∷ events) stats = received_after own events (told_counted stats (Of id (what.Report letter)))
-received_after own (Told primitive ∷ events) stats = received_after own events stats
+    ∙ ap (traffic_after (other_side own) (received_in events)) (preserves_received (frame_at (other_side own) octets) _).received
+received_after own (Delivered (Of id (what.Report letter)) ∷ events) stats = received_after own events (primitive_counted stats (Of id (what.Report letter)))
+received_after own (Delivered primitive ∷ events) stats = received_after own events stats
 
-reports_after : (own : Side) (events : List SideEvent) (stats : Stats) → (stats_after own events stats).reports ≡ tally letter_place (reports_in events) stats.reports
-unfolding sent_counted received_counted told_counted
+reports_after : (own : Side) (events : List StatsEvent) (stats : Stats) → (stats_after own events stats).reports ≡ tally letter_place (reports_in events) stats.reports
+unfolding sent_counted received_counted primitive_counted
 reports_after own [] stats = refl
 reports_after own (Sent octets ∷ events) stats = reports_after own events (sent_counted stats own octets)
-    ∙ ap (tally letter_place (reports_in events)) (keeps_sent (frame_at own octets) _).reports
+    ∙ ap (tally letter_place (reports_in events)) (preserves_sent (frame_at own octets) _).reports
 reports_after own (Received octets ∷ events) stats = reports_after own events (received_counted stats (other_side own) octets)
-    ∙ ap (tally letter_place (reports_in events)) (keeps_received (frame_at (other_side own) octets) _).reports
-reports_after own (Told (Of id (what.Report letter)) ∷ events) stats = reports_after own events (told_counted stats (Of id (what.Report letter)))
-reports_after own (Told primitive ∷ events) stats = reports_after own events stats
+    ∙ ap (tally letter_place (reports_in events)) (preserves_received (frame_at (other_side own) octets) _).reports
+reports_after own (Delivered (Of id (what.Report letter)) ∷ events) stats = reports_after own events (primitive_counted stats (Of id (what.Report letter)))
+reports_after own (Delivered primitive ∷ events) stats = reports_after own events stats
 
 letter_within : (l : Letter) → letter_place l < 15
 letter_within letter.A = omega arith
@@ -165,7 +165,7 @@ letter_within letter.M = omega arith
 letter_within letter.N = omega arith
 letter_within letter.O = omega arith
 
-pub each_counted : (own : Side) (events : List SideEvent) → CountsEvents own events (stats_after own events nothing_counted)
+pub each_counted : (own : Side) (events : List StatsEvent) → CountsEvents own events (stats_after own events nothing_counted)
 unfolding nothing_counted
 each_counted own events = record {
   sent = subst (CountsFrames own (sent_in events)) (sym (sent_after own events nothing_counted)) (counts_frames own (sent_in events));

@@ -7,7 +7,7 @@ use Rattle.std.proofs.lemmas.Str.{IsUtf8-from_is_utf8, is_utf8-from_IsUtf8}
 use Rattle.lapd_cli_script.specs.Line.{HasNoSpace, words_of}
 use Rattle.lapd_cli_script.specs.Script.{with_first}
 use Rattle.lapd_cli_script.proofs.WordsOf.{one_word, words_behind}
-use Rattle.lapd_cli_live_text.specs.LiveWishes.{expect_wish, expected, last_word, span_said, words_before}
+use Rattle.lapd_cli_live_text.specs.LiveRequests.{expect_request, expected, last_word, parsed_span, words_before}
 
 -- ---- Words are the parts between spaces, so that joined by spaces they are the octets again.
 
@@ -56,26 +56,26 @@ last_is word last [] = refl
 last_is word last (next ∷ words) = last_is next last words
 
 of_words : (front last word : List ℕ) (words : List (List ℕ)) → join_with_byte 32 (word ∷ words) ≡ front
-    → expect_wish ((word ∷ words) ++ last ∷ []) ≡ option_and_then (expected front) (span_said last)
+    → expect_request ((word ∷ words) ++ last ∷ []) ≡ option_and_then (expected front) (parsed_span last)
 of_words front last word words e = rw (before_last word last words, last_is word last words, e) refl
 
 of_some : (front last : List ℕ) (words : List (List ℕ)) → AreSome words → join_with_byte 32 words ≡ front
-    → expect_wish (words ++ last ∷ []) ≡ option_and_then (expected front) (span_said last)
+    → expect_request (words ++ last ∷ []) ≡ option_and_then (expected front) (parsed_span last)
 of_some front last words w e =
-    let P : List (List ℕ) → Type 0 = λ x. join_with_byte 32 x ≡ front → expect_wish (x ++ last ∷ []) ≡ option_and_then (expected front) (span_said last) in
+    let P : List (List ℕ) → Type 0 = λ x. join_with_byte 32 x ≡ front → expect_request (x ++ last ∷ []) ≡ option_and_then (expected front) (parsed_span last) in
     subst P (sym w.2) (of_words front last w.0 w.1) e
 
 pub expected_cut : (octets front last : List ℕ) → octets ≡ front ++ 32 ∷ last → HasNoSpace last
-    → expect_wish (words_of octets) ≡ option_and_then (expected front) (span_said last)
+    → expect_request (words_of octets) ≡ option_and_then (expected front) (parsed_span last)
 expected_cut octets front last e h =
-    ap (λ x. expect_wish (words_of x)) e ∙ ap expect_wish (words_cut front last h) ∙ of_some front last (words_of front) (some_words front) (joined front)
+    ap (λ x. expect_request (words_of x)) e ∙ ap expect_request (words_cut front last h) ∙ of_some front last (words_of front) (some_words front) (joined front)
 
 none_expected : (ms : Option ℕ) → option_and_then (expected []) ms ≡ None
 none_expected None = refl
 none_expected (Some ms) = refl
 
-pub expected_whole : (octets : List ℕ) → HasNoSpace octets → expect_wish (words_of octets) ≡ None
-expected_whole octets h = ap expect_wish (one_word octets h) ∙ none_expected (span_said octets)
+pub expected_whole : (octets : List ℕ) → HasNoSpace octets → expect_request (words_of octets) ≡ None
+expected_whole octets h = ap expect_request (one_word octets h) ∙ none_expected (parsed_span octets)
 
 -- ---- The words behind the first one.
 

@@ -11,49 +11,49 @@ use Rattle.lapd_cli_live_text.specs.declared.frame_kind.FrameKind.{FrameKind}
 use Rattle.lapd_cli_live_text.specs.declared.stats.Stats.{Stats}
 use Rattle.lapd_cli_live_text.specs.declared.traffic.Traffic.{Traffic}
 use Rattle.lapd_cli_live_text.specs.FrameKinds.{kind_of, kind_place}
-use Rattle.lapd_cli_live_text.specs.Stats.{letter_place, received_counted, sent_counted, told_counted, up_to_most}
+use Rattle.lapd_cli_live_text.specs.Stats.{letter_place, received_counted, sent_counted, primitive_counted, up_to_most}
 
 -- ---- Histories.
 
 -- the side sent a frame, received one from the other side, or reported a primitive
-pub data SideEvent : Type 0 where
-  Sent : List ℕ → SideEvent
-  Received : List ℕ → SideEvent
-  Told : Primitive → SideEvent
+pub data StatsEvent : Type 0 where
+  Sent : List ℕ → StatsEvent
+  Received : List ℕ → StatsEvent
+  Delivered : Primitive → StatsEvent
 
 -- the statistics after an event on this side
-abbrev pub event_counted : Side → Stats → SideEvent → Stats
+abbrev pub event_counted : Side → Stats → StatsEvent → Stats
 event_counted own stats (Sent octets) = sent_counted stats own octets
 event_counted own stats (Received octets) = received_counted stats (other_side own) octets
-event_counted own stats (Told primitive) = told_counted stats primitive
+event_counted own stats (Delivered primitive) = primitive_counted stats primitive
 
 -- and after a history, from its first event on
-abbrev pub stats_after : Side → List SideEvent → Stats → Stats
+abbrev pub stats_after : Side → List StatsEvent → Stats → Stats
 stats_after own [] stats = stats
 stats_after own (event ∷ events) stats = stats_after own events (event_counted own stats event)
 
-abbrev pub sent_in : List SideEvent → List (List ℕ)
+abbrev pub sent_in : List StatsEvent → List (List ℕ)
 sent_in [] = []
 sent_in (Sent octets ∷ events) = octets ∷ sent_in events
 sent_in (Received octets ∷ events) = sent_in events
-sent_in (Told primitive ∷ events) = sent_in events
+sent_in (Delivered primitive ∷ events) = sent_in events
 
-abbrev pub received_in : List SideEvent → List (List ℕ)
+abbrev pub received_in : List StatsEvent → List (List ℕ)
 received_in [] = []
 received_in (Sent octets ∷ events) = received_in events
 received_in (Received octets ∷ events) = octets ∷ received_in events
-received_in (Told primitive ∷ events) = received_in events
+received_in (Delivered primitive ∷ events) = received_in events
 
 -- the letter of a primitive that is a report
 abbrev pub with_report : Primitive → List Letter → List Letter
 with_report (Of id (what.Report letter)) letters = letter ∷ letters
 with_report primitive letters = letters
 
-abbrev pub reports_in : List SideEvent → List Letter
+abbrev pub reports_in : List StatsEvent → List Letter
 reports_in [] = []
 reports_in (Sent octets ∷ events) = reports_in events
 reports_in (Received octets ∷ events) = reports_in events
-reports_in (Told primitive ∷ events) = with_report primitive (reports_in events)
+reports_in (Delivered primitive ∷ events) = with_report primitive (reports_in events)
 
 -- ---- What the counts say.
 
@@ -72,7 +72,7 @@ pub record CountsFrames (from : Side) (frames : List (List ℕ)) (traffic : Traf
   pub octets : traffic.octets ≡ up_to_most (sum_by (λ octets. length octets) frames)
 
 -- the events of this history were counted
-pub record CountsEvents (own : Side) (events : List SideEvent) (stats : Stats) : Type 0 where
+pub record CountsEvents (own : Side) (events : List StatsEvent) (stats : Stats) : Type 0 where
   pub sent : CountsFrames own (sent_in events) stats.sent
   pub received : CountsFrames (other_side own) (received_in events) stats.received
   pub reports : (letter : Letter) → slice_index stats.reports (letter_place letter)

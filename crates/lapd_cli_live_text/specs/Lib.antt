@@ -4,6 +4,6 @@ pub mod Stats
 pub mod LineObjects
 pub mod LineParts
 pub mod AwaitedText
-pub mod LiveWishes
+pub mod LiveRequests
 pub mod Histories
 pub mod Worked

@@ -2,7 +2,7 @@
 use Rattle.std.specs.Prelude.{ℕ, ◌==◌, ◌+◌, if◌then◌else◌, List, [], ◌∷◌, ◌++◌, codes, Option, Some, None, option_and_then, option_map}
 use Rattle.serde_json.specs.Data.{Members, no_members}
 use Rattle.lapd_cli_render.specs.Json.{object_text, with_number, with_text}
-use Rattle.lapd_cli_script.specs.Line.{number_said, words_of}
+use Rattle.lapd_cli_script.specs.Line.{parsed_number, words_of}
 
 -- ---- A word.
 
@@ -27,7 +27,7 @@ named_digits place word None = option_map (λ name. (name, word)) (name_of_place
 -- second word. The number is below 2^64 and has decimal digits alone.
 abbrev pub member_of : ℕ → List ℕ → Option (List ℕ × ℕ)
 member_of place word =
-    option_and_then (λ parts. option_map (λ number. (parts.0, number)) (number_said parts.1))
+    option_and_then (λ parts. option_map (λ number. (parts.0, number)) (parsed_number parts.1))
     (named_digits place word (parts_at_equals word))
 
 -- ---- A line.

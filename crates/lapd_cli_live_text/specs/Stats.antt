@@ -105,10 +105,10 @@ abbrev pub letter_place : Letter → ℕ
 letter_place letter = letter_code letter - 65
 
 -- a report is counted by its letter (Q.921 Appendix II); no other primitive is counted
-unfoldable pub told_counted : Stats → Primitive → Stats
-told_counted stats (Of id (what.Report letter)) =
+unfoldable pub primitive_counted : Stats → Primitive → Stats
+primitive_counted stats (Of id (what.Report letter)) =
     record stats { reports = one_more_at (letter_place letter) stats.reports }
-told_counted stats primitive = stats
+primitive_counted stats primitive = stats
 
 -- all counts and numbers are 0
 unfoldable pub nothing_counted : Stats

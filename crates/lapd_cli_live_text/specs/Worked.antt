@@ -13,7 +13,7 @@ use Rattle.lapd_sides_links.specs.Links.{of_sapi}
 use Rattle.lapd_sides_links.specs.declared.primitive.Primitive.TheVariants.{Of}
 use Rattle.lapd_sides_links.specs.declared.primitive.What.TheVariants.{Report, Confirmed}
 use Rattle.lapd_cli_live_text.specs.declared.stats.Stats.{Stats}
-use Rattle.lapd_cli_live_text.specs.Histories.{SideEvent, Sent, Received, Told, stats_after}
+use Rattle.lapd_cli_live_text.specs.Histories.{StatsEvent, Sent, Received, Delivered, stats_after}
 use Rattle.lapd_cli_live_text.specs.Stats.{nothing_counted}
 
 -- ---- Lines.
@@ -61,16 +61,16 @@ request_timers = record {
 -- The link of TEI 64 is established. The first message is rejected once and sent again, and a
 -- second one is sent. Two octets are received that do not form a valid frame, and an invalid N(R) is
 -- reported.
-abbrev pub rejected_message : List SideEvent
+abbrev pub rejected_message : List StatsEvent
 rejected_message = Sent (0x00 ∷ 0x81 ∷ 0x7F ∷ [])
     ∷ Received (0x00 ∷ 0x81 ∷ 0x73 ∷ [])
-    ∷ Told (Of worked_link Confirmed)
+    ∷ Delivered (Of worked_link Confirmed)
     ∷ Sent (0x00 ∷ 0x81 ∷ 0x00 ∷ 0x00 ∷ 0x08 ∷ 0x01 ∷ [])
     ∷ Received (0x02 ∷ 0x81 ∷ 0x09 ∷ 0x00 ∷ [])
     ∷ Sent (0x00 ∷ 0x81 ∷ 0x00 ∷ 0x00 ∷ 0x08 ∷ 0x01 ∷ [])
     ∷ Sent (0x00 ∷ 0x81 ∷ 0x02 ∷ 0x00 ∷ 0x08 ∷ 0x02 ∷ [])
     ∷ Received (0x00 ∷ 0x81 ∷ [])
-    ∷ Told (Of worked_link (Report J)) ∷ []
+    ∷ Delivered (Of worked_link (Report J)) ∷ []
 
 abbrev pub worked_stats : Stats
 worked_stats = stats_after User rejected_message nothing_counted

@@ -4,22 +4,22 @@ ghost use Rattle.std.specs.Prelude.{◌≡◌, ◌∷◌, List, [], codes, false
 ghost use Rattle.lapd_frame.specs.declared.Side.{Side};
 ghost use Rattle.lapd_frame.specs.declared.Side.TheVariants.{Network, User};
 ghost use Rattle.lapd_frame.specs.declared.Sapi.TheVariants.{Call, Packet};
-ghost use Rattle.lapd_cli_side_lines.specs.Wishes.{Release, named};
+ghost use Rattle.lapd_cli_side_lines.specs.LineRequests.{Release, named};
 ghost use Rattle.lapd_cli_live_text.specs.AwaitedText.{shown_chars};
-ghost use Rattle.lapd_cli_live_text.specs.LiveWishes.{Ask, Busy, Expect, Impair, Read, Run, State, live_wish_of_line};
-ghost use Rattle.lapd_cli_live_text.specs.Histories.{CountsEvents, SideEvent, stats_after};
+ghost use Rattle.lapd_cli_live_text.specs.LiveRequests.{Ask, Busy, Expect, Impair, Read, Run, State, live_request_of_line};
+ghost use Rattle.lapd_cli_live_text.specs.Histories.{CountsEvents, StatsEvent, stats_after};
 ghost use Rattle.lapd_cli_live_text.specs.Stats.{nothing_counted, received_words, reports_words, sent_words};
 ghost use Rattle.lapd_cli_live_text.specs.LineObjects.{words_object};
 ghost use Rattle.lapd_cli_live_text.specs.LinkText.{link_text, management_text};
 ghost use Rattle.lapd_cli_live_text.specs.Worked.{busy_end, enquiry_timers, request_timers, worked_link, worked_stats};
 ghost use Rattle.lapd_link_definition.specs.Parameters.{Parameters};
-ghost use Rattle.lapd_timers.specs.Due.{at_rest};
+ghost use Rattle.lapd_timers.specs.Due.{all_stopped};
 ghost use Rattle.lapd_timers.specs.Durations.{standard_lengths};
 
 /// The statistics of each history of a side are counts over it: of the frames that were sent and
 /// received, by their kinds, of their octets, and of the reports, by their letters.
 pub fn each_event_is_counted()
-    ensures { (own : Side) (events : List SideEvent)
+    ensures { (own : Side) (events : List StatsEvent)
         → CountsEvents own events (stats_after own events nothing_counted) }
 {}
 
@@ -39,7 +39,7 @@ pub fn worked_lines()
         ≡ codes "0 64 state 7 V(S)=1 V(A)=1 V(R)=0 RC=0 queue=0 own-busy peer-busy T203=9998" }
     ensures management { management_text request_timers 500 ≡ codes "tei T202=1500" }
     ensures past { management_text request_timers 2500 ≡ codes "tei T202=0" }
-    ensures none { management_text (at_rest standard_lengths) 500 ≡ [] }
+    ensures none { management_text (all_stopped standard_lengths) 500 ≡ [] }
     ensures object { words_object (codes "0 64 state 7 V(S)=1 RC=0 own-busy T203=9998")
         ≡ codes "{\"RC\":0,\"T203\":9998,\"V(S)\":1,\"line\":\"state 7 own-busy\",\"sapi\":0,\"tei\":64}" }
     ensures later { words_object (codes "x=1 x=2 y= 65 a=b")
@@ -48,27 +48,27 @@ pub fn worked_lines()
 
 /// Requests of lines with the real clock, as documented. The user side has the TEI 70.
 pub fn worked_requests()
-    ensures read { live_wish_of_line Network 127 (codes "read") ≡ Some (Read None) }
-    ensures wait { live_wish_of_line Network 127 (codes "wait 3600000") ≡ Some (Run (Some 3600000)) }
-    ensures too_long { live_wish_of_line Network 127 (codes "wait 3600001") ≡ None }
-    ensures state { live_wish_of_line User 70 (codes "state 0") ≡ Some (State (Some (named Call 70))) }
-    ensures no_tei { live_wish_of_line Network 127 (codes "state 0") ≡ None }
-    ensures release { live_wish_of_line User 70 (codes "release 0")
+    ensures read { live_request_of_line Network 127 (codes "read") ≡ Some (Read None) }
+    ensures wait { live_request_of_line Network 127 (codes "wait 3600000") ≡ Some (Run (Some 3600000)) }
+    ensures too_long { live_request_of_line Network 127 (codes "wait 3600001") ≡ None }
+    ensures state { live_request_of_line User 70 (codes "state 0") ≡ Some (State (Some (named Call 70))) }
+    ensures no_tei { live_request_of_line Network 127 (codes "state 0") ≡ None }
+    ensures release { live_request_of_line User 70 (codes "release 0")
         ≡ Some (Ask (Release (named Call 70))) }
-    ensures busy { live_wish_of_line Network 127 (codes "busy 16 5 off")
+    ensures busy { live_request_of_line Network 127 (codes "busy 16 5 off")
         ≡ Some (Busy (named Packet 5) false) }
-    ensures impair { live_wish_of_line Network 127 (codes "impair 20% 100") ≡ Some (Impair 20 100) }
-    ensures no_delay { live_wish_of_line User 70 (codes "impair 0") ≡ Some (Impair 0 0) }
-    ensures too_much { live_wish_of_line User 70 (codes "impair 101%") ≡ None }
-    ensures tick { live_wish_of_line Network 127 (codes "tick 5") ≡ None }
+    ensures impair { live_request_of_line Network 127 (codes "impair 20% 100") ≡ Some (Impair 20 100) }
+    ensures no_delay { live_request_of_line User 70 (codes "impair 0") ≡ Some (Impair 0 0) }
+    ensures too_much { live_request_of_line User 70 (codes "impair 101%") ≡ None }
+    ensures tick { live_request_of_line Network 127 (codes "tick 5") ≡ None }
 {}
 
 /// Expected words, and how they are shown, as documented. 27 is ESC, 195 and 169 are the octets of é,
 /// and 194 and 155 those of the control character U+009B.
 pub fn worked_expectations()
-    ensures expect { live_wish_of_line Network 127 (codes "expect 0 64  established 100")
+    ensures expect { live_request_of_line Network 127 (codes "expect 0 64  established 100")
         ≡ Some (Expect (codes "0 64  established") 100) }
-    ensures no_words { live_wish_of_line Network 127 (codes "expect 100") ≡ None }
+    ensures no_words { live_request_of_line Network 127 (codes "expect 100") ≡ None }
     ensures escaped { shown_chars (27 ∷ codes "[A") ≡ codes "\\x1b[A" }
     ensures unchanged { shown_chars (195 ∷ 169 ∷ codes " ok") ≡ 195 ∷ 169 ∷ codes " ok" }
     ensures past_ascii { shown_chars (194 ∷ 155 ∷ codes "A") ≡ codes "\\x9bA" }

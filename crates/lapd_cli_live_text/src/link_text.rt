@@ -3,7 +3,7 @@
 ghost use Rattle.std.specs.Prelude.{◌≡◌, ◌++◌, OnOk};
 ghost use Rattle.std.specs.Option.{option_copied};
 ghost use Rattle.std.specs.String.{string_bytes};
-ghost use Rattle.lapd_link.specs.Link.{LinkStandsFor};
+ghost use Rattle.lapd_link.specs.Link.{LinkRepresents};
 ghost use Rattle.lapd_link_definition.specs.End.{End};
 ghost use Rattle.lapd_sides_links.specs.Texts.{id_text};
 ghost use Rattle.lapd_timers.specs.Due.{deadline_of};
@@ -31,7 +31,7 @@ pub fn push_link(
     text: &mut String,
 ) -> Result<(), AllocError>
     // The line of each end that the link stands for, and so of the end that the link shows.
-    ensures end { (e : End) → LinkStandsFor link.now e → OnOk result (string_bytes text.new
+    ensures end { (e : End) → LinkRepresents link.now e → OnOk result (string_bytes text.new
         ≡ string_bytes text.old ++ link_text id.now e (option_copied timers.entry) now) }
     ensures shown { OnOk result (string_bytes text.new ≡ string_bytes text.old
         ++ link_text id.now (shown_end link.now) (option_copied timers.entry) now) }
@@ -100,7 +100,7 @@ fn push_id(id: &LinkId, text: &mut String) -> Result<(), AllocError>
 
 /// Appends the state of a link, its variables, RC, and the number of messages in its queue.
 fn push_end(link: &Link, text: &mut String) -> Result<(), AllocError>
-    ensures { (e : End) → LinkStandsFor link.now e → OnOk result (string_bytes text.new
+    ensures { (e : End) → LinkRepresents link.now e → OnOk result (string_bytes text.new
         ≡ string_bytes text.old ++ end_text e) }
 {
     let state = link.state();

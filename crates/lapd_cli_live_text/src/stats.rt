@@ -2,7 +2,7 @@
 
 ghost use Rattle.std.specs.Prelude.{◌≡◌, ◌<◌, ◌++◌, OnOk, flat_map};
 ghost use Rattle.std.specs.String.{string_bytes};
-ghost use Rattle.lapd_cli_live_text.specs.Stats.{after_received_control, after_sent_control, letter_place, letter_text, letters_text, link_place, nothing_counted, numbered, received_counted, received_words, reports_words, restarted, sent_counted, sent_words, told_counted};
+ghost use Rattle.lapd_cli_live_text.specs.Stats.{after_received_control, after_sent_control, letter_place, letter_text, letters_text, link_place, nothing_counted, numbered, received_counted, received_words, reports_words, restarted, sent_counted, sent_words, primitive_counted};
 
 use crate::frame_kind::FrameKind;
 use crate::link_text::push_number;
@@ -99,9 +99,9 @@ impl Stats {
     }
 
     /// Counts a report by its letter. No other primitive is counted.
-    #[tactic(auto, unfolding(crate::specs::Stats::told_counted))]
-    pub fn count_told(&mut self, primitive: &Primitive)
-        ensures { self.new ≡ told_counted self.old primitive.now }
+    #[tactic(auto, unfolding(crate::specs::Stats::primitive_counted))]
+    pub fn count_primitive(&mut self, primitive: &Primitive)
+        ensures { self.new ≡ primitive_counted self.old primitive.now }
     {
         if let Primitive::Of(_, What::Report(letter)) = primitive {
             let place = place_of_letter(*letter);

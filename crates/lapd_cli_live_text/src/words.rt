@@ -1,10 +1,10 @@
 //! The lines of a side that is served with the real clock.
 
 ghost use Rattle.std.specs.Prelude.{◌≡◌, ◌∷◌, ◌++◌, drop, option_and_then, option_map, IfNone, IfSome};
-ghost use Rattle.std.specs.Str.{is_utf8 as utf8_told};
+ghost use Rattle.std.specs.Str.{is_utf8 as is_utf8_octets};
 ghost use Rattle.lapd_cli_script.specs.Line.{HasNoSpace, Reads, words_left, words_of};
-ghost use Rattle.lapd_cli_side_lines.specs.Wishes.{check_wish};
-ghost use Rattle.lapd_cli_live_text.specs.LiveWishes.{Ask as Asks, delay_left, expect_wish, impair_wish, expected, link_named, live_wish_of, live_wish_of_line, live_wish_of_word, loss_said, network_link, own_live_wish, span_behind, span_left, span_said, state_wish, switch_behind, wish_of_link, with_link, without_percent as digits_of_percent};
+ghost use Rattle.lapd_cli_side_lines.specs.LineRequests.{check_request};
+ghost use Rattle.lapd_cli_live_text.specs.LiveRequests.{Ask as Asks, delay_left, expect_request, impair_request, expected, link_named, live_request_of, live_request_of_line, live_request_of_word, parsed_loss, network_link, own_live_request, span_behind, span_left, parsed_span, state_request, switch_behind, request_of_link, with_link, without_percent as digits_of_percent};
 
 use lapd_cli_outside::Impairment;
 use lapd_cli_script::{LineFault, Words, number_of};
@@ -53,7 +53,7 @@ pub fn read_live_line<'l>(
     own: Tei,
     line: &'l [u8],
 ) -> Result<LiveLine<'l>, LineFault>
-    ensures { Reads live_wish_of result (live_wish_of_line side own line.now) }
+    ensures { Reads live_request_of result (live_request_of_line side own line.now) }
 {
     let mut words = Words::of(line);
     let Some(word) = words.next_word() else {
@@ -74,7 +74,7 @@ fn line_by<'l>(
     word: &[u8],
     behind: Words<'_>,
 ) -> Result<LiveLine<'l>, LineFault>
-    ensures { Reads live_wish_of result (live_wish_of_word side own word.now behind.entry) }
+    ensures { Reads live_request_of result (live_request_of_word side own word.now behind.entry) }
 {
     if word == b"read".as_slice() {
         Ok(LiveLine::Read(span_if_any(behind)?))
@@ -102,7 +102,7 @@ fn own_line<'l>(
     word: &[u8],
     behind: Words<'_>,
 ) -> Result<LiveLine<'l>, LineFault>
-    ensures { Reads live_wish_of result (own_live_wish side own word.now behind.entry) }
+    ensures { Reads live_request_of result (own_live_request side own word.now behind.entry) }
 {
     match side {
         Side::User => {
@@ -122,7 +122,7 @@ fn own_line<'l>(
 
 /// A TEI is checked.
 fn check<'l>(mut behind: Words<'_>) -> Result<LiveLine<'l>, LineFault>
-    ensures { Reads live_wish_of result (option_map Asks (check_wish behind.entry)) }
+    ensures { Reads live_request_of result (option_map Asks (check_request behind.entry)) }
 {
     let Some(word) = behind.next_word() else {
         return Err(LineFault::Bad);
@@ -140,7 +140,7 @@ fn of_link<'l>(
     word: &[u8],
     mut behind: Words<'_>,
 ) -> Result<LiveLine<'l>, LineFault>
-    ensures { Reads live_wish_of result (with_link side own word.now behind.entry) }
+    ensures { Reads live_request_of result (with_link side own word.now behind.entry) }
 {
     let Some(sapi) = behind.next_word() else {
         return Err(LineFault::Bad);
@@ -156,7 +156,7 @@ fn line_of_link<'l>(
     id: LinkId,
     behind: Words<'_>,
 ) -> Result<LiveLine<'l>, LineFault>
-    ensures { Reads live_wish_of result (wish_of_link word.now (id, behind.entry)) }
+    ensures { Reads live_request_of result (request_of_link word.now (id, behind.entry)) }
 {
     if word == b"busy".as_slice() {
         let on = switch(behind)?;
@@ -170,7 +170,7 @@ fn line_of_link<'l>(
 
 /// The state of the link that the last words name, or of each.
 fn state<'l>(side: Side, own: Tei, mut behind: Words<'_>) -> Result<LiveLine<'l>, LineFault>
-    ensures { Reads live_wish_of result (state_wish side own behind.entry) }
+    ensures { Reads live_request_of result (state_request side own behind.entry) }
 {
     let Some(sapi) = behind.next_word() else {
         return Ok(LiveLine::State(None));
@@ -247,7 +247,7 @@ fn span(mut behind: Words<'_>) -> Result<u64, LineFault>
 
 /// The time that a word writes, 1 to 3,600,000 ms.
 fn span_of(word: &[u8]) -> Result<u64, LineFault>
-    ensures { Reads (λ ms. ms) result (span_said word.now) }
+    ensures { Reads (λ ms. ms) result (parsed_span word.now) }
 {
     match number_of(word) {
         Some(ms) if 1 <= ms && ms <= MOST_MS => Ok(ms),
@@ -257,7 +257,7 @@ fn span_of(word: &[u8]) -> Result<u64, LineFault>
 
 /// Frames that are sent are impaired.
 fn impair<'l>(mut behind: Words<'_>) -> Result<LiveLine<'l>, LineFault>
-    ensures { Reads live_wish_of result (impair_wish behind.entry) }
+    ensures { Reads live_request_of result (impair_request behind.entry) }
 {
     let Some(word) = behind.next_word() else {
         return Err(LineFault::Bad);
@@ -269,7 +269,7 @@ fn impair<'l>(mut behind: Words<'_>) -> Result<LiveLine<'l>, LineFault>
 
 /// The loss that a word writes, 0 to 100 per cent, with or without a `%`.
 fn loss_of(word: &[u8]) -> Result<u8, LineFault>
-    ensures { Reads (λ loss. loss) result (loss_said word.now) }
+    ensures { Reads (λ loss. loss) result (parsed_loss word.now) }
 {
     match number_of(without_percent(word)) {
         Some(loss) if loss <= MOST_LOSS => Ok(loss as u8),
@@ -303,7 +303,7 @@ fn delay_if_any(mut behind: Words<'_>) -> Result<u64, LineFault>
 
 /// The request of a line that begins with the word `expect`.
 fn expect(line: &[u8]) -> Result<LiveLine<'_>, LineFault>
-    ensures { Reads live_wish_of result (expect_wish (drop 1 (words_of line.now))) }
+    ensures { Reads live_request_of result (expect_request (drop 1 (words_of line.now))) }
 {
     match behind_first_word(line) {
         Some(behind) => expect_of(behind),
@@ -335,7 +335,7 @@ fn cut_at_first_space(octets: &[u8]) -> Option<(&[u8], &[u8])>
 /// The expected words, up to the last space, and the time after it.
 #[tactic(auto, using(crate::proofs::Expected::expected_cut, crate::proofs::Expected::expected_whole))]
 fn expect_of(behind: &[u8]) -> Result<LiveLine<'_>, LineFault>
-    ensures { Reads live_wish_of result (expect_wish (words_of behind.now)) }
+    ensures { Reads live_request_of result (expect_request (words_of behind.now)) }
 {
     match cut_at_last_space(behind) {
         Some((words, last)) => expect_for(words, last),
@@ -345,8 +345,8 @@ fn expect_of(behind: &[u8]) -> Result<LiveLine<'_>, LineFault>
 
 /// These words are expected for the time that the last one writes.
 fn expect_for<'l>(words: &'l [u8], last: &[u8]) -> Result<LiveLine<'l>, LineFault>
-    ensures { Reads live_wish_of result
-        (option_and_then (expected words.now) (span_said last.now)) }
+    ensures { Reads live_request_of result
+        (option_and_then (expected words.now) (parsed_span last.now)) }
 {
     let ms = span_of(last)?;
     if !words.is_empty() && is_utf8(words) {
@@ -369,7 +369,7 @@ fn cut_at_last_space(octets: &[u8]) -> Option<(&[u8], &[u8])>
 /// Whether these octets are UTF-8.
 #[tactic(auto, using(crate::proofs::Expected::are_utf8, crate::proofs::Expected::not_utf8))]
 fn is_utf8(octets: &[u8]) -> bool
-    ensures { result ≡ utf8_told octets.now }
+    ensures { result ≡ is_utf8_octets octets.now }
 {
     match str::from_utf8(octets) {
         Ok(_) => true,

@@ -1,3 +1,3 @@
-pub mod Deeds
+pub mod IoEvents
 pub mod Passed
 pub mod SentLater

@@ -6,48 +6,48 @@ use Rattle.lapd_cli_outside.specs.declared.outside.Woken.{Woken}
 use Rattle.std.proofs.Math.Logic.{∥∥₁_map}
 use Rattle.lapd_field.specs.Address.{other_side}
 use Rattle.lapd_frame.specs.declared.Side.{Side}
-use Rattle.lapd_cli_outside.specs.Deeds.{Adds, Comes, Deed, FindsNone, Reads, Sends, Waits, received}
-use Rattle.lapd_cli_outside.specs.Passed.{AreHanded, PassedFrame, handed_deeds, handed_more, passed_frame, passed_in}
+use Rattle.lapd_cli_outside.specs.IoEvents.{Adds, Arrives, IoEvent, FindsNone, Reads, Sends, Waits, received}
+use Rattle.lapd_cli_outside.specs.Passed.{ArePassed, PassedFrame, passed_with, passed_more, passed_frame, passed_in}
 
-passed_both : (own : Side) (first last : List Deed) → passed_in own (first ++ last) ≡ passed_in own first ++ passed_in own last
+passed_both : (own : Side) (first last : List IoEvent) → passed_in own (first ++ last) ≡ passed_in own first ++ passed_in own last
 passed_both own [] last = refl
 passed_both own (Reads now ∷ first) last = passed_both own first last
 passed_both own (FindsNone ∷ first) last = passed_both own first last
 passed_both own (Waits until woken ∷ first) last = passed_both own first last
-passed_both own (Comes frame ∷ first) last = ap (λ xs. passed_frame (other_side own) frame ∷ xs) (passed_both own first last)
+passed_both own (Arrives frame ∷ first) last = ap (λ xs. passed_frame (other_side own) frame ∷ xs) (passed_both own first last)
 passed_both own (Sends frame ∷ first) last = ap (λ xs. passed_frame own frame ∷ xs) (passed_both own first last)
 
-still_handed : (own : Side) (a b : Option (List Deed)) (handed : Option (List PassedFrame)) (deeds : List Deed)
-    → AreHanded own a handed → Adds a b deeds → AreHanded own b (handed_deeds own handed deeds)
-still_handed own None None handed deeds are adds = tt
-still_handed own None (Some after) handed deeds are adds = absurd adds
-still_handed own (Some before) None handed deeds are adds = tt
-still_handed own (Some before) (Some after) None deeds are adds = tt
-still_handed own (Some before) (Some after) (Some frames) deeds are adds =
-    ap (λ xs. xs ++ passed_in own deeds) are ∙ sym (passed_both own before deeds) ∙ ap (passed_in own) (sym adds)
+still_passed : (own : Side) (a b : Option (List IoEvent)) (passed_frames : Option (List PassedFrame)) (io_events : List IoEvent)
+    → ArePassed own a passed_frames → Adds a b io_events → ArePassed own b (passed_with own passed_frames io_events)
+still_passed own None None passed_frames io_events are adds = tt
+still_passed own None (Some after) passed_frames io_events are adds = absurd adds
+still_passed own (Some before) None passed_frames io_events are adds = tt
+still_passed own (Some before) (Some after) None io_events are adds = tt
+still_passed own (Some before) (Some after) (Some frames) io_events are adds =
+    ap (λ xs. xs ++ passed_in own io_events) are ∙ sym (passed_both own before io_events) ∙ ap (passed_in own) (sym adds)
 
 -- a tap is passed the frames of the calls since
-pub still_told : (own : Side) (a b : Option (List Deed)) (handed after : Option (List PassedFrame)) (deeds : List Deed)
-    → ∥ AreHanded own a handed ∥₁ → Adds a b deeds → after ≡ handed_deeds own handed deeds → ∥ AreHanded own b after ∥₁
-still_told own a b handed after deeds told adds is =
-    ∥∥₁_map told (λ are. subst (AreHanded own b) (sym is) (still_handed own a b handed deeds are adds))
+pub passes_since : (own : Side) (a b : Option (List IoEvent)) (passed_frames after : Option (List PassedFrame)) (io_events : List IoEvent)
+    → ∥ ArePassed own a passed_frames ∥₁ → Adds a b io_events → after ≡ passed_with own passed_frames io_events → ∥ ArePassed own b after ∥₁
+passes_since own a b passed_frames after io_events are_passed adds is =
+    ∥∥₁_map are_passed (λ are. subst (ArePassed own b) (sym is) (still_passed own a b passed_frames io_events are adds))
 
-more_none : (handed : Option (List PassedFrame)) → handed ≡ handed_more handed []
+more_none : (passed_frames : Option (List PassedFrame)) → passed_frames ≡ passed_more passed_frames []
 more_none None = refl
 more_none (Some frames) = ap Some (sym (append-nil frames))
 
 -- and no others if no frame was received or sent
-pub told_beside : (own : Side) (a b : Option (List Deed)) (handed : Option (List PassedFrame)) (deeds : List Deed)
-    → ∥ AreHanded own a handed ∥₁ → Adds a b deeds → passed_in own deeds ≡ [] → ∥ AreHanded own b handed ∥₁
-told_beside own a b handed deeds told adds none =
-    still_told own a b handed handed deeds told adds (more_none handed ∙ ap (handed_more handed) (sym none))
+pub passed_beside : (own : Side) (a b : Option (List IoEvent)) (passed_frames : Option (List PassedFrame)) (io_events : List IoEvent)
+    → ∥ ArePassed own a passed_frames ∥₁ → Adds a b io_events → passed_in own io_events ≡ [] → ∥ ArePassed own b passed_frames ∥₁
+passed_beside own a b passed_frames io_events are_passed adds none =
+    passes_since own a b passed_frames passed_frames io_events are_passed adds (more_none passed_frames ∙ ap (passed_more passed_frames) (sym none))
 
-pub told_waited : (own : Side) (a b : Option (List Deed)) (handed : Option (List PassedFrame)) (until : Option ℕ) (woken : Result Woken PortFault)
-    → ∥ AreHanded own a handed ∥₁ → IfOk woken (λ w. Adds a b (Waits until w ∷ [])) → OnErr woken (b ≡ a) → ∥ AreHanded own b handed ∥₁
-told_waited own a b handed until (Ok woken) told adds stays = told_beside own a b handed (Waits until woken ∷ []) told adds refl
-told_waited own a b handed until (Err fault) told adds stays = subst (λ (x : Option (List Deed)). ∥ AreHanded own x handed ∥₁) (sym stays) told
+pub passed_waited : (own : Side) (a b : Option (List IoEvent)) (passed_frames : Option (List PassedFrame)) (until : Option ℕ) (woken : Result Woken PortFault)
+    → ∥ ArePassed own a passed_frames ∥₁ → IfOk woken (λ w. Adds a b (Waits until w ∷ [])) → OnErr woken (b ≡ a) → ∥ ArePassed own b passed_frames ∥₁
+passed_waited own a b passed_frames until (Ok woken) are_passed adds stays = passed_beside own a b passed_frames (Waits until woken ∷ []) are_passed adds refl
+passed_waited own a b passed_frames until (Err fault) are_passed adds stays = subst (λ (x : Option (List IoEvent)). ∥ ArePassed own x passed_frames ∥₁) (sym stays) are_passed
 
-pub told_received : (own : Side) (a b : Option (List Deed)) (handed : Option (List PassedFrame)) (room : List ℕ) (count : Option ℕ)
-    → ∥ AreHanded own a handed ∥₁ → Adds a b (received room count) → count ≡ None → ∥ AreHanded own b handed ∥₁
-told_received own a b handed room count told adds none =
-    told_beside own a b handed (FindsNone ∷ []) told (subst (λ (x : Option ℕ). Adds a b (received room x)) none adds) refl
+pub passed_received : (own : Side) (a b : Option (List IoEvent)) (passed_frames : Option (List PassedFrame)) (room : List ℕ) (count : Option ℕ)
+    → ∥ ArePassed own a passed_frames ∥₁ → Adds a b (received room count) → count ≡ None → ∥ ArePassed own b passed_frames ∥₁
+passed_received own a b passed_frames room count are_passed adds none =
+    passed_beside own a b passed_frames (FindsNone ∷ []) are_passed (subst (λ (x : Option ℕ). Adds a b (received room x)) none adds) refl

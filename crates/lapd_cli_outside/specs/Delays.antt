@@ -9,11 +9,12 @@ use Rattle.lapd_cli_outside.specs.declared.outside.Sending.{Sending}
 use Rattle.lapd_cli_outside.specs.declared.outside.Sending.TheVariants.{Sent, Lost}
 use Rattle.lapd_cli_outside.specs.declared.outside.Woken.{Woken}
 use Rattle.lapd_cli_outside.specs.declared.outside.Woken.TheVariants.{Due}
-use Rattle.lapd_cli_outside.specs.Deeds.{Adds, Deed, Reads, Sends, Waits, received}
+use Rattle.lapd_cli_outside.specs.IoEvents.{Adds, IoEvent, Reads, Sends, Waits, received}
 
 -- some calls are made for which this holds
-abbrev pub Does : Option (List Deed) → Option (List Deed) → (List Deed → Type 0) → Type 0
-Does before after P = (deeds : List Deed) × Adds before after deeds × P deeds
+abbrev pub AddsSome : Option (List IoEvent) → Option (List IoEvent) → (List IoEvent → Type 0)
+    → Type 0
+AddsSome before after P = (io_events : List IoEvent) × Adds before after io_events × P io_events
 
 -- ---- Which frames are lost.
 
@@ -36,7 +37,7 @@ pub record IsDrawn (lost : Bool) (old new : Delays) : Type 0 where
 abbrev pub octets_of : DelayedFrame → List ℕ
 octets_of frame = frame.octets.items
 
-abbrev pub sent_of : DelayedFrame → Deed
+abbrev pub sent_of : DelayedFrame → IoEvent
 sent_of frame = Sends (octets_of frame)
 
 -- the first frame is sent later than this moment, if there is one
@@ -73,13 +74,13 @@ pub record IsTakenOff (frame : DelayedFrame) (old new : Delays) : Type 0 where
 -- ---- Sending and waiting.
 
 -- The clock is read, and the frames that are due then are sent, in order. The others stay.
-pub record SendsDue (old new : Delays) (deeds : List Deed) : Type 0 where
+pub record SendsDue (old new : Delays) (io_events : List IoEvent) : Type 0 where
   pub now : ℕ
   pub gone : List DelayedFrame
   pub parts : old.delayed.items ≡ gone ++ new.delayed.items
   pub due : All (λ frame. frame.moment ≤ now) gone
   pub later : FirstIsLater now new.delayed.items
-  pub sent : deeds ≡ Reads now ∷ map sent_of gone
+  pub sent : io_events ≡ Reads now ∷ map sent_of gone
   pub latest : new.latest ≡ old.latest
   pub impairment : new.impairment ≡ old.impairment
   pub random : new.random ≡ old.random
@@ -92,11 +93,12 @@ sooner (Some one) (Some other) = Some (min one other)
 
 -- The frames that are due are sent. Then there is one wait, until the next frame is due or a moment
 -- is reached.
-pub record WaitsOnce (until : Option ℕ) (woken : Woken) (old new : Delays) (deeds : List Deed)
+pub record WaitsOnce (until : Option ℕ) (woken : Woken) (old new : Delays)
+    (io_events : List IoEvent)
     : Type 0 where
-  pub first : List Deed
+  pub first : List IoEvent
   pub due : SendsDue old new first
-  pub all : deeds ≡ first ++ Waits (sooner until (first_moment new.delayed.items)) woken ∷ []
+  pub all : io_events ≡ first ++ Waits (sooner until (first_moment new.delayed.items)) woken ∷ []
 
 -- ---- A frame is passed in.
 
@@ -105,77 +107,80 @@ abbrev pub is_direct : Delays → Bool
 is_direct line = nat_eq line.impairment.delay 0 && nat_eq (length line.delayed.items) 0
 
 -- it is lost, and no call is made
-pub record LosesFrame (sending : Sending) (old new : Delays) (deeds : List Deed) : Type 0 where
+pub record LosesFrame (sending : Sending) (old new : Delays)
+    (io_events : List IoEvent) : Type 0 where
   pub drawn : IsDrawn true old new
-  pub told : sending ≡ Lost
-  pub none : deeds ≡ []
+  pub fate : sending ≡ Lost
+  pub none : io_events ≡ []
 
 -- or it is sent
-pub record SendsFrame (octets : List ℕ) (old new : Delays) (deeds : List Deed) : Type 0 where
+pub record SendsFrame (octets : List ℕ) (old new : Delays) (io_events : List IoEvent) : Type 0 where
   pub drawn : IsDrawn false old new
   pub direct : is_direct old ≡ true
-  pub sent : deeds ≡ Sends octets ∷ []
+  pub sent : io_events ≡ Sends octets ∷ []
 
 -- the clock is read, and a frame is delayed
-pub record PutsOff (octets : List ℕ) (old new : Delays) (deeds : List Deed) : Type 0 where
+pub record PutsOff (octets : List ℕ) (old new : Delays) (io_events : List IoEvent) : Type 0 where
   pub now : ℕ
   pub put_off : IsPutOff now octets old new
-  pub read : deeds ≡ Reads now ∷ []
+  pub read : io_events ≡ Reads now ∷ []
 
 -- or it is delayed
-pub record PutsFrameOff (octets : List ℕ) (sending : Sending) (old new : Delays) (deeds : List Deed)
+pub record PutsFrameOff (octets : List ℕ) (sending : Sending) (old new : Delays)
+    (io_events : List IoEvent)
     : Type 0 where
   pub mid : Delays
   pub drawn : IsDrawn false old mid
   pub indirect : is_direct old ≡ false
-  pub put_off : PutsOff octets mid new deeds
-  pub told : sending ≡ Sent
+  pub put_off : PutsOff octets mid new io_events
+  pub fate : sending ≡ Sent
 
-abbrev pub HandsOver : List ℕ → Sending → Delays → Delays → List Deed → Type 0
-HandsOver octets sending old new deeds = LosesFrame sending old new deeds
-    ⊎ SendsFrame octets old new deeds ⊎ PutsFrameOff octets sending old new deeds
+abbrev pub PassesFrame : List ℕ → Sending → Delays → Delays → List IoEvent → Type 0
+PassesFrame octets sending old new io_events = LosesFrame sending old new io_events
+    ⊎ SendsFrame octets old new io_events ⊎ PutsFrameOff octets sending old new io_events
 
 -- ---- A frame of the other side is received.
 
 -- the frames that are due are sent, and then the line is looked at
-pub record Receives (room : List ℕ) (count : Option ℕ) (old new : Delays) (deeds : List Deed)
+pub record Receives (room : List ℕ) (count : Option ℕ) (old new : Delays) (io_events : List IoEvent)
     : Type 0 where
-  pub first : List Deed
+  pub first : List IoEvent
   pub due : SendsDue old new first
-  pub all : deeds ≡ first ++ received room count
+  pub all : io_events ≡ first ++ received room count
 
 -- ---- A wait.
 
-abbrev pub has_come : Option ℕ → ℕ → Bool
-has_come None now = false
-has_come (Some until) now = nat_le until now
+abbrev pub is_reached : Option ℕ → ℕ → Bool
+is_reached None now = false
+is_reached (Some until) now = nat_le until now
 
 -- A wait that something ended is over, unless that was the moment of a delayed frame alone.
-abbrev pub IsOver : Option ℕ → Woken → Bool → List Deed → Type 0
-IsOver until Due over deeds = (now : ℕ) × (deeds ≡ Reads now ∷ []) × (over ≡ has_come until now)
-IsOver until woken over deeds = (deeds ≡ []) × (over ≡ true)
+abbrev pub IsOver : Option ℕ → Woken → Bool → List IoEvent → Type 0
+IsOver until Due over io_events = (now : ℕ) × (io_events ≡ Reads now ∷ [])
+    × (over ≡ is_reached until now)
+IsOver until woken over io_events = (io_events ≡ []) × (over ≡ true)
 
 -- one wait, and whether it is over
 pub record Round (until : Option ℕ) (woken : Woken) (over : Bool) (old new : Delays)
-    (deeds : List Deed) : Type 0 where
-  pub first : List Deed
+    (io_events : List IoEvent) : Type 0 where
+  pub first : List IoEvent
   pub once : WaitsOnce until woken old new first
-  pub rest : List Deed
+  pub rest : List IoEvent
   pub is : IsOver until woken over rest
-  pub all : deeds ≡ first ++ rest
+  pub all : io_events ≡ first ++ rest
 
 -- rounds that are not over, one after another
-abbrev pub AreRounds : Option ℕ → List (List Deed) → Delays → Delays → Type 0
+abbrev pub AreRounds : Option ℕ → List (List IoEvent) → Delays → Delays → Type 0
 AreRounds until [] old new = new ≡ old
-AreRounds until (deeds ∷ more) old new = (mid : Delays) × (woken : Woken)
-    × Round until woken false old mid deeds × AreRounds until more mid new
+AreRounds until (io_events ∷ more) old new = (mid : Delays) × (woken : Woken)
+    × Round until woken false old mid io_events × AreRounds until more mid new
 
 -- Rounds follow each other until one is over.
-pub record WaitsOn (until : Option ℕ) (woken : Woken) (old new : Delays) (deeds : List Deed)
+pub record WaitsOn (until : Option ℕ) (woken : Woken) (old new : Delays) (io_events : List IoEvent)
     : Type 0 where
-  pub rounds : List (List Deed)
+  pub rounds : List (List IoEvent)
   pub mid : Delays
   pub are : AreRounds until rounds old mid
-  pub last : List Deed
+  pub last : List IoEvent
   pub end : Round until woken true mid new last
-  pub all : deeds ≡ flat_map (λ round. round) rounds ++ last
+  pub all : io_events ≡ flat_map (λ round. round) rounds ++ last

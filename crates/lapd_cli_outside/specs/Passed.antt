@@ -2,7 +2,7 @@
 use Rattle.std.specs.Prelude.{◌≡◌, List, [], ◌∷◌, ◌++◌, ℕ, Option, None, Some, option_map, ⊤}
 use Rattle.lapd_field.specs.Address.{other_side}
 use Rattle.lapd_frame.specs.declared.Side.{Side}
-use Rattle.lapd_cli_outside.specs.Deeds.{Comes, Deed, FindsNone, Reads, Sends, Waits}
+use Rattle.lapd_cli_outside.specs.IoEvents.{Arrives, IoEvent, FindsNone, Reads, Sends, Waits}
 
 -- a frame, and who sent it
 pub record PassedFrame : Type 0 where
@@ -13,24 +13,25 @@ abbrev pub passed_frame : Side → List ℕ → PassedFrame
 passed_frame from octets = record { from = from; octets = octets }
 
 -- the frames that this side received and sent, in order
-abbrev pub passed_in : Side → List Deed → List PassedFrame
+abbrev pub passed_in : Side → List IoEvent → List PassedFrame
 passed_in own [] = []
-passed_in own (Reads now ∷ deeds) = passed_in own deeds
-passed_in own (FindsNone ∷ deeds) = passed_in own deeds
-passed_in own (Waits until woken ∷ deeds) = passed_in own deeds
-passed_in own (Comes frame ∷ deeds) = passed_frame (other_side own) frame ∷ passed_in own deeds
-passed_in own (Sends frame ∷ deeds) = passed_frame own frame ∷ passed_in own deeds
+passed_in own (Reads now ∷ io_events) = passed_in own io_events
+passed_in own (FindsNone ∷ io_events) = passed_in own io_events
+passed_in own (Waits until woken ∷ io_events) = passed_in own io_events
+passed_in own (Arrives frame ∷ io_events) = passed_frame (other_side own) frame
+    ∷ passed_in own io_events
+passed_in own (Sends frame ∷ io_events) = passed_frame own frame ∷ passed_in own io_events
 
 -- the frames that a tap was passed, and some more, if they are recorded
-abbrev pub handed_more : Option (List PassedFrame) → List PassedFrame → Option (List PassedFrame)
-handed_more handed more = option_map (λ frames. frames ++ more) handed
+abbrev pub passed_more : Option (List PassedFrame) → List PassedFrame → Option (List PassedFrame)
+passed_more passed_frames more = option_map (λ frames. frames ++ more) passed_frames
 
 -- and the frames of some more calls
-abbrev pub handed_deeds : Side → Option (List PassedFrame) → List Deed → Option (List PassedFrame)
-handed_deeds own handed deeds = handed_more handed (passed_in own deeds)
+abbrev pub passed_with : Side → Option (List PassedFrame) → List IoEvent → Option (List PassedFrame)
+passed_with own passed_frames io_events = passed_more passed_frames (passed_in own io_events)
 
 -- if both are recorded, a tap was passed exactly the frames of the calls, each once and in order
-abbrev pub AreHanded : Side → Option (List Deed) → Option (List PassedFrame) → Type 0
-AreHanded own None handed = ⊤
-AreHanded own (Some deeds) None = ⊤
-AreHanded own (Some deeds) (Some frames) = frames ≡ passed_in own deeds
+abbrev pub ArePassed : Side → Option (List IoEvent) → Option (List PassedFrame) → Type 0
+ArePassed own None passed_frames = ⊤
+ArePassed own (Some io_events) None = ⊤
+ArePassed own (Some io_events) (Some frames) = frames ≡ passed_in own io_events

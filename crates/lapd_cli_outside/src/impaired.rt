@@ -2,7 +2,7 @@
 
 ghost use Rattle.std.specs.Prelude.{◌≡◌, ◌≤◌, length, IfOk, IfSome, OnOk};
 ghost use Rattle.lapd_port.specs.SocketText.{IsFrameLength};
-ghost use Rattle.lapd_cli_outside.specs.Delays.{has_come as come_by, sooner as sooner_of};
+ghost use Rattle.lapd_cli_outside.specs.Delays.{is_reached as come_by, sooner as sooner_of};
 
 use crate::delays::Delays;
 use crate::impairment::Impairment;
@@ -24,7 +24,7 @@ impl<O: Outside> Impaired<O> {
     ghost use Rattle.std.specs.Prelude.{[]};
     ghost use Rattle.rand_core.specs.Pcg32Seed.{pcg32_seed};
     ghost use Rattle.rand_pcg.specs.Pcg.{pcg32_of_seed};
-    ghost use Rattle.lapd_cli_outside.specs.Delays.{Does, IsOver, PutsOff, Round, SendsDue, WaitsOnce};
+    ghost use Rattle.lapd_cli_outside.specs.Delays.{AddsSome, IsOver, PutsOff, Round, SendsDue, WaitsOnce};
 
     /// Creates a line that is not impaired yet. The seed decides which frames are lost later.
     pub fn new(alloc: Global, inner: O, seed: u64) -> Impaired<O>
@@ -49,7 +49,7 @@ impl<O: Outside> Impaired<O> {
 
     /// Sends the delayed frames that are due.
     fn send_due(&mut self) -> Result<(), PortFault>
-        ensures { OnOk result (Does (O.deeds self.old.inner) (O.deeds self.new.inner)
+        ensures { OnOk result (AddsSome (O.io_events self.old.inner) (O.io_events self.new.inner)
             (SendsDue self.old.delays self.new.delays)) }
     {
         let now = self.inner.moment()?;
@@ -61,7 +61,8 @@ impl<O: Outside> Impaired<O> {
 
     /// Sends the frames that are due, and waits once, until the next frame is due or until `until`.
     fn wait_once(&mut self, until: Option<u64>, lines: Lines) -> Result<Woken, PortFault>
-        ensures { IfOk result (λ woken. Does (O.deeds self.old.inner) (O.deeds self.new.inner)
+        ensures { IfOk result
+            (λ woken. AddsSome (O.io_events self.old.inner) (O.io_events self.new.inner)
             (WaitsOnce until woken self.old.delays self.new.delays)) }
     {
         self.send_due()?;
@@ -72,18 +73,20 @@ impl<O: Outside> Impaired<O> {
     /// Whether the wait of the side is over. The moment of a delayed frame alone does not end it.
     fn is_over(&mut self, until: Option<u64>, woken: Woken) -> Result<bool, PortFault>
         ensures delays { self.new.delays ≡ self.old.delays }
-        ensures over { IfOk result (λ over. Does (O.deeds self.old.inner) (O.deeds self.new.inner)
+        ensures over { IfOk result
+            (λ over. AddsSome (O.io_events self.old.inner) (O.io_events self.new.inner)
             (IsOver until woken over)) }
     {
         match woken {
-            Woken::Due => Ok(has_come(until, self.inner.moment()?)),
+            Woken::Due => Ok(is_reached(until, self.inner.moment()?)),
             Woken::Arrival | Woken::Line | Woken::Closed => Ok(true),
         }
     }
 
     /// Waits once, and returns what ended the wait of the side, if it is over.
     fn wait_round(&mut self, until: Option<u64>, lines: Lines) -> Result<(Woken, bool), PortFault>
-        ensures { IfOk result (λ end. Does (O.deeds self.old.inner) (O.deeds self.new.inner)
+        ensures { IfOk result
+            (λ end. AddsSome (O.io_events self.old.inner) (O.io_events self.new.inner)
             (Round until end.0 end.1 self.old.delays self.new.delays)) }
     {
         let woken = self.wait_once(until, lines)?;
@@ -94,7 +97,7 @@ impl<O: Outside> Impaired<O> {
     /// Delays a frame of 3 to 264 octets.
     fn put_off(&mut self, frame: &[u8]) -> Result<(), PortFault>
         requires { IsFrameLength (length frame.now) }
-        ensures { OnOk result (Does (O.deeds self.old.inner) (O.deeds self.new.inner)
+        ensures { OnOk result (AddsSome (O.io_events self.old.inner) (O.io_events self.new.inner)
             (PutsOff frame.now self.old.delays self.new.delays)) }
     {
         let now = self.inner.moment()?;
@@ -107,12 +110,12 @@ impl<O: Outside> Impaired<O> {
 
 impl<O: Outside> Outside for Impaired<O> {
     ghost use Rattle.std.specs.Prelude.{◌∷◌, []};
-    ghost use Rattle.lapd_cli_outside.specs.Deeds.{Adds, Reads};
-    ghost use Rattle.lapd_cli_outside.specs.Delays.{Does, HandsOver, Receives, WaitsOn};
+    ghost use Rattle.lapd_cli_outside.specs.IoEvents.{Adds, Reads};
+    ghost use Rattle.lapd_cli_outside.specs.Delays.{AddsSome, PassesFrame, Receives, WaitsOn};
 
     fn moment(&mut self) -> Result<u64, PortFault>
-        ensures moment { IfOk result (λ now. Adds (O.deeds self.old.inner)
-            (O.deeds self.new.inner) (Reads now ∷ [])) }
+        ensures moment { IfOk result (λ now. Adds (O.io_events self.old.inner)
+            (O.io_events self.new.inner) (Reads now ∷ [])) }
         ensures delays { self.new.delays ≡ self.old.delays }
     {
         self.inner.moment()
@@ -120,15 +123,17 @@ impl<O: Outside> Outside for Impaired<O> {
 
     fn receive(&mut self, frame: &mut [u8; MOST_OCTETS]) -> Result<Option<usize>, PortFault>
         ensures room { IfOk result (λ count. IfSome count (λ count. count ≤ MOST_OCTETS)) }
-        ensures does { IfOk result (λ count. Does (O.deeds self.old.inner)
-            (O.deeds self.new.inner) (Receives frame.new count self.old.delays self.new.delays)) }
+        ensures does { IfOk result (λ count. AddsSome (O.io_events self.old.inner)
+            (O.io_events self.new.inner)
+            (Receives frame.new count self.old.delays self.new.delays)) }
     {
         self.send_due()?;
         self.inner.receive(frame)
     }
 
     fn wait(&mut self, until: Option<u64>, lines: Lines) -> Result<Woken, PortFault>
-        ensures { IfOk result (λ woken. Does (O.deeds self.old.inner) (O.deeds self.new.inner)
+        ensures { IfOk result
+            (λ woken. AddsSome (O.io_events self.old.inner) (O.io_events self.new.inner)
             (WaitsOn until woken self.old.delays self.new.delays)) }
     {
         for _sleep in 0..u64::MAX {
@@ -142,8 +147,9 @@ impl<O: Outside> Outside for Impaired<O> {
 
     fn send(&mut self, frame: &[u8]) -> Result<Sending, PortFault>
         requires { IsFrameLength (length frame.now) }
-        ensures { IfOk result (λ sending. Does (O.deeds self.old.inner) (O.deeds self.new.inner)
-            (HandsOver frame.now sending self.old.delays self.new.delays)) }
+        ensures { IfOk result
+            (λ sending. AddsSome (O.io_events self.old.inner) (O.io_events self.new.inner)
+            (PassesFrame frame.now sending self.old.delays self.new.delays)) }
     {
         if self.delays.draw() {
             return Ok(Sending::Lost);
@@ -180,7 +186,7 @@ fn sooner(one: Option<u64>, other: Option<u64>) -> Option<u64>
 }
 
 /// Whether an optional moment is reached.
-fn has_come(until: Option<u64>, now: u64) -> bool
+fn is_reached(until: Option<u64>, now: u64) -> bool
     ensures { result ≡ come_by until now }
 {
     match until {

@@ -2,7 +2,7 @@
 
 ghost use Rattle.std.specs.Prelude.{◌≡◌, ◌≤◌, List, Option, None, length, IfOk, IfSome, OnErr, OnOk, ◌∷◌, []};
 ghost use Rattle.lapd_port.specs.SocketText.{IsFrameLength};
-ghost use Rattle.lapd_cli_outside.specs.Deeds.{Adds, Deed, Reads, Sends, Waits, received};
+ghost use Rattle.lapd_cli_outside.specs.IoEvents.{Adds, IoEvent, Reads, Sends, Waits, received};
 
 use crate::impairment::Impairment;
 use lapd_port::{MOST_OCTETS, PortFault};
@@ -42,11 +42,11 @@ pub enum Sending {
 /// The surroundings of a side: the line with the other side behind it, and a clock. Moments are
 /// milliseconds since the start.
 ///
-/// An implementation that records its calls returns them by `deeds`, in order. Clauses about `deeds`
+/// An implementation that records its calls returns them by `io_events`, in order. Clauses about `io_events`
 /// hold for such an implementation, and all others for every implementation.
 pub trait Outside {
     /// The calls so far, if they are recorded.
-    ghost deeds: { Self → Option (List Deed) } = { λ _. None };
+    ghost io_events: { Self → Option (List IoEvent) } = { λ _. None };
 
     /// Reads the clock.
     ///
@@ -54,9 +54,9 @@ pub trait Outside {
     ///
     /// S4 if there is no clock.
     fn moment(&mut self) -> Result<u64, PortFault>
-        ensures deeds { IfOk result (λ now. Adds (deeds self.old) (deeds self.new)
+        ensures io_events { IfOk result (λ now. Adds (io_events self.old) (io_events self.new)
             (Reads now ∷ [])) }
-        ensures err { OnErr result (deeds self.new ≡ deeds self.old) };
+        ensures err { OnErr result (io_events self.new ≡ io_events self.old) };
 
     /// Receives the next frame that has arrived, without waiting, into the beginning of `frame`, and
     /// returns its number of octets. `None` if no whole frame had arrived when the call began. Part
@@ -67,9 +67,9 @@ pub trait Outside {
     /// S2 to S6.
     fn receive(&mut self, frame: &mut [u8; MOST_OCTETS]) -> Result<Option<usize>, PortFault>
         ensures room { IfOk result (λ count. IfSome count (λ count. count ≤ MOST_OCTETS)) }
-        ensures deeds { IfOk result (λ count. Adds (deeds self.old) (deeds self.new)
+        ensures io_events { IfOk result (λ count. Adds (io_events self.old) (io_events self.new)
             (received frame.new count)) }
-        ensures err { OnErr result (deeds self.new ≡ deeds self.old) };
+        ensures err { OnErr result (io_events self.new ≡ io_events self.old) };
 
     /// Waits until a frame may have arrived, a line of input can be read, the connection is closed,
     /// or the moment `until` is reached. `None` is no moment.
@@ -78,9 +78,9 @@ pub trait Outside {
     ///
     /// S2 to S6.
     fn wait(&mut self, until: Option<u64>, lines: Lines) -> Result<Woken, PortFault>
-        ensures deeds { IfOk result (λ woken. Adds (deeds self.old) (deeds self.new)
+        ensures io_events { IfOk result (λ woken. Adds (io_events self.old) (io_events self.new)
             (Waits until woken ∷ [])) }
-        ensures err { OnErr result (deeds self.new ≡ deeds self.old) };
+        ensures err { OnErr result (io_events self.new ≡ io_events self.old) };
 
     /// Sends a frame of 3 to 264 octets.
     ///
@@ -89,15 +89,15 @@ pub trait Outside {
     /// S4 to S6. Part of the frame may have been sent.
     fn send(&mut self, frame: &[u8]) -> Result<Sending, PortFault>
         requires { IsFrameLength (length frame.now) }
-        ensures deeds { OnOk result (Adds (deeds self.old) (deeds self.new)
+        ensures io_events { OnOk result (Adds (io_events self.old) (io_events self.new)
             (Sends frame.now ∷ [])) }
-        ensures err { OnErr result (deeds self.new ≡ deeds self.old) };
+        ensures err { OnErr result (io_events self.new ≡ io_events self.old) };
 
     /// Notes that the side discarded a frame, because it has no link with this SAPI and TEI.
     fn discarded(&mut self, id: LinkId)
-        ensures { deeds self.new ≡ deeds self.old };
+        ensures { io_events self.new ≡ io_events self.old };
 
     /// Loses this share of the sent frames from now on, and delays the others.
     fn impair(&mut self, impairment: Impairment)
-        ensures { deeds self.new ≡ deeds self.old };
+        ensures { io_events self.new ≡ io_events self.old };
 }

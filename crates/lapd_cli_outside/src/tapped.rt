@@ -1,8 +1,8 @@
 //! A line that is tapped.
 
 ghost use Rattle.std.specs.Prelude.{◌≡◌, ◌≤◌, List, [], ◌∷◌, Option, None, length};
-ghost use Rattle.lapd_cli_outside.specs.Deeds.{Adds, Deed};
-ghost use Rattle.lapd_cli_outside.specs.Passed.{AreHanded, PassedFrame, handed_more, passed_frame};
+ghost use Rattle.lapd_cli_outside.specs.IoEvents.{Adds, IoEvent};
+ghost use Rattle.lapd_cli_outside.specs.Passed.{ArePassed, PassedFrame, passed_more, passed_frame};
 
 use crate::impairment::Impairment;
 use crate::outside::{Lines, Outside, Sending, Woken};
@@ -13,16 +13,16 @@ use lapd_table::LinkId;
 /// Receives a copy of each frame of a line, such as a capture file or a socket. It reports its own
 /// errors, and the line continues without it.
 ///
-/// An implementation that records the frames returns them by `handed`.
+/// An implementation that records the frames returns them by `passed_frames`.
 pub trait Tap {
     /// The frames that it was passed so far, if they are recorded.
-    ghost handed: { Self → Option (List PassedFrame) } = { λ _. None };
+    ghost passed_frames: { Self → Option (List PassedFrame) } = { λ _. None };
 
     /// Records a frame of at most 264 octets that the side `from` sent, at a moment in milliseconds
     /// since the start.
     fn pass(&mut self, from: Side, moment: u64, frame: &[u8])
         requires { length frame.now ≤ MOST_OCTETS }
-        ensures handed { handed self.new ≡ handed_more (handed self.old)
+        ensures passed_frames { passed_frames self.new ≡ passed_more (passed_frames self.old)
             (passed_frame from frame.now ∷ []) };
 }
 
@@ -36,14 +36,14 @@ pub struct Tapped<O: Outside, T: Tap> {
     own: Side,
     /// The last moment that was read, in milliseconds since the start.
     moment: u64,
-    ghost told: { ∥ AreHanded own (O.deeds inner) (T.handed tap) ∥₁ },
+    ghost are_passed: { ∥ ArePassed own (O.io_events inner) (T.passed_frames tap) ∥₁ },
 }
 
 impl<O: Outside, T: Tap> Tapped<O, T> {
     /// Taps the line of this side from here on. If both are recorded, the tap was passed the frames
     /// of the calls so far.
     pub fn new(own: Side, inner: O, tap: T) -> Tapped<O, T>
-        requires { AreHanded own (O.deeds inner) (T.handed tap) }
+        requires { ArePassed own (O.io_events inner) (T.passed_frames tap) }
     {
         Tapped {
             inner,
@@ -56,14 +56,14 @@ impl<O: Outside, T: Tap> Tapped<O, T> {
     /// Returns the inner line and the tap, which was passed exactly the frames that were received and
     /// sent.
     pub fn into_parts(self) -> (O, T)
-        ensures { ∥ AreHanded self.own (O.deeds result.0) (T.handed result.1) ∥₁ }
+        ensures { ∥ ArePassed self.own (O.io_events result.0) (T.passed_frames result.1) ∥₁ }
     {
         (self.inner, self.tap)
     }
 }
 
 impl<O: Outside, T: Tap> Outside for Tapped<O, T> {
-    ghost deeds = { λ tapped. O.deeds tapped.inner };
+    ghost io_events = { λ tapped. O.io_events tapped.inner };
 
     fn moment(&mut self) -> Result<u64, PortFault> {
         let now = self.inner.moment()?;

@@ -32,8 +32,8 @@ put_no_float key d (member other e rest) one all =
     (both_none e (put key d rest) other parts.0 (put_no_float key d rest one parts.1))
 
 -- an object keeps none, whether a member is put or there is no memory for it
-pub put_keeps : {A E : Type 0} (r : Result A E) (key : List ℕ) (d : Data) (old new : List (String Global × Value)) → has_float d ≡ false
+pub put_preserves : {A E : Type 0} (r : Result A E) (key : List ℕ) (d : Data) (old new : List (String Global × Value)) → has_float d ≡ false
     → members_have_float (members_view old) ≡ false → OnOk r (members_view new ≡ put key d (members_view old)) → OnErr r (new ≡ old)
     → members_have_float (members_view new) ≡ false
-put_keeps (Ok done) key d old new one all ok err = ap members_have_float ok ∙ put_no_float key d (members_view old) one all
-put_keeps (Err fault) key d old new one all ok err = ap (λ entries. members_have_float (members_view entries)) err ∙ all
+put_preserves (Ok done) key d old new one all ok err = ap members_have_float ok ∙ put_no_float key d (members_view old) one all
+put_preserves (Err fault) key d old new one all ok err = ap (λ entries. members_have_float (members_view entries)) err ∙ all

@@ -144,9 +144,9 @@ with_outcome (tei.InUse value) members = with_tei (codes "tei in-use") value mem
 with_outcome (tei.Doubled value) members = with_tei (codes "tei doubled") value members
 with_outcome other members = members
 
-abbrev pub with_told : Primitive → Members → Members
-with_told (Of id w) members = with_what w (with_link id members)
-with_told (Management outcome) members = with_outcome outcome members
+abbrev pub with_primitive_members : Primitive → Members → Members
+with_primitive_members (Of id w) members = with_what w (with_link id members)
+with_primitive_members (Management outcome) members = with_outcome outcome members
 
 -- ---- Objects.
 
@@ -165,7 +165,7 @@ object_text members = compact_text (object members)
 
 -- the members for a primitive
 abbrev pub primitive_members : Primitive → Members
-primitive_members primitive = with_told primitive no_members
+primitive_members primitive = with_primitive_members primitive no_members
 
 -- one text
 abbrev pub text_members : List ℕ → List ℕ → Members

@@ -3,7 +3,7 @@
 ghost use Rattle.std.specs.Prelude.{◌≡◌, IfOk, OnOk};
 ghost use Rattle.std.specs.String.{string_bytes};
 ghost use Rattle.serde_json.specs.View.{members_view};
-ghost use Rattle.lapd_cli_render.specs.Json.{object_text, primitive_members, text_members, with_link, with_outcome, with_primitive, with_tei, with_told, with_what};
+ghost use Rattle.lapd_cli_render.specs.Json.{object_text, primitive_members, text_members, with_link, with_outcome, with_primitive, with_tei, with_primitive_members, with_what};
 
 use crate::lines::put_octets;
 use crate::members::Members;
@@ -28,7 +28,7 @@ pub fn primitive_line(alloc: Global, primitive: &Primitive) -> Result<String, Al
         string_bytes text ≡ object_text (primitive_members primitive.now)) }
 {
     let mut members = Members::new(alloc);
-    put_told(alloc, &mut members, primitive)?;
+    put_primitive_members(alloc, &mut members, primitive)?;
     members.into_text()
 }
 
@@ -47,11 +47,15 @@ pub fn text_line(alloc: Global, key: &str, text: &str) -> Result<String, AllocEr
 }
 
 /// Adds a primitive and its link.
-fn put_told(alloc: Global, members: &mut Members, told: &Primitive) -> Result<(), AllocError>
+fn put_primitive_members(
+    alloc: Global,
+    members: &mut Members,
+    delivered: &Primitive,
+) -> Result<(), AllocError>
     ensures { OnOk result (members_view members.new.map.entries
-        ≡ with_told told.now (members_view members.old.map.entries)) }
+        ≡ with_primitive_members delivered.now (members_view members.old.map.entries)) }
 {
-    match told {
+    match delivered {
         Primitive::Of(id, what) => {
             put_link(members, id)?;
             put_what(alloc, members, what)

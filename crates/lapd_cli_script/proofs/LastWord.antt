@@ -3,7 +3,7 @@
 use Rattle.std.proofs.Common.{◌≡◌, ◌≢◌, ℕ, ◌==◌, ◌+◌, ◌*◌, ◌⊎◌, inl, inr, Bool, true, false, List, [], ◌∷◌, None, Result, Ok, Err, if◌then◌else◌, refl, sym, ◌∙◌}
 use Rattle.std.specs.Result.{result_ok}
 use Rattle.std.proofs.Math.Dec.{eqb}
-use Rattle.std.proofs.lemmas.Bool.Decides.{eqb_tells}
+use Rattle.std.proofs.lemmas.Bool.Decides.{eqb_implies}
 use Rattle.hex.specs.Hex.{◌>>=◌, decode_pairs, pair_value, value_at}
 use Rattle.hex.specs.declared.error.FromHexError.{FromHexError}
 use Rattle.hex.specs.declared.error.FromHexError.TheVariants.{OddLength}
@@ -17,18 +17,18 @@ has_space [] = false
 has_space (octet ∷ octets) = if octet == 32 then true else has_space octets
 
 -- whether an octet is a space is decidable
-abbrev Tells : ℕ → Type 0
-Tells octet = ((eqb octet 32 ≡ true) × (octet ≡ 32)) ⊎ ((eqb octet 32 ≡ false) × (octet ≢ 32))
+abbrev IsSpaceOrNone : ℕ → Type 0
+IsSpaceOrNone octet = ((eqb octet 32 ≡ true) × (octet ≡ 32)) ⊎ ((eqb octet 32 ≡ false) × (octet ≢ 32))
 
 -- ---- Without a space, the rest is one word.
 
-no_space_behind : (octet : ℕ) (octets : List ℕ) → has_space (octet ∷ octets) ≡ false → (has_space octets ≡ false → HasNoSpace octets) → Tells octet → HasNoSpace (octet ∷ octets)
+no_space_behind : (octet : ℕ) (octets : List ℕ) → has_space (octet ∷ octets) ≡ false → (has_space octets ≡ false → HasNoSpace octets) → IsSpaceOrNone octet → HasNoSpace (octet ∷ octets)
 no_space_behind octet octets h rest (inl is) = let same = is.0 in absurd (cc)
 no_space_behind octet octets h rest (inr not) = let other = not.0 in (not.1, rest (cc))
 
 no_space : (octets : List ℕ) → has_space octets ≡ false → HasNoSpace octets
 no_space [] h = tt
-no_space (octet ∷ octets) h = no_space_behind octet octets h (no_space octets) (eqb_tells octet 32)
+no_space (octet ∷ octets) h = no_space_behind octet octets h (no_space octets) (eqb_implies octet 32)
 
 -- ---- With a space, the rest is at least two words.
 
@@ -46,7 +46,7 @@ some_words : (octets : List ℕ) → AreSome (words_of octets)
 some_words [] = ([], [], refl)
 some_words (octet ∷ octets) = with_one (octet == 32) octet (words_of octets) (some_words octets)
 
-two_words_behind : (octet : ℕ) (octets : List ℕ) → has_space (octet ∷ octets) ≡ true → (has_space octets ≡ true → AreTwo (words_of octets)) → Tells octet → AreTwo (words_of (octet ∷ octets))
+two_words_behind : (octet : ℕ) (octets : List ℕ) → has_space (octet ∷ octets) ≡ true → (has_space octets ≡ true → AreTwo (words_of octets)) → IsSpaceOrNone octet → AreTwo (words_of (octet ∷ octets))
 two_words_behind octet octets h rest (inl is) = let w = some_words octets in ([], w.0, w.1, rw (is.0, w.2) refl)
 two_words_behind octet octets h rest (inr not) =
     let other = not.0 in
@@ -55,7 +55,7 @@ two_words_behind octet octets h rest (inr not) =
 
 two_words : (octets : List ℕ) → has_space octets ≡ true → AreTwo (words_of octets)
 two_words [] h = absurd (cc)
-two_words (octet ∷ octets) h = two_words_behind octet octets h (two_words octets) (eqb_tells octet 32)
+two_words (octet ∷ octets) h = two_words_behind octet octets h (two_words octets) (eqb_implies octet 32)
 
 none_behind : (words : List (List ℕ)) → AreTwo words → octets_behind words ≡ None
 none_behind words w = rw w.3 refl
@@ -71,7 +71,7 @@ bad_rest (Err e) bytes h = refl
 bad_rest (Ok b) (Err e) h = refl
 bad_rest (Ok b) (Ok rest) h = absurd (cc)
 
-undecoded_behind : (i high low : ℕ) (octets : List ℕ) → has_space (high ∷ low ∷ octets) ≡ true → (has_space octets ≡ true → result_ok (decode_pairs (i + 2) octets) ≡ None) → Tells high → Tells low
+undecoded_behind : (i high low : ℕ) (octets : List ℕ) → has_space (high ∷ low ∷ octets) ≡ true → (has_space octets ≡ true → result_ok (decode_pairs (i + 2) octets) ≡ None) → IsSpaceOrNone high → IsSpaceOrNone low
     → result_ok (decode_pairs i (high ∷ low ∷ octets)) ≡ None
 unfolding decode_pairs
 undecoded_behind i high low octets h rest (inl is) tells = rw is.1 refl
@@ -85,7 +85,7 @@ undecoded : (i : ℕ) (octets : List ℕ) → has_space octets ≡ true → resu
 unfolding decode_pairs
 undecoded i [] h = absurd (cc)
 undecoded i (digit ∷ []) h = refl
-undecoded i (high ∷ low ∷ octets) h = undecoded_behind i high low octets h (undecoded (i + 2) octets) (eqb_tells high 32) (eqb_tells low 32)
+undecoded i (high ∷ low ∷ octets) h = undecoded_behind i high low octets h (undecoded (i + 2) octets) (eqb_implies high 32) (eqb_implies low 32)
 
 either_way : (test : Bool) (octets : List ℕ) → result_ok (decode_pairs 0 octets) ≡ None → result_ok (if test then Err OddLength else decode_pairs 0 octets) ≡ None
 either_way true octets h = refl

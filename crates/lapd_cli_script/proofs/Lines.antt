@@ -3,7 +3,7 @@ use Rattle.std.specs.Prelude.{⊤}
 use Rattle.std.proofs.Common.{◌≡◌, ◌≢◌, ◌==◌, ℕ, ◌+◌, List, [], ◌∷◌, ◌++◌, map, drop, Bool, true, false, cond, Option, None, Some, Result, Ok, Err, refl, sym, ap, ◌∙◌, subst, append_assoc}
 use Rattle.std.specs.Io.KnownBytes.{Appends}
 use Rattle.std.proofs.lemmas.Bool.{ne_eqb, eqb-true}
-use Rattle.lapd_cli_script.specs.Script.{Outcome, Step, outcome_of, is_passed_over, before_rest, number_or, state_or, output_of, bad_from, bad_line, state_after, EndsAs, with_first, lines_of}
+use Rattle.lapd_cli_script.specs.Script.{LineOutcome, Step, outcome_of, is_passed_over, before_rest, number_or, state_or, output_of, bad_from, bad_line, state_after, EndsAs, with_first, lines_of}
 use Rattle.lapd_cli_script.specs.WalkState.{HasNoFeed, without_comment, walk_lines}
 use Rattle.lapd_cli_script.specs.declared.script.ScriptFault.{ScriptFault}
 use Rattle.lapd_cli_script.specs.declared.script.ScriptFault.TheVariants.{BadLine, Device, Memory, Port}
@@ -35,15 +35,15 @@ outcome_of-without_comment step s line = by_test (is_passed_over line) refl
 
 -- ---- all lines
 
-before_rest-same : {S : Type 0} (o : Outcome S) (f g : S → List ℕ) → ((t : S) → f t ≡ g t) → before_rest o f ≡ before_rest o g
+before_rest-same : {S : Type 0} (o : LineOutcome S) (f g : S → List ℕ) → ((t : S) → f t ≡ g t) → before_rest o f ≡ before_rest o g
 before_rest-same None f g h = refl
 before_rest-same (Some next) f g h = ap (λ x. next.0 ++ x) (h next.1)
 
-number_or-same : {S : Type 0} (n : ℕ) (o : Outcome S) (f g : S → Option ℕ) → ((t : S) → f t ≡ g t) → number_or n o f ≡ number_or n o g
+number_or-same : {S : Type 0} (n : ℕ) (o : LineOutcome S) (f g : S → Option ℕ) → ((t : S) → f t ≡ g t) → number_or n o f ≡ number_or n o g
 number_or-same n None f g h = refl
 number_or-same n (Some next) f g h = h next.1
 
-state_or-same : {S : Type 0} (s : S) (o : Outcome S) (f g : S → S) → ((t : S) → f t ≡ g t) → state_or s o f ≡ state_or s o g
+state_or-same : {S : Type 0} (s : S) (o : LineOutcome S) (f g : S → S) → ((t : S) → f t ≡ g t) → state_or s o f ≡ state_or s o g
 state_or-same s None f g h = refl
 state_or-same s (Some next) f g h = h next.1
 

@@ -3,7 +3,7 @@ use Rattle.std.proofs.Common.{◌≡◌, ℕ, ◌==◌, ◌+◌, ◌*◌, ◌-�
 use Rattle.std.proofs.lemmas.Bool.{le-ltb, lt-ltb}
 use Rattle.std.proofs.Math.Nat.{lt_of_not-le}
 use Rattle.std.proofs.lemmas.List.{drop_all, drop_more}
-use Rattle.lapd_cli_script.specs.Line.{below_2_64, digits_behind, is_digit, number_said}
+use Rattle.lapd_cli_script.specs.Line.{below_2_64, digits_behind, is_digit, parsed_number}
 
 none_either_way : (b : Bool) (number : Option ℕ) → option_and_then below_2_64 number ≡ None → option_and_then below_2_64 (if b then number else None) ≡ None
 none_either_way true number h = h
@@ -45,8 +45,8 @@ at_least m n h =
     omega arith
 
 -- the number that the digits spell is the number that the loop computes
-pub said : (digits : List ℕ) (number : Option ℕ) → (length digits == 0) ≡ false → option_and_then below_2_64 (digits_behind 0 digits) ≡ number → number_said digits ≡ number
-said digits number some h = rw some h
+pub parsed : (digits : List ℕ) (number : Option ℕ) → (length digits == 0) ≡ false → option_and_then below_2_64 (digits_behind 0 digits) ≡ number → parsed_number digits ≡ number
+parsed digits number some h = rw some h
 
 -- when no digit is left, a number that fits is the result
 pub at_end : (n i : ℕ) (digits : List ℕ) → length digits ≤ i → n < 2 ^ 64 → option_and_then below_2_64 (digits_behind n (drop i digits)) ≡ Some n

@@ -54,22 +54,22 @@ abbrev pub below_2_64 : ℕ → Option ℕ
 below_2_64 n = if nat_lt n (2 ^ 64) then Some n else None
 
 -- the number below 2^64 that these decimal digits spell; `None` without a digit
-abbrev pub number_said : List ℕ → Option ℕ
-number_said digits = if length digits == 0 then None
+abbrev pub parsed_number : List ℕ → Option ℕ
+parsed_number digits = if length digits == 0 then None
     else option_and_then below_2_64 (digits_behind 0 digits)
 
 -- the number below 2^64 in the last word
 abbrev pub number_behind : List (List ℕ) → Option ℕ
 number_behind [] = None
-number_behind (digits ∷ words) = option_and_then (λ none. number_said digits) (nothing_of words)
+number_behind (digits ∷ words) = option_and_then (λ none. parsed_number digits) (nothing_of words)
 
 -- a function returns the parsed value, seen by `view`; it fails with `Bad` if parsing yields
 -- `None`, and it may fail with `Memory`
 abbrev pub Reads : {X Y : Type 0} → (X → Y) → Result X LineFault → Option Y → Type 0
-Reads view (Ok x) said = said ≡ Some (view x)
-Reads view (Err Bad) said = said ≡ None
-Reads view (Err Memory) said = ⊤
-Reads view (Err Device) said = ⊥
+Reads view (Ok x) parsed = parsed ≡ Some (view x)
+Reads view (Err Bad) parsed = parsed ≡ None
+Reads view (Err Memory) parsed = ⊤
+Reads view (Err Device) parsed = ⊥
 
 -- this text followed by a line feed
 abbrev pub text_line : List ℕ → List ℕ

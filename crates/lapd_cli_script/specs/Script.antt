@@ -24,18 +24,18 @@ is_passed_over (octet ∷ octets) = octet == 35
 
 -- the result of a line in a state: the printed text and the next state, or `None` if the line is
 -- not valid
-abbrev pub Outcome : Type 0 → Type 0
-Outcome S = Option (List ℕ × S)
+abbrev pub LineOutcome : Type 0 → Type 0
+LineOutcome S = Option (List ℕ × S)
 
 -- the result of each line in each state
 abbrev pub Step : Type 0 → Type 0
-Step S = S → List ℕ → Outcome S
+Step S = S → List ℕ → LineOutcome S
 
 -- the step of a whole script: an empty line or a comment prints nothing and changes nothing
-abbrev pub outcome_of : {S : Type 0} → Step S → S → List ℕ → Outcome S
+abbrev pub outcome_of : {S : Type 0} → Step S → S → List ℕ → LineOutcome S
 outcome_of step s line = if is_passed_over line then Some ([], s) else step s line
 
-abbrev pub before_rest : {S : Type 0} → Outcome S → (S → List ℕ) → List ℕ
+abbrev pub before_rest : {S : Type 0} → LineOutcome S → (S → List ℕ) → List ℕ
 before_rest None rest = []
 before_rest (Some (text, t)) rest = text ++ rest t
 
@@ -44,7 +44,7 @@ abbrev pub output_of : {S : Type 0} → Step S → S → List (List ℕ) → Lis
 output_of step s [] = []
 output_of step s (line ∷ lines) = before_rest (outcome_of step s line) (λ t. output_of step t lines)
 
-abbrev pub number_or : {S : Type 0} → ℕ → Outcome S → (S → Option ℕ) → Option ℕ
+abbrev pub number_or : {S : Type 0} → ℕ → LineOutcome S → (S → Option ℕ) → Option ℕ
 number_or number None rest = Some number
 number_or number (Some (text, t)) rest = rest t
 
@@ -58,7 +58,7 @@ bad_from number step s (line ∷ lines) = number_or number (outcome_of step s li
 abbrev pub bad_line : {S : Type 0} → Step S → S → List (List ℕ) → Option ℕ
 bad_line step s lines = bad_from 1 step s lines
 
-abbrev pub state_or : {S : Type 0} → S → Outcome S → (S → S) → S
+abbrev pub state_or : {S : Type 0} → S → LineOutcome S → (S → S) → S
 state_or s None rest = s
 state_or s (Some (text, t)) rest = rest t
 
@@ -87,13 +87,13 @@ EndsAs step s (Err Device) lines old new = ⊤
 EndsAs step s (Err (Port fault)) lines old new = ⊥
 
 -- how one line of a command ends, from the specified result of the line
-abbrev pub LineEndsAs : {C S : Type 0} → (C → S → Type 0) → Outcome S → Result ⊤ LineFault → C
+abbrev pub LineEndsAs : {C S : Type 0} → (C → S → Type 0) → LineOutcome S → Result ⊤ LineFault → C
     → Option (List ℕ) → Option (List ℕ) → Type 0
-LineEndsAs stands_for outcome (Ok done) command old new =
-    IsSomeAnd outcome (λ next. stands_for command next.1 × Appends old new next.0)
-LineEndsAs stands_for outcome (Err Bad) command old new = IsNone outcome × Keeps old new
-LineEndsAs stands_for outcome (Err LineMemory) command old new = Keeps old new
-LineEndsAs stands_for outcome (Err LineDevice) command old new = ⊤
+LineEndsAs represents outcome (Ok done) command old new =
+    IsSomeAnd outcome (λ next. represents command next.1 × Appends old new next.0)
+LineEndsAs represents outcome (Err Bad) command old new = IsNone outcome × Keeps old new
+LineEndsAs represents outcome (Err LineMemory) command old new = Keeps old new
+LineEndsAs represents outcome (Err LineDevice) command old new = ⊤
 
 -- the program's exit status after a fault; status 2 is a fault in the command line
 abbrev pub status_of : ScriptFault → ℕ

@@ -43,25 +43,26 @@ pub record Walk {S : Type 0} (step : Step S) (s : S) (lines more : List (List �
 -- how a run over the lines ends that is to leave the last ones
 abbrev pub WalkEnds : {C S : Type 0} → (C → S → Type 0) → Step S → S → Result ⊤ ScriptFault
     → List (List ℕ) → List (List ℕ) → C → ℕ → ℕ → Option (List ℕ) → Option (List ℕ) → Type 0
-WalkEnds {C} {S} stands_for step s (Ok done) lines last command n m old new = (t : S)
-    × stands_for command t × Walk step s lines last t n m old new
-WalkEnds {C} {S} stands_for step s (Err (BadLine number)) lines last command n m old new =
+WalkEnds {C} {S} represents step s (Ok done) lines last command n m old new = (t : S)
+    × represents command t × Walk step s lines last t n m old new
+WalkEnds {C} {S} represents step s (Err (BadLine number)) lines last command n m old new =
     (t : S) × (line : List ℕ) × (more : List (List ℕ)) × (i : ℕ)
     × Walk step s lines (line ∷ more) t n i old new × (outcome_of step t line ≡ None)
     × (number ≡ i + 1)
-WalkEnds {C} {S} stands_for step s (Err Memory) lines last command n m old new =
+WalkEnds {C} {S} represents step s (Err Memory) lines last command n m old new =
     (t : S) × (more : List (List ℕ)) × (i : ℕ) × Walk step s lines more t n i old new
-WalkEnds {C} {S} stands_for step s (Err Device) lines last command n m old new = ⊤
-WalkEnds stands_for step s (Err (Port fault)) lines last command n m old new = ⊥
+WalkEnds {C} {S} represents step s (Err Device) lines last command n m old new = ⊤
+WalkEnds represents step s (Err (Port fault)) lines last command n m old new = ⊥
 
 -- the run ends as before, or with a device fault
-abbrev pub KeepsFault : Result ⊤ ScriptFault → Result ⊤ ScriptFault → Type 0
-KeepsFault ended result = (result ≡ ended) ⊎ (result ≡ Err Device)
+abbrev pub PreservesFault : Result ⊤ ScriptFault → Result ⊤ ScriptFault → Type 0
+PreservesFault ended result = (result ≡ ended) ⊎ (result ≡ Err Device)
 
 -- the run has executed all lines before the unfinished line in `cut` and the bytes left in the
 -- reader
-abbrev pub Came : {C S : Type 0} → (C → S → Type 0) → Step S → S → Option (List ℕ) → Option (List ℕ)
+abbrev pub WalkIsAt : {C S : Type 0} → (C → S → Type 0) → Step S → S → Option (List ℕ) → Option
+    (List ℕ)
     → C → List ℕ → ℕ → Option (List ℕ) → Option (List ℕ) → Type 0
-Came {C} {S} stands_for step s initial now command cut n a b = IfSome initial
-    (λ octets. (rest : List ℕ) × (t : S) × (now ≡ Some rest) × stands_for command t
+WalkIsAt {C} {S} represents step s initial now command cut n a b = IfSome initial
+    (λ octets. (rest : List ℕ) × (t : S) × (now ≡ Some rest) × represents command t
     × Walk step s (walk_lines octets) (walk_lines (cut ++ rest)) t 0 n a b)

@@ -4,7 +4,7 @@ ghost use Rattle.std.specs.Prelude.{◌≡◌, ℕ, ◌+◌, ◌<◌, ◌≤◌,
 ghost use Rattle.std.specs.Io.KnownBytes.{Appends, Keeps};
 ghost use Rattle.lapd_cli_script.specs.Script.{Step, EndsAs, LineEndsAs, outcome_of, is_passed_over as passed_over, lines_of, state_after, status_of};
 ghost use Rattle.lapd_cli_script.specs.declared.script.LineFault.TheVariants.{Device as LineDevice};
-ghost use Rattle.lapd_cli_script.specs.WalkState.{HasNoFeed, KeepsFault, WalkEnds, is_comment, walk_lines, without_comment};
+ghost use Rattle.lapd_cli_script.specs.WalkState.{HasNoFeed, PreservesFault, WalkEnds, is_comment, walk_lines, without_comment};
 
 use lapd_port::PortFault;
 use memchr::memchr;
@@ -71,7 +71,7 @@ pub trait Command {
     ghost step: { Step State };
 
     /// The value represents the state.
-    ghost stands_for: { Self → State → Type 0 };
+    ghost represents: { Self → State → Type 0 };
 
     /// Executes one line, and prints its text. The line has no line feed and is neither empty nor a
     /// comment. All allocations precede the first write.
@@ -81,8 +81,8 @@ pub trait Command {
     /// `Bad` if the line is not valid for the command, `Device` if a write fails, `Memory` if an
     /// allocation fails.
     fn run<W: Write>(&mut self, line: &[u8], out: &mut W) -> Result<(), LineFault>
-        ensures { (s : State) → stands_for self.old s
-            → LineEndsAs stands_for (step s line.now) result self.new (W.contents out.old)
+        ensures { (s : State) → represents self.old s
+            → LineEndsAs represents (step s line.now) result self.new (W.contents out.old)
             (W.contents out.new) };
 }
 
@@ -107,15 +107,15 @@ pub fn walk<C: Command, R: Read, W: Write>(
     script: &mut R,
     out: &mut W,
 ) -> Result<(), ScriptFault>
-    ensures ended { (s : C.State) → C.stands_for command.old s → IfSome (R.remaining script.old)
+    ensures ended { (s : C.State) → C.represents command.old s → IfSome (R.remaining script.old)
         (λ octets. EndsAs C.step s result (lines_of octets) (W.contents out.old)
         (W.contents out.new)) }
-    ensures state { (s : C.State) → C.stands_for command.old s → IfSome (R.remaining script.old)
-        (λ octets. OnOk result (C.stands_for command.new
+    ensures state { (s : C.State) → C.represents command.old s → IfSome (R.remaining script.old)
+        (λ octets. OnOk result (C.represents command.new
         (state_after C.step s (lines_of octets)))) }
 {
     let ended = walk_script(alloc, command, script, out);
-    hand_out(ended, out)
+    flush_rest(ended, out)
 }
 
 // Executes the script, and flushes before each read.
@@ -125,8 +125,8 @@ fn walk_script<C: Command, R: Read, W: Write>(
     script: &mut R,
     out: &mut W,
 ) -> Result<(), ScriptFault>
-    ensures { (s : C.State) → C.stands_for command.old s → IfSome (R.remaining script.old)
-        (λ octets. (m : ℕ) × WalkEnds C.stands_for C.step s result
+    ensures { (s : C.State) → C.represents command.old s → IfSome (R.remaining script.old)
+        (λ octets. (m : ℕ) × WalkEnds C.represents C.step s result
         (walk_lines octets) [] command.new 0 m
         (W.contents out.old) (W.contents out.new)) }
 {
@@ -134,7 +134,7 @@ fn walk_script<C: Command, R: Read, W: Write>(
     let mut cut = Vec::new(alloc);
     let mut part = [0u8; PART];
     for read in 0..MOST_READS {
-        hand_out(Ok(()), out)?;
+        flush_rest(Ok(()), out)?;
         match script.read(&mut part) {
             Ok(0) => return walk_last(command, &mut number, cut.as_slice(), out),
             Ok(count) => walk_part(command, &mut number, &mut cut, &part[..count], out)?,
@@ -161,8 +161,8 @@ fn walk_part<C: Command, W: Write>(
     requires no_feed { HasNoFeed cut.old.items }
     ensures count { number.new ≤ number.old + length octets.now }
     ensures cut { OnOk result (HasNoFeed cut.new.items) }
-    ensures ended { (s : C.State) (after : List ℕ) → C.stands_for command.old s
-        → WalkEnds C.stands_for C.step s result (walk_lines (cut.old.items ++ octets.now ++ after))
+    ensures ended { (s : C.State) (after : List ℕ) → C.represents command.old s
+        → WalkEnds C.represents C.step s result (walk_lines (cut.old.items ++ octets.now ++ after))
         (walk_lines (cut.new.items ++ after)) command.new number.old number.new
         (W.contents out.old) (W.contents out.new) }
 {
@@ -171,7 +171,7 @@ fn walk_part<C: Command, W: Write>(
         walk_whole(command, number, cut, line, out)?;
         rest = left;
     }
-    keep_cut(cut, rest)?;
+    append_cut(cut, rest)?;
     Ok(())
 }
 
@@ -188,8 +188,8 @@ fn walk_whole<C: Command, W: Write>(
     requires line_no_feed { HasNoFeed line.now }
     ensures count { number.new ≤ number.old + 1 }
     ensures used { OnOk result (cut.new.items ≡ []) }
-    ensures ended { (s : C.State) (left after : List ℕ) → C.stands_for command.old s
-        → WalkEnds C.stands_for C.step s result
+    ensures ended { (s : C.State) (left after : List ℕ) → C.represents command.old s
+        → WalkEnds C.represents C.step s result
         (walk_lines (cut.old.items ++ (line.now ++ 10 ∷ left) ++ after))
         (walk_lines (left ++ after))
         command.new number.old number.new (W.contents out.old) (W.contents out.new) }
@@ -197,7 +197,7 @@ fn walk_whole<C: Command, W: Write>(
     if cut.is_empty() {
         return walk_line(command, number, line, out);
     }
-    keep(cut, line)?;
+    append(cut, line)?;
     walk_line(command, number, cut.as_slice(), out)?;
     cut.clear();
     Ok(())
@@ -212,8 +212,8 @@ fn walk_last<C: Command, W: Write>(
 ) -> Result<(), ScriptFault>
     requires room { number.old + 1 < 2 ^ 64 }
     requires no_feed { HasNoFeed cut.now }
-    ensures { (s : C.State) → C.stands_for command.old s
-        → WalkEnds C.stands_for C.step s result (walk_lines cut.now) [] command.new number.old
+    ensures { (s : C.State) → C.represents command.old s
+        → WalkEnds C.represents C.step s result (walk_lines cut.now) [] command.new number.old
         number.new
         (W.contents out.old) (W.contents out.new) }
 {
@@ -232,8 +232,8 @@ fn walk_line<C: Command, W: Write>(
 ) -> Result<(), ScriptFault>
     requires { number.old + 1 < 2 ^ 64 }
     ensures count { number.new ≡ number.old + 1 }
-    ensures ended { (s : C.State) (more : List (List ℕ)) → C.stands_for command.old s
-        → WalkEnds C.stands_for C.step s result (without_comment line.now ∷ more) more command.new
+    ensures ended { (s : C.State) (more : List (List ℕ)) → C.represents command.old s
+        → WalkEnds C.represents C.step s result (without_comment line.now ∷ more) more command.new
         number.old number.new
         (W.contents out.old) (W.contents out.new) }
 {
@@ -268,11 +268,11 @@ fn first_line(octets: &[u8]) -> Option<(&[u8], &[u8])>
 
 // Appends octets to the unfinished line. Of a comment it keeps only the first octet, because the
 // rest is skipped.
-fn keep_cut(cut: &mut Vec<u8>, octets: &[u8]) -> Result<(), ScriptFault>
+fn append_cut(cut: &mut Vec<u8>, octets: &[u8]) -> Result<(), ScriptFault>
     ensures ok { OnOk result (cut.new.items ≡ without_comment (cut.old.items ++ octets.now)) }
     ensures err { IsOkUnless result ScriptFault.Memory }
 {
-    keep(cut, octets)?;
+    append(cut, octets)?;
     if is_comment(cut.as_slice()) {
         cut.truncate(1);
     }
@@ -287,7 +287,7 @@ fn is_comment(line: &[u8]) -> bool
 }
 
 // Appends octets to the unfinished line.
-fn keep(cut: &mut Vec<u8>, octets: &[u8]) -> Result<(), ScriptFault>
+fn append(cut: &mut Vec<u8>, octets: &[u8]) -> Result<(), ScriptFault>
     ensures ok { OnOk result (cut.new.items ≡ cut.old.items ++ octets.now) }
     ensures err { IsOkUnless result ScriptFault.Memory }
 {
@@ -296,9 +296,9 @@ fn keep(cut: &mut Vec<u8>, octets: &[u8]) -> Result<(), ScriptFault>
 }
 
 // Flushes the writer, and returns how the run ended unless the flush fails.
-fn hand_out<W: Write>(ended: Result<(), ScriptFault>, out: &mut W) -> Result<(), ScriptFault>
+fn flush_rest<W: Write>(ended: Result<(), ScriptFault>, out: &mut W) -> Result<(), ScriptFault>
     ensures bytes { Keeps (W.contents out.old) (W.contents out.new) }
-    ensures ended { KeepsFault ended result }
+    ensures ended { PreservesFault ended result }
 {
     if ended != Err(ScriptFault::Device) && out.flush().is_err() {
         return Err(ScriptFault::Device);

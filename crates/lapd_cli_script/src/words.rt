@@ -1,7 +1,7 @@
 //! The words of a script's line.
 
 ghost use Rattle.std.specs.Prelude.{◌≡◌, ◌∷◌, ◌++◌, ◌-◌, MatchOption, None, Some, [], if◌then◌else◌, OnErr, ⊤};
-ghost use Rattle.lapd_cli_script.specs.Line.{HasNoSpace, Reads, is_digit, nothing_of, number_behind, number_said, octets_behind, octets_of, words_of};
+ghost use Rattle.lapd_cli_script.specs.Line.{HasNoSpace, Reads, is_digit, nothing_of, number_behind, parsed_number, octets_behind, octets_of, words_of};
 
 use crate::script::LineFault;
 use memchr::memchr;
@@ -161,7 +161,7 @@ fn fill_with(octets: &mut Vec<u8>, digits: &[u8]) -> Result<(), LineFault>
 /// The number below 2^64 that these decimal digits spell. Leading zeros are allowed. Returns `None`
 /// if the digits are not such a number, or if there are none.
 pub fn number_of(digits: &[u8]) -> Option<u64>
-    ensures { result ≡ number_said digits.now }
+    ensures { result ≡ parsed_number digits.now }
 {
     if digits.is_empty() {
         return None;

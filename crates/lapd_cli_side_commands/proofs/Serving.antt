@@ -13,16 +13,16 @@ use Rattle.lapd_sides.specs.declared.request.Request.{Request}
 use Rattle.lapd_sides.specs.declared.request.Request.TheVariants as request
 use Rattle.lapd_sides.specs.declared.either_side.EitherSide.{EitherSide}
 use Rattle.lapd_sides.specs.declared.either_side.EitherSide.TheVariants as either
-use Rattle.lapd_sides.specs.Either.{side_of, Answers, Expires, Rests}
+use Rattle.lapd_sides.specs.Either.{side_of, Answers, Expires, StaysIdle}
 use Rattle.lapd_frame.specs.declared.Side.{Side}
-use Rattle.lapd_cli_script.specs.Script.{Outcome}
+use Rattle.lapd_cli_script.specs.Script.{LineOutcome}
 use Rattle.lapd_cli_side_lines.specs.declared.side_lines.SideLine.{SideLine}
 use Rattle.lapd_cli_side_lines.specs.declared.line_style.LineStyle.{LineStyle}
 use Rattle.lapd_cli_side_lines.specs.SideTexts.{acts_text, frame_text_line, frames_text, primitive_line, primitives_text}
 use Rattle.lapd_cli_side_lines.specs.Calls.{frames_given, primitives_given}
-use Rattle.lapd_cli_side_commands.specs.Served.{AtWork, Asks, Devices, ExpiresAll, HasComeTo, LineDoes, LinesDo, Progress, after_line, side_step, wish_list}
+use Rattle.lapd_cli_side_commands.specs.Served.{AtWork, Asks, Devices, ExpiresAll, HasReached, LineDoes, LinesDo, Progress, after_line, side_step, request_list}
 use Rattle.lapd_cli_side_commands.specs.Clocks.{Clocked, clock_step, clocked, moment_after}
-use Rattle.lapd_cli_side_lines.specs.Wishes.{Wish, Read, Tick, Establish, Release, Give, Unit, Busy, AskTei, Check, wish_of, wish_of_line, wish_of_request}
+use Rattle.lapd_cli_side_lines.specs.LineRequests.{LineRequest, Read, Tick, Establish, Release, Give, Unit, Busy, AskTei, Check, request_of, request_of_line, line_request_of}
 use Rattle.lapd_cli_side_lines.proofs.Calls.{AreExpired, one_more, then_none}
 
 -- ---- Frames.
@@ -41,10 +41,10 @@ one_of_all octets frames at frame item within is says =
     ap (map octets) (one_taken frames at frame within is) ∙ map-append octets (take at frames) (frame ∷ []) ∙ ap (λ x. map octets (take at frames) ++ x ∷ []) (sym says)
 
 -- one frame more of a list is kept
-pub one_kept : {F : Type 0} (octets : F → List ℕ) (frames : List F) (at : ℕ) (frame : F) (item : List ℕ) (before mid after : List (List ℕ)) → at < length frames
+pub one_preserved : {F : Type 0} (octets : F → List ℕ) (frames : List F) (at : ℕ) (frame : F) (item : List ℕ) (before mid after : List (List ℕ)) → at < length frames
     → frame ≡ get_or frames at frame → item ≡ octets frame → mid ≡ before ++ map octets (take at frames) → after ≡ mid ++ item ∷ []
     → after ≡ before ++ map octets (take (at + 1) frames)
-one_kept octets frames at frame item before mid after within is says so more =
+one_preserved octets frames at frame item before mid after within is says so more =
     more ∙ ap (λ (kept : List (List ℕ)). kept ++ item ∷ []) so ∙ append_assoc before (map octets (take at frames)) (item ∷ [])
     ∙ ap (λ (kept : List (List ℕ)). before ++ kept) (sym (one_of_all octets frames at frame item within is says))
 
@@ -79,11 +79,11 @@ one_printed line frames at frame text printed more grown within is says before n
     subst (Appends printed grown) (sym all) (Appends-trans printed more grown _ _ before now)
 
 -- flushing the writer does not change its contents
-pub appends_kept : (a b c : Option (List ℕ)) (text : List ℕ) → Appends a b text → Keeps b c → Appends a c text
-appends_kept None b c text p q = tt
-appends_kept (Some x) None c text p q = absurd p
-appends_kept (Some x) (Some y) None text p q = absurd q
-appends_kept (Some x) (Some y) (Some z) text p q = q ∙ p
+pub appends_preserved : (a b c : Option (List ℕ)) (text : List ℕ) → Appends a b text → Keeps b c → Appends a c text
+appends_preserved None b c text p q = tt
+appends_preserved (Some x) None c text p q = absurd p
+appends_preserved (Some x) (Some y) None text p q = absurd q
+appends_preserved (Some x) (Some y) (Some z) text p q = q ∙ p
 
 pub on_both : {A E : Type 0} (r : Result A E) (P Q R : Type 0) → (P → Q → R) → OnOk r P → OnOk r Q → OnOk r R
 on_both (Ok done) P Q R f p q = f p q
@@ -92,22 +92,22 @@ on_both (Err fault) P Q R f p q = tt
 -- ---- Expiries.
 
 -- the timers that expired so far, with their output kept
-pub record ExpiresSome (style : LineStyle) (now : ℕ) (side : Side) (old new : EitherSide) (kept : List (List ℕ)) (traced told : List ℕ) : Type 0 where
+pub record ExpiresSome (style : LineStyle) (now : ℕ) (side : Side) (old new : EitherSide) (kept : List (List ℕ)) (traced delivered : List ℕ) : Type 0 where
   pub calls : List Effects
   pub are : AreExpired now calls old new
   pub gave : kept ≡ frames_given calls
   pub lines : traced ≡ frames_text style side (frames_given calls)
-  pub says : told ≡ primitives_text style (primitives_given calls)
+  pub says : delivered ≡ primitives_text style (primitives_given calls)
 
-pub none_yet : (style : LineStyle) (now : ℕ) (side : Side) (old : EitherSide) (kept : List (List ℕ)) (traced told : List ℕ) → kept ≡ [] → traced ≡ [] → told ≡ []
-    → ExpiresSome style now side old old kept traced told
-none_yet style now side old kept traced told no_frames no_lines no_words = record { calls = []; are = refl; gave = no_frames; lines = no_lines; says = no_words }
+pub none_yet : (style : LineStyle) (now : ℕ) (side : Side) (old : EitherSide) (kept : List (List ℕ)) (traced delivered : List ℕ) → kept ≡ [] → traced ≡ [] → delivered ≡ []
+    → ExpiresSome style now side old old kept traced delivered
+none_yet style now side old kept traced delivered no_frames no_lines no_words = record { calls = []; are = refl; gave = no_frames; lines = no_lines; says = no_words }
 
-pub some_more : (style : LineStyle) (now : ℕ) (side : Side) (old mid new : EitherSide) (acts : Effects) (before after : List (List ℕ)) (traced lines told words : List ℕ)
-    → ExpiresSome style now side old mid before traced told → Expires now mid new acts
-    → after ≡ before ++ acts.frames → lines ≡ traced ++ frames_text style side acts.frames → words ≡ told ++ primitives_text style acts.primitives
+pub some_more : (style : LineStyle) (now : ℕ) (side : Side) (old mid new : EitherSide) (acts : Effects) (before after : List (List ℕ)) (traced lines delivered words : List ℕ)
+    → ExpiresSome style now side old mid before traced delivered → Expires now mid new acts
+    → after ≡ before ++ acts.frames → lines ≡ traced ++ frames_text style side acts.frames → words ≡ delivered ++ primitives_text style acts.primitives
     → ExpiresSome style now side old new after lines words
-some_more style now side old mid new acts before after traced lines told words some due more and_lines and_words =
+some_more style now side old mid new acts before after traced lines delivered words some due more and_lines and_words =
     let frames : List (List ℕ) = frames_given some.calls in
     let primitives : List Primitive = primitives_given some.calls in
     let all_frames : frames_given (some.calls ++ acts ∷ []) ≡ frames ++ acts.frames = flat_more (λ (a : Effects). a.frames) some.calls acts in
@@ -123,16 +123,16 @@ some_more style now side old mid new acts before after traced lines told words s
     }
 
 -- no timer is due any more, and the kept output is sent and printed
-pub all_expired : (now at : ℕ) (old mid rested new : EitherSide) (kept : List (List ℕ)) (traced told : List ℕ) (start here end : Devices) → at ≡ now
-    → ExpiresSome start.style now (side_of old) old mid kept traced told → Rests at mid rested → new ≡ rested → end.style ≡ start.style → here.written ≡ start.written → here.printed ≡ start.printed
-    → Appends here.written end.written (socket_text kept) → Appends here.printed end.printed (traced ++ told) → ExpiresAll now old new start end
-all_expired now at old mid rested new kept traced told start here end same some rests own style port out sent printed =
-    let text : traced ++ told ≡ acts_text start.style (side_of old) (frames_given some.calls) (primitives_given some.calls) =
-    ap (λ (front : List ℕ). front ++ told) some.lines ∙ ap (λ (back : List ℕ). frames_text start.style (side_of old) (frames_given some.calls) ++ back) some.says in
+pub all_expired : (now at : ℕ) (old mid after_idle new : EitherSide) (kept : List (List ℕ)) (traced delivered : List ℕ) (start here end : Devices) → at ≡ now
+    → ExpiresSome start.style now (side_of old) old mid kept traced delivered → StaysIdle at mid after_idle → new ≡ after_idle → end.style ≡ start.style → here.written ≡ start.written → here.printed ≡ start.printed
+    → Appends here.written end.written (socket_text kept) → Appends here.printed end.printed (traced ++ delivered) → ExpiresAll now old new start end
+all_expired now at old mid after_idle new kept traced delivered start here end same some rests own style port out sent printed =
+    let text : traced ++ delivered ≡ acts_text start.style (side_of old) (frames_given some.calls) (primitives_given some.calls) =
+    ap (λ (front : List ℕ). front ++ delivered) some.lines ∙ ap (λ (back : List ℕ). frames_text start.style (side_of old) (frames_given some.calls) ++ back) some.says in
     record {
       calls = some.calls;
-      in_turn = then_none now some.calls old mid new some.are
-          (subst (λ (side : EitherSide). Rests now mid side) (sym own) (subst (λ (moment : ℕ). Rests moment mid rested) same rests));
+      in_order = then_none now some.calls old mid new some.are
+          (subst (λ (side : EitherSide). StaysIdle now mid side) (sym own) (subst (λ (moment : ℕ). StaysIdle moment mid after_idle) same rests));
       puts = record {
         style = style;
         sent = subst (λ (w : Option (List ℕ)). Appends w end.written (socket_text (frames_given some.calls))) port
@@ -151,7 +151,7 @@ refused_nothing r now fault (either.User old) (either.User new) acts answers = a
 refused_nothing r now fault (either.Network old) (either.User new) acts answers = absurd answers
 refused_nothing r now fault (either.User old) (either.Network new) acts answers = absurd answers
 
-pub asks_line : (r : Request) (a b : AtWork) → Asks (wish_of_request r) a b → LineDoes (wish_of_request r) a b
+pub asks_line : (r : Request) (a b : AtWork) → Asks (line_request_of r) a b → LineDoes (line_request_of r) a b
 asks_line (request.Establish id) a b asks = asks
 asks_line (request.Release id) a b asks = asks
 asks_line (request.Unit id octets) a b asks = asks
@@ -162,40 +162,40 @@ asks_line (request.Check tei) a b asks = asks
 
 -- ---- Lines.
 
-pub lines_more : (wishes : List Wish) (wish : Wish) (a mid b : AtWork) → LinesDo wishes a mid → LineDoes wish mid b → LinesDo (wishes ++ wish ∷ []) a b
-lines_more [] wish a mid b lines does = (b, subst (λ (at : AtWork). LineDoes wish at b) lines does, refl)
-lines_more (first ∷ wishes) wish a mid b lines does = (lines.0, lines.1, lines_more wishes wish lines.0 mid b lines.2 does)
+pub lines_more : (line_requests : List LineRequest) (line_request : LineRequest) (a mid b : AtWork) → LinesDo line_requests a mid → LineDoes line_request mid b → LinesDo (line_requests ++ line_request ∷ []) a b
+lines_more [] line_request a mid b lines does = (b, subst (λ (at : AtWork). LineDoes line_request at b) lines does, refl)
+lines_more (first ∷ line_requests) line_request a mid b lines does = (lines.0, lines.1, lines_more line_requests line_request lines.0 mid b lines.2 does)
 
 -- the style of lines does not change
-style_kept : (wish : Wish) (a b : AtWork) → LineDoes wish a b → b.around.style ≡ a.around.style
-style_kept Read a b (inl h) = h.takes.puts.style
-style_kept Read a b (inr h) = h.puts.style
-style_kept (Tick ms) a b h = h.due.puts.style
-style_kept (Establish id) a b h = h.puts.style
-style_kept (Release id) a b h = h.puts.style
-style_kept (Give id message) a b h = h.puts.style
-style_kept (Unit id octets) a b h = h.puts.style
-style_kept Busy a b h = h.puts.style
-style_kept AskTei a b h = h.puts.style
-style_kept (Check tei) a b h = h.puts.style
+style_preserved : (line_request : LineRequest) (a b : AtWork) → LineDoes line_request a b → b.around.style ≡ a.around.style
+style_preserved Read a b (inl h) = h.takes.puts.style
+style_preserved Read a b (inr h) = h.puts.style
+style_preserved (Tick ms) a b h = h.due.puts.style
+style_preserved (Establish id) a b h = h.puts.style
+style_preserved (Release id) a b h = h.puts.style
+style_preserved (Give id message) a b h = h.puts.style
+style_preserved (Unit id octets) a b h = h.puts.style
+style_preserved Busy a b h = h.puts.style
+style_preserved AskTei a b h = h.puts.style
+style_preserved (Check tei) a b h = h.puts.style
 
-pub styles_kept : (wishes : List Wish) (a b : AtWork) → LinesDo wishes a b → b.around.style ≡ a.around.style
-styles_kept [] a b same = ap (λ (at : AtWork). at.around.style) same
-styles_kept (wish ∷ wishes) a b h = styles_kept wishes h.0 b h.2 ∙ style_kept wish a h.0 h.1
+pub styles_preserved : (line_requests : List LineRequest) (a b : AtWork) → LinesDo line_requests a b → b.around.style ≡ a.around.style
+styles_preserved [] a b same = ap (λ (at : AtWork). at.around.style) same
+styles_preserved (line_request ∷ line_requests) a b h = styles_preserved line_requests h.0 b h.2 ∙ style_preserved line_request a h.0 h.1
 
 -- a side that has executed the lines so far has executed one line more
-pub line_done : (s : Progress) (line : List ℕ) (asked : SideLine) (a b : AtWork) (old new : Option (List ℕ)) → HasComeTo s a
-    → wish_of_line (side_of a.side) line ≡ Some (wish_of asked) → moment_after a.now (wish_of asked) ≡ Some b.now → side_of b.side ≡ side_of a.side
-    → LineDoes (wish_of asked) a b → Appends old new [] → IsSomeAnd (side_step s line) (λ next. HasComeTo next.1 b × Appends old new next.0)
+pub line_done : (s : Progress) (line : List ℕ) (asked : SideLine) (a b : AtWork) (old new : Option (List ℕ)) → HasReached s a
+    → request_of_line (side_of a.side) line ≡ Some (request_of asked) → moment_after a.now (request_of asked) ≡ Some b.now → side_of b.side ≡ side_of a.side
+    → LineDoes (request_of asked) a b → Appends old new [] → IsSomeAnd (side_step s line) (λ next. HasReached next.1 b × Appends old new next.0)
 line_done s line asked a b old new come asks moves same does kept =
-    let wish : Wish = wish_of asked in
+    let line_request : LineRequest = request_of asked in
     let clock : Clocked = record { side = s.clock.side; now = b.now } in
-    let here : wish_of_line s.clock.side line ≡ Some wish = subst (λ (side : Side). wish_of_line side line ≡ Some wish) come.of_side asks in
-    let goes : moment_after s.clock.now wish ≡ Some b.now = subst (λ (now : ℕ). moment_after now wish ≡ Some b.now) come.moment moves in
+    let here : request_of_line s.clock.side line ≡ Some line_request = subst (λ (side : Side). request_of_line side line ≡ Some line_request) come.of_side asks in
+    let goes : moment_after s.clock.now line_request ≡ Some b.now = subst (λ (now : ℕ). moment_after now line_request ≡ Some b.now) come.moment moves in
     let clock_is : clock_step s.clock line ≡ Some ([], clock) =
-    ap (λ (o : Option Wish). option_map (clocked s.clock.side) (option_and_then (moment_after s.clock.now) o)) here
+    ap (λ (o : Option LineRequest). option_map (clocked s.clock.side) (option_and_then (moment_after s.clock.now) o)) here
     ∙ ap (option_map (clocked s.clock.side)) goes in
-    let did : LinesDo (s.wishes ++ wish_list (wish_of_line s.clock.side line)) s.begun b =
-    subst (λ (o : Option Wish). LinesDo (s.wishes ++ wish_list o) s.begun b) (sym here) (lines_more s.wishes wish s.begun a b come.did does) in
-    subst (λ (o : Outcome Clocked). IsSomeAnd (option_map (after_line s line) o) (λ next. HasComeTo next.1 b × Appends old new next.0)) (sym clock_is)
+    let did : LinesDo (s.line_requests ++ request_list (request_of_line s.clock.side line)) s.begun b =
+    subst (λ (o : Option LineRequest). LinesDo (s.line_requests ++ request_list o) s.begun b) (sym here) (lines_more s.line_requests line_request s.begun a b come.did does) in
+    subst (λ (o : LineOutcome Clocked). IsSomeAnd (option_map (after_line s line) o) (λ next. HasReached next.1 b × Appends old new next.0)) (sym clock_is)
     (record { of_side = same ∙ come.of_side; moment = refl; did = did }, kept)

@@ -15,11 +15,11 @@ use Rattle.lapd_sides.specs.User.{new_user, seeded}
 use Rattle.lapd_sides.specs.ShowsNetwork.{ShowNetwork}
 use Rattle.lapd_sides.specs.ShowsUser.{ShowUser}
 use Rattle.lapd_sides.specs.Either.{side_of}
-use Rattle.lapd_cli_side_commands.specs.Served.{AtWork, Devices, HasComeTo, HasServed, LinesDo, NetHasServed, Progress, UserHasServed, at_work, devices, new_progress, side_step, wishes_of}
+use Rattle.lapd_cli_side_commands.specs.Served.{AtWork, Devices, HasReached, HasServed, LinesDo, NetHasServed, Progress, UserHasServed, at_work, devices, new_progress, side_step, requests_of}
 use Rattle.lapd_cli_side_commands.specs.Clocks.{Clocked, SideEndsAs, clock_step, new_clock}
-use Rattle.lapd_cli_side_lines.specs.Wishes.{Wish}
+use Rattle.lapd_cli_side_lines.specs.LineRequests.{LineRequest}
 use Rattle.lapd_cli_side_lines.specs.declared.line_style.LineStyle.{LineStyle}
-use Rattle.lapd_cli_side_commands.proofs.Serving.{styles_kept}
+use Rattle.lapd_cli_side_commands.proofs.Serving.{styles_preserved}
 use Rattle.lapd_cli_side_commands.proofs.SideProgress.{progress_after, same_from}
 
 -- how the run of a script ends
@@ -40,42 +40,42 @@ ended side before (Some octets) result a b q = ended_so (new_progress side befor
 -- and what the side has done by then
 served_so : (side : EitherSide) (before : Devices) (kept : LineStyle) (rest written printed : Option (List ℕ)) (now : ℕ) (after : EitherSide) (result : Result ⊤ ScriptFault) (lines : List (List ℕ)) (a b : Option (List ℕ))
     → EndsAs side_step (new_progress side before) result lines a b
-    → OnOk result (HasComeTo (state_after side_step (new_progress side before) lines) (at_work after now (devices kept rest written printed)))
-    → OnOk result (HasServed side (wishes_of (side_of side) lines) before (devices before.style rest written printed))
+    → OnOk result (HasReached (state_after side_step (new_progress side before) lines) (at_work after now (devices kept rest written printed)))
+    → OnOk result (HasServed side (requests_of (side_of side) lines) before (devices before.style rest written printed))
 served_so side before kept rest written printed now after (Ok done) lines a b q come =
     let s : Progress = new_progress side before in
     let is = progress_after 1 s lines (sym (same_from 1 s lines) ∙ q.0) in
     let end : AtWork = at_work after now (devices kept rest written printed) in
-    let did : LinesDo (wishes_of (side_of side) lines) (at_work side 0 before) end =
-    subst (λ (wishes : List Wish). LinesDo wishes (at_work side 0 before) end) is.wishes
-    (subst (λ (begun : AtWork). LinesDo (state_after side_step s lines).wishes begun end) is.begun come.did) in
+    let did : LinesDo (requests_of (side_of side) lines) (at_work side 0 before) end =
+    subst (λ (line_requests : List LineRequest). LinesDo line_requests (at_work side 0 before) end) is.line_requests
+    (subst (λ (begun : AtWork). LinesDo (state_after side_step s lines).line_requests begun end) is.begun come.did) in
     record {
       ended = after;
       moment = now;
-      did = subst (λ (style : LineStyle). LinesDo (wishes_of (side_of side) lines) (at_work side 0 before) (at_work after now (devices style rest written printed)))
-          (styles_kept (wishes_of (side_of side) lines) (at_work side 0 before) end did) did;
+      did = subst (λ (style : LineStyle). LinesDo (requests_of (side_of side) lines) (at_work side 0 before) (at_work after now (devices style rest written printed)))
+          (styles_preserved (requests_of (side_of side) lines) (at_work side 0 before) end did) did;
     }
 served_so side before kept rest written printed now after (Err fault) lines a b q come = tt
 
 pub served : (side : EitherSide) (before : Devices) (kept : LineStyle) (rest written printed : Option (List ℕ)) (now : ℕ) (after : EitherSide) (known : Option (List ℕ)) (result : Result ⊤ ScriptFault) (a b : Option (List ℕ))
     → IfSome known (λ octets. EndsAs side_step (new_progress side before) result (lines_of octets) a b)
-    → IfSome known (λ octets. OnOk result (HasComeTo (state_after side_step (new_progress side before) (lines_of octets)) (at_work after now (devices kept rest written printed))))
-    → IfSome known (λ octets. OnOk result (HasServed side (wishes_of (side_of side) (lines_of octets)) before (devices before.style rest written printed)))
+    → IfSome known (λ octets. OnOk result (HasReached (state_after side_step (new_progress side before) (lines_of octets)) (at_work after now (devices kept rest written printed))))
+    → IfSome known (λ octets. OnOk result (HasServed side (requests_of (side_of side) (lines_of octets)) before (devices before.style rest written printed)))
 served side before kept rest written printed now after None result a b q come = tt
 served side before kept rest written printed now after (Some octets) result a b q come = served_so side before kept rest written printed now after result (lines_of octets) a b q come
 
 -- ---- The commands.
 
 pub net_served : (side : NetSide) (config : Config) (teis : List ℕ) (known : Option (List ℕ)) (result : Result ⊤ ScriptFault) (before behind : Devices) → ShowNetwork side config (new_network config teis)
-    → IfSome known (λ octets. OnOk result (HasServed (either.Network side) (wishes_of Network (lines_of octets)) before behind))
-    → IfSome known (λ octets. OnOk result (NetHasServed config teis (wishes_of Network (lines_of octets)) before behind))
+    → IfSome known (λ octets. OnOk result (HasServed (either.Network side) (requests_of Network (lines_of octets)) before behind))
+    → IfSome known (λ octets. OnOk result (NetHasServed config teis (requests_of Network (lines_of octets)) before behind))
 net_served side config teis None result before behind new served = tt
 net_served side config teis (Some octets) (Ok done) before behind new served = record { began = side; new = new; served = served }
 net_served side config teis (Some octets) (Err fault) before behind new served = tt
 
 pub user_served : (side : UserSide) (config : Config) (fixed : Option ℕ) (known : Option (List ℕ)) (result : Result ⊤ ScriptFault) (before behind : Devices) → ShowUser side config (new_user config fixed (seeded config.seed))
-    → IfSome known (λ octets. OnOk result (HasServed (either.User side) (wishes_of User (lines_of octets)) before behind))
-    → IfSome known (λ octets. OnOk result (UserHasServed config fixed (wishes_of User (lines_of octets)) before behind))
+    → IfSome known (λ octets. OnOk result (HasServed (either.User side) (requests_of User (lines_of octets)) before behind))
+    → IfSome known (λ octets. OnOk result (UserHasServed config fixed (requests_of User (lines_of octets)) before behind))
 user_served side config fixed None result before behind new served = tt
 user_served side config fixed (Some octets) (Ok done) before behind new served = record { began = side; new = new; served = served }
 user_served side config fixed (Some octets) (Err fault) before behind new served = tt

@@ -6,7 +6,7 @@ use Rattle.lapd_cli_script.specs.declared.script.ScriptFault.{ScriptFault}
 use Rattle.lapd_cli_script.specs.declared.script.ScriptFault.TheVariants.{BadLine}
 use Rattle.lapd_cli_script.specs.declared.script.LineFault.{LineFault}
 use Rattle.lapd_cli_script.specs.declared.script.LineFault.TheVariants.{Bad}
-use Rattle.lapd_cli_side_lines.specs.Wishes.{Wish, Tick, wish_of_line}
+use Rattle.lapd_cli_side_lines.specs.LineRequests.{LineRequest, Tick, request_of_line}
 
 -- the side that executes the script, and the time of its clock in milliseconds
 pub record Clocked : Type 0 where
@@ -17,9 +17,9 @@ abbrev pub moment_at : ℕ → Option ℕ
 moment_at n = if nat_le n 1000000000000000 then Some n else None
 
 -- the time after a request; the clock stops at 10^15
-abbrev pub moment_after : ℕ → Wish → Option ℕ
+abbrev pub moment_after : ℕ → LineRequest → Option ℕ
 moment_after now (Tick ms) = moment_at (now + ms)
-moment_after now wish = Some now
+moment_after now line_request = Some now
 
 abbrev pub clocked : Side → ℕ → List ℕ × Clocked
 clocked side now = ([], record { side = side; now = now })
@@ -27,7 +27,7 @@ clocked side now = ([], record { side = side; now = now })
 -- which lines are valid, and how they advance the clock; their output is not specified here
 abbrev pub clock_step : Step Clocked
 clock_step s octets = option_map (clocked s.side)
-    (option_and_then (moment_after s.now) (wish_of_line s.side octets))
+    (option_and_then (moment_after s.now) (request_of_line s.side octets))
 
 -- a side begins a script at time 0
 abbrev pub new_clock : Side → Clocked

@@ -19,5 +19,5 @@ abbrev pub traced_of : LineOutput → List ℕ
 traced_of output = flat_map line_of (take output.count output.frames.items)
 
 -- the printed primitives
-abbrev pub told_of : LineOutput → List ℕ
-told_of output = string_bytes output.primitives
+abbrev pub primitives_text_of : LineOutput → List ℕ
+primitives_text_of output = string_bytes output.primitives

@@ -25,9 +25,9 @@ use Rattle.lapd_sides.specs.ShowsNetwork.{ShowNetwork}
 use Rattle.lapd_sides.specs.ShowsUser.{ShowUser}
 use Rattle.lapd_sides.specs.Either.{side_of, Takes, Answers}
 use Rattle.lapd_cli_side_lines.specs.declared.line_style.LineStyle.{LineStyle}
-use Rattle.lapd_cli_side_lines.specs.Calls.{ExpireInTurn, frames_given, primitives_given}
+use Rattle.lapd_cli_side_lines.specs.Calls.{ExpireInOrder, frames_given, primitives_given}
 use Rattle.lapd_cli_side_lines.specs.SideTexts.{acts_text, answer_text, end_line, frame_text_line}
-use Rattle.lapd_cli_side_lines.specs.Wishes.{Wish, Read, Tick, wish_of_line, wish_of_request}
+use Rattle.lapd_cli_side_lines.specs.LineRequests.{LineRequest, Read, Tick, request_of_line, line_request_of}
 use Rattle.lapd_cli_side_commands.specs.Clocks.{Clocked, clock_step, new_clock}
 
 -- The surroundings of a side: the style of its lines, the octets that its port's source has left,
@@ -89,21 +89,21 @@ pub record FindsNone (a b : AtWork) : Type 0 where
 -- all timers due at a moment expire; the output is sent and printed
 pub record ExpiresAll (now : ℕ) (old new : EitherSide) (a b : Devices) : Type 0 where
   pub calls : List Effects
-  pub in_turn : ExpireInTurn now calls old new
+  pub in_order : ExpireInOrder now calls old new
   pub puts : Puts (frames_given calls)
       (acts_text a.style (side_of old) (frames_given calls) (primitives_given calls)) a b
 
 -- `tick`: the clock advances and all timers then due expire, one after another; nothing else
 -- happens
-pub record GoesOn (ms : ℕ) (a b : AtWork) : Type 0 where
+pub record Ticks (ms : ℕ) (a b : AtWork) : Type 0 where
   pub due : ExpiresAll (a.now + ms) a.side b.side a.around b.around
   pub clock : b.now ≡ a.now + ms
   pub read : Consumes a.around.rest b.around.rest []
 
 -- any other word is one request; the output is sent and printed, or the reason if it is refused
-pub record Asks (wish : Wish) (a b : AtWork) : Type 0 where
+pub record Asks (line_request : LineRequest) (a b : AtWork) : Type 0 where
   pub request : Request
-  pub is : wish_of_request request ≡ wish
+  pub is : line_request_of request ≡ line_request
   pub result : Result ⊤ SideFault
   pub acts : Effects
   pub answers : Answers request a.now result a.side b.side acts
@@ -112,36 +112,39 @@ pub record Asks (wish : Wish) (a b : AtWork) : Type 0 where
   pub puts : Puts acts.frames (answer_text a.around.style (side_of a.side) result acts) a.around
       b.around
 
-abbrev pub LineDoes : Wish → AtWork → AtWork → Type 0
+abbrev pub LineDoes : LineRequest → AtWork → AtWork → Type 0
 LineDoes Read a b = TakesNext a b ⊎ FindsNone a b
-LineDoes (Tick ms) a b = GoesOn ms a b
-LineDoes wish a b = Asks wish a b
+LineDoes (Tick ms) a b = Ticks ms a b
+LineDoes line_request a b = Asks line_request a b
 
 -- all lines, one after another
-abbrev pub LinesDo : List Wish → AtWork → AtWork → Type 0
+abbrev pub LinesDo : List LineRequest → AtWork → AtWork → Type 0
 LinesDo [] a b = b ≡ a
-LinesDo (wish ∷ wishes) a b = (mid : AtWork) × LineDoes wish a mid × LinesDo wishes mid b
+LinesDo (line_request ∷ line_requests) a b = (mid : AtWork) × LineDoes line_request a mid
+    × LinesDo line_requests mid b
 
 -- ---- A script.
 
 -- the requests of a script's lines
-abbrev pub wish_list : Option Wish → List Wish
-wish_list None = []
-wish_list (Some wish) = wish ∷ []
+abbrev pub request_list : Option LineRequest → List LineRequest
+request_list None = []
+request_list (Some line_request) = line_request ∷ []
 
-abbrev pub line_wishes : Side → List ℕ → List Wish
-line_wishes side line = if is_passed_over line then [] else wish_list (wish_of_line side line)
+abbrev pub requests_in_line : Side → List ℕ → List LineRequest
+requests_in_line side line = if is_passed_over line then [] else request_list
+    (request_of_line side line)
 
-abbrev pub wishes_of : Side → List (List ℕ) → List Wish
-wishes_of side lines = flat_map (line_wishes side) lines
+abbrev pub requests_of : Side → List (List ℕ) → List LineRequest
+requests_of side lines = flat_map (requests_in_line side) lines
 
 -- A side has executed all lines of a script from time 0 on, with these surroundings before and
 -- after.
-pub record HasServed (side : EitherSide) (wishes : List Wish) (before after : Devices) : Type 0
+pub record HasServed (side : EitherSide) (line_requests : List LineRequest)
+    (before after : Devices) : Type 0
   where
     pub ended : EitherSide
     pub moment : ℕ
-    pub did : LinesDo wishes (at_work side 0 before) (at_work ended moment after)
+    pub did : LinesDo line_requests (at_work side 0 before) (at_work ended moment after)
 
 -- ---- The commands. By default: an interface at basic access (Q.921 5.9), no known TEI.
 
@@ -155,26 +158,26 @@ basic_access = record {
 }
 
 -- `net`: a new network side with this configuration, which knows these TEIs, has executed the lines
-pub record NetHasServed (config : Config) (known : List ℕ) (wishes : List Wish)
+pub record NetHasServed (config : Config) (known : List ℕ) (line_requests : List LineRequest)
     (before after : Devices) : Type 0 where
   pub began : NetSide
   pub new : ShowNetwork began config (new_network config known)
-  pub served : HasServed (either.Network began) wishes before after
+  pub served : HasServed (either.Network began) line_requests before after
 
 -- `user`: a new user side with this configuration, with this fixed TEI or none, has executed the
 -- lines
-pub record UserHasServed (config : Config) (fixed : Option ℕ) (wishes : List Wish)
+pub record UserHasServed (config : Config) (fixed : Option ℕ) (line_requests : List LineRequest)
     (before after : Devices) : Type 0 where
   pub began : UserSide
   pub new : ShowUser began config (new_user config fixed (seeded config.seed))
-  pub served : HasServed (either.User began) wishes before after
+  pub served : HasServed (either.User began) line_requests before after
 
 -- ---- The run of a script.
 
 -- the clock of the running side, the requests so far, and the state it began in
 pub record Progress : Type 0 where
   pub clock : Clocked
-  pub wishes : List Wish
+  pub line_requests : List LineRequest
   pub begun : AtWork
 
 abbrev pub after_line : Progress → List ℕ → List ℕ × Clocked → List ℕ × Progress
@@ -182,7 +185,7 @@ after_line s line (text, clock) = (
   text,
   record {
     clock = clock;
-    wishes = s.wishes ++ wish_list (wish_of_line s.clock.side line);
+    line_requests = s.line_requests ++ request_list (request_of_line s.clock.side line);
     begun = s.begun;
   },
 )
@@ -193,12 +196,12 @@ side_step s line = option_map (after_line s line) (clock_step s.clock line)
 abbrev pub new_progress : EitherSide → Devices → Progress
 new_progress side before = record {
   clock = new_clock (side_of side);
-  wishes = [];
+  line_requests = [];
   begun = at_work side 0 before;
 }
 
 -- this running side, with its clock, has executed the requests so far
-pub record HasComeTo (s : Progress) (at : AtWork) : Type 0 where
+pub record HasReached (s : Progress) (at : AtWork) : Type 0 where
   pub of_side : side_of at.side ≡ s.clock.side
   pub moment : at.now ≡ s.clock.now
-  pub did : LinesDo s.wishes s.begun at
+  pub did : LinesDo s.line_requests s.begun at

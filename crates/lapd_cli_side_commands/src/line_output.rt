@@ -29,7 +29,7 @@ pub(crate) struct LineOutput {
 }
 
 impl LineOutput {
-    ghost use Rattle.lapd_cli_side_commands.specs.LineOutputs.{sent_of, told_of, traced_of};
+    ghost use Rattle.lapd_cli_side_commands.specs.LineOutputs.{sent_of, primitives_text_of, traced_of};
 
     /// An empty output.
     pub(crate) fn new(alloc: Global) -> LineOutput {
@@ -45,7 +45,7 @@ impl LineOutput {
     pub(crate) fn clear(&mut self)
         ensures sent { sent_of self.new ≡ [] }
         ensures traced { traced_of self.new ≡ [] }
-        ensures told { told_of self.new ≡ [] }
+        ensures delivered { primitives_text_of self.new ≡ [] }
     {
         self.count = 0;
         self.primitives.clear();
@@ -65,8 +65,9 @@ impl LineOutput {
         ensures sent { OnOk result (sent_of self.new ≡ sent_of self.old ++ acts.now.frames) }
         ensures traced { OnOk result
             (traced_of self.new ≡ traced_of self.old ++ frames_text style side acts.now.frames) }
-        ensures told { OnOk result
-            (told_of self.new ≡ told_of self.old ++ primitives_text style acts.now.primitives) }
+        ensures delivered { OnOk result
+            (primitives_text_of self.new ≡ primitives_text_of self.old
+            ++ primitives_text style acts.now.primitives) }
         ensures err { IsOkUnless result LineFault.Memory }
     {
         for frame in acts.frames() {
@@ -84,7 +85,7 @@ impl LineOutput {
     /// # Errors
     ///
     /// `Device` if the writer fails.
-    pub(crate) fn hand_on<W: Write, S: Source, K: Sink>(
+    pub(crate) fn forward<W: Write, S: Source, K: Sink>(
         &self,
         port: &mut Port<S, K>,
         out: &mut W,
@@ -94,7 +95,7 @@ impl LineOutput {
             (socket_text (sent_of self.now)))) }
         ensures printed { IfOk result (λ fault. IfNone fault
             (Appends (W.contents out.old) (W.contents out.new)
-            (traced_of self.now ++ told_of self.now))) }
+            (traced_of self.now ++ primitives_text_of self.now))) }
         ensures source { port.new.source ≡ port.old.source }
         ensures err { IsOkUnless result LineFault.Device }
     {
@@ -118,7 +119,7 @@ impl LineOutput {
         ensures sent { OnOk result (sent_of self.new ≡ sent_of self.old ++ frame.now ∷ []) }
         ensures traced { OnOk result
             (traced_of self.new ≡ traced_of self.old ++ frame_text_line style side frame.now) }
-        ensures told { told_of self.new ≡ told_of self.old }
+        ensures delivered { primitives_text_of self.new ≡ primitives_text_of self.old }
         ensures err { IsOkUnless result LineFault.Memory }
     {
         if self.count < self.frames.len() {

@@ -4,7 +4,7 @@ ghost use Rattle.std.specs.Prelude.{◌≡◌, ◌+◌, ◌++◌, IfSome, OnOk};
 ghost use Rattle.lapd_cli_script.specs.Script.{lines_of};
 ghost use Rattle.lapd_sides.specs.Either.{side_of};
 ghost use Rattle.lapd_cli_side_commands.specs.Clocks.{SideEndsAs, moment_at};
-ghost use Rattle.lapd_cli_side_commands.specs.Served.{HasServed, devices, wishes_of};
+ghost use Rattle.lapd_cli_side_commands.specs.Served.{HasServed, devices, requests_of};
 
 use crate::line_output::LineOutput;
 use lapd_cli_script::{Command, LineFault, ScriptFault, walk};
@@ -26,7 +26,7 @@ struct SideRunner<W, S, K> {
     now: u64,
     acts: Acts,
     /// The line of the received frame.
-    heard: String,
+    received: String,
     output: LineOutput,
     out: W,
     port: Port<S, K>,
@@ -63,7 +63,7 @@ pub(crate) fn run_side<R: Read, W: Write, S: Source, K: Sink>(
     ensures ended { IfSome (R.remaining script.old) (λ octets.
         SideEndsAs (side_of side) result.ended (lines_of octets)) }
     ensures served { IfSome (R.remaining script.old) (λ octets. OnOk result.ended
-        (HasServed side (wishes_of (side_of side) (lines_of octets))
+        (HasServed side (requests_of (side_of side) (lines_of octets))
         (devices style (S.rest port.source) (K.written port.sink) (W.contents out))
         (devices style (S.rest result.port.source) (K.written result.port.sink)
         (W.contents result.out)))) }
@@ -79,13 +79,13 @@ pub(crate) fn run_side<R: Read, W: Write, S: Source, K: Sink>(
 
 impl<W: Write, S: Source, K: Sink> Command for SideRunner<W, S, K> {
     ghost use Rattle.lapd_sides.specs.Either.{side_of};
-    ghost use Rattle.lapd_cli_side_commands.specs.Served.{Progress, HasComeTo, at_work, devices, side_step};
+    ghost use Rattle.lapd_cli_side_commands.specs.Served.{Progress, HasReached, at_work, devices, side_step};
 
     ghost State = { Progress };
 
     ghost step = { side_step };
 
-    ghost stands_for = { λ runner s. HasComeTo s (at_work runner.side runner.now
+    ghost represents = { λ runner s. HasReached s (at_work runner.side runner.now
         (devices runner.style (S.rest runner.port.source) (K.written runner.port.sink)
         (W.contents runner.out))) };
 
@@ -101,11 +101,11 @@ impl<W: Write, S: Source, K: Sink> SideRunner<W, S, K> {
     ghost use Rattle.std.specs.Prelude.{IsErr};
     ghost use Rattle.std.specs.Io.KnownBytes.{Appends};
     ghost use Rattle.lapd_port.specs.SocketText.{socket_text};
-    ghost use Rattle.lapd_cli_side_commands.specs.LineOutputs.{sent_of, told_of, traced_of};
+    ghost use Rattle.lapd_cli_side_commands.specs.LineOutputs.{sent_of, primitives_text_of, traced_of};
     ghost use Rattle.lapd_cli_side_lines.specs.SideTexts.{refusal_line};
-    ghost use Rattle.lapd_cli_side_commands.specs.Served.{Asks, ExpiresAll, GoesOn, LineDoes, TakesNow, at_work, devices};
+    ghost use Rattle.lapd_cli_side_commands.specs.Served.{Asks, ExpiresAll, Ticks, LineDoes, TakesNow, at_work, devices};
     ghost use Rattle.lapd_cli_side_commands.specs.Clocks.{Moves, moment_after};
-    ghost use Rattle.lapd_cli_side_lines.specs.Wishes.{IsGood, Read, wish_of, wish_of_request};
+    ghost use Rattle.lapd_cli_side_lines.specs.LineRequests.{IsGood, Read, request_of, line_request_of};
 
     /// The side at time 0, before it receives anything.
     fn new(
@@ -128,7 +128,7 @@ impl<W: Write, S: Source, K: Sink> SideRunner<W, S, K> {
             side,
             now: 0,
             acts,
-            heard: String::new(alloc),
+            received: String::new(alloc),
             output: LineOutput::new(alloc),
             out,
             port,
@@ -142,25 +142,25 @@ impl<W: Write, S: Source, K: Sink> SideRunner<W, S, K> {
         ensures ended { IfSome (R.remaining script.old) (λ octets.
             SideEndsAs (side_of self.side) result.ended (lines_of octets)) }
         ensures served { IfSome (R.remaining script.old) (λ octets. OnOk result.ended
-            (HasServed self.side (wishes_of (side_of self.side) (lines_of octets))
+            (HasServed self.side (requests_of (side_of self.side) (lines_of octets))
             (devices self.style (S.rest self.port.source) (K.written self.port.sink)
             (W.contents self.out))
             (devices self.style (S.rest result.port.source) (K.written result.port.sink)
             (W.contents result.out)))) }
     {
         let mut runner = self;
-        let ended = runner.go_over(script);
+        let ended = runner.read_script(script);
         let SideRunner { out, port, .. } = runner;
         SideRun { ended, port, out }
     }
 
     /// Executes a script from time 0 on.
-    fn go_over<R: Read>(&mut self, script: &mut R) -> Result<(), ScriptFault>
+    fn read_script<R: Read>(&mut self, script: &mut R) -> Result<(), ScriptFault>
         requires { self.old.now ≡ 0 }
         ensures ended { IfSome (R.remaining script.old) (λ octets.
             SideEndsAs (side_of self.old.side) result (lines_of octets)) }
         ensures served { IfSome (R.remaining script.old) (λ octets. OnOk result
-            (HasServed self.old.side (wishes_of (side_of self.old.side) (lines_of octets))
+            (HasServed self.old.side (requests_of (side_of self.old.side) (lines_of octets))
             (devices self.old.style (S.rest self.old.port.source) (K.written self.old.port.sink)
             (W.contents self.old.out))
             (devices self.old.style (S.rest self.new.port.source) (K.written self.new.port.sink)
@@ -176,8 +176,8 @@ impl<W: Write, S: Source, K: Sink> SideRunner<W, S, K> {
     /// Executes a line's request.
     fn obey(&mut self, line: SideLine) -> Result<(), LineFault>
         ensures side { side_of self.new.side ≡ side_of self.old.side }
-        ensures clock { Moves (moment_after self.old.now (wish_of line)) result self.new.now }
-        ensures does { OnOk result (LineDoes (wish_of line)
+        ensures clock { Moves (moment_after self.old.now (request_of line)) result self.new.now }
+        ensures does { OnOk result (LineDoes (request_of line)
             (at_work self.old.side self.old.now (devices self.old.style
             (S.rest self.old.port.source) (K.written self.old.port.sink)
             (W.contents self.old.out)))
@@ -207,14 +207,14 @@ impl<W: Write, S: Source, K: Sink> SideRunner<W, S, K> {
     {
         let mut frame = [0; MOST_OCTETS];
         match self.port.read_frame(&mut frame) {
-            Ok(count) => self.hear(&frame[..count]),
+            Ok(count) => self.receive(&frame[..count]),
             Err(PortFault::End) => put_refused(self.alloc, self.style, "S1 End", &mut self.out),
             Err(fault) => self.fail(fault),
         }
     }
 
     /// Prints a received frame, and passes it to the side.
-    fn hear(&mut self, frame: &[u8]) -> Result<(), LineFault>
+    fn receive(&mut self, frame: &[u8]) -> Result<(), LineFault>
         ensures side { side_of self.new.side ≡ side_of self.old.side }
         ensures clock { self.new.now ≡ self.old.now }
         ensures good { IsGood result }
@@ -226,8 +226,14 @@ impl<W: Write, S: Source, K: Sink> SideRunner<W, S, K> {
         ensures source { self.new.port.source ≡ self.old.port.source }
     {
         let side = self.side.side();
-        self.heard.clear();
-        let Ok(()) = push_frame(self.alloc, &mut self.heard, self.style, side.other(), frame) else {
+        self.received.clear();
+        let Ok(()) = push_frame(
+            self.alloc,
+            &mut self.received,
+            self.style,
+            side.other(),
+            frame,
+        ) else {
             return Err(LineFault::Memory);
         };
         let Ok(()) = self.side.take(frame, self.now, &mut self.acts) else {
@@ -235,15 +241,15 @@ impl<W: Write, S: Source, K: Sink> SideRunner<W, S, K> {
         };
         self.output.clear();
         self.output.gather(self.style, side, &self.acts)?;
-        self.out.write_all(self.heard.as_bytes())?;
-        self.hand_on()
+        self.out.write_all(self.received.as_bytes())?;
+        self.forward()
     }
 
     /// Advances the clock, and expires all timers that are then due.
     fn tick(&mut self, ms: u64) -> Result<(), LineFault>
         ensures side { side_of self.new.side ≡ side_of self.old.side }
         ensures clock { Moves (moment_at (self.old.now + ms)) result self.new.now }
-        ensures does { OnOk result (GoesOn ms
+        ensures does { OnOk result (Ticks ms
             (at_work self.old.side self.old.now (devices self.old.style
             (S.rest self.old.port.source) (K.written self.old.port.sink)
             (W.contents self.old.out)))
@@ -278,7 +284,7 @@ impl<W: Write, S: Source, K: Sink> SideRunner<W, S, K> {
         self.output.clear();
         for _tick in 0..u64::MAX {
             if !self.side.tick(self.now, &mut self.acts) {
-                return self.hand_on();
+                return self.forward();
             }
             self.output.gather(self.style, side, &self.acts)?;
         }
@@ -290,7 +296,7 @@ impl<W: Write, S: Source, K: Sink> SideRunner<W, S, K> {
         ensures side { side_of self.new.side ≡ side_of self.old.side }
         ensures clock { self.new.now ≡ self.old.now }
         ensures good { IsGood result }
-        ensures does { OnOk result (Asks (wish_of_request request)
+        ensures does { OnOk result (Asks (line_request_of request)
             (at_work self.old.side self.old.now (devices self.old.style
             (S.rest self.old.port.source) (K.written self.old.port.sink)
             (W.contents self.old.out)))
@@ -303,7 +309,7 @@ impl<W: Write, S: Source, K: Sink> SideRunner<W, S, K> {
             Ok(()) => {
                 self.output.clear();
                 self.output.gather(self.style, side, &self.acts)?;
-                self.hand_on()
+                self.forward()
             }
             Err(fault) => self.refuse(fault.kind),
         }
@@ -329,7 +335,7 @@ impl<W: Write, S: Source, K: Sink> SideRunner<W, S, K> {
     }
 
     /// Sends and prints the output of the line.
-    fn hand_on(&mut self) -> Result<(), LineFault>
+    fn forward(&mut self) -> Result<(), LineFault>
         ensures side { side_of self.new.side ≡ side_of self.old.side }
         ensures clock { self.new.now ≡ self.old.now }
         ensures style { self.new.style ≡ self.old.style }
@@ -338,10 +344,10 @@ impl<W: Write, S: Source, K: Sink> SideRunner<W, S, K> {
         ensures sent { OnOk result (Appends (K.written self.old.port.sink)
             (K.written self.new.port.sink) (socket_text (sent_of self.old.output))) }
         ensures printed { OnOk result (Appends (W.contents self.old.out) (W.contents self.new.out)
-            (traced_of self.old.output ++ told_of self.old.output)) }
+            (traced_of self.old.output ++ primitives_text_of self.old.output)) }
         ensures source { self.new.port.source ≡ self.old.port.source }
     {
-        match self.output.hand_on(&mut self.port, &mut self.out)? {
+        match self.output.forward(&mut self.port, &mut self.out)? {
             Some(fault) => self.fail(fault),
             None => Ok(()),
         }

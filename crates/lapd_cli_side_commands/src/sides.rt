@@ -5,7 +5,7 @@ ghost use Rattle.std.specs.List.{All};
 ghost use Rattle.lapd_frame.specs.declared.Side.TheVariants as side;
 ghost use Rattle.lapd_cli_script.specs.Script.{lines_of};
 ghost use Rattle.lapd_cli_side_commands.specs.Clocks.{SideEndsAs};
-ghost use Rattle.lapd_cli_side_commands.specs.Served.{NetHasServed, UserHasServed, basic_access, devices, wishes_of};
+ghost use Rattle.lapd_cli_side_commands.specs.Served.{NetHasServed, UserHasServed, basic_access, devices, requests_of};
 
 use crate::side_runner::{SideRun, run_side};
 use lapd_cli_script::ScriptFault;
@@ -36,7 +36,7 @@ pub fn net<R: Read, W: Write, S: Source, K: Sink>(
     ensures ended { IfSome (R.remaining script.old) (λ octets.
         SideEndsAs side.Network result.ended (lines_of octets)) }
     ensures served { IfSome (R.remaining script.old) (λ octets. OnOk result.ended
-        (NetHasServed config known.now (wishes_of side.Network (lines_of octets))
+        (NetHasServed config known.now (requests_of side.Network (lines_of octets))
         (devices style (S.rest port.source) (K.written port.sink) (W.contents out))
         (devices style (S.rest result.port.source) (K.written result.port.sink)
         (W.contents result.out)))) }
@@ -68,7 +68,7 @@ pub fn user<R: Read, W: Write, S: Source, K: Sink>(
     ensures ended { IfSome (R.remaining script.old) (λ octets.
         SideEndsAs side.User result.ended (lines_of octets)) }
     ensures served { IfSome (R.remaining script.old) (λ octets. OnOk result.ended
-        (UserHasServed config fixed (wishes_of side.User (lines_of octets))
+        (UserHasServed config fixed (requests_of side.User (lines_of octets))
         (devices style (S.rest port.source) (K.written port.sink) (W.contents out))
         (devices style (S.rest result.port.source) (K.written result.port.sink)
         (W.contents result.out)))) }

@@ -12,12 +12,12 @@ use Rattle.lapd_port.specs.SocketText.{frame_text, socket_text}
 use Rattle.lapd_sides.specs.Network.{Network, new_network}
 use Rattle.lapd_sides.specs.User.{User, new_user}
 use Rattle.lapd_sides_laws.specs.Interface.{Configs, Interface, Move, network_behaviour, user_behaviour, by_network, by_user, with_network, with_user, new_interface, happens, run}
-use Rattle.lapd_sides_laws.specs.SideView.{SideView, Deed}
+use Rattle.lapd_sides_laws.specs.SideView.{SideView, SideEvent}
 use Rattle.lapd_sides_laws.proofs.AsMade.{made_link_safe}
 use Rattle.lapd_cli_side_commands.specs.Served.{AtWork, LinesDo}
-use Rattle.lapd_cli_side_lines.specs.Wishes.{Wish}
-use Rattle.lapd_cli_side_laws.specs.Deeds.{AreFor, ShowsNetwork, ShowsUser, does_all, moves_of}
-use Rattle.lapd_cli_side_laws.specs.Joined.{Programs, ProgramLine, WritesTo, ProgramDoes, ProgramsDo, AreAt, AreMovesFor, ArePlayed, ArePlayedSafely, clock_of, network_clock, user_clock, wishes_behind, wishes_of_side}
+use Rattle.lapd_cli_side_lines.specs.LineRequests.{LineRequest}
+use Rattle.lapd_cli_side_laws.specs.SideEvents.{AreFor, ShowsNetwork, ShowsUser, does_all, moves_of}
+use Rattle.lapd_cli_side_laws.specs.Joined.{Programs, ProgramLine, WritesTo, ProgramDoes, ProgramsDo, AreAt, AreMovesFor, AreRun, AreRunSafely, clock_of, network_clock, user_clock, requests_behind, requests_of_side}
 use Rattle.lapd_cli_side_laws.proofs.Lines.{moment_is, network_line, network_moves, text_of_both, user_line, user_moves}
 
 -- ---- The octets of frames determine the frames.
@@ -92,18 +92,18 @@ grows rest after line sent octets before later stays is comes same =
 
 -- ---- A line of one program.
 
-record IsTurned (c : Configs) (s : Side) (wish : Wish) (a b : Programs) (i : Interface) : Type 0 where
-  deeds : List Deed
-  asked : AreFor wish (clock_of s a.network.at.now a.user.at.now) deeds
-  are : AreAt c b (run c (moves_of s deeds) i)
-  network_now : network_clock s wish a.network.at.now ≡ b.network.at.now
-  user_now : user_clock s wish a.user.at.now ≡ b.user.at.now
+record IsStepped (c : Configs) (s : Side) (line_request : LineRequest) (a b : Programs) (i : Interface) : Type 0 where
+  events : List SideEvent
+  asked : AreFor line_request (clock_of s a.network.at.now a.user.at.now) events
+  are : AreAt c b (run c (moves_of s events) i)
+  network_now : network_clock s line_request a.network.at.now ≡ b.network.at.now
+  user_now : user_clock s line_request a.user.at.now ≡ b.user.at.now
 
-network_turns : (c : Configs) (wish : Wish) (a b : Programs) (i : Interface) → AreAt c a i → WritesTo wish a.network b.network a.user b.user → IsTurned c side.Network wish a b i
-network_turns c wish a b i at w =
+network_steps : (c : Configs) (line_request : LineRequest) (a b : Programs) (i : Interface) → AreAt c a i → WritesTo line_request a.network b.network a.user b.user → IsStepped c side.Network line_request a b i
+network_steps c line_request a b i at w =
     let before : AtWork = a.network.at in
     let after : AtWork = b.network.at in
-    let x = network_line c.network wish before after w.does in
+    let x = network_line c.network line_request before after w.does in
     let r = rest_left before.around.rest after.around.rest i.to_network x.heard w.left a.network.later at.to_network w.reads x.read in
     let d = x.are (by_network i) r.0 at.network r.1 in
     let u : SideView Network = does_all (network_behaviour c.network) d.0 (by_network i) in
@@ -119,18 +119,18 @@ network_turns c wish a b i at w =
       by_user = subst (λ (p : AtWork). IsSome p.around.written) (sym w.stays) at.by_user;
     } in
     record {
-      deeds = d.0;
+      events = d.0;
       asked = d.1;
       are = subst (AreAt c b) (sym (network_moves c d.0 i)) now;
-      network_now = sym (moment_is wish before after w.does);
+      network_now = sym (moment_is line_request before after w.does);
       user_now = sym (ap (λ (p : AtWork). p.now) w.stays);
     }
 
-user_turns : (c : Configs) (wish : Wish) (a b : Programs) (i : Interface) → AreAt c a i → WritesTo wish a.user b.user a.network b.network → IsTurned c side.User wish a b i
-user_turns c wish a b i at w =
+user_steps : (c : Configs) (line_request : LineRequest) (a b : Programs) (i : Interface) → AreAt c a i → WritesTo line_request a.user b.user a.network b.network → IsStepped c side.User line_request a b i
+user_steps c line_request a b i at w =
     let before : AtWork = a.user.at in
     let after : AtWork = b.user.at in
-    let x = user_line c.user wish before after w.does in
+    let x = user_line c.user line_request before after w.does in
     let r = rest_left before.around.rest after.around.rest i.to_user x.heard w.left a.user.later at.to_user w.reads x.read in
     let d = x.are (by_user i) r.0 at.user r.1 in
     let u : SideView User = does_all (user_behaviour c.user) d.0 (by_user i) in
@@ -146,16 +146,16 @@ user_turns c wish a b i at w =
       by_user = still_known before.around.written after.around.written w.octets at.by_user w.wrote;
     } in
     record {
-      deeds = d.0;
+      events = d.0;
       asked = d.1;
       are = subst (AreAt c b) (sym (user_moves c d.0 i)) now;
       network_now = sym (ap (λ (p : AtWork). p.now) w.stays);
-      user_now = sym (moment_is wish before after w.does);
+      user_now = sym (moment_is line_request before after w.does);
     }
 
-turns : (c : Configs) (s : Side) (wish : Wish) (a b : Programs) (i : Interface) → AreAt c a i → ProgramDoes s wish a b → IsTurned c s wish a b i
-turns c side.Network wish a b i at w = network_turns c wish a b i at w
-turns c side.User wish a b i at w = user_turns c wish a b i at w
+steps_together : (c : Configs) (s : Side) (line_request : LineRequest) (a b : Programs) (i : Interface) → AreAt c a i → ProgramDoes s line_request a b → IsStepped c s line_request a b i
+steps_together c side.Network line_request a b i at w = network_steps c line_request a b i at w
+steps_together c side.User line_request a b i at w = user_steps c line_request a b i at w
 
 -- ---- All lines.
 
@@ -163,51 +163,51 @@ run_of_both : (c : Configs) (xs ys : List Move) (i : Interface) → run c (xs ++
 run_of_both c [] ys i = refl
 run_of_both c (move ∷ xs) ys i = run_of_both c xs ys (happens c move i)
 
-pub both_played : (c : Configs) (lines : List ProgramLine) (a b : Programs) (i : Interface) → AreAt c a i → ProgramsDo lines a b → ArePlayed c lines a b i
-both_played c [] a b i at same = record { moves = []; asked = refl; are = subst (λ (p : Programs). AreAt c p i) (sym same) at }
-both_played c (line ∷ lines) a b i at h =
-    let t = turns c line.side line.wish a h.0 i at h.1 in
-    let more = both_played c lines h.0 b (run c (moves_of line.side t.deeds) i) t.are h.2 in
+pub both_run : (c : Configs) (lines : List ProgramLine) (a b : Programs) (i : Interface) → AreAt c a i → ProgramsDo lines a b → AreRun c lines a b i
+both_run c [] a b i at same = record { moves = []; asked = refl; are = subst (λ (p : Programs). AreAt c p i) (sym same) at }
+both_run c (line ∷ lines) a b i at h =
+    let t = steps_together c line.side line.line_request a h.0 i at h.1 in
+    let more = both_run c lines h.0 b (run c (moves_of line.side t.events) i) t.are h.2 in
     let Asked : ℕ → ℕ → Type 0 = λ network user. AreMovesFor lines network user more.moves in
     record {
-      moves = moves_of line.side t.deeds ++ more.moves;
+      moves = moves_of line.side t.events ++ more.moves;
       asked = record {
-        first = t.deeds;
+        first = t.events;
         others = more.moves;
         both = refl;
         for_first = t.asked;
-        for_others = subst (λ (network : ℕ). Asked network (user_clock line.side line.wish a.user.at.now)) (sym t.network_now)
+        for_others = subst (λ (network : ℕ). Asked network (user_clock line.side line.line_request a.user.at.now)) (sym t.network_now)
             (subst (Asked h.0.network.at.now) (sym t.user_now) more.asked);
       };
-      are = subst (AreAt c b) (sym (run_of_both c (moves_of line.side t.deeds) more.moves i)) more.are;
+      are = subst (AreAt c b) (sym (run_of_both c (moves_of line.side t.events) more.moves i)) more.are;
     }
 
 -- the lines of one side are executed by its program alone
-network_first : (s : Side) (wish : Wish) (wishes : List Wish) (a mid : Programs) (b : AtWork) → ProgramDoes s wish a mid → LinesDo wishes mid.network.at b
-    → LinesDo (wishes_behind side.Network s wish wishes) a.network.at b
-network_first side.Network wish wishes a mid b w more = (mid.network.at, w.does, more)
-network_first side.User wish wishes a mid b w more = subst (λ (p : AtWork). LinesDo wishes p b) w.stays more
+network_first : (s : Side) (line_request : LineRequest) (line_requests : List LineRequest) (a mid : Programs) (b : AtWork) → ProgramDoes s line_request a mid → LinesDo line_requests mid.network.at b
+    → LinesDo (requests_behind side.Network s line_request line_requests) a.network.at b
+network_first side.Network line_request line_requests a mid b w more = (mid.network.at, w.does, more)
+network_first side.User line_request line_requests a mid b w more = subst (λ (p : AtWork). LinesDo line_requests p b) w.stays more
 
-pub lines_of_network : (lines : List ProgramLine) (a b : Programs) → ProgramsDo lines a b → LinesDo (wishes_of_side side.Network lines) a.network.at b.network.at
+pub lines_of_network : (lines : List ProgramLine) (a b : Programs) → ProgramsDo lines a b → LinesDo (requests_of_side side.Network lines) a.network.at b.network.at
 lines_of_network [] a b same = ap (λ (p : Programs). p.network.at) same
 lines_of_network (line ∷ lines) a b h =
-    network_first line.side line.wish (wishes_of_side side.Network lines) a h.0 b.network.at h.1 (lines_of_network lines h.0 b h.2)
+    network_first line.side line.line_request (requests_of_side side.Network lines) a h.0 b.network.at h.1 (lines_of_network lines h.0 b h.2)
 
-user_first : (s : Side) (wish : Wish) (wishes : List Wish) (a mid : Programs) (b : AtWork) → ProgramDoes s wish a mid → LinesDo wishes mid.user.at b
-    → LinesDo (wishes_behind side.User s wish wishes) a.user.at b
-user_first side.User wish wishes a mid b w more = (mid.user.at, w.does, more)
-user_first side.Network wish wishes a mid b w more = subst (λ (p : AtWork). LinesDo wishes p b) w.stays more
+user_first : (s : Side) (line_request : LineRequest) (line_requests : List LineRequest) (a mid : Programs) (b : AtWork) → ProgramDoes s line_request a mid → LinesDo line_requests mid.user.at b
+    → LinesDo (requests_behind side.User s line_request line_requests) a.user.at b
+user_first side.User line_request line_requests a mid b w more = (mid.user.at, w.does, more)
+user_first side.Network line_request line_requests a mid b w more = subst (λ (p : AtWork). LinesDo line_requests p b) w.stays more
 
-pub lines_of_user : (lines : List ProgramLine) (a b : Programs) → ProgramsDo lines a b → LinesDo (wishes_of_side side.User lines) a.user.at b.user.at
+pub lines_of_user : (lines : List ProgramLine) (a b : Programs) → ProgramsDo lines a b → LinesDo (requests_of_side side.User lines) a.user.at b.user.at
 lines_of_user [] a b same = ap (λ (p : Programs). p.user.at) same
 lines_of_user (line ∷ lines) a b h =
-    user_first line.side line.wish (wishes_of_side side.User lines) a h.0 b.user.at h.1 (lines_of_user lines h.0 b h.2)
+    user_first line.side line.line_request (requests_of_side side.User lines) a h.0 b.user.at h.1 (lines_of_user lines h.0 b h.2)
 
-pub played_safely : (c : Configs) (fixed : Option ℕ) (known : List ℕ) (random : Lcg) (lines : List ProgramLine) (a b : Programs)
+pub run_safely : (c : Configs) (fixed : Option ℕ) (known : List ℕ) (random : Lcg) (lines : List ProgramLine) (a b : Programs)
     → AreAt c a (new_interface (new_user c.user fixed random) (new_network c.network known)) → ProgramsDo lines a b
-    → ArePlayedSafely c lines a b (new_interface (new_user c.user fixed random) (new_network c.network known))
-played_safely c fixed known random lines a b at did =
-    let p = both_played c lines a b (new_interface (new_user c.user fixed random) (new_network c.network known)) at did in record {
-      played = p;
+    → AreRunSafely c lines a b (new_interface (new_user c.user fixed random) (new_network c.network known))
+run_safely c fixed known random lines a b at did =
+    let p = both_run c lines a b (new_interface (new_user c.user fixed random) (new_network c.network known)) at did in record {
+      run_together = p;
       safe = λ id low few_u few_n. made_link_safe c id fixed known random low few_u few_n p.moves;
     }

@@ -16,34 +16,34 @@ use Rattle.lapd_sides_links.specs.Effects.{Effects}
 use Rattle.lapd_sides.specs.declared.request.Request.{Request}
 use Rattle.lapd_sides.specs.declared.either_side.EitherSide.{EitherSide}
 use Rattle.lapd_sides.specs.declared.either_side.EitherSide.TheVariants as either
-use Rattle.lapd_sides.specs.Either.{Takes, Answers, Expires, Rests}
+use Rattle.lapd_sides.specs.Either.{Takes, Answers, Expires, StaysIdle}
 use Rattle.lapd_sides.specs.Network.{Network}
 use Rattle.lapd_sides.specs.Requests.{message_of}
 use Rattle.lapd_sides.specs.User.{User}
 use Rattle.lapd_sides_laws.specs.Calls.{Puts}
 use Rattle.lapd_sides_laws.specs.Interface.{Configs, Interface, network_behaviour, user_behaviour, by_network, by_user, with_network, with_user, run}
-use Rattle.lapd_sides_laws.specs.SideView.{Behaviour, SideView, Deed, Take, Expire, Ask, does}
+use Rattle.lapd_sides_laws.specs.SideView.{Behaviour, SideView, SideEvent, Take, Expire, Ask, does}
 use Rattle.lapd_sides_laws.proofs.Called.{net_takes, net_ticks, net_requests, usr_takes, usr_ticks, usr_requests}
-use Rattle.lapd_cli_side_lines.specs.Calls.{ExpireInTurn, frames_given}
-use Rattle.lapd_cli_side_commands.specs.Served.{AtWork, Asks, FindsNone, GoesOn, LineDoes, LinesDo, TakesNext}
-use Rattle.lapd_cli_side_lines.specs.Wishes.{Wish, Read, Tick, Establish, Release, Give, Unit, Busy, AskTei, Check, wish_of_request}
-use Rattle.lapd_cli_side_laws.specs.Deeds.{AreFor, AreForAll, ArePartedFor, IsByDeeds, IsExpiryAt, LeadTo, ShowsNetwork, ShowsUser, does_all, moment_behind, moves_of}
+use Rattle.lapd_cli_side_lines.specs.Calls.{ExpireInOrder, frames_given}
+use Rattle.lapd_cli_side_commands.specs.Served.{AtWork, Asks, FindsNone, Ticks, LineDoes, LinesDo, TakesNext}
+use Rattle.lapd_cli_side_lines.specs.LineRequests.{LineRequest, Read, Tick, Establish, Release, Give, Unit, Busy, AskTei, Check, line_request_of}
+use Rattle.lapd_cli_side_laws.specs.SideEvents.{AreFor, AreForAll, ArePartedFor, IsByEvents, IsExpiryAt, LeadTo, ShowsNetwork, ShowsUser, does_all, moment_behind, moves_of}
 
 -- ---- A call of a side of either kind is a side event.
 
 -- the code shows the side after the event, and the call's output is what the event sent and
 -- reported
-record Did {S : Type 0} (w : Behaviour S) (IsSo : S → Type 0) (acts : Effects) (deed : Deed) (v : SideView S) : Type 0 where
-  is_so : IsSo (does w deed v).now
-  puts : Puts w acts deed v
+record Did {S : Type 0} (w : Behaviour S) (IsSo : S → Type 0) (acts : Effects) (event : SideEvent) (v : SideView S) : Type 0 where
+  is_so : IsSo (does w event v).now
+  puts : Puts w acts event v
 
 -- the calls of a side are events of this behaviour
-pub record HasDeeds {S : Type 0} (w : Behaviour S) (Shows : EitherSide → S → Type 0) : Type 0 where
+pub record HasEvents {S : Type 0} (w : Behaviour S) (Shows : EitherSide → S → Type 0) : Type 0 where
   takes : (octets : List ℕ) (now : ℕ) (old new : EitherSide) (acts : Effects) → Takes octets now (Ok tt) old new acts
       → (v : SideView S) (rest : List (List ℕ)) → Shows old v.now → v.incoming ≡ octets ∷ rest → Did w (Shows new) acts (Take now) v
   expires : (now : ℕ) (old new : EitherSide) (acts : Effects) → Expires now old new acts
       → (v : SideView S) → Shows old v.now → (e : RunningTimer) × Did w (Shows new) acts (Expire e.timer e.of now) v
-  rests : (now : ℕ) (old new : EitherSide) → Rests now old new → (v : SideView S) → Shows old v.now → Shows new v.now
+  stays_idle : (now : ℕ) (old new : EitherSide) → StaysIdle now old new → (v : SideView S) → Shows old v.now → Shows new v.now
   asks : (request : Request) (now : ℕ) (result : Result ⊤ SideFault) (old new : EitherSide) (acts : Effects) → Answers request now result old new acts
       → (v : SideView S) → Shows old v.now → Did w (Shows new) acts (Ask request now) v
 
@@ -63,10 +63,10 @@ network_expires config now (either.Network old) (either.Network new) acts h v sh
 network_expires config now (either.User old) new acts h v shown = absurd shown
 network_expires config now (either.Network old) (either.User new) acts h v shown = absurd h
 
-network_rests : (config : Config) (now : ℕ) (old new : EitherSide) → Rests now old new → (v : SideView Network) → ShowsNetwork config old v.now → ShowsNetwork config new v.now
-network_rests config now (either.Network old) (either.Network new) h v shown = (h config v.now shown).1
-network_rests config now (either.User old) new h v shown = absurd shown
-network_rests config now (either.Network old) (either.User new) h v shown = absurd h
+network_stays_idle : (config : Config) (now : ℕ) (old new : EitherSide) → StaysIdle now old new → (v : SideView Network) → ShowsNetwork config old v.now → ShowsNetwork config new v.now
+network_stays_idle config now (either.Network old) (either.Network new) h v shown = (h config v.now shown).1
+network_stays_idle config now (either.User old) new h v shown = absurd shown
+network_stays_idle config now (either.Network old) (either.User new) h v shown = absurd h
 
 network_asks : (config : Config) (request : Request) (now : ℕ) (result : Result ⊤ SideFault) (old new : EitherSide) (acts : Effects) → Answers request now result old new acts
     → (v : SideView Network) → ShowsNetwork config old v.now → Did (network_behaviour config) (ShowsNetwork config new) acts (Ask request now) v
@@ -79,11 +79,11 @@ network_asks config request now (Err fault) (either.User old) new acts h v shown
 network_asks config request now (Ok done) (either.Network old) (either.User new) acts h v shown = absurd h
 network_asks config request now (Err fault) (either.Network old) (either.User new) acts h v shown = absurd h
 
-network_has : (config : Config) → HasDeeds (network_behaviour config) (ShowsNetwork config)
+network_has : (config : Config) → HasEvents (network_behaviour config) (ShowsNetwork config)
 network_has config = record {
   takes = network_takes config;
   expires = network_expires config;
-  rests = network_rests config;
+  stays_idle = network_stays_idle config;
   asks = network_asks config;
 }
 
@@ -103,10 +103,10 @@ user_expires config now (either.User old) (either.User new) acts h v shown =
 user_expires config now (either.Network old) new acts h v shown = absurd shown
 user_expires config now (either.User old) (either.Network new) acts h v shown = absurd h
 
-user_rests : (config : Config) (now : ℕ) (old new : EitherSide) → Rests now old new → (v : SideView User) → ShowsUser config old v.now → ShowsUser config new v.now
-user_rests config now (either.User old) (either.User new) h v shown = (h config v.now shown).1
-user_rests config now (either.Network old) new h v shown = absurd shown
-user_rests config now (either.User old) (either.Network new) h v shown = absurd h
+user_stays_idle : (config : Config) (now : ℕ) (old new : EitherSide) → StaysIdle now old new → (v : SideView User) → ShowsUser config old v.now → ShowsUser config new v.now
+user_stays_idle config now (either.User old) (either.User new) h v shown = (h config v.now shown).1
+user_stays_idle config now (either.Network old) new h v shown = absurd shown
+user_stays_idle config now (either.User old) (either.Network new) h v shown = absurd h
 
 user_asks : (config : Config) (request : Request) (now : ℕ) (result : Result ⊤ SideFault) (old new : EitherSide) (acts : Effects) → Answers request now result old new acts
     → (v : SideView User) → ShowsUser config old v.now → Did (user_behaviour config) (ShowsUser config new) acts (Ask request now) v
@@ -119,11 +119,11 @@ user_asks config request now (Err fault) (either.Network old) new acts h v shown
 user_asks config request now (Ok done) (either.User old) (either.Network new) acts h v shown = absurd h
 user_asks config request now (Err fault) (either.User old) (either.Network new) acts h v shown = absurd h
 
-user_has : (config : Config) → HasDeeds (user_behaviour config) (ShowsUser config)
+user_has : (config : Config) → HasEvents (user_behaviour config) (ShowsUser config)
 user_has config = record {
   takes = user_takes config;
   expires = user_expires config;
-  rests = user_rests config;
+  stays_idle = user_stays_idle config;
   asks = user_asks config;
 }
 
@@ -145,9 +145,9 @@ ask_leads w IsSo acts request now v left are d = record { is_so = d.is_so; incom
 
 -- an expiry, and then other events
 expiry_leads : {S : Type 0} (w : Behaviour S) (IsSo Mid : S → Type 0) (acts : Effects) (timer : Timer) (of : Option LinkId) (now : ℕ) (v : SideView S) (left sent : List (List ℕ))
-    (deeds : List Deed) → Did w Mid acts (Expire timer of now) v → LeadTo w IsSo left sent deeds (does w (Expire timer of now) v)
-    → LeadTo w IsSo left (acts.frames ++ sent) (Expire timer of now ∷ deeds) v
-expiry_leads w IsSo Mid acts timer of now v left sent deeds d more = record {
+    (events : List SideEvent) → Did w Mid acts (Expire timer of now) v → LeadTo w IsSo left sent events (does w (Expire timer of now) v)
+    → LeadTo w IsSo left (acts.frames ++ sent) (Expire timer of now ∷ events) v
+expiry_leads w IsSo Mid acts timer of now v left sent events d more = record {
   is_so = more.is_so;
   incoming = more.incoming;
   outgoing = more.outgoing ∙ ap (λ (line : List (List ℕ)). line ++ sent) d.puts.sent ∙ append_assoc v.outgoing acts.frames sent;
@@ -157,10 +157,10 @@ expiry_leaves : {S : Type 0} (w : Behaviour S) (timer : Timer) (of : Option Link
 unfolding does
 expiry_leaves w timer of now v = refl
 
-all_expire : {S : Type 0} (w : Behaviour S) (Shows : EitherSide → S → Type 0) → HasDeeds w Shows → (now : ℕ) (calls : List Effects) (old new : EitherSide) → ExpireInTurn now calls old new
+all_expire : {S : Type 0} (w : Behaviour S) (Shows : EitherSide → S → Type 0) → HasEvents w Shows → (now : ℕ) (calls : List Effects) (old new : EitherSide) → ExpireInOrder now calls old new
     → (v : SideView S) (left : List (List ℕ)) → Shows old v.now → v.incoming ≡ left
-    → (deeds : List Deed) × AllByRecursion (IsExpiryAt now) deeds × LeadTo w (Shows new) left (frames_given calls) deeds v
-all_expire {S} w Shows has now [] old new h v left shown are = ([], tt, none_lead w (Shows new) left v (has.rests now old new h v shown) are)
+    → (events : List SideEvent) × AllByRecursion (IsExpiryAt now) events × LeadTo w (Shows new) left (frames_given calls) events v
+all_expire {S} w Shows has now [] old new h v left shown are = ([], tt, none_lead w (Shows new) left v (has.stays_idle now old new h v shown) are)
 all_expire {S} w Shows has now (acts ∷ calls) old new h v left shown are =
     let x = has.expires now old h.0 acts h.1 v shown in
     let e : RunningTimer = x.0 in
@@ -171,7 +171,7 @@ all_expire {S} w Shows has now (acts ∷ calls) old new h v left shown are =
       expiry_leads w (Shows new) (Shows h.0) acts e.timer e.of now v left (frames_given calls) more.0 x.1 more.2,
     )
 
-takes_next : {S : Type 0} (w : Behaviour S) (Shows : EitherSide → S → Type 0) → HasDeeds w Shows → (a b : AtWork) → TakesNext a b → IsByDeeds w Shows (AreFor Read a.now) a b
+takes_next : {S : Type 0} (w : Behaviour S) (Shows : EitherSide → S → Type 0) → HasEvents w Shows → (a b : AtWork) → TakesNext a b → IsByEvents w Shows (AreFor Read a.now) a b
 takes_next w Shows has a b h = record {
   heard = h.frame ∷ [];
   sent = h.takes.acts.frames;
@@ -184,7 +184,7 @@ takes_next w Shows has a b h = record {
   );
 }
 
-finds_none : {S : Type 0} (w : Behaviour S) (Shows : EitherSide → S → Type 0) → HasDeeds w Shows → (a b : AtWork) → FindsNone a b → IsByDeeds w Shows (AreFor Read a.now) a b
+finds_none : {S : Type 0} (w : Behaviour S) (Shows : EitherSide → S → Type 0) → HasEvents w Shows → (a b : AtWork) → FindsNone a b → IsByEvents w Shows (AreFor Read a.now) a b
 finds_none {S} w Shows has a b h = record {
   heard = [];
   sent = [];
@@ -193,21 +193,21 @@ finds_none {S} w Shows has a b h = record {
   are = λ v left shown are. ([], inl refl, none_lead w (Shows b.side) left v (subst (λ (side : EitherSide). Shows side v.now) (sym h.side) shown) are);
 }
 
-goes_on : {S : Type 0} (w : Behaviour S) (Shows : EitherSide → S → Type 0) → HasDeeds w Shows → (ms : ℕ) (a b : AtWork) → GoesOn ms a b → IsByDeeds w Shows (AreFor (Tick ms) a.now) a b
-goes_on w Shows has ms a b h = record {
+ticks : {S : Type 0} (w : Behaviour S) (Shows : EitherSide → S → Type 0) → HasEvents w Shows → (ms : ℕ) (a b : AtWork) → Ticks ms a b → IsByEvents w Shows (AreFor (Tick ms) a.now) a b
+ticks w Shows has ms a b h = record {
   heard = [];
   sent = frames_given h.due.calls;
   read = h.read;
   written = h.due.puts.sent;
-  are = λ v left shown are. all_expire w Shows has (a.now + ms) h.due.calls a.side b.side h.due.in_turn v left shown are;
+  are = λ v left shown are. all_expire w Shows has (a.now + ms) h.due.calls a.side b.side h.due.in_order v left shown are;
 }
 
 -- exactly one request: the one the line names
-abbrev IsOneRequest : Wish → ℕ → List Deed → Type 0
-IsOneRequest wish now deeds = (request : Request) × (wish_of_request request ≡ wish) × (deeds ≡ Ask request now ∷ [])
+abbrev IsOneRequest : LineRequest → ℕ → List SideEvent → Type 0
+IsOneRequest line_request now events = (request : Request) × (line_request_of request ≡ line_request) × (events ≡ Ask request now ∷ [])
 
-asks_one : {S : Type 0} (w : Behaviour S) (Shows : EitherSide → S → Type 0) → HasDeeds w Shows → (wish : Wish) (a b : AtWork) → Asks wish a b → IsByDeeds w Shows (IsOneRequest wish a.now) a b
-asks_one w Shows has wish a b h = record {
+asks_one : {S : Type 0} (w : Behaviour S) (Shows : EitherSide → S → Type 0) → HasEvents w Shows → (line_request : LineRequest) (a b : AtWork) → Asks line_request a b → IsByEvents w Shows (IsOneRequest line_request a.now) a b
+asks_one w Shows has line_request a b h = record {
   heard = [];
   sent = h.acts.frames;
   read = h.read;
@@ -219,10 +219,10 @@ asks_one w Shows has wish a b h = record {
   );
 }
 
-line : {S : Type 0} (w : Behaviour S) (Shows : EitherSide → S → Type 0) → HasDeeds w Shows → (wish : Wish) (a b : AtWork) → LineDoes wish a b → IsByDeeds w Shows (AreFor wish a.now) a b
+line : {S : Type 0} (w : Behaviour S) (Shows : EitherSide → S → Type 0) → HasEvents w Shows → (line_request : LineRequest) (a b : AtWork) → LineDoes line_request a b → IsByEvents w Shows (AreFor line_request a.now) a b
 line w Shows has Read a b (inl h) = takes_next w Shows has a b h
 line w Shows has Read a b (inr h) = finds_none w Shows has a b h
-line w Shows has (Tick ms) a b h = goes_on w Shows has ms a b h
+line w Shows has (Tick ms) a b h = ticks w Shows has ms a b h
 line w Shows has (Establish id) a b h = asks_one w Shows has (Establish id) a b h
 line w Shows has (Release id) a b h = asks_one w Shows has (Release id) a b h
 line w Shows has (Give id message) a b h = asks_one w Shows has (Give id message) a b h
@@ -233,7 +233,7 @@ line w Shows has (Check tei) a b h = asks_one w Shows has (Check tei) a b h
 
 -- ---- All lines.
 
-pub moment_is : (wish : Wish) (a b : AtWork) → LineDoes wish a b → b.now ≡ moment_behind wish a.now
+pub moment_is : (line_request : LineRequest) (a b : AtWork) → LineDoes line_request a b → b.now ≡ moment_behind line_request a.now
 moment_is Read a b (inl h) = h.clock
 moment_is Read a b (inr h) = h.clock
 moment_is (Tick ms) a b h = h.clock
@@ -249,11 +249,11 @@ pub text_of_both : (xs ys : List (List ℕ)) → socket_text (xs ++ ys) ≡ sock
 text_of_both [] ys = refl
 text_of_both (frame ∷ xs) ys = ap (λ (text : List ℕ). frame_text frame ++ text) (text_of_both xs ys) ∙ sym (append_assoc (frame_text frame) (socket_text xs) (socket_text ys))
 
-all_of_both : {S : Type 0} (w : Behaviour S) (xs ys : List Deed) (v : SideView S) → does_all w (xs ++ ys) v ≡ does_all w ys (does_all w xs v)
+all_of_both : {S : Type 0} (w : Behaviour S) (xs ys : List SideEvent) (v : SideView S) → does_all w (xs ++ ys) v ≡ does_all w ys (does_all w xs v)
 all_of_both w [] ys v = refl
-all_of_both w (deed ∷ xs) ys v = all_of_both w xs ys (does w deed v)
+all_of_both w (event ∷ xs) ys v = all_of_both w xs ys (does w event v)
 
-both_lead : {S : Type 0} (w : Behaviour S) (Mid IsSo : S → Type 0) (mid left sent more : List (List ℕ)) (xs ys : List Deed) (v : SideView S) → LeadTo w Mid mid sent xs v
+both_lead : {S : Type 0} (w : Behaviour S) (Mid IsSo : S → Type 0) (mid left sent more : List (List ℕ)) (xs ys : List SideEvent) (v : SideView S) → LeadTo w Mid mid sent xs v
     → LeadTo w IsSo left more ys (does_all w xs v) → LeadTo w IsSo left (sent ++ more) (xs ++ ys) v
 both_lead {S} w Mid IsSo mid left sent more xs ys v p q =
     let same : does_all w ys (does_all w xs v) ≡ does_all w (xs ++ ys) v = sym (all_of_both w xs ys v) in record {
@@ -263,9 +263,9 @@ both_lead {S} w Mid IsSo mid left sent more xs ys v p q =
           (q.outgoing ∙ ap (λ (line : List (List ℕ)). line ++ more) p.outgoing ∙ append_assoc v.outgoing sent more);
     }
 
-two_parts : {S : Type 0} (w : Behaviour S) (Shows : EitherSide → S → Type 0) (wish : Wish) (Others : List Deed → Type 0) (a mid b : AtWork) → IsByDeeds w Shows (AreFor wish a.now) a mid
-    → IsByDeeds w Shows Others mid b → IsByDeeds w Shows (ArePartedFor wish a.now Others) a b
-two_parts {S} w Shows wish Others a mid b x y = record {
+two_parts : {S : Type 0} (w : Behaviour S) (Shows : EitherSide → S → Type 0) (line_request : LineRequest) (Others : List SideEvent → Type 0) (a mid b : AtWork) → IsByEvents w Shows (AreFor line_request a.now) a mid
+    → IsByEvents w Shows Others mid b → IsByEvents w Shows (ArePartedFor line_request a.now Others) a b
+two_parts {S} w Shows line_request Others a mid b x y = record {
   heard = x.heard ++ y.heard;
   sent = x.sent ++ y.sent;
   read = subst (Consumes a.around.rest b.around.rest) (sym (text_of_both x.heard y.heard))
@@ -288,8 +288,8 @@ consumes_none a b same = subst (λ (at : AtWork). Consumes a.around.rest at.arou
 appends_none : (a b : AtWork) → b ≡ a → Appends a.around.written b.around.written []
 appends_none a b same = subst (λ (at : AtWork). Appends a.around.written at.around.written []) (sym same) (Appends-nil a.around.written)
 
-lines : {S : Type 0} (w : Behaviour S) (Shows : EitherSide → S → Type 0) → HasDeeds w Shows → (wishes : List Wish) (a b : AtWork) → LinesDo wishes a b
-    → IsByDeeds w Shows (AreForAll wishes a.now) a b
+lines : {S : Type 0} (w : Behaviour S) (Shows : EitherSide → S → Type 0) → HasEvents w Shows → (line_requests : List LineRequest) (a b : AtWork) → LinesDo line_requests a b
+    → IsByEvents w Shows (AreForAll line_requests a.now) a b
 lines w Shows has [] a b same = record {
   heard = [];
   sent = [];
@@ -297,32 +297,32 @@ lines w Shows has [] a b same = record {
   written = appends_none a b same;
   are = λ v left shown are. ([], refl, none_lead w (Shows b.side) left v (subst (λ (at : AtWork). Shows at.side v.now) (sym same) shown) are);
 }
-lines w Shows has (wish ∷ wishes) a b h =
+lines w Shows has (line_request ∷ line_requests) a b h =
     let mid : AtWork = h.0 in
-    let others : IsByDeeds w Shows (AreForAll wishes (moment_behind wish a.now)) mid b =
-    subst (λ (now : ℕ). IsByDeeds w Shows (AreForAll wishes now) mid b) (moment_is wish a mid h.1) (lines w Shows has wishes mid b h.2) in
-    two_parts w Shows wish (AreForAll wishes (moment_behind wish a.now)) a mid b (line w Shows has wish a mid h.1) others
+    let others : IsByEvents w Shows (AreForAll line_requests (moment_behind line_request a.now)) mid b =
+    subst (λ (now : ℕ). IsByEvents w Shows (AreForAll line_requests now) mid b) (moment_is line_request a mid h.1) (lines w Shows has line_requests mid b h.2) in
+    two_parts w Shows line_request (AreForAll line_requests (moment_behind line_request a.now)) a mid b (line w Shows has line_request a mid h.1) others
 
 -- ---- For either side.
 
-pub network_line : (config : Config) (wish : Wish) (a b : AtWork) → LineDoes wish a b → IsByDeeds (network_behaviour config) (ShowsNetwork config) (AreFor wish a.now) a b
+pub network_line : (config : Config) (line_request : LineRequest) (a b : AtWork) → LineDoes line_request a b → IsByEvents (network_behaviour config) (ShowsNetwork config) (AreFor line_request a.now) a b
 network_line config = line (network_behaviour config) (ShowsNetwork config) (network_has config)
 
-pub network_lines : (config : Config) (wishes : List Wish) (a b : AtWork) → LinesDo wishes a b → IsByDeeds (network_behaviour config) (ShowsNetwork config) (AreForAll wishes a.now) a b
+pub network_lines : (config : Config) (line_requests : List LineRequest) (a b : AtWork) → LinesDo line_requests a b → IsByEvents (network_behaviour config) (ShowsNetwork config) (AreForAll line_requests a.now) a b
 network_lines config = lines (network_behaviour config) (ShowsNetwork config) (network_has config)
 
-pub user_line : (config : Config) (wish : Wish) (a b : AtWork) → LineDoes wish a b → IsByDeeds (user_behaviour config) (ShowsUser config) (AreFor wish a.now) a b
+pub user_line : (config : Config) (line_request : LineRequest) (a b : AtWork) → LineDoes line_request a b → IsByEvents (user_behaviour config) (ShowsUser config) (AreFor line_request a.now) a b
 user_line config = line (user_behaviour config) (ShowsUser config) (user_has config)
 
-pub user_lines : (config : Config) (wishes : List Wish) (a b : AtWork) → LinesDo wishes a b → IsByDeeds (user_behaviour config) (ShowsUser config) (AreForAll wishes a.now) a b
+pub user_lines : (config : Config) (line_requests : List LineRequest) (a b : AtWork) → LinesDo line_requests a b → IsByEvents (user_behaviour config) (ShowsUser config) (AreForAll line_requests a.now) a b
 user_lines config = lines (user_behaviour config) (ShowsUser config) (user_has config)
 
 -- ---- The events of one side are moves of an interface.
 
-pub network_moves : (c : Configs) (deeds : List Deed) (i : Interface) → run c (moves_of side.Network deeds) i ≡ with_network (does_all (network_behaviour c.network) deeds (by_network i)) i
+pub network_moves : (c : Configs) (events : List SideEvent) (i : Interface) → run c (moves_of side.Network events) i ≡ with_network (does_all (network_behaviour c.network) events (by_network i)) i
 network_moves c [] i = refl
-network_moves c (deed ∷ deeds) i = network_moves c deeds (with_network (does (network_behaviour c.network) deed (by_network i)) i)
+network_moves c (event ∷ events) i = network_moves c events (with_network (does (network_behaviour c.network) event (by_network i)) i)
 
-pub user_moves : (c : Configs) (deeds : List Deed) (i : Interface) → run c (moves_of side.User deeds) i ≡ with_user (does_all (user_behaviour c.user) deeds (by_user i)) i
+pub user_moves : (c : Configs) (events : List SideEvent) (i : Interface) → run c (moves_of side.User events) i ≡ with_user (does_all (user_behaviour c.user) events (by_user i)) i
 user_moves c [] i = refl
-user_moves c (deed ∷ deeds) i = user_moves c deeds (with_user (does (user_behaviour c.user) deed (by_user i)) i)
+user_moves c (event ∷ events) i = user_moves c events (with_user (does (user_behaviour c.user) event (by_user i)) i)

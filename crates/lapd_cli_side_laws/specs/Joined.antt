@@ -9,12 +9,12 @@ use Rattle.lapd_port.specs.SocketText.{socket_text}
 use Rattle.lapd_table.specs.declared.link_id.LinkId.{LinkId}
 use Rattle.lapd_sides_links.specs.Links.{parameters_for}
 use Rattle.lapd_sides_laws.specs.Interface.{Configs, Interface, Move, run}
-use Rattle.lapd_sides_laws.specs.Premises.{KeepPremisesAsMade}
+use Rattle.lapd_sides_laws.specs.Premises.{SatisfyPremisesAsMade}
 use Rattle.lapd_sides_laws.specs.Projects.{IsSafeAt}
-use Rattle.lapd_sides_laws.specs.SideView.{Deed}
+use Rattle.lapd_sides_laws.specs.SideView.{SideEvent}
 use Rattle.lapd_cli_side_commands.specs.Served.{AtWork, LineDoes}
-use Rattle.lapd_cli_side_lines.specs.Wishes.{Wish}
-use Rattle.lapd_cli_side_laws.specs.Deeds.{AreFor, ShowsNetwork, ShowsUser, moment_behind, moves_of}
+use Rattle.lapd_cli_side_lines.specs.LineRequests.{LineRequest}
+use Rattle.lapd_cli_side_laws.specs.SideEvents.{AreFor, ShowsNetwork, ShowsUser, moment_behind, moves_of}
 
 -- ---- Two programs.
 
@@ -30,8 +30,8 @@ pub record Programs : Type 0 where
 
 -- A program executes a line and reads no more than was written; the octets it writes are the next
 -- ones that the other's source delivers.
-pub record WritesTo (wish : Wish) (a b other after : Program) : Type 0 where
-  pub does : LineDoes wish a.at b.at
+pub record WritesTo (line_request : LineRequest) (a b other after : Program) : Type 0 where
+  pub does : LineDoes line_request a.at b.at
   pub later : b.later ≡ a.later
   pub left : List ℕ
   pub reads : b.at.around.rest ≡ Some (left ++ a.later)
@@ -40,29 +40,30 @@ pub record WritesTo (wish : Wish) (a b other after : Program) : Type 0 where
   pub stays : after.at ≡ other.at
   pub comes : other.later ≡ octets ++ after.later
 
-abbrev pub ProgramDoes : Side → Wish → Programs → Programs → Type 0
-ProgramDoes side.Network wish a b = WritesTo wish a.network b.network a.user b.user
-ProgramDoes side.User wish a b = WritesTo wish a.user b.user a.network b.network
+abbrev pub ProgramDoes : Side → LineRequest → Programs → Programs → Type 0
+ProgramDoes side.Network line_request a b = WritesTo line_request a.network b.network a.user b.user
+ProgramDoes side.User line_request a b = WritesTo line_request a.user b.user a.network b.network
 
 -- a line of one of the programs; the lines of both run in any order
 pub record ProgramLine : Type 0 where
   pub side : Side
-  pub wish : Wish
+  pub line_request : LineRequest
 
 abbrev pub ProgramsDo : List ProgramLine → Programs → Programs → Type 0
 ProgramsDo [] a b = b ≡ a
 ProgramsDo (line ∷ lines) a b =
-    (mid : Programs) × ProgramDoes line.side line.wish a mid × ProgramsDo lines mid b
+    (mid : Programs) × ProgramDoes line.side line.line_request a mid × ProgramsDo lines mid b
 
 -- the lines of one side
-abbrev pub wishes_behind : Side → Side → Wish → List Wish → List Wish
-wishes_behind side.Network side.Network wish wishes = wish ∷ wishes
-wishes_behind side.User side.User wish wishes = wish ∷ wishes
-wishes_behind of other wish wishes = wishes
+abbrev pub requests_behind : Side → Side → LineRequest → List LineRequest → List LineRequest
+requests_behind side.Network side.Network line_request line_requests = line_request ∷ line_requests
+requests_behind side.User side.User line_request line_requests = line_request ∷ line_requests
+requests_behind of other line_request line_requests = line_requests
 
-abbrev pub wishes_of_side : Side → List ProgramLine → List Wish
-wishes_of_side of [] = []
-wishes_of_side of (line ∷ lines) = wishes_behind of line.side line.wish (wishes_of_side of lines)
+abbrev pub requests_of_side : Side → List ProgramLine → List LineRequest
+requests_of_side of [] = []
+requests_of_side of (line ∷ lines) = requests_behind of line.side line.line_request
+    (requests_of_side of lines)
 
 -- ---- The interface that the programs represent.
 
@@ -86,41 +87,42 @@ clock_of side.Network network user = network
 clock_of side.User network user = user
 
 -- the network's clock after a line of this side; likewise the user's
-abbrev pub network_clock : Side → Wish → ℕ → ℕ
-network_clock side.Network wish now = moment_behind wish now
-network_clock side.User wish now = now
+abbrev pub network_clock : Side → LineRequest → ℕ → ℕ
+network_clock side.Network line_request now = moment_behind line_request now
+network_clock side.User line_request now = now
 
-abbrev pub user_clock : Side → Wish → ℕ → ℕ
-user_clock side.Network wish now = now
-user_clock side.User wish now = moment_behind wish now
+abbrev pub user_clock : Side → LineRequest → ℕ → ℕ
+user_clock side.Network line_request now = now
+user_clock side.User line_request now = moment_behind line_request now
 
 -- the events of the first line, followed by the moves of the other lines
-pub record ArePartedAs (side : Side) (wish : Wish) (now : ℕ) (AreForOthers : List Move → Type 0)
+pub record ArePartedAs (side : Side) (line_request : LineRequest) (now : ℕ)
+    (AreForOthers : List Move → Type 0)
     (moves : List Move) : Type 0 where
-  pub first : List Deed
+  pub first : List SideEvent
   pub others : List Move
   pub both : moves ≡ moves_of side first ++ others
-  pub for_first : AreFor wish now first
+  pub for_first : AreFor line_request now first
   pub for_others : AreForOthers others
 
 abbrev pub AreMovesFor : List ProgramLine → ℕ → ℕ → List Move → Type 0
 AreMovesFor [] network user moves = moves ≡ []
 AreMovesFor (line ∷ lines) network user moves =
-    ArePartedAs line.side line.wish (clock_of line.side network user)
-    (AreMovesFor lines (network_clock line.side line.wish network)
-    (user_clock line.side line.wish user)) moves
+    ArePartedAs line.side line.line_request (clock_of line.side network user)
+    (AreMovesFor lines (network_clock line.side line.line_request network)
+    (user_clock line.side line.line_request user)) moves
 
--- Both programs performed exactly the moves that their lines requested. In `ArePlayedSafely`, every
+-- Both programs performed exactly the moves that their lines requested. In `AreRunSafely`, every
 -- link is safe whose premises these moves keep.
-pub record ArePlayed (c : Configs) (lines : List ProgramLine) (a b : Programs) (i : Interface)
+pub record AreRun (c : Configs) (lines : List ProgramLine) (a b : Programs) (i : Interface)
     : Type 0 where
   pub moves : List Move
   pub asked : AreMovesFor lines a.network.at.now a.user.at.now moves
   pub are : AreAt c b (run c moves i)
 
-pub record ArePlayedSafely (c : Configs) (lines : List ProgramLine) (a b : Programs)
+pub record AreRunSafely (c : Configs) (lines : List ProgramLine) (a b : Programs)
     (i : Interface) : Type 0 where
-  pub played : ArePlayed c lines a b i
+  pub run_together : AreRun c lines a b i
   pub safe : (id : LinkId) → id.tei < 127 → (parameters_for c.user id.sapi).k ≤ 127
-      → (parameters_for c.network id.sapi).k ≤ 127 → KeepPremisesAsMade c id played.moves i
-      → IsSafeAt c id (run c played.moves i)
+      → (parameters_for c.network id.sapi).k ≤ 127 → SatisfyPremisesAsMade c id run_together.moves i
+      → IsSafeAt c id (run c run_together.moves i)

@@ -7,11 +7,11 @@ ghost use Rattle.lapd_sides_links.specs.declared.config.Config.{Config};
 ghost use Rattle.lapd_sides.specs.Network.{new_network};
 ghost use Rattle.lapd_sides.specs.User.{new_user};
 ghost use Rattle.lapd_sides_laws.specs.Interface.{Configs, Interface, by_network, by_user, network_behaviour, new_interface, run, user_behaviour, with_network, with_user};
-ghost use Rattle.lapd_sides_laws.specs.SideView.{Deed};
+ghost use Rattle.lapd_sides_laws.specs.SideView.{SideEvent};
 ghost use Rattle.lapd_cli_side_commands.specs.Served.{AtWork, LineDoes, LinesDo};
-ghost use Rattle.lapd_cli_side_lines.specs.Wishes.{Wish};
-ghost use Rattle.lapd_cli_side_laws.specs.Joined.{AreAt, ArePlayed, ArePlayedSafely, ProgramLine, Programs, ProgramsDo, wishes_of_side};
-ghost use Rattle.lapd_cli_side_laws.specs.Deeds.{AreFor, AreForAll, IsByDeeds, ShowsNetwork, ShowsUser, does_all, moves_of};
+ghost use Rattle.lapd_cli_side_lines.specs.LineRequests.{LineRequest};
+ghost use Rattle.lapd_cli_side_laws.specs.Joined.{AreAt, AreRun, AreRunSafely, ProgramLine, Programs, ProgramsDo, requests_of_side};
+ghost use Rattle.lapd_cli_side_laws.specs.SideEvents.{AreFor, AreForAll, IsByEvents, ShowsNetwork, ShowsUser, does_all, moves_of};
 
 /// A line of `net` or `user`, and so a whole script, performs exactly the side events that it
 /// requests. The side receives the frames read from the source, in order, and all frames that it
@@ -20,23 +20,26 @@ ghost use Rattle.lapd_cli_side_laws.specs.Deeds.{AreFor, AreForAll, IsByDeeds, S
 ///
 /// `network_line`, `user_line`: one line. `network_lines`, `user_lines`: all lines of a script, as
 /// `net` and `user` execute them.
-pub fn lines_are_deeds()
-    ensures network_line { (config : Config) (wish : Wish) (a b : AtWork) → LineDoes wish a b
-        → IsByDeeds (network_behaviour config) (ShowsNetwork config) (AreFor wish a.now) a b }
-    ensures network_lines { (config : Config) (wishes : List Wish) (a b : AtWork)
-        → LinesDo wishes a b → IsByDeeds (network_behaviour config) (ShowsNetwork config)
-        (AreForAll wishes a.now) a b }
-    ensures user_line { (config : Config) (wish : Wish) (a b : AtWork) → LineDoes wish a b
-        → IsByDeeds (user_behaviour config) (ShowsUser config) (AreFor wish a.now) a b }
-    ensures user_lines { (config : Config) (wishes : List Wish) (a b : AtWork)
-        → LinesDo wishes a b → IsByDeeds (user_behaviour config) (ShowsUser config)
-        (AreForAll wishes a.now) a b }
-    ensures network_moves { (c : Configs) (deeds : List Deed) (i : Interface)
-        → run c (moves_of side.Network deeds) i
-        ≡ with_network (does_all (network_behaviour c.network) deeds (by_network i)) i }
-    ensures user_moves { (c : Configs) (deeds : List Deed) (i : Interface)
-        → run c (moves_of side.User deeds) i
-        ≡ with_user (does_all (user_behaviour c.user) deeds (by_user i)) i }
+pub fn lines_are_events()
+    ensures network_line { (config : Config) (line_request : LineRequest) (a b : AtWork)
+        → LineDoes line_request a b
+        → IsByEvents (network_behaviour config) (ShowsNetwork config)
+        (AreFor line_request a.now) a b }
+    ensures network_lines { (config : Config) (line_requests : List LineRequest) (a b : AtWork)
+        → LinesDo line_requests a b → IsByEvents (network_behaviour config) (ShowsNetwork config)
+        (AreForAll line_requests a.now) a b }
+    ensures user_line { (config : Config) (line_request : LineRequest) (a b : AtWork)
+        → LineDoes line_request a b
+        → IsByEvents (user_behaviour config) (ShowsUser config) (AreFor line_request a.now) a b }
+    ensures user_lines { (config : Config) (line_requests : List LineRequest) (a b : AtWork)
+        → LinesDo line_requests a b → IsByEvents (user_behaviour config) (ShowsUser config)
+        (AreForAll line_requests a.now) a b }
+    ensures network_moves { (c : Configs) (events : List SideEvent) (i : Interface)
+        → run c (moves_of side.Network events) i
+        ≡ with_network (does_all (network_behaviour c.network) events (by_network i)) i }
+    ensures user_moves { (c : Configs) (events : List SideEvent) (i : Interface)
+        → run c (moves_of side.User events) i
+        ≡ with_user (does_all (user_behaviour c.user) events (by_user i)) i }
 {}
 
 /// If `net` and `user` are joined by a lossless line, whatever their lines do, in any order, is a
@@ -44,19 +47,19 @@ pub fn lines_are_deeds()
 /// other program writes, and each program reads only what was written. So each link of the
 /// interface is safe if these moves keep the premises of that link.
 ///
-/// `played`: from any interface that both represent. `safe`: from two new sides, the user with or
+/// `run_together`: from any interface that both represent. `safe`: from two new sides, the user with or
 /// without a fixed TEI, the network with any known TEIs. `network_lines`, `user_lines`: for each
 /// program, this is what `net` and `user` promise.
 pub fn joined_programs_are_safe()
-    ensures played { (c : Configs) (lines : List ProgramLine) (a b : Programs) (i : Interface)
-        → AreAt c a i → ProgramsDo lines a b → ArePlayed c lines a b i }
+    ensures run_together { (c : Configs) (lines : List ProgramLine) (a b : Programs) (i : Interface)
+        → AreAt c a i → ProgramsDo lines a b → AreRun c lines a b i }
     ensures safe { (c : Configs) (fixed : Option ℕ) (known : List ℕ) (random : Lcg)
         (lines : List ProgramLine) (a b : Programs)
         → AreAt c a (new_interface (new_user c.user fixed random) (new_network c.network known))
-        → ProgramsDo lines a b → ArePlayedSafely c lines a b
+        → ProgramsDo lines a b → AreRunSafely c lines a b
         (new_interface (new_user c.user fixed random) (new_network c.network known)) }
     ensures network_lines { (lines : List ProgramLine) (a b : Programs) → ProgramsDo lines a b
-        → LinesDo (wishes_of_side side.Network lines) a.network.at b.network.at }
+        → LinesDo (requests_of_side side.Network lines) a.network.at b.network.at }
     ensures user_lines { (lines : List ProgramLine) (a b : Programs) → ProgramsDo lines a b
-        → LinesDo (wishes_of_side side.User lines) a.user.at b.user.at }
+        → LinesDo (requests_of_side side.User lines) a.user.at b.user.at }
 {}

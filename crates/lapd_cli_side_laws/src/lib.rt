@@ -6,15 +6,15 @@
 //! This crate connects the commands to the interface; it has no code that runs. In the order of
 //! specs/:
 //!
-//! - `Deeds`, for one program: the side receives the frames that a line reads from the source, in
+//! - `SideEvents`, for one program: the side receives the frames that a line reads from the source, in
 //!   order and once each. Due timers expire, and requests are made. The frames that the side sends
 //!   are written to the sink, in order and once each.
 //! - `Joined`, for both programs: each source delivers the octets that the other program writes,
 //!   and each program reads only what was written. Their lines run in any order.
 //!
-//! Begin with [`lines_are_deeds`], then read [`joined_programs_are_safe`].
+//! Begin with [`lines_are_events`], then read [`joined_programs_are_safe`].
 #![tactic(auto)]
 
 mod laws;
 
-pub use laws::{joined_programs_are_safe, lines_are_deeds};
+pub use laws::{joined_programs_are_safe, lines_are_events};

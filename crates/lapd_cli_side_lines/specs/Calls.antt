@@ -3,7 +3,7 @@ use Rattle.std.specs.Prelude.{ℕ, List, [], ◌∷◌, flat_map}
 use Rattle.lapd_sides_links.specs.declared.primitive.Primitive.{Primitive}
 use Rattle.lapd_sides_links.specs.Effects.{Effects}
 use Rattle.lapd_sides.specs.declared.either_side.EitherSide.{EitherSide}
-use Rattle.lapd_sides.specs.Either.{Expires, Rests}
+use Rattle.lapd_sides.specs.Either.{Expires, StaysIdle}
 
 -- the frames that the calls return, in order; likewise the primitives
 abbrev pub frames_given : List Effects → List (List ℕ)
@@ -13,7 +13,7 @@ abbrev pub primitives_given : List Effects → List Primitive
 primitives_given calls = flat_map (λ acts. acts.primitives) calls
 
 -- these timers were due and expired, one after another, until no timer was due
-abbrev pub ExpireInTurn : ℕ → List Effects → EitherSide → EitherSide → Type 0
-ExpireInTurn now [] old new = Rests now old new
-ExpireInTurn now (acts ∷ more) old new =
-    (mid : EitherSide) × Expires now old mid acts × ExpireInTurn now more mid new
+abbrev pub ExpireInOrder : ℕ → List Effects → EitherSide → EitherSide → Type 0
+ExpireInOrder now [] old new = StaysIdle now old new
+ExpireInOrder now (acts ∷ more) old new =
+    (mid : EitherSide) × Expires now old mid acts × ExpireInOrder now more mid new

@@ -1,3 +1,3 @@
 pub mod Calls
 pub mod SideTexts
-pub mod Wishes
+pub mod LineRequests

@@ -17,15 +17,15 @@ use Rattle.lapd_cli_side_lines.specs.declared.line_style.LineStyle.{LineStyle}
 use Rattle.lapd_cli_side_lines.specs.declared.line_style.LineStyle.TheVariants.{Text, Json}
 
 -- a primitive; messages and timers of TEI management have no line
-abbrev pub told_text : LineStyle → Primitive → List ℕ
-told_text Text primitive = primitive_text primitive
-told_text Json primitive = object_text (primitive_members primitive)
+abbrev pub styled_primitive : LineStyle → Primitive → List ℕ
+styled_primitive Text primitive = primitive_text primitive
+styled_primitive Json primitive = object_text (primitive_members primitive)
 
 abbrev pub primitive_line : LineStyle → Primitive → List ℕ
 primitive_line style (Management (tei.Send message)) = []
 primitive_line style (Management (tei.Start timer)) = []
 primitive_line style (Management (tei.Stop timer)) = []
-primitive_line style primitive = text_line (told_text style primitive)
+primitive_line style primitive = text_line (styled_primitive style primitive)
 
 abbrev pub primitives_text : LineStyle → List Primitive → List ℕ
 primitives_text style primitives = flat_map (primitive_line style) primitives

@@ -3,7 +3,7 @@
 ghost use Rattle.std.specs.Prelude.{◌≡◌, option_map};
 ghost use Rattle.lapd_frame.specs.Address.{number_at, sapi_at};
 ghost use Rattle.lapd_cli_script.specs.Line.{Reads};
-ghost use Rattle.lapd_cli_side_lines.specs.Wishes.{bare_wish, check_wish, id_said, link_wish, octet_said, own_wish, sapi_said, span_at, tei_said, tick_wish, wish_of, wish_of_line, wish_of_word, with_sapi};
+ghost use Rattle.lapd_cli_side_lines.specs.LineRequests.{bare_request, check_request, parsed_id, link_request, parsed_octet, own_request, parsed_sapi, span_at, parsed_tei, tick_request, request_of, request_of_line, request_of_word, with_sapi};
 
 use lapd_cli_script::{LineFault, Words, number_of};
 use lapd_frame::{Sapi, Side, Tei};
@@ -31,7 +31,7 @@ pub enum SideLine {
 ///
 /// `Bad` if the line is not a valid line of this side, and `Memory` if an allocation fails.
 pub fn read_line(alloc: Global, side: Side, line: &[u8]) -> Result<SideLine, LineFault>
-    ensures { Reads wish_of result (wish_of_line side line.now) }
+    ensures { Reads request_of result (request_of_line side line.now) }
 {
     let mut words = Words::of(line);
     let Some(word) = words.next_word() else {
@@ -42,7 +42,7 @@ pub fn read_line(alloc: Global, side: Side, line: &[u8]) -> Result<SideLine, Lin
 
 /// Parses a line from its first word and the words after it.
 fn line_by(alloc: Global, side: Side, word: &[u8], behind: Words<'_>) -> Result<SideLine, LineFault>
-    ensures { Reads wish_of result (wish_of_word side word.now behind.entry) }
+    ensures { Reads request_of result (request_of_word side word.now behind.entry) }
 {
     if word == b"read".as_slice() {
         alone(behind, SideLine::Read)
@@ -61,7 +61,7 @@ fn own_line(
     word: &[u8],
     behind: Words<'_>,
 ) -> Result<SideLine, LineFault>
-    ensures { Reads wish_of result (own_wish side word.now behind.entry) }
+    ensures { Reads request_of result (own_request side word.now behind.entry) }
 {
     match side {
         Side::User => {
@@ -80,7 +80,7 @@ fn own_line(
 
 /// Returns this line if no word follows.
 fn alone(behind: Words<'_>, line: SideLine) -> Result<SideLine, LineFault>
-    ensures { Reads wish_of result (bare_wish (wish_of line) behind.entry) }
+    ensures { Reads request_of result (bare_request (request_of line) behind.entry) }
 {
     behind.nothing()?;
     Ok(line)
@@ -88,7 +88,7 @@ fn alone(behind: Words<'_>, line: SideLine) -> Result<SideLine, LineFault>
 
 /// Parses the number of milliseconds after `tick`.
 fn tick(behind: Words<'_>) -> Result<SideLine, LineFault>
-    ensures { Reads wish_of result (tick_wish behind.entry) }
+    ensures { Reads request_of result (tick_request behind.entry) }
 {
     let ms = behind.number()?;
     if 1 <= ms && ms <= MOST_MS {
@@ -100,7 +100,7 @@ fn tick(behind: Words<'_>) -> Result<SideLine, LineFault>
 
 /// Parses the TEI after `check`.
 fn check(mut behind: Words<'_>) -> Result<SideLine, LineFault>
-    ensures { Reads wish_of result (check_wish behind.entry) }
+    ensures { Reads request_of result (check_request behind.entry) }
 {
     let Some(word) = behind.next_word() else {
         return Err(LineFault::Bad);
@@ -112,7 +112,7 @@ fn check(mut behind: Words<'_>) -> Result<SideLine, LineFault>
 
 /// Parses the line of a link, whose SAPI and TEI are the next two words.
 fn of_link(alloc: Global, word: &[u8], mut behind: Words<'_>) -> Result<SideLine, LineFault>
-    ensures { Reads wish_of result (with_sapi word.now behind.entry) }
+    ensures { Reads request_of result (with_sapi word.now behind.entry) }
 {
     let Some(sapi) = behind.next_word() else {
         return Err(LineFault::Bad);
@@ -136,7 +136,7 @@ pub fn link_line(
     id: LinkId,
     behind: Words<'_>,
 ) -> Result<SideLine, LineFault>
-    ensures { Reads wish_of result (link_wish word.now id behind.entry) }
+    ensures { Reads request_of result (link_request word.now id behind.entry) }
 {
     if word == b"establish".as_slice() {
         alone(behind, SideLine::Ask(Request::Establish(id)))
@@ -153,7 +153,7 @@ pub fn link_line(
 
 /// Parses the SAPI and the TEI of a link.
 fn id_of(sapi: &[u8], tei: &[u8]) -> Result<LinkId, LineFault>
-    ensures { Reads (λ id. id) result (id_said sapi.now tei.now) }
+    ensures { Reads (λ id. id) result (parsed_id sapi.now tei.now) }
 {
     let sapi = sapi_of(sapi)?;
     let tei = tei_of(tei)?;
@@ -166,7 +166,7 @@ fn id_of(sapi: &[u8], tei: &[u8]) -> Result<LinkId, LineFault>
 ///
 /// `Bad` if the word is not a valid SAPI.
 pub fn sapi_of(word: &[u8]) -> Result<Sapi, LineFault>
-    ensures { Reads (λ sapi. sapi) result (sapi_said word.now) }
+    ensures { Reads (λ sapi. sapi) result (parsed_sapi word.now) }
 {
     let number = octet_of(word)?;
     match Sapi::new(number) {
@@ -181,7 +181,7 @@ pub fn sapi_of(word: &[u8]) -> Result<Sapi, LineFault>
 ///
 /// `Bad` if the word is not a valid TEI.
 pub fn tei_of(word: &[u8]) -> Result<Tei, LineFault>
-    ensures { Reads (λ tei. tei) result (tei_said word.now) }
+    ensures { Reads (λ tei. tei) result (parsed_tei word.now) }
 {
     let number = octet_of(word)?;
     match Tei::new(number) {
@@ -192,7 +192,7 @@ pub fn tei_of(word: &[u8]) -> Result<Tei, LineFault>
 
 /// Parses a number below 256 in decimal digits.
 fn octet_of(word: &[u8]) -> Result<u8, LineFault>
-    ensures { Reads (λ n. n) result (octet_said word.now) }
+    ensures { Reads (λ n. n) result (parsed_octet word.now) }
 {
     match number_of(word) {
         Some(number) if number <= 255 => Ok(number as u8),

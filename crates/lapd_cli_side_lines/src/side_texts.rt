@@ -7,8 +7,8 @@ ghost use Rattle.std.specs.Io.KnownBytes.{Appends};
 ghost use Rattle.lapd_frame.specs.Address.{sapi_value};
 ghost use Rattle.lapd_cli_script.specs.Line.{text_line};
 ghost use Rattle.lapd_sides_links.specs.Texts.{id_text, primitive_text, what_rest};
-ghost use Rattle.lapd_cli_side_lines.specs.SideTexts.{primitive_line, primitives_text, refusal_line, refused_line, told_text};
-ghost use Rattle.lapd_cli_side_lines.specs.Wishes.{IsGood};
+ghost use Rattle.lapd_cli_side_lines.specs.SideTexts.{primitive_line, primitives_text, refusal_line, refused_line, styled_primitive};
+ghost use Rattle.lapd_cli_side_lines.specs.LineRequests.{IsGood};
 
 use crate::line_style::LineStyle;
 use lapd_cli_script::LineFault;
@@ -63,19 +63,19 @@ pub fn push_primitive(
             | TeiOut::Free(_)
             | TeiOut::InUse(_)
             | TeiOut::Doubled(_),
-        ) => push_told(alloc, style, primitive, text),
+        ) => push_styled_primitive(alloc, style, primitive, text),
     }
 }
 
 /// Appends the line of a primitive that is printed.
-fn push_told(
+fn push_styled_primitive(
     alloc: Global,
     style: LineStyle,
     primitive: &Primitive,
     text: &mut String,
 ) -> Result<(), AllocError>
     ensures { OnOk result (string_bytes text.new
-        ≡ string_bytes text.old ++ text_line (told_text style primitive.now)) }
+        ≡ string_bytes text.old ++ text_line (styled_primitive style primitive.now)) }
 {
     match style {
         LineStyle::Text => push_words(alloc, primitive, text),

@@ -2,7 +2,7 @@
 
 mod words;
 
-use crate::plays::words_of;
+use crate::scenarios::words_of;
 use lapd_cli_options::{
     Clock, Durations, Interface, Invocation, Job, NoInvocation, Params, Recovery, Side, help,
     parse_words,
@@ -345,7 +345,7 @@ fn wrong_row(alloc: Global) -> Option<&'static str> {
 }
 
 #[test]
-fn words_come_to(rt: HostRuntime) -> Result<(), Fail> {
+fn words_choose_a_job(rt: HostRuntime) -> Result<(), Fail> {
     match wrong_row(rt.alloc()) {
         Some(row) => Err(Fail::new(format_args!("{row}: they come to something else"))),
         None => Ok(()),

@@ -2,8 +2,8 @@
 //! dialogue in the help. All that the user sends there is written before, so that neither end waits
 //! for the other.
 
-use crate::examples::{example_goes, text_of};
-use crate::plays::{Trial, pairs, row_goes};
+use crate::examples::{example_passes, text_of};
+use crate::scenarios::{Trial, pairs, row_passes};
 use lapd_cli_console::Script;
 use std::alloc::Global;
 use std::io::{self, Read, Write};
@@ -26,7 +26,7 @@ fn loops(rt: &HostRuntime, row: &str) -> io::Result<bool> {
 
 fn loops_over(alloc: Global, row: &str, near: &TcpStream, far: &TcpStream) -> bool {
     match format!(in alloc; "lapd loop{row}") {
-        Ok(row) => row_goes(alloc, row.as_str(), Trial::Over(far, near)),
+        Ok(row) => row_passes(alloc, row.as_str(), Trial::Over(far, near)),
         Err(_) => false,
     }
 }
@@ -46,8 +46,8 @@ fn both_go_over(alloc: Global, mut near: &TcpStream, mut far: &TcpStream) -> boo
     let mut sent = [0; 34];
     let (net, user) = (text_of(Script::Net), text_of(Script::User));
     far.write_all(FROM_USER).is_ok()
-        && example_goes(alloc, "lapd net --listen a:1", net, Trial::Over(near, near))
-        && example_goes(
+        && example_passes(alloc, "lapd net --listen a:1", net, Trial::Over(near, near))
+        && example_passes(
             alloc,
             "lapd user --connect a:1",
             user,
@@ -58,7 +58,7 @@ fn both_go_over(alloc: Global, mut near: &TcpStream, mut far: &TcpStream) -> boo
 }
 
 #[test]
-fn plays_over_connections(rt: HostRuntime) -> Result<(), Fail> {
+fn scenarios_over_connections(rt: HostRuntime) -> Result<(), Fail> {
     for row in pairs::PAIRS.split("\n\nlapd pair") {
         let row = row.strip_prefix("lapd pair").unwrap_or(row);
         if !row.contains("settle") && !loops(&rt, row)? {

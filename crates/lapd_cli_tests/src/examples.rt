@@ -1,6 +1,6 @@
 //! The examples in the help are scenarios.
 
-use crate::plays::{Trial, words_go};
+use crate::scenarios::{Trial, words_pass};
 use lapd_cli_console::Script;
 use lapd_cli_options::help;
 use std::alloc::Global;
@@ -51,7 +51,7 @@ pub(crate) fn wrong_example(alloc: Global) -> Option<&'static str> {
     for (words, script, parted_by, behind) in EXAMPLES {
         let (front, rest) = text_of(*script).split_once(*parted_by).unwrap_or(("", ""));
         let text = if *behind { rest } else { front };
-        if !example_goes(alloc, *words, text, Trial::Alone) {
+        if !example_passes(alloc, *words, text, Trial::Alone) {
             return Some(*words);
         }
     }
@@ -59,23 +59,23 @@ pub(crate) fn wrong_example(alloc: Global) -> Option<&'static str> {
 }
 
 /// Whether the example in a text is a scenario and runs as written, as the command of these words.
-pub(crate) fn example_goes(alloc: Global, words: &str, text: &str, trial: Trial<'_>) -> bool {
-    let play = example_of(alloc, text);
-    !play.is_empty() && words_go(alloc, words, play.as_str(), trial)
+pub(crate) fn example_passes(alloc: Global, words: &str, text: &str, trial: Trial<'_>) -> bool {
+    let scenario = example_of(alloc, text);
+    !scenario.is_empty() && words_pass(alloc, words, scenario.as_str(), trial)
 }
 
 /// The scenario of an example, whose lines begin with `  < ` and `  > `. The closing lines of
 /// `pair` are printed after the script.
 fn example_of(alloc: Global, text: &str) -> String {
-    let mut play = String::new(alloc);
+    let mut scenario = String::new(alloc);
     for line in text.lines() {
         if let Some(line) = line.strip_prefix("  < ") {
-            let _ = write!(play, "\n{line}");
+            let _ = write!(scenario, "\n{line}");
         }
         if let Some(line) = line.strip_prefix("  > ") {
             let is_end = line.starts_with("user: state");
-            let _ = write!(play, "{}\n    {line}", if is_end { "\n." } else { "" });
+            let _ = write!(scenario, "{}\n    {line}", if is_end { "\n." } else { "" });
         }
     }
-    play
+    scenario
 }

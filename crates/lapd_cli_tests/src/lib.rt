@@ -27,13 +27,13 @@ mod live;
 #[cfg(test)]
 mod memory;
 #[cfg(test)]
-mod play;
-#[cfg(test)]
-mod plays;
-#[cfg(test)]
 mod reasons;
 #[cfg(test)]
 mod run;
+#[cfg(test)]
+mod scenario;
+#[cfg(test)]
+mod scenarios;
 #[cfg(test)]
 mod streams;
 #[cfg(test)]

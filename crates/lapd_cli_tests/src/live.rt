@@ -5,7 +5,7 @@ mod bad_lines;
 mod dialogues;
 mod failures;
 mod made;
-mod played;
+mod scenario_run;
 mod sessions;
 mod stalls;
 mod typed;

@@ -1,8 +1,8 @@
 //! Failed allocations. A test can't make an allocation fail: `tools/refuse-memory` refuses each
 //! allocation of a run in turn, and a test prints that it met the refusal (docs/DEVELOPING.md).
 
-use crate::play::{Console, Line, Play, mark_of};
 use crate::run::run;
+use crate::scenario::{Console, Line, Scenario, mark_of};
 use lapd_cli_options::{
     Clock, DecodeOptions, Durations, Interface, Invocation, Job, LinkEnd, Params, Recovery, Sapi,
     Side, Tei,
@@ -25,11 +25,11 @@ fn keeps(rt: &HostRuntime, job: Job, text: &str) -> Result<(), Fail> {
         json: false,
         strict: false,
     };
-    let play = Play::new(text, 5);
-    let ended = ended_of(rt.alloc(), &chosen, &play);
+    let scenario = Scenario::new(text, 5);
+    let ended = ended_of(rt.alloc(), &chosen, &scenario);
     let holds = match ended {
-        Err(ScriptFault::Memory) => is_kept(&play, text, is_side),
-        _ => play.ends(rt.alloc(), ended),
+        Err(ScriptFault::Memory) => is_kept(&scenario, text, is_side),
+        _ => scenario.ends(rt.alloc(), ended),
     };
     if ended.is_err() {
         println!(rt; "refused")?;
@@ -41,25 +41,38 @@ fn keeps(rt: &HostRuntime, job: Job, text: &str) -> Result<(), Fail> {
     }
 }
 
-fn ended_of(alloc: Global, chosen: &Invocation<'_>, play: &Play<'_>) -> Result<(), ScriptFault> {
-    let port = Port::new(FromRead::new(Line(play)), FromWrite::new(Line(play)));
-    let (ended, _port) = run(alloc, chosen, &mut Console(play), &mut Console(play), port);
+fn ended_of(
+    alloc: Global,
+    chosen: &Invocation<'_>,
+    scenario: &Scenario<'_>,
+) -> Result<(), ScriptFault> {
+    let port = Port::new(
+        FromRead::new(Line(scenario)),
+        FromWrite::new(Line(scenario)),
+    );
+    let (ended, _port) = run(
+        alloc,
+        chosen,
+        &mut Console(scenario),
+        &mut Console(scenario),
+        port,
+    );
     ended
 }
 
 /// Whether nothing of the last answer was printed or, on a side, only whole lines.
-fn is_kept(play: &Play<'_>, text: &str, is_side: bool) -> bool {
-    if play.mark() != b"    ".as_slice() {
+fn is_kept(scenario: &Scenario<'_>, text: &str, is_side: bool) -> bool {
+    if scenario.mark() != b"    ".as_slice() {
         return true;
     }
-    let done = text.len().saturating_sub(play.left.get().len());
+    let done = text.len().saturating_sub(scenario.left.get().len());
     let done = text.get(..done).unwrap_or("").trim_end();
     let last = done.rsplit('\n').next().unwrap_or("");
-    !play.is_within_line() && (is_side || mark_of(last.as_bytes()) != b"    ".as_slice())
+    !scenario.is_within_line() && (is_side || mark_of(last.as_bytes()) != b"    ".as_slice())
 }
 
 #[test]
-fn plays_while_there_is_memory(rt: HostRuntime) -> Result<(), Fail> {
+fn scenarios_while_there_is_memory(rt: HostRuntime) -> Result<(), Fail> {
     let params = Params::basic(Sapi::Call).with_recovery(Recovery::Enquiry);
     let job = Job::Pair {
         user: params,

@@ -4,8 +4,8 @@
 
 mod lines;
 
-use crate::plays::words_of;
 use crate::run::run;
+use crate::scenarios::words_of;
 use arrayvec::ArrayVec;
 use lapd_cli_console::{Script, reason, tidied};
 use lapd_cli_live_text::read_live_line;

@@ -1,9 +1,9 @@
 //! The memory of the wrappers of standard streams, and typed lines.
 
-use crate::play::{Console, Play};
-use crate::plays::words_of;
 use crate::run::run;
-use lapd_cli_console::{KeptLines, Refusals, Script, Session};
+use crate::scenario::{Console, Scenario};
+use crate::scenarios::words_of;
+use lapd_cli_console::{RecentLines, Refusals, Script, Session};
 use lapd_cli_options::{Invocation, parse_words};
 use lapd_cli_script::ScriptFault;
 use lapd_cli_side_commands::{FromRead, FromWrite, Port};
@@ -47,22 +47,22 @@ fn long_text(alloc: Global, lines: u32) -> Result<String, AllocError> {
 /// Whether a text is passed on in parts of at most `most` octets, and its last lines are kept as
 /// long as they should be.
 fn keeps(text: &str, most: usize) -> bool {
-    let mut kept = KeptLines::new(Parts {
+    let mut recent = RecentLines::new(Parts {
         octets: text.as_bytes(),
         most,
         fault: None,
     });
     let mut part = [0u8; 8192];
     let mut read = 0usize;
-    for _turn in 0..text.len() {
-        let count = kept.read(&mut part).unwrap_or(0);
+    for _round in 0..text.len() {
+        let count = recent.read(&mut part).unwrap_or(0);
         if count == 0 {
             break;
         }
         let (begin, end) = (read, read.saturating_add(count));
         read = end;
         if text.as_bytes().get(begin..end) != part.get(..count)
-            || !has_last_lines(&kept, text.get(..end).unwrap_or(""), count)
+            || !has_last_lines(&recent, text.get(..end).unwrap_or(""), count)
         {
             return false;
         }
@@ -72,15 +72,15 @@ fn keeps(text: &str, most: usize) -> bool {
 
 /// Whether the reader has kept the last line read so far, and the line before it if that ended in
 /// the last part, and no line after them.
-fn has_last_lines(kept: &KeptLines<Parts<'_>>, front: &str, part: usize) -> bool {
+fn has_last_lines(recent: &RecentLines<Parts<'_>>, front: &str, part: usize) -> bool {
     let feeds = front.split('\n').count().saturating_sub(1) as u64;
     let mut lines = front.rsplit('\n');
     let (last, before) = (lines.next().unwrap_or(""), lines.next().unwrap_or(""));
     let is_gone = part <= last.len();
-    kept.line(feeds.saturating_add(1)) == Some(last.as_bytes())
-        && (is_gone || kept.line(feeds) == Some(before.as_bytes()))
-        && kept.line(feeds.saturating_add(2)).is_none()
-        && kept.line(0).is_none()
+    recent.line(feeds.saturating_add(1)) == Some(last.as_bytes())
+        && (is_gone || recent.line(feeds) == Some(before.as_bytes()))
+        && recent.line(feeds.saturating_add(2)).is_none()
+        && recent.line(0).is_none()
 }
 
 /// Whether the last lines of long texts are kept, with parts of these lengths.
@@ -106,14 +106,14 @@ fn cuts(alloc: Global, chosen: &Invocation<'_>) -> Result<bool, AllocError> {
     let answered = ends(alloc, chosen, &mut NOTES, &mut printed) == Ok(());
     text.resize(10_000, b'0')?;
     text.extend_from_slice(b"g\nstate\n")?;
-    let mut kept = KeptLines::new(text.as_slice());
-    let ended = ends(alloc, chosen, &mut kept, &mut io::sink());
+    let mut recent = RecentLines::new(text.as_slice());
+    let ended = ends(alloc, chosen, &mut recent, &mut io::sink());
     Ok(
         answered
             && printed.as_slice() == b"state 4\nsend 00811f\n".as_slice()
             && ended == Err(ScriptFault::BadLine(7))
-            && kept.line(7) == text.get(19..4115)
-            && kept.line(8) == Some(b"state".as_slice()),
+            && recent.line(7) == text.get(19..4115)
+            && recent.line(8) == Some(b"state".as_slice()),
     )
 }
 
@@ -200,13 +200,13 @@ quit
 /// Whether a session of `answer` runs so, with at most `most` octets per call. At the second
 /// `state` the answer must be printed before more is read.
 fn is_typed(alloc: Global, chosen: &Invocation<'_>, most: usize) -> bool {
-    let play = Play::new(TYPED, most);
-    let Ok(typed) = BufReader::new(alloc, Console(&play)) else {
+    let scenario = Scenario::new(TYPED, most);
+    let Ok(typed) = BufReader::new(alloc, Console(&scenario)) else {
         return false;
     };
-    let mut session = Session::new(alloc, Script::Answer, typed, Console(&play));
-    let ended = ends(alloc, chosen, &mut session, &mut Console(&play));
-    play.ends(alloc, ended)
+    let mut session = Session::new(alloc, Script::Answer, typed, Console(&scenario));
+    let ended = ends(alloc, chosen, &mut session, &mut Console(&scenario));
+    scenario.ends(alloc, ended)
 }
 
 /// Whether a script may take a million reads, if the last one reaches its end. Interrupted reads
@@ -223,7 +223,7 @@ fn reads_a_million(alloc: Global, chosen: &Invocation<'_>) -> Result<bool, Alloc
         most: 1,
         fault: None,
     };
-    let mut interrupted = KeptLines::new(Parts {
+    let mut interrupted = RecentLines::new(Parts {
         octets: b"state\n",
         most: 8,
         fault: Some(ErrorKind::Interrupted),

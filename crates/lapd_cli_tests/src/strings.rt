@@ -85,7 +85,7 @@ fn drawn_are_read(stream: &mut Vec<u8>) -> Result<bool, AllocError> {
 }
 
 #[test]
-fn strings_come_out(rt: HostRuntime) -> Result<(), Fail> {
+fn strings_are_printed(rt: HostRuntime) -> Result<(), Fail> {
     let mut stream = Vec::new(rt.alloc());
     let pairs = pairs_are_read(&mut stream)?;
     stream.clear();

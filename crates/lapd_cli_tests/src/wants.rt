@@ -21,8 +21,8 @@ pub(crate) fn all_hold(rows: &[(bool, &str, &str)]) -> Result<(), Fail> {
 }
 
 /// Whether the value has this text.
-pub(crate) fn is_said<T: ToString>(alloc: Global, told: &T, text: &str) -> bool {
-    let said = told.to_string(alloc);
+pub(crate) fn is_printed_as<T: ToString>(alloc: Global, lines_printed: &T, text: &str) -> bool {
+    let said = lines_printed.to_string(alloc);
     match &said {
         Ok(said) => said.as_str() == text,
         Err(_) => false,

@@ -66,15 +66,15 @@ control_again (Xid true) rest = refl
 
 -- ---- Fields that are read were spelled so.
 
-pub address_found : (from : Side) (first second : ℕ) (a : Address) → address_at from (first ∷ second ∷ []) ≡ Ok a → first ∷ second ∷ [] ≡ address_octets from a
-address_found Network first second a h = grind (arith, common_steps)
-address_found User first second a h = grind (arith, common_steps)
+pub address_spelled : (from : Side) (first second : ℕ) (a : Address) → address_at from (first ∷ second ∷ []) ≡ Ok a → first ∷ second ∷ [] ≡ address_octets from a
+address_spelled Network first second a h = grind (arith, common_steps)
+address_spelled User first second a h = grind (arith, common_steps)
 
-pub unnumbered_found : (first : ℕ) (c : Control) → unnumbered_at first ≡ Some c → first ∷ [] ≡ control_octets c
-unnumbered_found first c h = grind (arith, common_steps)
+pub unnumbered_spelled : (first : ℕ) (c : Control) → unnumbered_at first ≡ Some c → first ∷ [] ≡ control_octets c
+unnumbered_spelled first c h = grind (arith, common_steps)
 
-pub numbered_found : (first second : ℕ) (c : Control) → numbered_at first second ≡ Some c → first ∷ second ∷ [] ≡ control_octets c
-numbered_found first second c h = grind (arith, common_steps)
+pub numbered_spelled : (first second : ℕ) (c : Control) → numbered_at first second ≡ Some c → first ∷ second ∷ [] ≡ control_octets c
+numbered_spelled first second c h = grind (arith, common_steps)
 
 abbrev Taken : Control × ℕ → Result (Control × ℕ) FieldFault
 Taken x = Ok x
@@ -87,15 +87,15 @@ with_length_ok None m c n h = cc
 with_length_ok (Some d) m c n h =
     let e = same_ok (d, m) (c, n) h in (ap (λ (p : Control × ℕ). Some p.0) e, sym (ap (λ (p : Control × ℕ). p.1) e))
 
-control_found_at : (first : ℕ) (rest : List ℕ) (c : Control) (n : ℕ) (two : Bool) → (if two then with_second first rest else with_length (unnumbered_at first) 1) ≡ Ok (c, n)
+control_spelled_at : (first : ℕ) (rest : List ℕ) (c : Control) (n : ℕ) (two : Bool) → (if two then with_second first rest else with_length (unnumbered_at first) 1) ≡ Ok (c, n)
     → take n (first ∷ rest) ≡ control_octets c
-control_found_at first [] c n true h = cc
-control_found_at first (second ∷ rest) c n true h =
-    let found = with_length_ok (numbered_at first second) 2 c n h in rw found.1 (numbered_found first second c found.0)
-control_found_at first rest c n false h =
-    let found = with_length_ok (unnumbered_at first) 1 c n h in rw found.1 (unnumbered_found first c found.0)
+control_spelled_at first [] c n true h = cc
+control_spelled_at first (second ∷ rest) c n true h =
+    let found = with_length_ok (numbered_at first second) 2 c n h in rw found.1 (numbered_spelled first second c found.0)
+control_spelled_at first rest c n false h =
+    let found = with_length_ok (unnumbered_at first) 1 c n h in rw found.1 (unnumbered_spelled first c found.0)
 
 -- the octets that a control field takes are the octets of the field
-pub control_found : (octets : List ℕ) (c : Control) (n : ℕ) → control_at octets ≡ Ok (c, n) → take n octets ≡ control_octets c
-control_found [] c n h = cc
-control_found (first ∷ rest) c n h = control_found_at first rest c n (has_second first) h
+pub control_spelled : (octets : List ℕ) (c : Control) (n : ℕ) → control_at octets ≡ Ok (c, n) → take n octets ≡ control_octets c
+control_spelled [] c n h = cc
+control_spelled (first ∷ rest) c n h = control_spelled_at first rest c n (has_second first) h

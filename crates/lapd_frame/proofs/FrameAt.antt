@@ -12,7 +12,7 @@ use Rattle.lapd_field.specs.declared.field_fault.FieldFault.{FieldFault}
 use Rattle.lapd_field.specs.declared.field_fault.FieldFault.TheVariants as field
 use Rattle.lapd_field.specs.Address.{address_at, address_octets, sapi_value, command_bit, IsAddress}
 use Rattle.lapd_field.specs.Control.{control_at, control_octets, IsControl}
-use Rattle.lapd_field.proofs.FieldLaws.{address_again, control_again, address_found, control_found}
+use Rattle.lapd_field.proofs.FieldLaws.{address_again, control_again, address_spelled, control_spelled}
 use Rattle.lapd_frame.specs.declared.fault_kind.FaultKind.{FaultKind}
 use Rattle.lapd_frame.specs.declared.fault_kind.FaultKind.TheVariants.{InfoNotPermitted, WrongSize, InfoTooLong}
 use Rattle.lapd_frame.specs.declared.frame_fault.FrameFault.{FrameFault}
@@ -123,11 +123,11 @@ spelled from f head octets n ha hc hi =
     ap (λ l. l ++ octets) ha ∙ ap (λ l. address_octets from f.address ++ l) cut ∙ sym (append_assoc (address_octets from f.address) (control_octets f.control) f.info)
 
 -- combining valid fields that were spelled so
-pub found_joined : (from : Side) (address : Result Address FieldFault) (control : Result (Control × ℕ) FieldFault) (head octets : List ℕ) (f : Fields)
+pub spelled_joined : (from : Side) (address : Result Address FieldFault) (control : Result (Control × ℕ) FieldFault) (head octets : List ℕ) (f : Fields)
     → IfOk address (λ a. IsAddress a × (head ≡ address_octets from a))
     → IfOk control (λ r. IsControl r.0 × (r.1 ≡ length (control_octets r.0)) × (take r.1 octets ≡ control_octets r.0))
     → frame_of_fields address control octets ≡ Ok f → IsFrame f × (head ++ octets ≡ spelling from f)
-found_joined from address control head octets f ha hc h =
+spelled_joined from address control head octets f ha hc h =
     let j = joined_ok address control octets f h in
     let a = rw j.address_is at ha in
     let c = rw j.control_is at hc in
@@ -142,23 +142,23 @@ cells [] h = absurd (omega arith)
 cells (first ∷ []) h = absurd (omega arith)
 cells (first ∷ second ∷ rest) h = refl
 
-pub found_frame_at : (from : Side) (octets : List ℕ) (address : Result Address FieldFault) (control : Result (Control × ℕ) FieldFault) (r : Result Fields FrameFault) → 3 ≤ length octets
+pub spelled_frame_at : (from : Side) (octets : List ℕ) (address : Result Address FieldFault) (control : Result (Control × ℕ) FieldFault) (r : Result Fields FrameFault) → 3 ≤ length octets
     → IfOk address (λ a. IsAddress a × (get_or octets 0 0 ∷ get_or octets 1 0 ∷ [] ≡ address_octets from a))
     → IfOk control (λ c. IsControl c.0 × (c.1 ≡ length (control_octets c.0)) × (take c.1 (drop 2 octets) ≡ control_octets c.0))
     → r ≡ frame_of_fields address control (drop 2 octets) → IfOk r (λ f. IsFrame f × (octets ≡ spelling from f))
-found_frame_at from octets address control r long ha hc e =
+spelled_frame_at from octets address control r long ha hc e =
     if_ok r _ (λ f h.
-    let j = found_joined from address control (get_or octets 0 0 ∷ get_or octets 1 0 ∷ []) (drop 2 octets) f ha hc (sym e ∙ h) in
+    let j = spelled_joined from address control (get_or octets 0 0 ∷ get_or octets 1 0 ∷ []) (drop 2 octets) f ha hc (sym e ∙ h) in
     (j.0, sym (cells octets long) ∙ j.1))
 
 -- the octets of a frame are its spelling
-pub spelling_found : (from : Side) (octets : List ℕ) (f : Fields) → frame_at from octets ≡ Ok f → octets ≡ spelling from f
-spelling_found from [] f h = cc
-spelling_found from (first ∷ []) f h = cc
-spelling_found from (first ∷ second ∷ []) f h = cc
-spelling_found from (first ∷ second ∷ third ∷ rest) f h =
+pub frame_spelled : (from : Side) (octets : List ℕ) (f : Fields) → frame_at from octets ≡ Ok f → octets ≡ spelling from f
+frame_spelled from [] f h = cc
+frame_spelled from (first ∷ []) f h = cc
+frame_spelled from (first ∷ second ∷ []) f h = cc
+frame_spelled from (first ∷ second ∷ third ∷ rest) f h =
     let j = joined_ok (address_at from (first ∷ second ∷ [])) (control_at (third ∷ rest)) (third ∷ rest) f h in
-    spelled from f (first ∷ second ∷ []) (third ∷ rest) j.taken (address_found from first second f.address j.address_is) (control_found (third ∷ rest) f.control j.taken j.control_is) j.info_is
+    spelled from f (first ∷ second ∷ []) (third ∷ rest) j.taken (address_spelled from first second f.address j.address_is) (control_spelled (third ∷ rest) f.control j.taken j.control_is) j.info_is
 
 -- ---- The link that a fault is for.
 

@@ -3,7 +3,7 @@ pub use Rattle.lapd_frame.specs.Control
 pub use Rattle.lapd_frame.specs.Fault
 pub use Rattle.lapd_frame.specs.Frame
 pub use Rattle.lapd_frame.specs.Reading
-pub use Rattle.lapd_link_machine.specs.StandsFor
+pub use Rattle.lapd_link_machine.specs.Represents
 pub use Rattle.lapd_link_machine.specs.Tail
 pub use Rattle.lapd_mod128.specs.Counting
 pub use Rattle.lapd_queue.specs.Waiting

@@ -15,11 +15,11 @@ use Rattle.lapd_link_definition.specs.End.{End, StepState, begin}
 use Rattle.lapd_link_definition.specs.Input.{Input}
 use Rattle.lapd_link_definition.specs.Table.{step}
 use Rattle.lapd_link.specs.declared.link.Link.{Link}
-use Rattle.lapd_link_machine.specs.StandsFor.{StandsFor}
+use Rattle.lapd_link_machine.specs.Represents.{Represents}
 
 -- A link represents an end between two steps. Messages before those in its queue do not matter.
-abbrev pub LinkStandsFor : Link → End → Type 0
-LinkStandsFor link e = StandsFor link.machine [] (begin e)
+abbrev pub LinkRepresents : Link → End → Type 0
+LinkRepresents link e = Represents link.machine [] (begin e)
 
 -- the link's side, SAPI and TEI, which no step changes
 pub record Setup : Type 0 where
@@ -42,9 +42,9 @@ IsForLink link other = ⊤
 
 -- a step of the table: its outputs, in order, and a link that represents the end after it
 abbrev pub Steps : Link → Link → Input → List Out → Type 0
-Steps old new input outs = (e : End) → LinkStandsFor old e
-    → (s : StepState) × (step Tagged input e ≡ Ok s) × (s.outs ≡ outs) × LinkStandsFor new s.end
+Steps old new input outs = (e : End) → LinkRepresents old e
+    → (s : StepState) × (step Tagged input e ≡ Ok s) × (s.outs ≡ outs) × LinkRepresents new s.end
 
 -- the table refuses the input
 abbrev pub Refuses : Link → Input → LinkFault → Type 0
-Refuses link input fault = (e : End) → LinkStandsFor link e → step Tagged input e ≡ Err fault
+Refuses link input fault = (e : End) → LinkRepresents link e → step Tagged input e ≡ Err fault

@@ -16,7 +16,7 @@ use Rattle.lapd_link_definition.specs.End.{End}
 use Rattle.lapd_link_definition.specs.Numbers.{AreNumbers}
 use Rattle.lapd_link_definition.specs.Sound.{IsSound}
 use Rattle.lapd_link_definition.specs.SentFrames.{AreShort}
-use Rattle.lapd_link.specs.Link.{LinkStandsFor, Setup, setup_of}
+use Rattle.lapd_link.specs.Link.{LinkRepresents, Setup, setup_of}
 use Rattle.lapd_link.specs.declared.link.Link.{Link}
 
 -- the link's address, in a command or a response
@@ -73,13 +73,13 @@ HaveFrames setup messages outs = (handed : List ℕ) → length handed ≤ n201
 
 -- a link has the frames of these outputs, after the step that returned them
 abbrev pub HasFramesOf : Link → List Out → Type 0
-HasFramesOf link outs = (e : End) → LinkStandsFor link e
+HasFramesOf link outs = (e : End) → LinkRepresents link e
     → HaveFrames (setup_of link) (drop e.first e.given) outs
 
 -- Properties that an end keeps from step to step, so that the outputs of each step have their
 -- frames: its window has at most 127 places, its sent messages are outstanding, its numbers are
 -- tags, and its messages have at most N201 octets.
-pub record KeepsFrames (e : End) : Type 0 where
+pub record AllowsFrames (e : End) : Type 0 where
   pub few : e.parameters.k ≤ 127
   pub sound : IsSound Tagged e
   pub numbers : AreNumbers Tagged e.window

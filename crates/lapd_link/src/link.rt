@@ -38,7 +38,7 @@ impl Link {
     ghost use Rattle.lapd_link_definition.specs.End.{End, new_end};
     ghost use Rattle.lapd_link_definition.specs.Input.{input_of, Give};
     ghost use Rattle.lapd_link_definition.specs.Refusal.{refused};
-    ghost use Rattle.lapd_link.specs.Link.{LinkStandsFor, Setup, setup_of, Steps, Refuses, IsForLink, is_address_of};
+    ghost use Rattle.lapd_link.specs.Link.{LinkRepresents, Setup, setup_of, Steps, Refuses, IsForLink, is_address_of};
     ghost use Rattle.lapd_link.specs.SentFrame.{HasFramesOf};
     ghost use Rattle.lapd_link_machine.specs.Bounds.{IsBounded};
 
@@ -57,7 +57,7 @@ impl Link {
     ) -> Result<Link, AllocError>
         requires sapi { sapi ≢ Sapi.Management }
         requires tei { tei < 127 }
-        ensures end { IfOk result (λ link. LinkStandsFor link (new_end params)) }
+        ensures end { IfOk result (λ link. LinkRepresents link (new_end params)) }
         ensures setup { IfOk result
             (λ link. setup_of link ≡ record { side = side; sapi = sapi; tei = tei }) }
     {
@@ -177,14 +177,14 @@ impl Link {
 
     /// Why [`Link::handle`] would refuse this event; `None` if it would accept it.
     pub fn refusal(&self, event: &Event) -> Option<LinkFault>
-        ensures { (e : End) → LinkStandsFor self.now e → result ≡ refused (input_of event.now) e }
+        ensures { (e : End) → LinkRepresents self.now e → result ≡ refused (input_of event.now) e }
     {
         self.machine.refuses(event)
     }
 
     /// Why [`Link::give`] would refuse a message of this many octets; `None` if it would accept it.
     pub fn give_refusal(&self, len: usize) -> Option<LinkFault>
-        ensures { (message : List ℕ) (e : End) → length message ≡ len → LinkStandsFor self.now e
+        ensures { (message : List ℕ) (e : End) → length message ≡ len → LinkRepresents self.now e
             → result ≡ refused (Give message) e }
     {
         match self.machine.refuses_message(len) {
@@ -197,7 +197,7 @@ impl Link {
     /// Whether an establishment begins with this event: with a SABME in states 4, 7 and 8, and with
     /// the UA to this end's own SABME in state 5 if no release is pending (Q.921 5.5.1.2).
     pub fn begins(&self, event: &Event) -> bool
-        ensures { (e : End) → LinkStandsFor self.now e
+        ensures { (e : End) → LinkRepresents self.now e
             → result ≡ begins e.state e.release_pending (input_of event.now) }
     {
         self.machine.begins(event)
@@ -217,19 +217,19 @@ impl Link {
     ghost use Rattle.std.specs.Prelude.{◌-◌, length};
     ghost use Rattle.lapd_link_definition.specs.End.{End, runs};
     ghost use Rattle.lapd_link_definition.specs.State.{state_number};
-    ghost use Rattle.lapd_link.specs.Link.{LinkStandsFor, setup_of};
+    ghost use Rattle.lapd_link.specs.Link.{LinkRepresents, setup_of};
     ghost use Rattle.lapd_link_machine.specs.Tail.{IsTail};
 
     /// The number of its state, 4 to 8.
     pub fn state(&self) -> u8
-        ensures { (e : End) → LinkStandsFor self.now e → result ≡ state_number e.state }
+        ensures { (e : End) → LinkRepresents self.now e → result ≡ state_number e.state }
     {
         self.machine.state.number()
     }
 
     /// V(S), V(A), V(R) and the conditions.
     pub fn window(&self) -> Window
-        ensures { (e : End) → LinkStandsFor self.now e → result ≡ e.window }
+        ensures { (e : End) → LinkRepresents self.now e → result ≡ e.window }
     {
         self.machine.window
     }
@@ -238,14 +238,14 @@ impl Link {
     /// state 8 it counts how often T200 has expired since the last response; each time an enquiry
     /// was sent.
     pub fn rc(&self) -> u8
-        ensures { (e : End) → LinkStandsFor self.now e → result ≡ e.rc }
+        ensures { (e : End) → LinkRepresents self.now e → result ≡ e.rc }
     {
         self.machine.rc
     }
 
     /// Whether this timer of the link runs.
     pub fn running(&self, timer: Timer) -> bool
-        ensures { (e : End) → LinkStandsFor self.now e → result ≡ runs timer e }
+        ensures { (e : End) → LinkRepresents self.now e → result ≡ runs timer e }
     {
         match timer {
             Timer::T200 => self.machine.t200,
@@ -256,42 +256,42 @@ impl Link {
 
     /// Whether layer 3 requested the establishment, in state 5.
     pub fn layer3_initiated(&self) -> bool
-        ensures { (e : End) → LinkStandsFor self.now e → result ≡ e.layer3_initiated }
+        ensures { (e : End) → LinkRepresents self.now e → result ≡ e.layer3_initiated }
     {
         self.machine.layer3_initiated
     }
 
     /// Whether a release is pending until the response to the SABME, in state 5.
     pub fn release_pending(&self) -> bool
-        ensures { (e : End) → LinkStandsFor self.now e → result ≡ e.release_pending }
+        ensures { (e : End) → LinkRepresents self.now e → result ≡ e.release_pending }
     {
         self.machine.release_pending
     }
 
     /// The messages that are neither acknowledged nor dropped.
     pub fn queue(&self) -> &IQueue
-        ensures { (e : End) → LinkStandsFor self.now e → IsTail e.given e.first e.next result.now }
+        ensures { (e : End) → LinkRepresents self.now e → IsTail e.given e.first e.next result.now }
     {
         &self.machine.queue
     }
 
     /// How many messages are neither acknowledged nor dropped, 0 to 1,024.
     pub fn waiting(&self) -> u16
-        ensures { (e : End) → LinkStandsFor self.now e → result ≡ length e.given - e.first }
+        ensures { (e : End) → LinkRepresents self.now e → result ≡ length e.given - e.first }
     {
         self.machine.queue.len()
     }
 
     /// The parameters that it was made with.
     pub fn params(&self) -> Params
-        ensures { (e : End) → LinkStandsFor self.now e → result ≡ e.parameters }
+        ensures { (e : End) → LinkRepresents self.now e → result ≡ e.parameters }
     {
         self.machine.params
     }
 
     /// How many messages its queue has room for, 1 to 1,024.
     pub fn room(&self) -> u16
-        ensures { (e : End) → LinkStandsFor self.now e → result ≡ e.parameters.room }
+        ensures { (e : End) → LinkRepresents self.now e → result ≡ e.parameters.room }
     {
         self.machine.queue.room()
     }

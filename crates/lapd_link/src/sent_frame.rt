@@ -2,7 +2,7 @@
 
 ghost use Rattle.std.specs.Prelude.{◌≡◌, drop, slice_get};
 ghost use Rattle.lapd_link_definition.specs.End.{End};
-ghost use Rattle.lapd_link.specs.Link.{LinkStandsFor, setup_of};
+ghost use Rattle.lapd_link.specs.Link.{LinkRepresents, setup_of};
 ghost use Rattle.lapd_link.specs.SentFrame.{link_frame, message_frame, made_frame};
 
 use crate::Link;
@@ -25,7 +25,7 @@ impl Link {
     /// message.
     #[inline(always)]
     pub fn frame<'a>(&'a self, out: &Out, handed: &'a [u8]) -> Option<Frame<'a>>
-        ensures { (e : End) → LinkStandsFor self.now e
+        ensures { (e : End) → LinkRepresents self.now e
             → result ≡ made_frame (setup_of self.now) (drop e.first e.given) handed.now out.now }
     {
         match out {
@@ -39,7 +39,7 @@ impl Link {
     /// The I command with the message at this place of the queue.
     #[inline(always)]
     fn message_frame(&self, place: u16, control: Control) -> Option<Frame<'_>>
-        ensures { (e : End) → LinkStandsFor self.now e
+        ensures { (e : End) → LinkRepresents self.now e
             → result ≡ message_frame (setup_of self.now) control
             (slice_get (drop e.first e.given) place) }
     {

@@ -24,7 +24,7 @@ use Rattle.lapd_link_definition.specs.declared.out.Out.TheVariants.{Send, SendUn
 use Rattle.lapd_link_definition.specs.AwaitingEstablishment.{release_primitive, end_establishment, confirm_or_indicate, ua_final, awaiting_establishment_t200, awaiting_establishment}
 use Rattle.lapd_link_definition.specs.AwaitingRelease.{confirm_release, awaiting_release_t200, awaiting_release}
 use Rattle.lapd_link_definition.specs.Begins.{is_sabme, is_final_ua, begins}
-use Rattle.lapd_link_definition.specs.Counts.{hears_unit}
+use Rattle.lapd_link_definition.specs.Counts.{receives_unit}
 use Rattle.lapd_link_definition.specs.EndOfStep.{is_7_or_8, may_send_next, send_all, acknowledge_pending, end_step}
 use Rattle.lapd_link_definition.specs.End.{StepState, ◌▷◌, runs, unsent}
 use Rattle.lapd_link_definition.specs.Established.{busy_on, busy_off, in_7_and_8, sends_last, established_t200, poll_or_final, acknowledge_with_timers, i_frame_nr, rr_nr, rej_nr, rnr_nr, multiple_frame_established}
@@ -54,7 +54,7 @@ received_number (Heard (Rnr nr pf) role) = Some nr
 received_number (Heard (Rej nr pf) role) = Some nr
 received_number input = None
 
-pub record KeptByActions (r : Reading) (E : Timer → StepState → Type 0) (P Q : StepState → Type 0) (M : List ℕ → Type 0) (B T U G : Type 0) (N : ℕ → Type 0) : Type 0 where
+pub record PreservedByActions (r : Reading) (E : Timer → StepState → Type 0) (P Q : StepState → Type 0) (M : List ℕ → Type 0) (B T U G : Type 0) (N : ℕ → Type 0) : Type 0 where
   pub puts : (out : Out) (s : StepState) → IsPut out → P s → P (put out s)
   pub unit_ups : (s : StepState) → U → P s → P (put UnitUp s)
   pub states : (state : State) (s : StepState) → P s → P (state_to state s)
@@ -103,7 +103,7 @@ both_then true false p q = refl
 both_then true true p q = cc
 both_then false leaving p q = cc
 
-module _ (r : Reading) (E : Timer → StepState → Type 0) (P Q : StepState → Type 0) (M : List ℕ → Type 0) (B T U G : Type 0) (N : ℕ → Type 0) (w : KeptByActions r E P Q M B T U G N) where
+module _ (r : Reading) (E : Timer → StepState → Type 0) (P Q : StepState → Type 0) (M : List ℕ → Type 0) (B T U G : Type 0) (N : ℕ → Type 0) (w : PreservedByActions r E P Q M B T U G N) where
   establishing : (s : StepState) → P s → P (establish_data_link s)
   unfolding establish_data_link
   establishing s h = w.states _ _ (w.starts T200 _ (w.stops T203 _ (w.puts _ _ (refl, tt) (w.rcs 0 _ (w.pendings false _ (w.clears _ h))))))
@@ -310,14 +310,14 @@ module _ (r : Reading) (E : Timer → StepState → Type 0) (P Q : StepState →
   faulty MultipleFrameEstablished kind s h = reestablishing _ (w.puts _ s tt h)
   faulty TimerRecovery kind s h = reestablishing _ (w.puts _ s tt h)
 
-  pub row_keeps : (state : State) (input : Input) (s : StepState) → ((message : List ℕ) → input ≡ Give message → M message) → (begins state s.end.release_pending input ≡ true → B)
-      → (is_7_or_8 state ≡ true → (ns nr : ℕ) (p : Bool) → input ≡ Heard (I ns nr p) Command → T) → (hears_unit input ≡ true → U) → (state ≡ MultipleFrameEstablished → input ≡ Expiry T200 → G) → ((nr : ℕ) → received_number input ≡ Some nr → N nr) → ((timer : Timer) → input ≡ Expiry timer → E timer s) → P s → Q (row r state input s)
+  pub row_preserves : (state : State) (input : Input) (s : StepState) → ((message : List ℕ) → input ≡ Give message → M message) → (begins state s.end.release_pending input ≡ true → B)
+      → (is_7_or_8 state ≡ true → (ns nr : ℕ) (p : Bool) → input ≡ Heard (I ns nr p) Command → T) → (receives_unit input ≡ true → U) → (state ≡ MultipleFrameEstablished → input ≡ Expiry T200 → G) → ((nr : ℕ) → received_number input ≡ Some nr → N nr) → ((timer : Timer) → input ≡ Expiry timer → E timer s) → P s → Q (row r state input s)
   unfolding row
-  row_keeps state (Heard control role) s m b t u g n x h = either Q (is_unit_data control role) _ _ (λ unit. w.follows _ (w.unit_ups s (u unit) h)) (λ _. in_state state (Heard control role) s m b t g n x h)
-  row_keeps state (UnitData len) s m b t u g n x h = w.follows _ (w.puts _ s tt h)
-  row_keeps state (Faulty kind) s m b t u g n x h = w.follows _ (faulty state kind s h)
-  row_keeps state (Expiry timer) s m b t u g n x h = either Q (runs timer s.end) _ _ (λ _. in_state state (Expiry timer) s m b t g n x h) (λ _. w.follows s h)
-  row_keeps state input s m b t u g n x h = in_state state input s m b t g n x h
+  row_preserves state (Heard control role) s m b t u g n x h = either Q (is_unit_data control role) _ _ (λ unit. w.follows _ (w.unit_ups s (u unit) h)) (λ _. in_state state (Heard control role) s m b t g n x h)
+  row_preserves state (UnitData len) s m b t u g n x h = w.follows _ (w.puts _ s tt h)
+  row_preserves state (Faulty kind) s m b t u g n x h = w.follows _ (faulty state kind s h)
+  row_preserves state (Expiry timer) s m b t u g n x h = either Q (runs timer s.end) _ _ (λ _. in_state state (Expiry timer) s m b t g n x h) (λ _. w.follows s h)
+  row_preserves state input s m b t u g n x h = in_state state input s m b t g n x h
 
   -- ---- The end of a step, and a whole step.
 
@@ -326,8 +326,8 @@ module _ (r : Reading) (E : Timer → StepState → Type 0) (P Q : StepState →
   all_sent zero s g h = h
   all_sent (suc n) s g h = either Q (may_send_next r s) _ _ (λ go. all_sent n _ g (w.ensures_t200 _ (w.sends s g go h))) (λ _. h)
 
-  pub close_keeps : (s : StepState) → G → Q s → Q (end_step r s)
+  pub close_preserves : (s : StepState) → G → Q s → Q (end_step r s)
   unfolding end_step acknowledge_pending
-  close_keeps s g h =
+  close_preserves s g h =
       let sent = all_sent (unsent s.end) s g h in
       either Q (is_7_or_8 (send_all r (unsent s.end) s).end.state && (send_all r (unsent s.end) s).end.window.ack_pending) _ _ (λ _. w.tells _ sent) (λ _. sent)

@@ -21,11 +21,11 @@ use Rattle.lapd_link_definition.specs.Established.{in_7_and_8, multiple_frame_es
 use Rattle.lapd_link_definition.specs.Input.{Input, Heard, Faulty, Expiry, Establish, Release, BusyOn, BusyOff, UnitData, Give}
 use Rattle.lapd_link_definition.specs.Procedures.{out_where, response_of, put, state_to, rc_to, increment_rc, layer3_initiated_to, release_pending_to, start, stop, expired, clear_exception_conditions, zero_state_variables, set_peer_busy, set_own_busy, enquiry_response, transmit_enquiry, transmit_rr, queue_up, discard_i_queue, acknowledge, invoke_retransmission, discard_unacknowledged, i_frame_ns, transmit_i_frame, ensure_t200}
 use Rattle.lapd_link_definition.specs.Refusal.{refused, give_refused}
-use Rattle.lapd_link_definition.specs.SentFrames.{AreSpoken}
+use Rattle.lapd_link_definition.specs.SentFrames.{AreWellFormed}
 use Rattle.lapd_link_definition.specs.Table.{by_state, row, step}
 use Rattle.lapd_link_definition.specs.TeiAssigned.{tei_assigned}
 use Rattle.lapd_link_definition.specs.TimerRecovery.{timer_recovery}
-use Rattle.lapd_link_definition.proofs.KeptByStep.{AreQuiet, response_is_quiet, IsKept, kept, is_give, kept_by_row, kept_by_step, closed, taken}
+use Rattle.lapd_link_definition.proofs.PreservedByStep.{AreQuiet, response_is_quiet, IsKept, kept, is_give, preserved_by_row, preserved_by_step, closed, taken}
 use Rattle.lapd_link_definition.proofs.EachAction.{i_frame_numbered, i_frame_in_recovery}
 
 -- ---- An establishment begins.
@@ -116,9 +116,9 @@ begun_then_sent r before zero s h = h
 begun_then_sent r before (suc n) s h = either_begins before (may_send_next r s) (send_all r n (send_next r s)) s
     (begun_then_sent r before n (send_next r s) (record { counted = h.counted; established = h.established; none_acknowledged = h.none_acknowledged; none_received = h.none_received })) h
 
-begun_then_told : (before : End) (s : StepState) → HasBegun before s.end → HasBegun before (acknowledge_pending s).end
+begun_then_acknowledged : (before : End) (s : StepState) → HasBegun before s.end → HasBegun before (acknowledge_pending s).end
 unfolding acknowledge_pending transmit_rr without_ack_pending
-begun_then_told before s h = either_begins before (is_7_or_8 s.end.state && s.end.window.ack_pending) (transmit_rr s) s
+begun_then_acknowledged before s h = either_begins before (is_7_or_8 s.end.state && s.end.window.ack_pending) (transmit_rr s) s
     (record { counted = h.counted; established = h.established; none_acknowledged = h.none_acknowledged; none_received = h.none_received }) h
 
 pub begun_by_step : (r : Reading) (input : Input) (e : End) (s : StepState) → begins e.state e.release_pending input ≡ true → step r input e ≡ Ok s → HasBegun e s.end
@@ -127,10 +127,10 @@ begun_by_step r input e s h done =
     let F : StepState → Type 0 = λ t. HasBegun e t.end in
     let there = row r e.state input (begin e) in
     subst F (taken (refused input e) (end_step r there) s done).1
-    (begun_then_told e (send_all r (unsent there.end) there) (begun_then_sent r e (unsent there.end) there (begun_by_row r input e h)))
+    (begun_then_acknowledged e (send_all r (unsent there.end) there) (begun_then_sent r e (unsent there.end) there (begun_by_row r input e h)))
 
 pub begun_by_no_step : (r : Reading) (input : Input) (e : End) (s : StepState) → begins e.state e.release_pending input ≡ false → step r input e ≡ Ok s → s.end.establishments ≡ e.establishments
-begun_by_no_step r input e s h done = (kept_by_step r input e s done).same_establishment h
+begun_by_no_step r input e s h done = (preserved_by_step r input e s done).same_establishment h
 
 -- ---- A message of layer 3.
 
@@ -156,10 +156,10 @@ unfolding step
 given_by_step r message e s done =
     let is = taken (refused (Give message) e) (end_step r (row r e.state (Give message) (begin e))) s done in
     let F : StepState → List (List ℕ) = λ t. t.end.given in
-    sym (ap F is.1) ∙ (closed r (row r e.state (Give message) (begin e)) (kept_by_row r (Give message) e).spoken).same_given refl ∙ given_by_row r message e is.0
+    sym (ap F is.1) ∙ (closed r (row r e.state (Give message) (begin e)) (preserved_by_row r (Give message) e).spoken).same_given refl ∙ given_by_row r message e is.0
 
 given_by_none : (r : Reading) (input : Input) (e : End) (s : StepState) → is_give input ≡ false → step r input e ≡ Ok s → s.end.given ≡ e.given ++ []
-given_by_none r input e s none done = (kept_by_step r input e s done).same_given none ∙ sym (append-nil e.given)
+given_by_none r input e s none done = (preserved_by_step r input e s done).same_given none ∙ sym (append-nil e.given)
 
 pub given_after : (r : Reading) (input : Input) (e : End) (s : StepState) → step r input e ≡ Ok s → s.end.given ≡ e.given ++ messages_of input
 given_after r (Give message) e s done = given_by_step r message e s done
@@ -174,15 +174,15 @@ given_after r (UnitData len) e s done = given_by_none r (UnitData len) e s refl 
 
 -- ---- An accepted I frame.
 
-frame_outs : (accepted : Bool) (response : List Out) → AreQuiet response → AreSpoken ([] ++ out_where accepted Up ++ response) × (ups ([] ++ out_where accepted Up ++ response) ≡ (if accepted then 1 else 0))
+frame_outs : (accepted : Bool) (response : List Out) → AreQuiet response → AreWellFormed ([] ++ out_where accepted Up ++ response) × (ups ([] ++ out_where accepted Up ++ response) ≡ (if accepted then 1 else 0))
 frame_outs true response quiet = ((tt, quiet.0), omega (arith, quiet.1))
 frame_outs false response quiet = quiet
 
-frame_ups : (r : Reading) (ns : ℕ) (p : Bool) (e : End) → AreSpoken (i_frame_ns r ns p (begin e)).outs × (ups (i_frame_ns r ns p (begin e)).outs ≡ (if is_accepted ns e.window then 1 else 0))
+frame_ups : (r : Reading) (ns : ℕ) (p : Bool) (e : End) → AreWellFormed (i_frame_ns r ns p (begin e)).outs × (ups (i_frame_ns r ns p (begin e)).outs ≡ (if is_accepted ns e.window then 1 else 0))
 unfolding i_frame_ns begin
 frame_ups r ns p e = frame_outs (is_accepted ns e.window) (response_of (i_frame_response r ns p e.window)) (response_is_quiet r ns p e.window)
 
-frame_in : (r : Reading) (state : State) (ns nr : ℕ) (p : Bool) (s : StepState) (e : End) → is_7_or_8 state ≡ true → AreSpoken (i_frame_ns r ns p s).outs
+frame_in : (r : Reading) (state : State) (ns nr : ℕ) (p : Bool) (s : StepState) (e : End) → is_7_or_8 state ≡ true → AreWellFormed (i_frame_ns r ns p s).outs
     → IsKept r e (ups (i_frame_ns r ns p s).outs) true true false (Unit {0}) (i_frame_ns r ns p s) → ups (row r state (Heard (I ns nr p) Command) s).outs ≡ ups (i_frame_ns r ns p s).outs
 unfolding row by_state multiple_frame_established timer_recovery
 frame_in r MultipleFrameEstablished ns nr p s e h spoken before = (i_frame_numbered r _ (IsKept r e (ups (i_frame_ns r ns p s).outs) true true false (Unit {0})) (IsKept r e (ups (i_frame_ns r ns p s).outs) true true false (Unit {0})) _ _ _ _ _ _ (kept r e _ true true false (Unit {0})) nr (i_frame_ns r ns p s) tt before).same_ups refl
@@ -191,7 +191,7 @@ frame_in r TeiAssigned ns nr p s e h spoken before = cc
 frame_in r AwaitingEstablishment ns nr p s e h spoken before = cc
 frame_in r AwaitingRelease ns nr p s e h spoken before = cc
 
-begun_frame : (r : Reading) (ns : ℕ) (p : Bool) (e : End) → AreSpoken (i_frame_ns r ns p (begin e)).outs
+begun_frame : (r : Reading) (ns : ℕ) (p : Bool) (e : End) → AreWellFormed (i_frame_ns r ns p (begin e)).outs
     → IsKept r (i_frame_ns r ns p (begin e)).end (ups (i_frame_ns r ns p (begin e)).outs) true true false (Unit {0}) (i_frame_ns r ns p (begin e))
 begun_frame r ns p e spoken = record { same_parameters = refl; same_given = λ _. refl; short = λ _ before. before; same_establishment = λ _. refl; spoken = spoken; same_ups = λ _. refl }
 
@@ -202,32 +202,32 @@ taken_ups r ns nr p e s opened done =
     let is = (taken (refused input e) (end_step r (row r e.state input (begin e))) s done).1 in
     let first = frame_ups r ns p e in
     let F : StepState → ℕ = λ t. ups t.outs in
-    sym (ap F is) ∙ (closed r (row r e.state input (begin e)) (kept_by_row r input e).spoken).same_ups refl
+    sym (ap F is) ∙ (closed r (row r e.state input (begin e)) (preserved_by_row r input e).spoken).same_ups refl
     ∙ frame_in r e.state ns nr p (begin e) (i_frame_ns r ns p (begin e)).end opened first.0 (begun_frame r ns p e first.0) ∙ first.1
 
 frame_or_none : (r : Reading) (ns nr : ℕ) (p : Bool) (e : End) (s : StepState) (opened : Bool) → is_7_or_8 e.state ≡ opened → step r (Heard (I ns nr p) Command) e ≡ Ok s
     → ups s.outs ≡ (if opened && is_accepted ns e.window then 1 else 0)
 frame_or_none r ns nr p e s true opened done = taken_ups r ns nr p e s opened done
-frame_or_none r ns nr p e s false opened done = (kept_by_step r (Heard (I ns nr p) Command) e s done).same_ups opened
+frame_or_none r ns nr p e s false opened done = (preserved_by_step r (Heard (I ns nr p) Command) e s done).same_ups opened
 
 pub ups_after : (r : Reading) (input : Input) (e : End) (s : StepState) → step r input e ≡ Ok s → ups s.outs ≡ (if accepts input e then 1 else 0)
 ups_after r (Heard (I ns nr p) Command) e s done = frame_or_none r ns nr p e s (is_7_or_8 e.state) refl done
-ups_after r (Heard (I ns nr p) Answer) e s done = (kept_by_step r (Heard (I ns nr p) Answer) e s done).same_ups refl
-ups_after r (Heard (Rr nr pf) role) e s done = (kept_by_step r (Heard (Rr nr pf) role) e s done).same_ups refl
-ups_after r (Heard (Rnr nr pf) role) e s done = (kept_by_step r (Heard (Rnr nr pf) role) e s done).same_ups refl
-ups_after r (Heard (Rej nr pf) role) e s done = (kept_by_step r (Heard (Rej nr pf) role) e s done).same_ups refl
-ups_after r (Heard (Sabme p) role) e s done = (kept_by_step r (Heard (Sabme p) role) e s done).same_ups refl
-ups_after r (Heard (Dm f) role) e s done = (kept_by_step r (Heard (Dm f) role) e s done).same_ups refl
-ups_after r (Heard (Ui p) role) e s done = (kept_by_step r (Heard (Ui p) role) e s done).same_ups refl
-ups_after r (Heard (Disc p) role) e s done = (kept_by_step r (Heard (Disc p) role) e s done).same_ups refl
-ups_after r (Heard (Ua f) role) e s done = (kept_by_step r (Heard (Ua f) role) e s done).same_ups refl
-ups_after r (Heard (Frmr f) role) e s done = (kept_by_step r (Heard (Frmr f) role) e s done).same_ups refl
-ups_after r (Heard (Xid pf) role) e s done = (kept_by_step r (Heard (Xid pf) role) e s done).same_ups refl
-ups_after r (Faulty kind) e s done = (kept_by_step r (Faulty kind) e s done).same_ups refl
-ups_after r (Expiry timer) e s done = (kept_by_step r (Expiry timer) e s done).same_ups refl
-ups_after r Establish e s done = (kept_by_step r Establish e s done).same_ups refl
-ups_after r Release e s done = (kept_by_step r Release e s done).same_ups refl
-ups_after r BusyOn e s done = (kept_by_step r BusyOn e s done).same_ups refl
-ups_after r BusyOff e s done = (kept_by_step r BusyOff e s done).same_ups refl
-ups_after r (UnitData len) e s done = (kept_by_step r (UnitData len) e s done).same_ups refl
-ups_after r (Give message) e s done = (kept_by_step r (Give message) e s done).same_ups refl
+ups_after r (Heard (I ns nr p) Answer) e s done = (preserved_by_step r (Heard (I ns nr p) Answer) e s done).same_ups refl
+ups_after r (Heard (Rr nr pf) role) e s done = (preserved_by_step r (Heard (Rr nr pf) role) e s done).same_ups refl
+ups_after r (Heard (Rnr nr pf) role) e s done = (preserved_by_step r (Heard (Rnr nr pf) role) e s done).same_ups refl
+ups_after r (Heard (Rej nr pf) role) e s done = (preserved_by_step r (Heard (Rej nr pf) role) e s done).same_ups refl
+ups_after r (Heard (Sabme p) role) e s done = (preserved_by_step r (Heard (Sabme p) role) e s done).same_ups refl
+ups_after r (Heard (Dm f) role) e s done = (preserved_by_step r (Heard (Dm f) role) e s done).same_ups refl
+ups_after r (Heard (Ui p) role) e s done = (preserved_by_step r (Heard (Ui p) role) e s done).same_ups refl
+ups_after r (Heard (Disc p) role) e s done = (preserved_by_step r (Heard (Disc p) role) e s done).same_ups refl
+ups_after r (Heard (Ua f) role) e s done = (preserved_by_step r (Heard (Ua f) role) e s done).same_ups refl
+ups_after r (Heard (Frmr f) role) e s done = (preserved_by_step r (Heard (Frmr f) role) e s done).same_ups refl
+ups_after r (Heard (Xid pf) role) e s done = (preserved_by_step r (Heard (Xid pf) role) e s done).same_ups refl
+ups_after r (Faulty kind) e s done = (preserved_by_step r (Faulty kind) e s done).same_ups refl
+ups_after r (Expiry timer) e s done = (preserved_by_step r (Expiry timer) e s done).same_ups refl
+ups_after r Establish e s done = (preserved_by_step r Establish e s done).same_ups refl
+ups_after r Release e s done = (preserved_by_step r Release e s done).same_ups refl
+ups_after r BusyOn e s done = (preserved_by_step r BusyOn e s done).same_ups refl
+ups_after r BusyOff e s done = (preserved_by_step r BusyOff e s done).same_ups refl
+ups_after r (UnitData len) e s done = (preserved_by_step r (UnitData len) e s done).same_ups refl
+ups_after r (Give message) e s done = (preserved_by_step r (Give message) e s done).same_ups refl

@@ -2,7 +2,7 @@ pub mod ActionsOnTags
 pub mod DueOnTags
 pub mod EachAction
 pub mod InputsThatCount
-pub mod KeptByStep
+pub mod PreservedByStep
 pub mod MessagesThere
 pub mod NearNumbers
 pub mod NumbersOfStep

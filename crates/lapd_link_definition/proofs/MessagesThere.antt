@@ -21,7 +21,7 @@ use Rattle.lapd_link_definition.specs.Procedures.{out_where, state_to, rc_to, ex
 use Rattle.lapd_link_definition.specs.Refusal.{refused}
 use Rattle.lapd_link_definition.specs.Sound.{AreOutstanding, IsSoundIn, IsSound}
 use Rattle.lapd_link_definition.specs.Table.{by_state, row, step}
-use Rattle.lapd_link_definition.proofs.KeptByStep.{taken, row_keeps_parameters}
+use Rattle.lapd_link_definition.proofs.PreservedByStep.{taken, row_preserves_parameters}
 use Rattle.lapd_link_definition.proofs.OrderOfStep.{AreSilent, placed_both, silent_row}
 use Rattle.lapd_link_definition.proofs.Sending.{both_true, below}
 use Rattle.lapd_link_definition.proofs.Soundness.{established_is, sound_row, sound_send_next}
@@ -129,6 +129,6 @@ close_there r s small sound h =
 pub messages_are_there : (r : Reading) (input : Input) (e : End) (s : StepState) → e.parameters.k ≤ 127 → IsSound r e → AreNumbers r e.window → step r input e ≡ Ok s → ArePlaced (length s.end.given - s.end.first) s.outs
 unfolding step begin
 messages_are_there r input e s small sound numbers done =
-    let small_then : (row r e.state input (begin e)).end.parameters.k ≤ 127 = rw (row_keeps_parameters r input e) small in
+    let small_then : (row r e.state input (begin e)).end.parameters.k ≤ 127 = rw (row_preserves_parameters r input e) small in
     subst AllThere (taken (refused input e) (end_step r (row r e.state input (begin e))) s done).1
     (close_there r (row r e.state input (begin e)) small_then (sound_row r e.state input (begin e) refl sound) (row_there r e.state input e sound numbers))

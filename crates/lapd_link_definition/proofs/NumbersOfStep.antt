@@ -14,12 +14,12 @@ use Rattle.lapd_link_definition.specs.declared.out.Out.TheVariants.{Send, SendMe
 use Rattle.lapd_link_definition.specs.EndOfStep.{end_step}
 use Rattle.lapd_link_definition.specs.End.{End, StepState, begin, waiting, runs, with_timer}
 use Rattle.lapd_link_definition.specs.Input.{Input, Heard}
-use Rattle.lapd_link_definition.specs.Numbers.{AreNumbers, HearsNumbers, IsNumbered, AreNumbered}
+use Rattle.lapd_link_definition.specs.Numbers.{AreNumbers, CarriesNumbers, IsNumbered, AreNumbered}
 use Rattle.lapd_link_definition.specs.Procedures.{retransmit_last_i_frame, out_where, counted, response_of, put, state_to, rc_to, increment_rc, layer3_initiated_to, release_pending_to, start, stop, expired, clear_exception_conditions, zero_state_variables, set_peer_busy, set_own_busy, enquiry_response, transmit_enquiry, transmit_rr, queue_up, discard_i_queue, acknowledge, invoke_retransmission, discard_unacknowledged, i_frame_ns, transmit_i_frame, ensure_t200}
 use Rattle.lapd_link_definition.specs.Refusal.{refused}
 use Rattle.lapd_link_definition.specs.Table.{row, step}
-use Rattle.lapd_link_definition.proofs.EachAction.{IsPut, KeptByActions, received_number, row_keeps, close_keeps}
-use Rattle.lapd_link_definition.proofs.KeptByStep.{taken}
+use Rattle.lapd_link_definition.proofs.EachAction.{IsPut, PreservedByActions, received_number, row_preserves, close_preserves}
+use Rattle.lapd_link_definition.proofs.PreservedByStep.{taken}
 
 -- ---- Outputs with tags.
 
@@ -109,7 +109,7 @@ timed T201 on s h = h
 timed T202 on s h = h
 timed T203 on s h = h
 
-tags : KeptByActions Tagged (λ timer s. Unit {0}) AllTags AllTags (λ message. Unit {0}) (Unit {0}) (Unit {0}) (Unit {0}) (Unit {0}) (λ nr. nr < 128)
+tags : PreservedByActions Tagged (λ timer s. Unit {0}) AllTags AllTags (λ message. Unit {0}) (Unit {0}) (Unit {0}) (Unit {0}) (Unit {0}) (λ nr. nr < 128)
 unfolding put retransmit_last_i_frame state_to rc_to increment_rc layer3_initiated_to release_pending_to start stop expired clear_exception_conditions zero_state_variables set_peer_busy set_own_busy enquiry_response transmit_enquiry transmit_rr queue_up discard_i_queue acknowledge invoke_retransmission discard_unacknowledged i_frame_ns transmit_i_frame ensure_t200
 tags = record {
   puts = λ out s ok h. sending (out ∷ []) (put_is_tagged out ok) h;
@@ -158,19 +158,19 @@ the_number n nr small same = grind (arith, small, same)
 below_128 : (n : ℕ) → IsControl (Rr n true) → n < 128
 below_128 n h = omega (arith, h)
 
-pub heard_is_tag : (input : Input) (nr : ℕ) → HearsNumbers Tagged input → received_number input ≡ Some nr → nr < 128
-heard_is_tag (Heard (I ns n p) role) nr h same = the_number n nr (below_128 n h.1) same
-heard_is_tag (Heard (Rr n pf) role) nr h same = the_number n nr (below_128 n h) same
-heard_is_tag (Heard (Rnr n pf) role) nr h same = the_number n nr (below_128 n h) same
-heard_is_tag (Heard (Rej n pf) role) nr h same = the_number n nr (below_128 n h) same
-heard_is_tag input nr h same = cc
+pub received_is_tag : (input : Input) (nr : ℕ) → CarriesNumbers Tagged input → received_number input ≡ Some nr → nr < 128
+received_is_tag (Heard (I ns n p) role) nr h same = the_number n nr (below_128 n h.1) same
+received_is_tag (Heard (Rr n pf) role) nr h same = the_number n nr (below_128 n h) same
+received_is_tag (Heard (Rnr n pf) role) nr h same = the_number n nr (below_128 n h) same
+received_is_tag (Heard (Rej n pf) role) nr h same = the_number n nr (below_128 n h) same
+received_is_tag input nr h same = cc
 
-tags_of_step : (input : Input) (e : End) (s : StepState) → AreTags e.window → HearsNumbers Tagged input → step Tagged input e ≡ Ok s → AllTags s
+tags_of_step : (input : Input) (e : End) (s : StepState) → AreTags e.window → CarriesNumbers Tagged input → step Tagged input e ≡ Ok s → AllTags s
 unfolding step begin
 tags_of_step input e s numbers heard done =
     subst AllTags (taken (refused input e) (end_step Tagged (row Tagged e.state input (begin e))) s done).1
-    (close_keeps Tagged _ AllTags AllTags _ _ _ _ _ _ tags (row Tagged e.state input (begin e)) tt
-    (row_keeps Tagged _ AllTags AllTags _ _ _ _ _ _ tags e.state input (begin e) (λ message same. tt) (λ b. tt) (λ opened ns nr p same. tt) (λ u. tt) (λ there same. tt) (λ nr same. heard_is_tag input nr heard same) (λ timer same. tt)
+    (close_preserves Tagged _ AllTags AllTags _ _ _ _ _ _ tags (row Tagged e.state input (begin e)) tt
+    (row_preserves Tagged _ AllTags AllTags _ _ _ _ _ _ tags e.state input (begin e) (λ message same. tt) (λ b. tt) (λ opened ns nr p same. tt) (λ u. tt) (λ there same. tt) (λ nr same. received_is_tag input nr heard same) (λ timer same. tt)
     (record { tags = numbers; sent = tt })))
 
 any_numbers : (outs : List Out) → AreNumbered Whole outs
@@ -190,10 +190,10 @@ any_numbers (Start timer ∷ outs) = (tt, any_numbers outs)
 any_numbers (Stop timer ∷ outs) = (tt, any_numbers outs)
 any_numbers (Report letter ∷ outs) = (tt, any_numbers outs)
 
-pub numbers_stay : (r : Reading) (input : Input) (e : End) (s : StepState) → AreNumbers r e.window → HearsNumbers r input → step r input e ≡ Ok s → AreNumbers r s.end.window
+pub numbers_stay : (r : Reading) (input : Input) (e : End) (s : StepState) → AreNumbers r e.window → CarriesNumbers r input → step r input e ≡ Ok s → AreNumbers r s.end.window
 numbers_stay Whole input e s numbers heard done = tt
 numbers_stay Tagged input e s numbers heard done = (tags_of_step input e s numbers heard done).tags
 
-pub numbers_are_sent : (r : Reading) (input : Input) (e : End) (s : StepState) → AreNumbers r e.window → HearsNumbers r input → step r input e ≡ Ok s → AreNumbered r s.outs
+pub numbers_are_sent : (r : Reading) (input : Input) (e : End) (s : StepState) → AreNumbers r e.window → CarriesNumbers r input → step r input e ≡ Ok s → AreNumbered r s.outs
 numbers_are_sent Whole input e s numbers heard done = any_numbers s.outs
 numbers_are_sent Tagged input e s numbers heard done = (tags_of_step input e s numbers heard done).sent

@@ -7,7 +7,7 @@ use Rattle.lapd_frame.specs.declared.Role.{Role}
 use Rattle.lapd_frame.specs.declared.Role.TheVariants.{Command, Answer}
 use Rattle.lapd_frame.specs.declared.Control.TheVariants.{I, Rr, Rnr, Rej, Sabme, Dm, Disc, Ua, Frmr}
 use Rattle.lapd_mod128.specs.Counting.{Whole, Tagged, tag, AreNear}
-use Rattle.lapd_mod128.proofs.Steps.{whole_within_tells}
+use Rattle.lapd_mod128.proofs.Steps.{whole_within_implies}
 use Rattle.lapd_mod128.proofs.Tags.{equality_on_tags}
 use Rattle.lapd_supervision.specs.StateVariables.{StateVariables, is_valid_nr, acknowledges_all, after_i_frame, without_ack_pending, with_peer_busy, without_exceptions}
 use Rattle.lapd_supervision.specs.Tags.{tag_variables, tag_control, IsWindow, IsNearWindow}
@@ -21,7 +21,7 @@ use Rattle.lapd_link_definition.specs.End.{StepState, ◌▷◌}
 use Rattle.lapd_link_definition.specs.Established.{busy_on, busy_off, in_7_and_8, sends_last, established_t200, poll_or_final, acknowledge_with_timers, i_frame_nr, rr_nr, rej_nr, rnr_nr, multiple_frame_established}
 use Rattle.lapd_link_definition.specs.Input.{Input, Heard, Expiry, Establish, Release, BusyOn, BusyOff, Give}
 use Rattle.lapd_link_definition.specs.Procedures.{put, expired, rc_to, state_to, transmit_enquiry, retransmit_last_i_frame, clear_exception_conditions, set_peer_busy, enquiry_response, acknowledge, discard_unacknowledged, i_frame_ns, nr_error_recovery}
-use Rattle.lapd_link_definition.specs.Tagging.{tag_input, tag_step_state, IsHeardNear}
+use Rattle.lapd_link_definition.specs.Tagging.{tag_input, tag_step_state, IsReceivedNear}
 use Rattle.lapd_link_definition.specs.TimerRecovery.{poll, is_final, i_frame_nr_in_recovery, rr_nr_in_recovery, rnr_nr_in_recovery, timer_recovery_t200, timer_recovery}
 use Rattle.lapd_link_definition.proofs.ActionsOnTags.{actions, retransmit_last_i_frame_on_tags, procedures, set_peer_busy_on_tags, set_own_busy_on_tags, enquiry_response_on_tags, put_on_tags, acknowledge_on_tags, discard_unacknowledged_on_tags, i_frame_ns_on_tags, nr_error_recovery_on_tags}
 use Rattle.lapd_link_definition.proofs.RowsOnTags.{by_test, window_is_near}
@@ -68,7 +68,7 @@ by_valid nr s x v n one = by_test (is_valid_nr Whole nr s.end.window) (is_valid_
 
 acked : (nr : ℕ) (s : StepState) → IsNumbered nr s → is_valid_nr Whole nr s.end.window ≡ true → tag_step_state (acknowledge Whole nr s) ≡ acknowledge Tagged (tag nr) (tag_step_state s)
 unfolding is_valid_nr
-acked nr s n valid = let between = whole_within_tells s.end.window.va nr s.end.window.vs valid in acknowledge_on_tags nr s between.0 (omega (arith, between.1, n.0.at_most))
+acked nr s n valid = let between = whole_within_implies s.end.window.va nr s.end.window.vs valid in acknowledge_on_tags nr s between.0 (omega (arith, between.1, n.0.at_most))
 
 acknowledge_with_timers_on_tags : (nr : ℕ) (s : StepState) → IsNumbered nr s → is_valid_nr Whole nr s.end.window ≡ true → tag_step_state (acknowledge_with_timers Whole nr s) ≡ acknowledge_with_timers Tagged (tag nr) (tag_step_state s)
 unfolding acknowledge_with_timers tag_step_state tag_variables
@@ -138,13 +138,13 @@ some_sent : (recovery : Recovery) (v : StateVariables) → IsWindow v.va v.vs �
 some_sent Enquiry v w h = cc
 some_sent LastMessage v w h = differs v.peer_busy v.vs v.va h w.in_order
 
-expired_keeps : (s : StepState) → 0 < s.end.window.vs → 0 < (expired T200 s).end.window.vs
+expired_preserves : (s : StepState) → 0 < s.end.window.vs → 0 < (expired T200 s).end.window.vs
 unfolding expired
-expired_keeps s h = h
+expired_preserves s h = h
 
 last_on_tags : (s : StepState) → 0 < s.end.window.vs
     → tag_step_state (s ▷ expired T200 ▷ retransmit_last_i_frame Whole ▷ rc_to 1 ▷ state_to TimerRecovery) ≡ (tag_step_state s ▷ expired T200 ▷ retransmit_last_i_frame Tagged ▷ rc_to 1 ▷ state_to TimerRecovery)
-last_on_tags s h = simp (actions, retransmit_last_i_frame_on_tags (expired T200 s) (expired_keeps s h))
+last_on_tags s h = simp (actions, retransmit_last_i_frame_on_tags (expired T200 s) (expired_preserves s h))
 
 enquiry_on_tags : (s : StepState)
     → tag_step_state (s ▷ expired T200 ▷ transmit_enquiry ▷ rc_to 1 ▷ state_to TimerRecovery) ≡ (tag_step_state s ▷ expired T200 ▷ transmit_enquiry ▷ rc_to 1 ▷ state_to TimerRecovery)
@@ -160,7 +160,7 @@ established_t200_on_tags s w =
     by_test (sends_last s.end.parameters.recovery s.end.window) (sends_last (tag_step_state s).end.parameters.recovery (tag_step_state s).end.window) _ _ _ _ (shown_on_tags s w)
     (λ last. last_on_tags s (some_sent s.end.parameters.recovery s.end.window w last)) (λ _. enquiry_on_tags s)
 
-pub multiple_frame_established_on_tags : (input : Input) (s : StepState) → IsWindow s.end.window.va s.end.window.vs → IsHeardNear input s.end.window
+pub multiple_frame_established_on_tags : (input : Input) (s : StepState) → IsWindow s.end.window.va s.end.window.vs → IsReceivedNear input s.end.window
     → tag_step_state (multiple_frame_established Whole input s) ≡ multiple_frame_established Tagged (tag_input input) (tag_step_state s)
 unfolding multiple_frame_established tag_control
 multiple_frame_established_on_tags (Heard (I ns nr p) Command) s w n =
@@ -196,7 +196,7 @@ timer_recovery_t200_on_tags : (s : StepState) → tag_step_state (timer_recovery
 unfolding timer_recovery_t200 tag_step_state
 timer_recovery_t200_on_tags s = by_test (nat_lt s.end.rc s.end.parameters.n200) (nat_lt s.end.rc s.end.parameters.n200) _ _ _ _ refl (λ _. simp actions) (λ _. simp procedures)
 
-pub timer_recovery_on_tags : (input : Input) (s : StepState) → IsWindow s.end.window.va s.end.window.vs → IsHeardNear input s.end.window
+pub timer_recovery_on_tags : (input : Input) (s : StepState) → IsWindow s.end.window.va s.end.window.vs → IsReceivedNear input s.end.window
     → tag_step_state (timer_recovery Whole input s) ≡ timer_recovery Tagged (tag_input input) (tag_step_state s)
 unfolding timer_recovery tag_control
 timer_recovery_on_tags (Heard (I ns nr p) Command) s w n =

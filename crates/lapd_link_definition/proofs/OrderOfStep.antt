@@ -16,8 +16,8 @@ use Rattle.lapd_link_definition.specs.declared.state.State.TheVariants.{Multiple
 use Rattle.lapd_link_definition.specs.Procedures.{retransmit_last_i_frame, out_where, counted, response_of, put, state_to, rc_to, increment_rc, layer3_initiated_to, release_pending_to, start, stop, expired, clear_exception_conditions, zero_state_variables, set_peer_busy, set_own_busy, enquiry_response, transmit_enquiry, transmit_rr, queue_up, discard_i_queue, acknowledge, invoke_retransmission, discard_unacknowledged, i_frame_ns, transmit_i_frame, ensure_t200}
 use Rattle.lapd_link_definition.specs.Refusal.{refused}
 use Rattle.lapd_link_definition.specs.Table.{row, step}
-use Rattle.lapd_link_definition.proofs.EachAction.{IsPut, KeptByActions, row_keeps, close_keeps}
-use Rattle.lapd_link_definition.proofs.KeptByStep.{taken}
+use Rattle.lapd_link_definition.proofs.EachAction.{IsPut, PreservedByActions, row_preserves, close_preserves}
+use Rattle.lapd_link_definition.proofs.PreservedByStep.{taken}
 use Rattle.lapd_link_definition.proofs.PlacesOfStep.{leaving_both}
 
 pub placed_both : (waiting : ℕ) (xs ys : List Out) → ArePlaced waiting xs → ArePlaced waiting ys → ArePlaced waiting (xs ++ ys)
@@ -129,7 +129,7 @@ calm_unless false outs h = h
 calm_where : (on : Bool) (out : Out) → leaving (out ∷ []) ≡ 0 → AreSilent (out ∷ []) → (leaving (out_where on out) ≡ 0) × AreSilent (out_where on out)
 calm_where on out nothing none = (nothing_where on out nothing, none_where on out none)
 
-orders : (r : Reading) (silence : Bool) → KeptByActions r (λ timer s. Unit {0}) (λ s. IsSilent s.outs) (λ s. IsInOrder silence s.outs) (λ message. Unit {0}) (Unit {0}) (Unit {0}) (Unit {0}) (silence ≡ false) (λ nr. Unit {0})
+orders : (r : Reading) (silence : Bool) → PreservedByActions r (λ timer s. Unit {0}) (λ s. IsSilent s.outs) (λ s. IsInOrder silence s.outs) (λ message. Unit {0}) (Unit {0}) (Unit {0}) (Unit {0}) (silence ≡ false) (λ nr. Unit {0})
 unfolding put retransmit_last_i_frame state_to rc_to increment_rc layer3_initiated_to release_pending_to start stop expired clear_exception_conditions zero_state_variables set_peer_busy set_own_busy enquiry_response transmit_enquiry transmit_rr queue_up discard_i_queue acknowledge invoke_retransmission discard_unacknowledged i_frame_ns transmit_i_frame ensure_t200
 orders r silence = record {
   puts = λ out s ok h. silent (out ∷ []) (put_sends_none out ok) h;
@@ -180,7 +180,7 @@ order_of_row : (r : Reading) (silence : Bool) (state : State) (input : Input) (e
 order_of_row r silence state input e loud =
     let P : StepState → Type 0 = λ t. IsSilent t.outs in
     let Q : StepState → Type 0 = λ t. IsInOrder silence t.outs in
-    row_keeps r _ P Q _ _ _ _ _ _ (orders r silence) state input (begin e) (λ message same. tt) (λ b. tt) (λ opened ns nr p same. tt) (λ u. tt) loud (λ nr same. tt) (λ timer same. tt) (begins_silent e)
+    row_preserves r _ P Q _ _ _ _ _ _ (orders r silence) state input (begin e) (λ message same. tt) (λ b. tt) (λ opened ns nr p same. tt) (λ u. tt) loud (λ nr same. tt) (λ timer same. tt) (begins_silent e)
 
 -- a row sends no message, unless T200 expires in state 7
 pub silent_row : (r : Reading) (state : State) (input : Input) (e : End) → (state ≡ MultipleFrameEstablished → input ≡ Expiry T200 → ⊥) → AreSilent (row r state input (begin e)).outs
@@ -191,5 +191,5 @@ unfolding step
 order_of_step r input e s done =
     let P : StepState → Type 0 = λ t. IsSilent t.outs in
     let Q : StepState → Type 0 = λ t. IsInOrder false t.outs in
-    (subst Q (taken (refused input e) (end_step r (row r e.state input (begin e))) s done).1 (close_keeps r _ P Q _ _ _ _ _ _ (orders r false) (row r e.state input (begin e)) refl
+    (subst Q (taken (refused input e) (end_step r (row r e.state input (begin e))) s done).1 (close_preserves r _ P Q _ _ _ _ _ _ (orders r false) (row r e.state input (begin e)) refl
     (order_of_row r false e.state input e (λ there same. refl)))).order

@@ -17,8 +17,8 @@ use Rattle.lapd_link_definition.specs.Input.{Input}
 use Rattle.lapd_link_definition.specs.Procedures.{retransmit_last_i_frame, out_where, counted, response_of, put, state_to, rc_to, increment_rc, layer3_initiated_to, release_pending_to, start, stop, expired, clear_exception_conditions, zero_state_variables, set_peer_busy, set_own_busy, enquiry_response, transmit_enquiry, transmit_rr, queue_up, discard_i_queue, acknowledge, invoke_retransmission, discard_unacknowledged, i_frame_ns, transmit_i_frame, ensure_t200}
 use Rattle.lapd_link_definition.specs.Refusal.{refused}
 use Rattle.lapd_link_definition.specs.Table.{row, step}
-use Rattle.lapd_link_definition.proofs.EachAction.{IsPut, KeptByActions, row_keeps, close_keeps}
-use Rattle.lapd_link_definition.proofs.KeptByStep.{taken}
+use Rattle.lapd_link_definition.proofs.EachAction.{IsPut, PreservedByActions, row_preserves, close_preserves}
+use Rattle.lapd_link_definition.proofs.PreservedByStep.{taken}
 
 pub leaving_both : (xs ys : List Out) → leaving (xs ++ ys) ≡ leaving xs + leaving ys
 leaving_both [] ys = omega arith
@@ -123,7 +123,7 @@ module _ (r : Reading) (from : ℕ) where
   timed_then T202 on s h = h
   timed_then T203 on s h = h
 
-  pub places : KeptByActions r (λ timer s. Unit {0}) Before Then (λ message. Unit {0}) (Unit {0}) (Unit {0}) (Unit {0}) (Unit {0}) (λ nr. Unit {0})
+  pub places : PreservedByActions r (λ timer s. Unit {0}) Before Then (λ message. Unit {0}) (Unit {0}) (Unit {0}) (Unit {0}) (Unit {0}) (λ nr. Unit {0})
   unfolding put retransmit_last_i_frame state_to rc_to increment_rc layer3_initiated_to release_pending_to start stop expired clear_exception_conditions zero_state_variables set_peer_busy set_own_busy enquiry_response transmit_enquiry transmit_rr queue_up discard_i_queue acknowledge invoke_retransmission discard_unacknowledged i_frame_ns transmit_i_frame ensure_t200
   places = record {
     puts = λ out s ok h. placed (out ∷ []) (put_leaves_none out ok) h;
@@ -169,11 +169,11 @@ module _ (r : Reading) (from : ℕ) where
 placed_by_row : (r : Reading) (input : Input) (e : End) → e.first ≤ length e.given → Then r e.first (row r e.state input (begin e))
 unfolding begin
 placed_by_row r input e within =
-    row_keeps r _ (Before r e.first) (Then r e.first) _ _ _ _ _ _ (places r e.first) e.state input (begin e) (λ message same. tt) (λ b. tt) (λ opened ns nr p same. tt) (λ u. tt) (λ there same. tt) (λ nr same. tt) (λ timer same. tt)
+    row_preserves r _ (Before r e.first) (Then r e.first) _ _ _ _ _ _ (places r e.first) e.state input (begin e) (λ message same. tt) (λ b. tt) (λ opened ns nr p same. tt) (λ u. tt) (λ there same. tt) (λ nr same. tt) (λ timer same. tt)
     (record { place = omega arith; within = within })
 
 pub first_after : (r : Reading) (input : Input) (e : End) (s : StepState) → e.first ≤ length e.given → step r input e ≡ Ok s → s.end.first ≡ e.first + leaving s.outs
 unfolding step
 first_after r input e s within done =
     let is = (taken (refused input e) (end_step r (row r e.state input (begin e))) s done).1 in
-    sym (subst (Then r e.first) is (close_keeps r _ (Before r e.first) (Then r e.first) _ _ _ _ _ _ (places r e.first) (row r e.state input (begin e)) tt (placed_by_row r input e within))).place
+    sym (subst (Then r e.first) is (close_preserves r _ (Before r e.first) (Then r e.first) _ _ _ _ _ _ (places r e.first) (row r e.state input (begin e)) tt (placed_by_row r input e within))).place

@@ -24,7 +24,7 @@ use Rattle.lapd_link_definition.specs.Reports.{IsExpectedOut, AreExpected, IsDue
 use Rattle.lapd_link_definition.specs.Table.{by_state, is_unit_data, row, step}
 use Rattle.lapd_link_definition.specs.TeiAssigned.{tei_assigned}
 use Rattle.lapd_link_definition.specs.TimerRecovery.{poll, is_final, i_frame_nr_in_recovery, rr_nr_in_recovery, rnr_nr_in_recovery, timer_recovery_t200, timer_recovery}
-use Rattle.lapd_link_definition.proofs.KeptByStep.{taken}
+use Rattle.lapd_link_definition.proofs.PreservedByStep.{taken}
 
 -- no other error is reported so far
 abbrev P : StepState → Type 0

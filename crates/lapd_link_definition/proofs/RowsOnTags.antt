@@ -6,7 +6,7 @@ use Rattle.lapd_timers.specs.declared.timer.Timer.TheVariants.{T200}
 use Rattle.lapd_frame.specs.declared.Role.TheVariants.{Command, Answer}
 use Rattle.lapd_frame.specs.declared.Control.TheVariants.{Sabme, Dm, Disc, Ua}
 use Rattle.lapd_mod128.specs.Counting.{Whole, AreNear, steps}
-use Rattle.lapd_mod128.proofs.Steps.{reaches_tells}
+use Rattle.lapd_mod128.proofs.Steps.{reaches_implies}
 use Rattle.lapd_supervision.specs.Tags.{tag_control, IsWindow}
 use Rattle.lapd_link_definition.specs.AwaitingEstablishment.{release_primitive, end_establishment, confirm_or_indicate, ua_final, awaiting_establishment_t200, awaiting_establishment}
 use Rattle.lapd_link_definition.specs.AwaitingRelease.{confirm_release, awaiting_release_t200, awaiting_release}
@@ -41,7 +41,7 @@ tei_assigned_on_tags input s = refl
 -- all sent messages are in the window
 pub window_of : (first next given va vs : ℕ) → AreOutstanding Whole first next given va vs → IsWindow va vs
 unfolding steps
-window_of first next given va vs h = let order = reaches_tells va vs h.reached in record { in_order = order; at_most = omega (arith, h.at_most) }
+window_of first next given va vs h = let order = reaches_implies va vs h.reached in record { in_order = order; at_most = omega (arith, h.at_most) }
 
 pub window_is_near : (va vs : ℕ) → IsWindow va vs → AreNear vs va
 window_is_near va vs w = record { above = w.at_most; below = omega (arith, w.in_order) }

@@ -12,7 +12,7 @@ use Rattle.lapd_link_definition.specs.declared.state.State.{State}
 use Rattle.lapd_link_definition.specs.declared.state.State.TheVariants.{TeiAssigned, AwaitingEstablishment, AwaitingRelease, MultipleFrameEstablished, TimerRecovery}
 use Rattle.lapd_frame.specs.declared.fault_kind.FaultKind.{FaultKind}
 use Rattle.lapd_link_definition.specs.declared.event.LinkFault.{LinkFault}
-use Rattle.lapd_link_definition.proofs.KeptByStep.{row_keeps_parameters}
+use Rattle.lapd_link_definition.proofs.PreservedByStep.{row_preserves_parameters}
 use Rattle.lapd_link_definition.proofs.Sending.{both_true, below}
 use Rattle.lapd_link_definition.specs.Parameters.{Parameters}
 use Rattle.lapd_link_definition.specs.declared.out.Letter.TheVariants as letter
@@ -260,13 +260,13 @@ polled_in_recovery r Answer true s o = o
 polled_in_recovery r Command false s o = o
 polled_in_recovery r Answer false s o = o
 
-busy_told : (r : Reading) (s : StepState) → Opened r s → SoundAfter r (busy_on s)
+busy_on_is_sound : (r : Reading) (s : StepState) → Opened r s → SoundAfter r (busy_on s)
 unfolding busy_on set_own_busy with_own_busy
-busy_told r s o = either r s.end.window.own_busy _ _ (λ _. opened r s o) (λ _. opened r (set_own_busy true s) o)
+busy_on_is_sound r s o = either r s.end.window.own_busy _ _ (λ _. opened r s o) (λ _. opened r (set_own_busy true s) o)
 
-free_told : (r : Reading) (s : StepState) → Opened r s → SoundAfter r (busy_off s)
+busy_off_is_sound : (r : Reading) (s : StepState) → Opened r s → SoundAfter r (busy_off s)
 unfolding busy_off set_own_busy with_own_busy
-free_told r s o = either r s.end.window.own_busy _ _ (λ _. opened r (set_own_busy false s) o) (λ _. opened r s o)
+busy_off_is_sound r s o = either r s.end.window.own_busy _ _ (λ _. opened r (set_own_busy false s) o) (λ _. opened r s o)
 
 sound_in_7_and_8 : (r : Reading) (h : Input) (s : StepState) → is_7_or_8 s.end.state ≡ true → AreOutstanding r s.end.first s.end.next (length s.end.given) s.end.window.va s.end.window.vs → SoundAfter r (in_7_and_8 h s)
 unfolding in_7_and_8 establish_data_link begin put state_to rc_to increment_rc layer3_initiated_to release_pending_to start stop expired clear_exception_conditions zero_state_variables set_peer_busy set_own_busy enquiry_response transmit_enquiry queue_up discard_i_queue acknowledge invoke_retransmission i_frame_ns discard_unacknowledged transmit_i_frame ensure_t200 transmit_rr without_exceptions with_zero_counters without_ack_pending after_i_frame with_va acknowledged_count with_vs after_sending with_own_busy with_peer_busy
@@ -276,8 +276,8 @@ sound_in_7_and_8 r (Heard (Dm false) Answer) s q h = again r (s ▷ put (Report 
 sound_in_7_and_8 r (Heard (Frmr f) Answer) s q h = again r (s ▷ put (Report letter.K)) (q, h)
 sound_in_7_and_8 r Establish s q h = dropped (length s.end.given)
 sound_in_7_and_8 r Release s q h = dropped (length s.end.given)
-sound_in_7_and_8 r BusyOn s q h = busy_told r s (q, h)
-sound_in_7_and_8 r BusyOff s q h = free_told r s (q, h)
+sound_in_7_and_8 r BusyOn s q h = busy_on_is_sound r s (q, h)
+sound_in_7_and_8 r BusyOff s q h = busy_off_is_sound r s (q, h)
 sound_in_7_and_8 r (Give message) s q h = opened_in r s.end.state _ q (given_outstanding r s.end.first s.end.next s.end.given message s.end.window.va s.end.window.vs h)
 sound_in_7_and_8 r (Heard (Ua f) Answer) s q h = opened_in r s.end.state _ q h
 sound_in_7_and_8 r input s q h = opened_in r s.end.state _ q h
@@ -421,7 +421,7 @@ pub sound_step : (r : Reading) (input : Input) (e : End) (s : StepState) → e.p
 unfolding step begin
 sound_step r input e s small sound done =
     let F : StepState → Type 0 = λ d. SoundAfter r d in
-    let small_then : (row r e.state input (begin e)).end.parameters.k ≤ 127 = rw (row_keeps_parameters r input e) small in
+    let small_then : (row r e.state input (begin e)).end.parameters.k ≤ 127 = rw (row_preserves_parameters r input e) small in
     subst F (taken (refused input e) _ s done) (sound_close r (row r e.state input (begin e)) small_then (sound_row r e.state input (begin e) refl sound))
 
 pub sound_new : (r : Reading) (p : Parameters) → IsSound r (new_end p)

@@ -18,16 +18,16 @@ use Rattle.lapd_link_definition.specs.Procedures.{transmit_i_frame, ensure_t200}
 use Rattle.lapd_link_definition.specs.Refusal.{refused}
 use Rattle.lapd_link_definition.specs.Sound.{IsSoundIn, IsSound}
 use Rattle.lapd_link_definition.specs.Table.{by_state, report_fault, is_unit_data, row, unless, step}
-use Rattle.lapd_link_definition.specs.Tagging.{tag_input, tag_end, tag_step_state, tag_result, IsHeardNear, IsNear}
+use Rattle.lapd_link_definition.specs.Tagging.{tag_input, tag_end, tag_step_state, tag_result, IsReceivedNear, IsNear}
 use Rattle.lapd_link_definition.proofs.ActionsOnTags.{actions, procedures, put_on_tags, runs_on_tags, transmit_rr_on_tags}
 use Rattle.lapd_link_definition.proofs.OpenRowsOnTags.{multiple_frame_established_on_tags, timer_recovery_on_tags}
-use Rattle.lapd_link_definition.proofs.KeptByStep.{row_keeps_parameters}
+use Rattle.lapd_link_definition.proofs.PreservedByStep.{row_preserves_parameters}
 use Rattle.lapd_link_definition.proofs.RowsOnTags.{by_test, window_of, tei_assigned_on_tags, awaiting_establishment_on_tags, awaiting_release_on_tags}
 use Rattle.lapd_link_definition.proofs.Soundness.{sound_row, sound_send_next}
 
 -- ---- All rows.
 
-by_state_on_tags : (state : State) (input : Input) (s : StepState) → IsSoundIn Whole state s.end → (is_7_or_8 state ≡ true → IsHeardNear input s.end.window)
+by_state_on_tags : (state : State) (input : Input) (s : StepState) → IsSoundIn Whole state s.end → (is_7_or_8 state ≡ true → IsReceivedNear input s.end.window)
     → tag_step_state (by_state Whole state input s) ≡ by_state Tagged state (tag_input input) (tag_step_state s)
 unfolding by_state
 by_state_on_tags TeiAssigned input s sound heard = tei_assigned_on_tags input s
@@ -60,7 +60,7 @@ is_unit_data_on_tags (Ua f) role = refl
 is_unit_data_on_tags (Frmr f) role = refl
 is_unit_data_on_tags (Xid pf) role = refl
 
-row_on_tags : (state : State) (input : Input) (s : StepState) → IsSoundIn Whole state s.end → (is_7_or_8 state ≡ true → IsHeardNear input s.end.window)
+row_on_tags : (state : State) (input : Input) (s : StepState) → IsSoundIn Whole state s.end → (is_7_or_8 state ≡ true → IsReceivedNear input s.end.window)
     → tag_step_state (row Whole state input s) ≡ row Tagged state (tag_input input) (tag_step_state s)
 unfolding row tag_step_state
 row_on_tags state (Heard control role) s sound heard =
@@ -125,7 +125,7 @@ done_on_tags : (input : Input) (e : End) → IsNear input e
     → tag_step_state (end_step Whole (row Whole e.state input (begin e))) ≡ end_step Tagged (row Tagged e.state (tag_input input) (begin (tag_end e)))
 unfolding begin
 done_on_tags input e near =
-    let small : (row Whole e.state input (begin e)).end.parameters.k ≤ 127 = rw (row_keeps_parameters Whole input e) near.window in
+    let small : (row Whole e.state input (begin e)).end.parameters.k ≤ 127 = rw (row_preserves_parameters Whole input e) near.window in
     close_on_tags (row Whole e.state input (begin e)) small (sound_row Whole e.state input (begin e) refl near.sound)
     ∙ ap (λ t. end_step Tagged t) (row_on_tags e.state input (begin e) near.sound near.heard ∙ ap (λ t. row Tagged e.state (tag_input input) t) (begin_on_tags e))
 

@@ -19,7 +19,7 @@ use Rattle.lapd_link_definition.specs.EndOfStep.{is_established, is_7_or_8, may_
 use Rattle.lapd_link_definition.specs.End.{End, StepState, ◌▷◌, begin, new_end, unsent, waiting}
 use Rattle.lapd_link_definition.specs.Established.{busy_on, busy_off, in_7_and_8, poll_or_final, acknowledge_with_timers, i_frame_nr, rr_nr, rej_nr, rnr_nr, sends_last, established_t200, multiple_frame_established}
 use Rattle.lapd_link_definition.specs.Input.{Input, Heard, Faulty, Expiry, Establish, Release, BusyOn, BusyOff, UnitData, Give}
-use Rattle.lapd_link_definition.specs.Numbers.{AreNumbers, HearsNumbers}
+use Rattle.lapd_link_definition.specs.Numbers.{AreNumbers, CarriesNumbers}
 use Rattle.lapd_link_definition.specs.Parameters.{Parameters}
 use Rattle.lapd_link_definition.specs.Procedures.{out_where, counted, response_of, put, state_to, rc_to, increment_rc, layer3_initiated_to, release_pending_to, start, stop, expired, clear_exception_conditions, zero_state_variables, set_peer_busy, set_own_busy, enquiry_response, transmit_enquiry, transmit_rr, queue_up, discard_i_queue, acknowledge, invoke_retransmission, discard_unacknowledged, i_frame_ns, transmit_i_frame, retransmit_last_i_frame, ensure_t200, establish_data_link, reestablish_data_link, nr_error_recovery}
 use Rattle.lapd_link_definition.specs.Refusal.{refused}
@@ -28,8 +28,8 @@ use Rattle.lapd_link_definition.specs.Table.{by_state, report_fault, is_unit_dat
 use Rattle.lapd_link_definition.specs.TeiAssigned.{tei_assigned}
 use Rattle.lapd_link_definition.specs.TimerRecovery.{poll, is_final, i_frame_nr_in_recovery, rr_nr_in_recovery, rnr_nr_in_recovery, timer_recovery_t200, timer_recovery}
 use Rattle.lapd_link_definition.proofs.EachAction.{IsPut, primitive_is_put, received_number, either}
-use Rattle.lapd_link_definition.proofs.KeptByStep.{taken}
-use Rattle.lapd_link_definition.proofs.NumbersOfStep.{heard_is_tag}
+use Rattle.lapd_link_definition.proofs.PreservedByStep.{taken}
+use Rattle.lapd_link_definition.proofs.NumbersOfStep.{received_is_tag}
 use Rattle.lapd_link_definition.proofs.Sending.{both_true}
 use Rattle.lapd_link_definition.proofs.TimersOfOuts.{then_follow, AreNoTimers, alone, put_is_no_timer, where_is_no_timer, response_is_no_timer, lost_are_no_timers, started_200, started_203, stopped_200, stopped_203, stopped_unless, started_unless}
 
@@ -637,17 +637,17 @@ va_is_number : (r : Reading) (m : StateVariables) → AreNumbers r m → IsNumbe
 va_is_number Whole m h = tt
 va_is_number Tagged m h = h.1
 
-heard_is_number : (r : Reading) (input : Input) (nr : ℕ) → HearsNumbers r input → received_number input ≡ Some nr → IsNumber r nr
-heard_is_number Whole input nr h same = tt
-heard_is_number Tagged input nr h same = heard_is_tag input nr h same
+received_is_number : (r : Reading) (input : Input) (nr : ℕ) → CarriesNumbers r input → received_number input ≡ Some nr → IsNumber r nr
+received_is_number Whole input nr h same = tt
+received_is_number Tagged input nr h same = received_is_tag input nr h same
 
-step_of : (r : Reading) (input : Input) (e : End) (s : StepState) → HasTimersOfState e → step r input e ≡ Ok s → Walked (runs_before T200 input e) (runs_before T203 input e) (AreNumbers r e.window × HearsNumbers r input) s
-step_of r input e s has done = whole_step r (AreNumbers r e.window × HearsNumbers r input) e has (λ n. va_is_number r e.window n.0) input s (λ nr same n. heard_is_number r input nr n.1 same) done
+step_of : (r : Reading) (input : Input) (e : End) (s : StepState) → HasTimersOfState e → step r input e ≡ Ok s → Walked (runs_before T200 input e) (runs_before T203 input e) (AreNumbers r e.window × CarriesNumbers r input) s
+step_of r input e s has done = whole_step r (AreNumbers r e.window × CarriesNumbers r input) e has (λ n. va_is_number r e.window n.0) input s (λ nr same n. received_is_number r input nr n.1 same) done
 
 pub timers_begin : (p : Parameters) → HasTimersOfState (new_end p)
 timers_begin p = (refl, refl)
 
-pub timers_stay : (r : Reading) (input : Input) (e : End) (s : StepState) → AreNumbers r e.window → HearsNumbers r input → HasTimersOfState e → step r input e ≡ Ok s → HasTimersOfState s.end
+pub timers_stay : (r : Reading) (input : Input) (e : End) (s : StepState) → AreNumbers r e.window → CarriesNumbers r input → HasTimersOfState e → step r input e ≡ Ok s → HasTimersOfState s.end
 timers_stay r input e s numbers heard has done = (step_of r input e s has done).timers (numbers, heard)
 
 pub timers_follow : (r : Reading) (input : Input) (e : End) (s : StepState) → HasTimersOfState e → step r input e ≡ Ok s → TimersFollow input e s

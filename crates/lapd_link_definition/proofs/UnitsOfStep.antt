@@ -9,14 +9,14 @@ use Rattle.lapd_supervision.specs.StateVariables.{status_frame, acknowledgement,
 use Rattle.lapd_link_definition.specs.declared.out.Out.{Out}
 use Rattle.lapd_link_definition.specs.declared.out.Out.TheVariants.{Send, SendMessage, SendUnit, Up, UnitUp, Established, Confirmed, Released, ReleaseConfirm, Acknowledged, Dropped, Start, Stop, Report}
 use Rattle.lapd_link_definition.specs.EndOfStep.{end_step}
-use Rattle.lapd_link_definition.specs.Counts.{unit_ups, hears_unit}
+use Rattle.lapd_link_definition.specs.Counts.{unit_ups, receives_unit}
 use Rattle.lapd_link_definition.specs.End.{End, StepState, begin, waiting, runs}
 use Rattle.lapd_link_definition.specs.Input.{Input, Heard, Faulty, Expiry, Establish, Release, BusyOn, BusyOff, UnitData, Give}
 use Rattle.lapd_link_definition.specs.Procedures.{retransmit_last_i_frame, out_where, counted, response_of, put, state_to, rc_to, increment_rc, layer3_initiated_to, release_pending_to, start, stop, expired, clear_exception_conditions, zero_state_variables, set_peer_busy, set_own_busy, enquiry_response, transmit_enquiry, transmit_rr, queue_up, discard_i_queue, acknowledge, invoke_retransmission, discard_unacknowledged, i_frame_ns, transmit_i_frame, ensure_t200}
 use Rattle.lapd_link_definition.specs.Refusal.{refused}
 use Rattle.lapd_link_definition.specs.Table.{is_unit_data, row, step}
-use Rattle.lapd_link_definition.proofs.EachAction.{IsPut, KeptByActions, row_keeps, close_keeps}
-use Rattle.lapd_link_definition.proofs.KeptByStep.{taken}
+use Rattle.lapd_link_definition.proofs.EachAction.{IsPut, PreservedByActions, row_preserves, close_preserves}
+use Rattle.lapd_link_definition.proofs.PreservedByStep.{taken}
 
 units_both : (xs ys : List Out) → unit_ups (xs ++ ys) ≡ unit_ups xs + unit_ups ys
 units_both [] ys = omega arith
@@ -77,7 +77,7 @@ pub record AreUnits (n : ℕ) (outs : List Out) : Type 0 where
 more : {n : ℕ} {outs : List Out} (added : List Out) → unit_ups added ≡ 0 → AreUnits n outs → AreUnits n (outs ++ added)
 more {outs = outs} added none h = record { count = omega (arith, units_both outs added, none, h.count) }
 
-units : (r : Reading) (n : ℕ) → KeptByActions r (λ timer s. Unit {0}) (λ s. AreUnits n s.outs) (λ s. AreUnits n s.outs) (λ message. Unit {0}) (Unit {0}) (Unit {0}) ⊥ (Unit {0}) (λ nr. Unit {0})
+units : (r : Reading) (n : ℕ) → PreservedByActions r (λ timer s. Unit {0}) (λ s. AreUnits n s.outs) (λ s. AreUnits n s.outs) (λ message. Unit {0}) (Unit {0}) (Unit {0}) ⊥ (Unit {0}) (λ nr. Unit {0})
 unfolding put retransmit_last_i_frame state_to rc_to increment_rc layer3_initiated_to release_pending_to start stop expired clear_exception_conditions zero_state_variables set_peer_busy set_own_busy enquiry_response transmit_enquiry transmit_rr queue_up discard_i_queue acknowledge invoke_retransmission discard_unacknowledged i_frame_ns transmit_i_frame ensure_t200
 units r n = record {
   puts = λ out s ok h. more (out ∷ []) (put_is_none out ok) h;
@@ -121,10 +121,10 @@ units r n = record {
 absent : (hears : Bool) → hears ≡ false → hears ≡ true → ⊥
 absent hears none some = cc
 
-none_by_row : (r : Reading) (input : Input) (e : End) → hears_unit input ≡ false → AreUnits 0 (row r e.state input (begin e)).outs
+none_by_row : (r : Reading) (input : Input) (e : End) → receives_unit input ≡ false → AreUnits 0 (row r e.state input (begin e)).outs
 unfolding begin
 none_by_row r input e none =
-    row_keeps r _ (λ s. AreUnits 0 s.outs) (λ s. AreUnits 0 s.outs) _ _ _ _ _ _ (units r 0) e.state input (begin e) (λ message same. tt) (λ b. tt) (λ opened ns nr p same. tt) (absent (hears_unit input) none) (λ there same. tt) (λ nr same. tt) (λ timer same. tt) (record { count = refl })
+    row_preserves r _ (λ s. AreUnits 0 s.outs) (λ s. AreUnits 0 s.outs) _ _ _ _ _ _ (units r 0) e.state input (begin e) (λ message same. tt) (λ b. tt) (λ opened ns nr p same. tt) (absent (receives_unit input) none) (λ there same. tt) (λ nr same. tt) (λ timer same. tt) (record { count = refl })
 
 one_where : (unit : Bool) (s t : StepState) → unit ≡ true → AreUnits 1 s.outs → AreUnits 1 (if unit then s else t).outs
 one_where true s t h one = one
@@ -138,16 +138,16 @@ by_step : (r : Reading) (n : ℕ) (input : Input) (e : End) (s : StepState) → 
 unfolding step
 by_step r n input e s there done =
     let P : StepState → Type 0 = λ t. AreUnits n t.outs in
-    (subst P (taken (refused input e) (end_step r (row r e.state input (begin e))) s done).1 (close_keeps r _ P P _ _ _ _ _ _ (units r n) (row r e.state input (begin e)) tt there)).count
+    (subst P (taken (refused input e) (end_step r (row r e.state input (begin e))) s done).1 (close_preserves r _ P P _ _ _ _ _ _ (units r n) (row r e.state input (begin e)) tt there)).count
 
 by_frame : (r : Reading) (control : Control) (role : Role) (e : End) (s : StepState) (unit : Bool) → is_unit_data control role ≡ unit → step r (Heard control role) e ≡ Ok s → unit_ups s.outs ≡ (if unit then 1 else 0)
 by_frame r control role e s true unit done = by_step r 1 (Heard control role) e s (one_by_row r control role e unit) done
 by_frame r control role e s false unit done = by_step r 0 (Heard control role) e s (none_by_row r (Heard control role) e unit) done
 
-none_by_step : (r : Reading) (input : Input) (e : End) (s : StepState) → hears_unit input ≡ false → step r input e ≡ Ok s → unit_ups s.outs ≡ 0
+none_by_step : (r : Reading) (input : Input) (e : End) (s : StepState) → receives_unit input ≡ false → step r input e ≡ Ok s → unit_ups s.outs ≡ 0
 none_by_step r input e s none done = by_step r 0 input e s (none_by_row r input e none) done
 
-pub units_after : (r : Reading) (input : Input) (e : End) (s : StepState) → step r input e ≡ Ok s → unit_ups s.outs ≡ (if hears_unit input then 1 else 0)
+pub units_after : (r : Reading) (input : Input) (e : End) (s : StepState) → step r input e ≡ Ok s → unit_ups s.outs ≡ (if receives_unit input then 1 else 0)
 units_after r (Heard control role) e s done = by_frame r control role e s (is_unit_data control role) refl done
 units_after r (Faulty kind) e s done = none_by_step r (Faulty kind) e s refl done
 units_after r (Expiry timer) e s done = none_by_step r (Expiry timer) e s refl done

@@ -49,10 +49,10 @@ unfolding begin put state_to rc_to increment_rc layer3_initiated_to release_pend
 establishment = refl
 
 -- two messages are sent in a window of three
-pub messages_go_out : outputs (new_end (parameters 3 512)) (Establish ∷ Heard (Ua true) Answer ∷ Give (1 ∷ []) ∷ Give (2 ∷ []) ∷ [])
+pub messages_are_sent : outputs (new_end (parameters 3 512)) (Establish ∷ Heard (Ua true) Answer ∷ Give (1 ∷ []) ∷ Give (2 ∷ []) ∷ [])
     ≡ Ok (out.Send Command (Sabme true) ∷ out.Start T200 ∷ []) ∷ Ok (out.Confirmed ∷ out.Stop T200 ∷ out.Start T203 ∷ []) ∷ Ok (out.SendMessage 0 (I 0 0 false) ∷ out.Stop T203 ∷ out.Start T200 ∷ []) ∷ Ok (out.SendMessage 1 (I 1 0 false) ∷ []) ∷ []
 unfolding begin put state_to rc_to increment_rc layer3_initiated_to release_pending_to start stop expired clear_exception_conditions zero_state_variables set_peer_busy set_own_busy enquiry_response transmit_enquiry queue_up discard_i_queue acknowledge invoke_retransmission i_frame_ns discard_unacknowledged transmit_i_frame ensure_t200 transmit_rr establish_data_link reestablish_data_link end_establishment tei_assigned confirm_or_indicate ua_final awaiting_establishment_t200 awaiting_establishment confirm_release awaiting_release_t200 awaiting_release acknowledge_with_timers nr_error_recovery i_frame_nr i_frame_nr_in_recovery poll_or_final poll rr_nr rej_nr rnr_nr rr_nr_in_recovery rnr_nr_in_recovery timer_recovery_t200 busy_on busy_off in_7_and_8 established_t200 retransmit_last_i_frame last_i_frame before multiple_frame_established timer_recovery by_state report_fault row send_all acknowledge_pending end_step step initial_variables without_exceptions with_zero_counters status_frame acknowledgement without_ack_pending poll_response is_accepted is_rejected after_i_frame i_frame_response is_valid_nr with_va acknowledged_count acknowledges_all with_vs may_send next_i_frame after_sending with_own_busy with_peer_busy after steps lies_within
-messages_go_out = refl
+messages_are_sent = refl
 
 -- the peer requests both again after the enquiry: a REJ with F=0 has no effect, the one with F=1
 -- retransmits them

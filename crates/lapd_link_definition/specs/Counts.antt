@@ -56,6 +56,6 @@ accepts (Heard (I ns nr p) Command) e = is_7_or_8 e.state && is_accepted ns e.wi
 accepts input e = false
 
 -- a UI command is received
-abbrev pub hears_unit : Input → Bool
-hears_unit (Heard control role) = is_unit_data control role
-hears_unit input = false
+abbrev pub receives_unit : Input → Bool
+receives_unit (Heard control role) = is_unit_data control role
+receives_unit input = false

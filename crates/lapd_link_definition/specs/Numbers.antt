@@ -20,9 +20,9 @@ HasNumbers Whole control = Unit {0}
 HasNumbers Tagged control = IsControl control
 
 -- the numbers of an input
-abbrev pub HearsNumbers : Reading → Input → Type 0
-HearsNumbers r (Heard control role) = HasNumbers r control
-HearsNumbers r input = Unit {0}
+abbrev pub CarriesNumbers : Reading → Input → Type 0
+CarriesNumbers r (Heard control role) = HasNumbers r control
+CarriesNumbers r input = Unit {0}
 
 -- the numbers of an output
 abbrev pub IsNumbered : Reading → Out → Type 0

@@ -7,15 +7,15 @@ use Rattle.lapd_link_definition.specs.declared.out.Out.TheVariants.{Send, SendMe
 
 -- a frame without information, or a command with any information of up to N201 octets (Q.921 Table
 -- 5)
-abbrev pub IsSpoken : Out → Type 0
-IsSpoken (Send role control) = content_fault role control 0 ≡ None
-IsSpoken (SendMessage place control) = (len : ℕ) → len ≤ n201
+abbrev pub IsWellFormed : Out → Type 0
+IsWellFormed (Send role control) = content_fault role control 0 ≡ None
+IsWellFormed (SendMessage place control) = (len : ℕ) → len ≤ n201
     → content_fault Command control len ≡ None
-IsSpoken out = Unit {0}
+IsWellFormed out = Unit {0}
 
-abbrev pub AreSpoken : List Out → Type 0
-AreSpoken [] = Unit {0}
-AreSpoken (out ∷ outs) = IsSpoken out × AreSpoken outs
+abbrev pub AreWellFormed : List Out → Type 0
+AreWellFormed [] = Unit {0}
+AreWellFormed (out ∷ outs) = IsWellFormed out × AreWellFormed outs
 
 -- messages of up to N201 octets
 abbrev pub AreShort : List (List ℕ) → Type 0

@@ -42,9 +42,9 @@ HasNearNumbers (Rnr nr pf) m = IsNearWindow nr m.va m.vs
 HasNearNumbers (Rej nr pf) m = IsNearWindow nr m.va m.vs
 HasNearNumbers control m = Unit {0}
 
-abbrev pub IsHeardNear : Input → StateVariables → Type 0
-IsHeardNear (Heard control role) m = HasNearNumbers control m
-IsHeardNear input m = Unit {0}
+abbrev pub IsReceivedNear : Input → StateVariables → Type 0
+IsReceivedNear (Heard control role) m = HasNearNumbers control m
+IsReceivedNear input m = Unit {0}
 
 -- Bounds within which they are near, if k is the window of the sender: N(S) is at most one below
 -- V(R) and less than k above it, and N(R) lies from V(A) to V(S).
@@ -64,4 +64,4 @@ HasNumbersWithin k control m = Unit {0}
 pub record IsNear (input : Input) (e : End) : Type 0 where
   pub window : e.parameters.k ≤ 127
   pub sound : IsSound Whole e
-  pub heard : is_7_or_8 e.state ≡ true → IsHeardNear input e.window
+  pub heard : is_7_or_8 e.state ≡ true → IsReceivedNear input e.window

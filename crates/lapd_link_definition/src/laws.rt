@@ -5,15 +5,15 @@ ghost use Rattle.lapd_frame.specs.declared.Control.{Control};
 ghost use Rattle.lapd_mod128.specs.Counting.{Reading, Whole, Tagged};
 ghost use Rattle.lapd_link_definition.specs.Begins.{begins, HasBegun};
 ghost use Rattle.lapd_link_definition.specs.EndOfStep.{is_7_or_8};
-ghost use Rattle.lapd_link_definition.specs.Counts.{ups, unit_ups, leaving, AreCountedFirst, ArePlaced, messages_of, accepts, hears_unit};
+ghost use Rattle.lapd_link_definition.specs.Counts.{ups, unit_ups, leaving, AreCountedFirst, ArePlaced, messages_of, accepts, receives_unit};
 ghost use Rattle.lapd_link_definition.specs.End.{End, StepState, new_end};
 ghost use Rattle.lapd_link_definition.specs.Input.{Input};
-ghost use Rattle.lapd_link_definition.specs.Numbers.{AreNumbers, HearsNumbers, AreNumbered};
+ghost use Rattle.lapd_link_definition.specs.Numbers.{AreNumbers, CarriesNumbers, AreNumbered};
 ghost use Rattle.lapd_link_definition.specs.Parameters.{Parameters};
 ghost use Rattle.lapd_link_definition.specs.Reports.{AreExpected, IsDue};
 ghost use Rattle.lapd_link_definition.specs.RunningTimers.{HasTimersOfState, TimersFollow};
 ghost use Rattle.lapd_link_definition.specs.Sound.{IsSound};
-ghost use Rattle.lapd_link_definition.specs.SentFrames.{AreSpoken, AreShort};
+ghost use Rattle.lapd_link_definition.specs.SentFrames.{AreWellFormed, AreShort};
 ghost use Rattle.lapd_link_definition.specs.Table.{step};
 ghost use Rattle.lapd_link_definition.specs.Tagging.{tag_input, tag_end, tag_result, HasNearNumbers, HasNumbersWithin, IsNear};
 
@@ -59,7 +59,7 @@ pub fn numbers_within_are_near()
 /// after it (Q.921 Table 5, 5.9.3). Tags ensure that numbers are below 128.
 pub fn sent_frames_are_in_the_grammar()
     ensures sent { (r : Reading) (input : Input) (e : End) (s : StepState) → step r input e ≡ Ok s
-        → AreSpoken s.outs }
+        → AreWellFormed s.outs }
     ensures short { (r : Reading) (input : Input) (e : End) (s : StepState) → AreShort e.given
         → step r input e ≡ Ok s → AreShort s.end.given }
 {}
@@ -77,9 +77,9 @@ pub fn sent_messages_are_there()
 /// (Q.921 3.5.2.1). On whole numbers this says nothing.
 pub fn numbers_stay()
     ensures own { (r : Reading) (input : Input) (e : End) (s : StepState) → AreNumbers r e.window
-        → HearsNumbers r input → step r input e ≡ Ok s → AreNumbers r s.end.window }
+        → CarriesNumbers r input → step r input e ≡ Ok s → AreNumbers r s.end.window }
     ensures sent { (r : Reading) (input : Input) (e : End) (s : StepState) → AreNumbers r e.window
-        → HearsNumbers r input → step r input e ≡ Ok s → AreNumbered r s.outs }
+        → CarriesNumbers r input → step r input e ≡ Ok s → AreNumbered r s.outs }
 {}
 
 /// A step begins at most one establishment: with a SABME command in states 4, 7 and 8, and with a
@@ -110,7 +110,7 @@ pub fn messages_are_counted()
     ensures order { (r : Reading) (input : Input) (e : End) (s : StepState) → step r input e ≡ Ok s
         → AreCountedFirst s.outs }
     ensures unit { (r : Reading) (input : Input) (e : End) (s : StepState) → step r input e ≡ Ok s
-        → unit_ups s.outs ≡ (if hears_unit input then 1 else 0) }
+        → unit_ups s.outs ≡ (if receives_unit input then 1 else 0) }
     ensures up { (r : Reading) (input : Input) (e : End) (s : StepState) → step r input e ≡ Ok s
         → ups s.outs ≡ (if accepts input e then 1 else 0) }
 {}
@@ -137,7 +137,7 @@ pub fn reports_are_expected()
 pub fn timers_follow_outputs()
     ensures begins { (p : Parameters) → HasTimersOfState (new_end p) }
     ensures stays { (r : Reading) (input : Input) (e : End) (s : StepState)
-        → AreNumbers r e.window → HearsNumbers r input
+        → AreNumbers r e.window → CarriesNumbers r input
         → HasTimersOfState e → step r input e ≡ Ok s → HasTimersOfState s.end }
     ensures follows { (r : Reading) (input : Input) (e : End) (s : StepState) → HasTimersOfState e
         → step r input e ≡ Ok s → TimersFollow input e s }

@@ -23,11 +23,11 @@ use Rattle.lapd_link_definition.specs.Sound.{AreAwaiting, IsSound, IsSoundIn}
 use Rattle.lapd_link_definition.specs.SentFrames.{AreShort}
 use Rattle.lapd_link_definition.specs.Table.{row, by_state, step}
 use Rattle.lapd_link_definition.specs.TimerRecovery.{timer_recovery}
-use Rattle.lapd_link_definition.proofs.KeptByStep.{step_keeps_parameters, step_is_short}
+use Rattle.lapd_link_definition.proofs.PreservedByStep.{step_preserves_parameters, step_is_short}
 use Rattle.lapd_link_definition.proofs.Soundness.{sound_step}
 use Rattle.lapd_link_machine.specs.declared.machine.Machine.{Machine}
 use Rattle.lapd_link_machine.specs.Sent.{sent_in_state, IsBetweenSteps}
-use Rattle.lapd_link_machine.specs.StandsFor.{StandsFor}
+use Rattle.lapd_link_machine.specs.Represents.{Represents}
 use Rattle.lapd_link_machine.proofs.Tails.{tail_waiting}
 
 abbrev pub end_of : Machine → End
@@ -46,7 +46,7 @@ end_of m = record {
   next = m.queue.sent;
 }
 
-pub shows_end : (m : Machine) → IsBetweenSteps m → StandsFor m [] (begin (end_of m))
+pub shows_end : (m : Machine) → IsBetweenSteps m → Represents m [] (begin (end_of m))
 unfolding begin
 shows_end m between = record {
   parameters = refl;
@@ -63,7 +63,7 @@ shows_end m between = record {
 }
 
 -- the end of one step is the start of the next
-pub settles : (m : Machine) (outs : List Out) (s : StepState) → StandsFor m outs s → StandsFor m [] (begin s.end)
+pub settles : (m : Machine) (outs : List Out) (s : StepState) → Represents m outs s → Represents m [] (begin s.end)
 unfolding begin
 settles m outs s h = record {
   parameters = h.parameters;
@@ -150,7 +150,7 @@ short_behind (suc n) (message ∷ messages) h = short_behind n messages h.1
 
 -- ---- A machine between two steps.
 
-between_of : (m : Machine) (outs : List Out) (s : StepState) → StandsFor m outs s → s.end.parameters.k ≤ 127 → IsSound Tagged s.end → AreTags m.window → AreShort s.end.given → IsBetweenSteps m
+between_of : (m : Machine) (outs : List Out) (s : StepState) → Represents m outs s → s.end.parameters.k ≤ 127 → IsSound Tagged s.end → AreTags m.window → AreShort s.end.given → IsBetweenSteps m
 between_of m outs s h small sound numbers short =
     let there = sound_to s.end.state s.end sound in
     let same = same_sent s.end.state m.state s.end.layer3_initiated m.layer3_initiated s.end.release_pending m.release_pending s.end.window m.window h.state h.layer3_initiated h.release_pending h.window in
@@ -167,10 +167,10 @@ between_of m outs s h small sound numbers short =
 
 -- a step keeps this property
 pub stays_between : (input : Input) (m n : Machine) (outs : List Out) (s : StepState) → IsBetweenSteps m
-    → step Tagged input (end_of m) ≡ Ok s → StandsFor n outs s → AreTags n.window → IsBetweenSteps n
-stays_between input m n outs s between done stands numbers =
+    → step Tagged input (end_of m) ≡ Ok s → Represents n outs s → AreTags n.window → IsBetweenSteps n
+stays_between input m n outs s between done representation numbers =
     let Few : Parameters → Type 0 = λ p. p.k ≤ 127 in
-    between_of n outs s stands (subst Few (sym (step_keeps_parameters Tagged input (end_of m) s done)) between.few) (sound_step Tagged input (end_of m) s between.few (is_sound m between) done)
+    between_of n outs s representation (subst Few (sym (step_preserves_parameters Tagged input (end_of m) s done)) between.few) (sound_step Tagged input (end_of m) s between.few (is_sound m between) done)
     numbers (step_is_short Tagged input (end_of m) s (are_short m.queue.messages between.short) done)
 
 -- ---- A step, refused or not.
@@ -208,8 +208,8 @@ pub is_full : (full : Bool) (refusal : Option LinkFault) → refusal ≡ refused
 is_full full refusal q h = sym (q ∙ rw h refl)
 
 -- a message joins the queue, and then the step ends
-pub queued_and_closed : (n : Machine) (outs : List Out) (message : List ℕ) (e : End) → refused (Give message) e ≡ None → StandsFor n outs (end_step Tagged (queue_up message (begin e)))
-    → StandsFor n outs (end_step Tagged (row Tagged e.state (Give message) (begin e)))
+pub queued_and_closed : (n : Machine) (outs : List Out) (message : List ℕ) (e : End) → refused (Give message) e ≡ None → Represents n outs (end_step Tagged (queue_up message (begin e)))
+    → Represents n outs (end_step Tagged (row Tagged e.state (Give message) (begin e)))
 queued_and_closed n outs message e none h =
-    let F : StepState → Type 0 = λ s. StandsFor n outs (end_step Tagged s) in
+    let F : StepState → Type 0 = λ s. Represents n outs (end_step Tagged s) in
     subst F (sym (is_queued message e (begin e) none)) h

@@ -5,15 +5,15 @@ use Rattle.std.proofs.lemmas.List.Elements.{filter-append}
 use Rattle.std.proofs.lemmas.List.Sums.{length-filter, count_by-le-length}
 use Rattle.lapd_link_definition.specs.declared.out.Out.{Out}
 use Rattle.lapd_link_definition.specs.Input.{Input, Heard, Faulty, Expiry, Establish, Release, BusyOn, BusyOff, UnitData, Give}
-use Rattle.lapd_link_machine.specs.Bounds.{is_told, told_count, most_outputs, IsBounded}
+use Rattle.lapd_link_machine.specs.Bounds.{is_primitive, primitive_count, most_outputs, IsBounded}
 
-pub told_behind : (outs : List Out) (out : Out) → is_told out ≡ false → told_count (outs ++ out ∷ []) ≡ told_count outs
-told_behind outs out h =
-    let none : filter is_told (out ∷ []) ≡ [] = rw h refl in
-    ap length (filter-append is_told outs (out ∷ []) ∙ rw none (append-nil (filter is_told outs)))
+pub primitives_behind : (outs : List Out) (out : Out) → is_primitive out ≡ false → primitive_count (outs ++ out ∷ []) ≡ primitive_count outs
+primitives_behind outs out h =
+    let none : filter is_primitive (out ∷ []) ≡ [] = rw h refl in
+    ap length (filter-append is_primitive outs (out ∷ []) ∙ rw none (append-nil (filter is_primitive outs)))
 
-pub told_among : (outs : List Out) → told_count outs ≤ length outs
-told_among outs = rw (length-filter is_told outs) (count_by-le-length is_told outs)
+pub primitives_among : (outs : List Out) → primitive_count outs ≤ length outs
+primitives_among outs = rw (length-filter is_primitive outs) (count_by-le-length is_primitive outs)
 
 -- the outputs of a step, by those of its row, and by whether the link is established then
 all_of : (input : Input) (n : ℕ) → n ≤ 136 → (input ≡ Establish → n ≤ 7) → n ≤ most_outputs input
@@ -29,9 +29,9 @@ all_of (Give message) n few brief = few
 
 pub bounded : (input : Input) (established : Bool) (of_row outs : List Out) → length of_row ≤ 6
     → (input ≡ Establish → established ≡ false) → length outs ≤ 136
-    → (established ≡ false → length outs ≤ length of_row + 1) → told_count outs ≡ told_count of_row
+    → (established ≡ false → length outs ≤ length of_row + 1) → primitive_count outs ≡ primitive_count of_row
     → IsBounded input outs
 bounded input established of_row outs six waits few quiet same = record {
   all = all_of input (length outs) few (λ h. let one = quiet (waits h) in omega (arith, one, six));
-  told = let n = told_among of_row in rw same (omega (arith, n, six));
+  told = let n = primitives_among of_row in rw same (omega (arith, n, six));
 }

@@ -3,17 +3,17 @@ use Rattle.std.proofs.Common.{◌≡◌, ℕ, ◌<◌, ◌≤◌, nat_lt, Bool, 
 use Rattle.std.proofs.lemmas.Bool.Decides.{nat_tests}
 use Rattle.lapd_link_definition.specs.declared.out.Out.{Out}
 use Rattle.lapd_link_machine.specs.declared.machine.Machine.{Machine}
-use Rattle.lapd_link_machine.specs.StandsFor.{StandsFor}
+use Rattle.lapd_link_machine.specs.Represents.{Represents}
 use Rattle.lapd_link_definition.specs.End.{StepState}
 use Rattle.lapd_supervision.specs.StateVariables.{StateVariables}
 use Rattle.lapd_link_definition.specs.Established.{sends_last}
 use Rattle.lapd_link_definition.specs.Parameters.{Parameters}
 
-pub then_row : (m : Machine) (outs : List Out) (test : Bool) (x y : StepState) → test ≡ true → StandsFor m outs x → StandsFor m outs (if test then x else y)
+pub then_row : (m : Machine) (outs : List Out) (test : Bool) (x y : StepState) → test ≡ true → Represents m outs x → Represents m outs (if test then x else y)
 then_row m outs true x y q h = h
 then_row m outs false x y q h = cc
 
-pub else_row : (m : Machine) (outs : List Out) (test : Bool) (x y : StepState) → test ≡ false → StandsFor m outs y → StandsFor m outs (if test then x else y)
+pub else_row : (m : Machine) (outs : List Out) (test : Bool) (x y : StepState) → test ≡ false → Represents m outs y → Represents m outs (if test then x else y)
 else_row m outs true x y q h = cc
 else_row m outs false x y q h = h
 

@@ -13,5 +13,5 @@ pub use Rattle.lapd_supervision.specs.StateVariables
 pub use Rattle.lapd_timers.specs.Timer
 pub mod Bounds
 pub mod Sent
-pub mod StandsFor
+pub mod Represents
 pub mod Tail

@@ -41,11 +41,11 @@ fn is_open(va: Seq, vs: Seq, places: u16) -> bool {
 }
 
 /// Appends the result of an operation on counters.
-pub(crate) fn put(text: &mut Text, deed: &str, words: &str) {
+pub(crate) fn put(text: &mut Text, action: &str, words: &str) {
     let (first, rest) = split(words, " ");
     let (second, third) = split(rest, " ");
     let (one, other) = (at(first), at(second));
-    match deed {
+    match action {
         "next" => text.shown(" ", &one.next().value()),
         "back" => text.shown(" ", &one.back().value()),
         "steps" => text.shown(" ", &Seq::distance(one, other)),

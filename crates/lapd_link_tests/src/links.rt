@@ -103,13 +103,13 @@ pub(crate) fn new_link(alloc: Global, side: Side, room: u16) -> Option<Link> {
 }
 
 /// Executes an operation on a link.
-pub(crate) fn put(text: &mut Text, alloc: Global, link: &mut Link, deed: &str, word: &str) {
-    match deed {
+pub(crate) fn put(text: &mut Text, alloc: Global, link: &mut Link, action: &str, word: &str) {
+    match action {
         "network" => renew(text, alloc, link, Side::Network, number_of(word)),
         "user" => renew(text, alloc, link, Side::User, number_of(word)),
         "establish" => establish(text, link),
         "release" => release(text, link),
-        "hear" => hear(text, alloc, link, word),
+        "hear" => receive(text, alloc, link, word),
         "give" => give(text, alloc, link, word),
         _ => put_frames(text, link),
     }
@@ -141,7 +141,7 @@ fn release(text: &mut Text, link: &mut Link) {
 }
 
 /// Receives octets of the other side.
-fn hear(text: &mut Text, alloc: Global, link: &mut Link, digits: &str) {
+fn receive(text: &mut Text, alloc: Global, link: &mut Link, digits: &str) {
     match hex::decode(alloc, digits) {
         Ok(octets) => hear_octets(text, link, octets.as_slice()),
         Err(_) => text.put(" no octets"),

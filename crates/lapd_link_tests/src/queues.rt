@@ -49,8 +49,8 @@ queue pass | 1000
 ";
 
 /// Executes an operation on a queue.
-pub(crate) fn put(text: &mut Text, alloc: Global, queue: &mut IQueue, deed: &str, word: &str) {
-    match deed {
+pub(crate) fn put(text: &mut Text, alloc: Global, queue: &mut IQueue, action: &str, word: &str) {
+    match action {
         "room" => renew(text, alloc, queue, number_of(word)),
         "put" => put_message(text, alloc, queue, word),
         "send" => text.mark(" none", !sends(queue)),

@@ -37,14 +37,14 @@ impl Bench {
 
     /// Executes an operation, and appends its result.
     fn put(&mut self, text: &mut Text, subject: &str, words: &str) {
-        let (deed, rest) = split(words, " ");
+        let (action, rest) = split(words, " ");
         match subject {
-            "counter" => counters::put(text, deed, rest),
-            "window" => windows::put(text, &mut self.window, deed, rest),
-            "queue" => queues::put(text, self.alloc, &mut self.queue, deed, rest),
-            "link" => links::put(text, self.alloc, &mut self.link, deed, rest),
-            "made" => links::put_parameters(text, deed, rest),
-            _ => reports::put_names(text, deed),
+            "counter" => counters::put(text, action, rest),
+            "window" => windows::put(text, &mut self.window, action, rest),
+            "queue" => queues::put(text, self.alloc, &mut self.queue, action, rest),
+            "link" => links::put(text, self.alloc, &mut self.link, action, rest),
+            "made" => links::put_parameters(text, action, rest),
+            _ => reports::put_names(text, action),
         }
     }
 }
@@ -53,15 +53,15 @@ impl Subject for Bench {
     /// A row is the name of a subject, an operation on it, ` |`, and the result.
     fn keeps(&mut self, row: &'static str) -> bool {
         let (words, wanted) = split(row, " |");
-        let (subject, deed) = split(words, " ");
+        let (subject, action) = split(words, " ");
         let mut text = Text::new();
-        self.put(&mut text, subject, deed);
+        self.put(&mut text, subject, action);
         text.is(wanted)
     }
 }
 
 /// The first wrong row of operations.
-fn wrong_deed(alloc: Global) -> Option<&'static str> {
+fn wrong_value_row(alloc: Global) -> Option<&'static str> {
     match Bench::new(alloc) {
         Some(mut bench) => wrong_of(&mut bench),
         None => Some("no queue and no link is made"),
@@ -87,6 +87,6 @@ fn values(rt: HostRuntime) -> Result<(), Fail> {
         frames::wrong(rt.alloc()),
         traces::wrong(rt.alloc()),
         reports::wrong(),
-        wrong_deed(rt.alloc()),
+        wrong_value_row(rt.alloc()),
     ])
 }

@@ -61,32 +61,32 @@ window zero |
 ";
 
 /// Executes an operation on a window.
-pub(crate) fn put(text: &mut Text, window: &mut Window, deed: &str, words: &str) {
+pub(crate) fn put(text: &mut Text, window: &mut Window, action: &str, words: &str) {
     let (word, poll) = split(words, " ");
     let after = match Number::new((number_of(word) & 0xff) as u8) {
-        Some(number) => after_deed(text, *window, deed, number, poll == "P=1"),
+        Some(number) => after_deed(text, *window, action, number, poll == "P=1"),
         None => Window::new(),
     };
     put_window(text, &after);
-    if deed != "try" {
+    if action != "try" {
         *window = after;
     }
 }
 
 /// The window after an operation with this number and P.
-fn after_deed(text: &mut Text, window: Window, deed: &str, number: Number, p: bool) -> Window {
-    match deed {
-        "hear" => heard(text, window, number, p),
+fn after_deed(text: &mut Text, window: Window, action: &str, number: Number, p: bool) -> Window {
+    match action {
+        "hear" => received(text, window, number, p),
         "take" | "try" => taken(text, window, number),
         "send" => sent(text, window, number.value()),
         "back" => window.go_back(number),
         "may" => asked(text, window, number.value()),
-        _ => told(text, window, deed),
+        _ => after_call(text, window, action),
     }
 }
 
 /// Receives an I frame with this N(S) and P.
-fn heard(text: &mut Text, window: Window, ns: Number, p: bool) -> Window {
+fn received(text: &mut Text, window: Window, ns: Number, p: bool) -> Window {
     let (after, receipt) = window.take_ns(ns, p);
     text.put(if receipt.accepted {
         " accepted"
@@ -133,22 +133,22 @@ fn asked(text: &mut Text, window: Window, k: u8) -> Window {
 }
 
 /// An operation that may return a control field.
-fn told(text: &mut Text, window: Window, deed: &str) -> Window {
-    let (after, control) = match deed {
+fn after_call(text: &mut Text, window: Window, action: &str) -> Window {
+    let (after, control) = match action {
         "acknowledge" => window.acknowledge(),
         "busy" => window.own(true),
         "ready" => window.own(false),
         "answer" => window.answer_poll(),
         "enquire" => window.enquiry(),
-        _ => return changed(window, deed),
+        _ => return changed(window, action),
     };
     put_control(text, &control);
     after
 }
 
 /// An operation without a result.
-fn changed(window: Window, deed: &str) -> Window {
-    match deed {
+fn changed(window: Window, action: &str) -> Window {
+    match action {
         "new" => Window::new(),
         "default" => Window::default(),
         "peer-busy" => window.peer(true),

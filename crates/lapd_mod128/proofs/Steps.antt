@@ -4,9 +4,9 @@ use Rattle.std.proofs.lemmas.Bool.Decides.{nat_tests}
 use Rattle.lapd_mod128.specs.Counting.{Reading, Whole, Tagged, IsNumber, after, number_after, AreSteps, LiesFrom, InFewerSteps, reaches, steps, lies_within}
 
 -- the tests of the two readings, as orders
-pub reaches_tells : (a b : ℕ) → reaches Whole a b ≡ true → a ≤ b
+pub reaches_implies : (a b : ℕ) → reaches Whole a b ≡ true → a ≤ b
 unfolding reaches
-reaches_tells a b h = grind (arith, nat_tests)
+reaches_implies a b h = grind (arith, nat_tests)
 
 pub reaches_holds : (a b : ℕ) → a ≤ b → reaches Whole a b ≡ true
 unfolding reaches
@@ -16,17 +16,17 @@ pub tags_are_reached : (a b : ℕ) → reaches Tagged a b ≡ true
 unfolding reaches
 tags_are_reached a b = refl
 
-pub whole_within_tells : (a x b : ℕ) → lies_within Whole a x b ≡ true → (a ≤ x) × (x ≤ b)
+pub whole_within_implies : (a x b : ℕ) → lies_within Whole a x b ≡ true → (a ≤ x) × (x ≤ b)
 unfolding lies_within
-whole_within_tells a x b h = grind (arith, nat_tests)
+whole_within_implies a x b h = grind (arith, nat_tests)
 
 pub whole_within_holds : (a x b : ℕ) → a ≤ x → x ≤ b → lies_within Whole a x b ≡ true
 unfolding lies_within
 whole_within_holds a x b low high = grind (arith, nat_tests)
 
-pub tagged_within_tells : (a x b : ℕ) → lies_within Tagged a x b ≡ true → steps Tagged a x ≤ steps Tagged a b
+pub tagged_within_implies : (a x b : ℕ) → lies_within Tagged a x b ≡ true → steps Tagged a x ≤ steps Tagged a b
 unfolding lies_within
-tagged_within_tells a x b h = grind (arith, nat_tests)
+tagged_within_implies a x b h = grind (arith, nat_tests)
 
 pub tagged_within_holds : (a x b : ℕ) → steps Tagged a x ≤ steps Tagged a b → lies_within Tagged a x b ≡ true
 unfolding lies_within
@@ -34,16 +34,16 @@ tagged_within_holds a x b h = grind (arith, nat_tests)
 
 reaches_between_whole : (a x b : ℕ) → lies_within Whole a x b ≡ true → (reaches Whole a x ≡ true) × (reaches Whole x b ≡ true) × (reaches Whole a b ≡ true)
 unfolding reaches
-reaches_between_whole a x b h = let between = whole_within_tells a x b h in
+reaches_between_whole a x b h = let between = whole_within_implies a x b h in
     (grind (arith, nat_tests), grind (arith, nat_tests), grind (arith, nat_tests))
 
 within_one_more_whole : (a x b : ℕ) → lies_within Whole a x b ≡ true → lies_within Whole a x (after Whole b) ≡ true
 unfolding after
-within_one_more_whole a x b h = let between = whole_within_tells a x b h in
+within_one_more_whole a x b h = let between = whole_within_implies a x b h in
     whole_within_holds a x (b + 1) between.0 (omega arith)
 
 within_the_whole_whole : (a x y b : ℕ) → lies_within Whole a x b ≡ true → lies_within Whole x y b ≡ true → lies_within Whole a y b ≡ true
-within_the_whole_whole a x y b hx hy = let one = whole_within_tells a x b hx in let two = whole_within_tells x y b hy in
+within_the_whole_whole a x y b hx hy = let one = whole_within_implies a x b hx in let two = whole_within_implies x y b hy in
     whole_within_holds a y b (omega arith) two.1
 
 -- counting whole numbers is adding
@@ -68,7 +68,7 @@ after_is_number Tagged n h = omega arith
 pub steps_are_counted : (r : Reading) (a b : ℕ) → IsNumber r a → IsNumber r b → reaches r a b ≡ true → AreSteps r (steps r a b) a b
 unfolding steps
 steps_are_counted Whole a b ha hb h = record {
-  lead = number_after_whole (b - a) a ∙ omega (arith, reaches_tells a b h);
+  lead = number_after_whole (b - a) a ∙ omega (arith, reaches_implies a b h);
   fewest = λ m less same. omega (arith, number_after_whole m a, same, less);
 }
 steps_are_counted Tagged a b ha hb h = record {
@@ -89,14 +89,14 @@ no_steps Tagged a = omega arith
 -- numbers with no steps between them are the same
 pub no_steps_is_same : (r : Reading) (a b : ℕ) → IsNumber r a → IsNumber r b → reaches r a b ≡ true → steps r a b ≡ 0 → a ≡ b
 unfolding steps
-no_steps_is_same Whole a b ha hb h none = omega (arith, reaches_tells a b h)
+no_steps_is_same Whole a b ha hb h none = omega (arith, reaches_implies a b h)
 no_steps_is_same Tagged a b ha hb h none = omega arith
 
 -- the steps to a number between add up
 pub steps_add_up : (r : Reading) (a x b : ℕ) → lies_within r a x b ≡ true → steps r a x + steps r x b ≡ steps r a b
 unfolding steps
-steps_add_up Whole a x b h = omega (arith, whole_within_tells a x b h)
-steps_add_up Tagged a x b h = omega (arith, tagged_within_tells a x b h)
+steps_add_up Whole a x b h = omega (arith, whole_within_implies a x b h)
+steps_add_up Tagged a x b h = omega (arith, tagged_within_implies a x b h)
 
 -- the steps to a number between two others are no more than the steps to the last
 pub steps_to_between : (r : Reading) (a x b : ℕ) → lies_within r a x b ≡ true → steps r a x ≤ steps r a b
@@ -111,7 +111,7 @@ reaches_between Tagged a x b h = (refl, refl, refl)
 -- if the last number moves one step on, there is one step more
 pub one_more_step : (r : Reading) (a b : ℕ) → reaches r a b ≡ true → steps r a b < 127 → steps r a (after r b) ≡ steps r a b + 1
 unfolding steps after
-one_more_step Whole a b h room = omega (arith, reaches_tells a b h)
+one_more_step Whole a b h room = omega (arith, reaches_implies a b h)
 one_more_step Tagged a b h room = omega arith
 
 -- the same for whole numbers, however far apart
@@ -133,12 +133,12 @@ steps_stay Tagged a b = omega arith
 
 -- the first of two numbers lies between them
 pub first_lies_within : (r : Reading) (a b : ℕ) → reaches r a b ≡ true → lies_within r a a b ≡ true
-first_lies_within Whole a b h = whole_within_holds a a b (omega arith) (reaches_tells a b h)
+first_lies_within Whole a b h = whole_within_holds a a b (omega arith) (reaches_implies a b h)
 first_lies_within Tagged a b h = tagged_within_holds a a b (omega (arith, no_steps Tagged a))
 
 -- and so does the last
 pub last_lies_within : (r : Reading) (a b : ℕ) → reaches r a b ≡ true → lies_within r a b b ≡ true
-last_lies_within Whole a b h = whole_within_holds a b b (reaches_tells a b h) (omega arith)
+last_lies_within Whole a b h = whole_within_holds a b b (reaches_implies a b h) (omega arith)
 last_lies_within Tagged a b h = tagged_within_holds a b b (omega arith)
 
 -- a number within two numbers is also within them if the last is one step further
@@ -146,22 +146,22 @@ pub within_one_more : (r : Reading) (a x b : ℕ) → lies_within r a x b ≡ tr
 unfolding reaches
 within_one_more Whole a x b h room = within_one_more_whole a x b h
 within_one_more Tagged a x b h room = tagged_within_holds a x (after Tagged b)
-    (omega (arith, tagged_within_tells a x b h, one_more_step Tagged a b refl room))
+    (omega (arith, tagged_within_implies a x b h, one_more_step Tagged a b refl room))
 
 -- if two numbers lie within V(A) and V(S), the later lies within the earlier and V(S): V(A) never
 -- moves past N(R)
 pub within_the_rest : (r : Reading) (a x y b : ℕ) → lies_within r a y b ≡ true → lies_within r a x y ≡ true → lies_within r x y b ≡ true
 unfolding steps
-within_the_rest Whole a x y b hy hx = whole_within_holds x y b (whole_within_tells a x y hx).1 (whole_within_tells a y b hy).1
+within_the_rest Whole a x y b hy hx = whole_within_holds x y b (whole_within_implies a x y hx).1 (whole_within_implies a y b hy).1
 within_the_rest Tagged a x y b hy hx = tagged_within_holds x y b
-    (omega (arith, tagged_within_tells a y b hy, tagged_within_tells a x y hx))
+    (omega (arith, tagged_within_implies a y b hy, tagged_within_implies a x y hx))
 
 -- a number within a part lies within the whole
 pub within_the_whole : (r : Reading) (a x y b : ℕ) → lies_within r a x b ≡ true → lies_within r x y b ≡ true → lies_within r a y b ≡ true
 unfolding steps
 within_the_whole Whole a x y b hx hy = within_the_whole_whole a x y b hx hy
 within_the_whole Tagged a x y b hx hy = tagged_within_holds a y b
-    (omega (arith, tagged_within_tells a x b hx, tagged_within_tells x y b hy))
+    (omega (arith, tagged_within_implies a x b hx, tagged_within_implies x y b hy))
 
 -- between a number and itself lies only that number
 pub only_itself_within : (r : Reading) (a x : ℕ) → IsNumber r a → IsNumber r x → lies_within r a x a ≡ true → a ≡ x

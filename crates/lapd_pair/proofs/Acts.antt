@@ -5,7 +5,7 @@ use Rattle.std.specs.declared.alloc.Global.{Global}
 use Rattle.arrayvec.specs.ArrayVec.{ArrayVec}
 use Rattle.lapd_frame.specs.declared.Side.{Side}
 use Rattle.lapd_frame.specs.Frame.{Fields, n201}
-use Rattle.lapd_link.specs.Link.{LinkStandsFor}
+use Rattle.lapd_link.specs.Link.{LinkRepresents}
 use Rattle.lapd_mod128.specs.Counting.{Tagged}
 use Rattle.lapd_link_definition.specs.declared.event.LinkFault.{LinkFault}
 use Rattle.lapd_link_definition.specs.declared.event.LinkFault.TheVariants.{TooLong}
@@ -16,16 +16,16 @@ use Rattle.lapd_link_definition.specs.Input as input
 use Rattle.lapd_link_definition.specs.Input.{Input}
 use Rattle.lapd_link_definition.specs.Refusal.{refused}
 use Rattle.lapd_link_definition.specs.Table.{unless, row, step}
-use Rattle.lapd_pair_laws.specs.Kept.{IsKept}
+use Rattle.lapd_pair_laws.specs.Consistent.{IsConsistent}
 use Rattle.lapd_pair_laws.specs.Line.{Flight}
 use Rattle.lapd_pair_laws.specs.Move as world
-use Rattle.lapd_pair_laws.specs.Move.{View, Refused, stepped, hears, takes}
+use Rattle.lapd_pair_laws.specs.Move.{View, Refused, stepped, receives, takes}
 use Rattle.lapd_pair.specs.declared.line.Line.{Line}
 use Rattle.lapd_pair.specs.declared.pair_fault.PairFault.{PairFault}
 use Rattle.lapd_pair.specs.declared.recorded_link.RecordedLink.{RecordedLink}
 use Rattle.lapd_pair.specs.Line.{fields_of, IsOn}
 use Rattle.lapd_pair.specs.Moves.{IsRefusedAs}
-use Rattle.lapd_pair.specs.Station.{IsStation, IsActed, IsAsked, IsHanded, Acts, RefusesAs, ShowsAsBefore}
+use Rattle.lapd_pair.specs.Station.{IsStation, IsActed, IsAsked, HasOctets, Acts, StationRefusesAs, ShowsStationAsBefore}
 
 -- ---- Results.
 
@@ -47,19 +47,19 @@ pub takes_refused : (i : Input) (octets : List ℕ) (v : View) (fault : LinkFaul
 unfolding takes step
 takes_refused i octets v fault h = ap (λ (o : Option LinkFault). stepped octets 0 v (unless o (end_step Tagged (row Tagged v.station.end.state i (begin v.station.end))))) h
 
-pub takes_goes : (i : Input) (octets : List ℕ) (v : View) → refused i v.station.end ≡ None → is_ok (takes Tagged i octets v) ≡ true
+pub takes_is_ok : (i : Input) (octets : List ℕ) (v : View) → refused i v.station.end ≡ None → is_ok (takes Tagged i octets v) ≡ true
 unfolding takes step
-takes_goes i octets v h = ap (λ (o : Option LinkFault). is_ok (stepped octets 0 v (unless o (end_step Tagged (row Tagged v.station.end.state i (begin v.station.end)))))) h
+takes_is_ok i octets v h = ap (λ (o : Option LinkFault). is_ok (stepped octets 0 v (unless o (end_step Tagged (row Tagged v.station.end.state i (begin v.station.end)))))) h
 
-pub hears_goes : (frame : Flight) (v : View) → is_ok (hears Tagged frame v) ≡ true
-unfolding hears step
-hears_goes frame v = refl
+pub receives_is_ok : (frame : Flight) (v : View) → is_ok (receives Tagged frame v) ≡ true
+unfolding receives step
+receives_is_ok frame v = refl
 
 -- ---- Requests.
 
-pub asked_is_handed : (i : Input) (octets : List ℕ) → IsAsked i octets → IsHanded i octets None
-asked_is_handed (input.Heard control role) octets h = absurd h
-asked_is_handed other octets h = refl
+pub asked_has_octets : (i : Input) (octets : List ℕ) → IsAsked i octets → HasOctets i octets None
+asked_has_octets (input.Heard control role) octets h = absurd h
+asked_has_octets other octets h = refl
 
 few : (long : Bool) (len : ℕ) → nat_lt 260 len ≡ long → (if long then Some TooLong else None) ≡ None → len ≤ n201
 few false len long h = grind (arith, nat_tests)
@@ -82,7 +82,7 @@ abbrev pub LinesSame : Line → Line → Type 0
 LinesSame old made = (from : Side) (frames : List Flight) → IsOn from old frames → IsOn from made frames
 
 pub shows_still : (old made new : RecordedLink) (outward outward_made outward_new : Line) (r : Result (ArrayVec Out) PairFault) → StationsSame old made → LinesSame outward outward_made
-    → OnErr r ((new ≡ made) × (outward_new ≡ outward_made)) → OnErr r (ShowsAsBefore old outward new outward_new)
+    → OnErr r ((new ≡ made) × (outward_new ≡ outward_made)) → OnErr r (ShowsStationAsBefore old outward new outward_new)
 shows_still old made new outward outward_made outward_new (Ok outs) station line h = tt
 shows_still old made new outward outward_made outward_new (Err fault) station line h = record {
   station = λ side t shown. rw h.0 (station side t shown);
@@ -93,22 +93,22 @@ shows_still old made new outward outward_made outward_new (Err fault) station li
 
 -- the statement of a step for an input
 abbrev pub StepsTo : Input → List ℕ → Option (Vec ℕ Global) → RecordedLink → Line → RecordedLink → Line → ArrayVec Out → Type 0
-StepsTo i octets copy made outward_made new outward_new outs = (side : Side) (place : ℕ) (v : View) → IsKept Tagged v.station → IsStation side made v.station → IsOn side outward_made v.outgoing → length octets ≤ n201 → IsHanded i octets copy
+StepsTo i octets copy made outward_made new outward_new outs = (side : Side) (place : ℕ) (v : View) → IsConsistent Tagged v.station → IsStation side made v.station → IsOn side outward_made v.outgoing → length octets ≤ n201 → HasOctets i octets copy
     → IsActed side new outward_new (stepped octets place v (step Tagged i v.station.end)) outs.items
 
 abbrev pub StepRefuses : Input → RecordedLink → PairFault → Type 0
 StepRefuses i made fault = (octets : List ℕ) (place : ℕ) (side : Side) (v : View) → IsStation side made v.station → IsRefusedAs fault (stepped octets place v (step Tagged i v.station.end))
 
 pub request_acts : (i : Input) (octets : List ℕ) (old made new : RecordedLink) (outward outward_made outward_new : Line) (r : Result (ArrayVec Out) PairFault)
-    → IsAsked i octets → ((e : End) → LinkStandsFor old.link e → refused i e ≡ None) → StationsSame old made → LinesSame outward outward_made
+    → IsAsked i octets → ((e : End) → LinkRepresents old.link e → refused i e ≡ None) → StationsSame old made → LinesSame outward outward_made
     → IfOk r (StepsTo i octets None made outward_made new outward_new) → IfOk r (Acts old outward new outward_new (λ side v. takes Tagged i octets v))
 unfolding takes
 request_acts i octets old made new outward outward_made outward_new (Err fault) asked free station line h = tt
 request_acts i octets old made new outward outward_made outward_new (Ok outs) asked free station line h = λ side v kept shown on.
-    h side 0 v kept (station side v.station shown) (line side v.outgoing on) (asked_is_short i octets v asked (free v.station.end shown.link)) (asked_is_handed i octets asked)
+    h side 0 v kept (station side v.station shown) (line side v.outgoing on) (asked_is_short i octets v asked (free v.station.end shown.link)) (asked_has_octets i octets asked)
 
 pub request_refused : (i : Input) (octets : List ℕ) (old made : RecordedLink) (r : Result (ArrayVec Out) PairFault) → StationsSame old made
-    → IfErr r (StepRefuses i made) → IfErr r (RefusesAs old (λ side v. takes Tagged i octets v))
+    → IfErr r (StepRefuses i made) → IfErr r (StationRefusesAs old (λ side v. takes Tagged i octets v))
 unfolding takes
 request_refused i octets old made (Ok outs) station h = tt
 request_refused i octets old made (Err fault) station h = λ side v shown. h octets 0 side v (station side v.station shown)
@@ -118,8 +118,8 @@ request_refused i octets old made (Err fault) station h = λ side v shown. h oct
 pub frame_acts : (f : Fields) (octets : List ℕ) (copy : Vec ℕ Global) (old made new : RecordedLink) (outward outward_made outward_new : Line) (r : Result (ArrayVec Out) PairFault)
     → octets ≡ f.info → copy.items ≡ f.info → StationsSame old made → LinesSame outward outward_made
     → IfOk r (StepsTo (input.Heard f.control f.address.role) octets (Some copy) made outward_made new outward_new)
-    → IfOk r (λ outs. (flight : Flight) → fields_of flight ≡ f → length flight.info ≤ n201 → Acts old outward new outward_new (λ side v. hears Tagged flight v) outs)
-unfolding hears
+    → IfOk r (λ outs. (flight : Flight) → fields_of flight ≡ f → length flight.info ≤ n201 → Acts old outward new outward_new (λ side v. receives Tagged flight v) outs)
+unfolding receives
 frame_acts f octets copy old made new outward outward_made outward_new (Err fault) whole same station line h = tt
 frame_acts f octets copy old made new outward outward_made outward_new (Ok outs) whole same station line h = λ flight is short.
     let Is : Fields → Type 0 = λ g. (copy.items ≡ g.info) × StepsTo (input.Heard g.control g.address.role) g.info (Some copy) made outward_made new outward_new outs in
@@ -128,8 +128,8 @@ frame_acts f octets copy old made new outward outward_made outward_new (Ok outs)
     λ side v kept shown on. all.1 side flight.place v kept (station side v.station shown) (line side v.outgoing on) short all.0
 
 pub frame_refused : (f : Fields) (old made : RecordedLink) (r : Result (ArrayVec Out) PairFault) → StationsSame old made → IfErr r (StepRefuses (input.Heard f.control f.address.role) made)
-    → IfErr r (λ fault. (flight : Flight) → fields_of flight ≡ f → RefusesAs old (λ side v. hears Tagged flight v) fault)
-unfolding hears
+    → IfErr r (λ fault. (flight : Flight) → fields_of flight ≡ f → StationRefusesAs old (λ side v. receives Tagged flight v) fault)
+unfolding receives
 frame_refused f old made (Ok outs) station h = tt
 frame_refused f old made (Err fault) station h = λ flight is.
     let Is : Fields → Type 0 = λ g. StepRefuses (input.Heard g.control g.address.role) made fault in
@@ -139,7 +139,7 @@ frame_refused f old made (Err fault) station h = λ flight is.
 -- ---- A message.
 
 abbrev pub GivesTo : List ℕ → List ℕ → RecordedLink → Line → RecordedLink → Line → ArrayVec Out → Type 0
-GivesTo message copy made outward_made new outward_new outs = (side : Side) (v : View) → IsKept Tagged v.station → IsStation side made v.station → IsOn side outward_made v.outgoing → copy ≡ message
+GivesTo message copy made outward_made new outward_new outs = (side : Side) (v : View) → IsConsistent Tagged v.station → IsStation side made v.station → IsOn side outward_made v.outgoing → copy ≡ message
     → IsActed side new outward_new (stepped [] 0 v (step Tagged (input.Give message) v.station.end)) outs.items
 
 pub message_acts : (message queued copy : List ℕ) (old made new : RecordedLink) (outward outward_made outward_new : Line) (r : Result (ArrayVec Out) PairFault) → queued ≡ message → copy ≡ message
@@ -153,7 +153,7 @@ message_acts message queued copy old made new outward outward_made outward_new (
 
 pub message_refused : (message queued : List ℕ) (old made : RecordedLink) (r : Result (ArrayVec Out) PairFault) → queued ≡ message → StationsSame old made
     → IfErr r (λ fault. (side : Side) (v : View) → IsStation side made v.station → IsRefusedAs fault (stepped [] 0 v (step Tagged (input.Give queued) v.station.end)))
-    → IfErr r (RefusesAs old (λ side v. takes Tagged (input.Give message) [] v))
+    → IfErr r (StationRefusesAs old (λ side v. takes Tagged (input.Give message) [] v))
 unfolding takes
 message_refused message queued old made (Ok outs) is station h = tt
 message_refused message queued old made (Err fault) is station h =

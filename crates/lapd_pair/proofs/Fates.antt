@@ -8,7 +8,7 @@ use Rattle.std.proofs.Math.ListN.{set}
 use Rattle.std.specs.List.{range_with_len}
 use Rattle.lapd_pair_laws.specs.Histories as world
 use Rattle.lapd_pair_laws.specs.Histories.{with_sending, with_acked, with_dropped}
-use Rattle.lapd_pair_laws.specs.Kept.{is_one_of, AreSettled}
+use Rattle.lapd_pair_laws.specs.Consistent.{is_one_of, AreSettled}
 use Rattle.lapd_pair_laws.proofs.Settled.{one_of_both, one_of_range}
 use Rattle.lapd_pair.specs.declared.fate.Fate.{Fate}
 use Rattle.lapd_pair.specs.declared.fate.Ending.{Ending}

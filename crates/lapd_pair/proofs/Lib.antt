@@ -11,5 +11,5 @@ pub mod SafePairs
 pub mod SafeReaders
 pub mod Settling
 pub mod Steps
-pub mod Telling
+pub mod Recording
 pub mod Views

@@ -13,7 +13,7 @@ use Rattle.lapd_link_definition.specs.declared.out.Out.TheVariants.{Report}
 use Rattle.lapd_pair_laws.specs.Move.{Move, Refusal}
 use Rattle.lapd_pair_laws.specs.World.{World, Happened, new_world, world_after, happens, run, outcomes}
 use Rattle.lapd_pair.specs.Pair.{IsReached}
-use Rattle.lapd_pair.specs.Runs.{PairStandsFor, HasHappened}
+use Rattle.lapd_pair.specs.Runs.{PairRepresents, HasHappened}
 use Rattle.lapd_pair.specs.declared.pair.Pair.{Pair}
 use Rattle.lapd_pair.specs.declared.pair_fault.PairFault.{PairFault}
 
@@ -53,7 +53,7 @@ admitted_reports outcome happened outs is same expected = rw (is, same) expected
 pub outs_of_admitted : (outcome : Result Happened Refusal) (happened : Happened) (outs : List Out) → outcome ≡ Ok happened → happened.outs ≡ outs → ReportsExpected outcome → AreExpected outs
 outs_of_admitted outcome happened outs is same expected = subst AreExpected same (subst ReportsExpected is expected)
 
-reached_reports : (p q : Pair) (move : Move) (outs : List Out) → ((w : World) → PairStandsFor p w → HasHappened q (happens Tagged move w) outs) → IsReached p.user p.network p.to_user p.to_network → AreExpected outs
+reached_reports : (p q : Pair) (move : Move) (outs : List Out) → ((w : World) → PairRepresents p w → HasHappened q (happens Tagged move w) outs) → IsReached p.user p.network p.to_user p.to_network → AreExpected outs
 reached_reports p q move outs happened x =
     let start = new_world x.user x.network in
     let h = happened (run Tagged x.moves start) x.stand in
@@ -62,6 +62,6 @@ reached_reports p q move outs happened x =
 
 -- the outputs of an admitted move contain only expected reports
 pub move_reports : (p q : Pair) (move : Move) (result : Result (ArrayVec Out) PairFault)
-    → IfOk result (λ outs. (w : World) → PairStandsFor p w → HasHappened q (happens Tagged move w) outs.items) → IfOk result (λ outs. AreExpected outs.items)
+    → IfOk result (λ outs. (w : World) → PairRepresents p w → HasHappened q (happens Tagged move w) outs.items) → IfOk result (λ outs. AreExpected outs.items)
 move_reports p q move (Ok outs) happened = outs_seen outs.items (λ none. not_there p.reached (λ x. none (reached_reports p q move outs.items happened x)))
 move_reports p q move (Err fault) happened = tt

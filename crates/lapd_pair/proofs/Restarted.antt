@@ -3,15 +3,15 @@ use Rattle.std.proofs.Common.{◌≡◌, ℕ, List, [], ◌∷◌, length, drop,
 use Rattle.lapd_frame.specs.declared.Side.{Side}
 use Rattle.lapd_frame.specs.Address.{other_side}
 use Rattle.lapd_link.specs.declared.link.Link.{Link}
-use Rattle.lapd_link.specs.Link.{LinkStandsFor, Setup, setup_of}
+use Rattle.lapd_link.specs.Link.{LinkRepresents, Setup, setup_of}
 use Rattle.lapd_link.specs.Tail.{IsTail}
 use Rattle.lapd_mod128.specs.Counting.{Tagged}
 use Rattle.lapd_queue.specs.Waiting.{Waiting}
 use Rattle.lapd_link_definition.specs.End.{End, begin, new_end}
 use Rattle.lapd_link_definition.specs.Parameters.{Parameters}
 use Rattle.lapd_pair_laws.specs.Histories as world
-use Rattle.lapd_pair_laws.specs.Histories.{with_rest_dropped}
-use Rattle.lapd_pair_laws.specs.Kept.{AreSettled, IsKept}
+use Rattle.lapd_pair_laws.specs.Histories.{with_others_dropped}
+use Rattle.lapd_pair_laws.specs.Consistent.{AreSettled, IsConsistent}
 use Rattle.lapd_pair_laws.specs.Move.{View, quietly, restarted, restarts}
 use Rattle.lapd_pair.specs.declared.log.Log.{Log}
 use Rattle.lapd_pair.specs.declared.line.Line.{Line}
@@ -29,9 +29,9 @@ none_waits : (given : List (List ℕ)) (queue : Waiting) → IsTail [] 0 0 queue
 none_waits given queue h = record { messages = drop_all given ∙ h.messages; within = omega arith; next_is = omega (arith, h.next_is) }
 
 -- a new link represents the end after a restart, whatever messages were submitted to it before
-new_stands : (link : Link) (e : End) → LinkStandsFor link (new_end e.parameters) → LinkStandsFor link (restarted e)
+new_represents : (link : Link) (e : End) → LinkRepresents link (new_end e.parameters) → LinkRepresents link (restarted e)
 unfolding begin
-new_stands link e h = record {
+new_represents link e h = record {
   parameters = h.parameters;
   state = h.state;
   rc = h.rc;
@@ -46,14 +46,14 @@ new_stands link e h = record {
 }
 
 pub started_anew : (side own : Side) (parameters : Parameters) (v : View) (old : RecordedLink) (link : Link) (history : Log) (inward outward inward_new outward_new : Line)
-    → own ≡ old.link.side → ((e : End) → LinkStandsFor old.link e → parameters ≡ e.parameters) → LinkStandsFor link (new_end parameters) → setup_of link ≡ setup_for own
-    → ((messages : List (List ℕ)) (h : world.History) → AreSettled h → IsHistory old.history messages h → IsHistory history messages (with_rest_dropped (length messages) h))
-    → ((from : Side) → IsOn from inward_new []) → ((from : Side) → IsOn from outward_new []) → IsKept Tagged v.station → IsView side old inward outward v
+    → own ≡ old.link.side → ((e : End) → LinkRepresents old.link e → parameters ≡ e.parameters) → LinkRepresents link (new_end parameters) → setup_of link ≡ setup_for own
+    → ((messages : List (List ℕ)) (h : world.History) → AreSettled h → IsHistory old.history messages h → IsHistory history messages (with_others_dropped (length messages) h))
+    → ((from : Side) → IsOn from inward_new []) → ((from : Side) → IsOn from outward_new []) → IsConsistent Tagged v.station → IsView side old inward outward v
     → IsDone side (record { link = link; history = history }) inward_new outward_new (quietly (restarts v)) []
 unfolding restarts
-started_anew side own parameters v old link history inward outward inward_new outward_new mine with_them stands setup drops empty_in empty_out kept shown =
+started_anew side own parameters v old link history inward outward inward_new outward_new mine with_them representation setup drops empty_in empty_out kept shown =
     let e = v.station.end in
-    let New : Parameters → Type 0 = λ p. LinkStandsFor link (new_end p) in
+    let New : Parameters → Type 0 = λ p. LinkRepresents link (new_end p) in
     let sides : own ≡ side = mine ∙ ap (λ (x : Setup). x.side) shown.station.setup in
     record {
       acted = record { view = restarts v; outs = [] };
@@ -61,7 +61,7 @@ started_anew side own parameters v old link history inward outward inward_new ou
       same = refl;
       view = record {
         station = record {
-          link = new_stands link e (subst New (with_them e shown.station.link) stands);
+          link = new_represents link e (subst New (with_them e shown.station.link) representation);
           setup = setup ∙ ap setup_for sides;
           history = drops e.given v.station.history kept.settled shown.station.history;
         };

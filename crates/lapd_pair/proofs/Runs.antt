@@ -13,16 +13,16 @@ use Rattle.lapd_pair.specs.declared.pair_fault.PairFault.{PairFault}
 use Rattle.lapd_pair.specs.declared.pair_fault.PairFault.TheVariants as fault
 use Rattle.lapd_pair.specs.Moves.{IsRefusedAs}
 use Rattle.lapd_pair.specs.PairFault.{is_memory}
-use Rattle.lapd_pair.specs.Runs.{PairStandsFor, HasHappened, HasStoppedAt, refused_of, refusals}
+use Rattle.lapd_pair.specs.Runs.{PairRepresents, HasHappened, HasStoppedAt, refused_of, refusals}
 use Rattle.lapd_pair.proofs.Pairs.{run_more, after_did}
 use Rattle.lapd_pair.proofs.Reported.{reports_more, admitted_reports}
 
 -- the first `at` moves are made, and `refused` of them were refused
 pub record AreDone (before : Pair) (moves : List Move) (at refused : ℕ) (now : Pair) : Type 0 where
-  pub stands : (w : World) → PairStandsFor before w → PairStandsFor now (run Tagged (take at moves) w)
-  pub counted : (w : World) → PairStandsFor before w → refused + refusals (drop at moves) (run Tagged (take at moves) w) ≡ refusals moves w
+  pub representation : (w : World) → PairRepresents before w → PairRepresents now (run Tagged (take at moves) w)
+  pub counted : (w : World) → PairRepresents before w → refused + refusals (drop at moves) (run Tagged (take at moves) w) ≡ refusals moves w
   pub few : refused ≤ at
-  pub reports : (w : World) → PairStandsFor before w → AllReportsExpected (outcomes Tagged (take at moves) w)
+  pub reports : (w : World) → PairRepresents before w → AllReportsExpected (outcomes Tagged (take at moves) w)
 
 -- one more move leads to the world after that move
 next : (moves : List Move) (at : ℕ) (m : Move) (w : World) → take (at + 1) moves ≡ take at moves ++ m ∷ [] → run Tagged (take (at + 1) moves) w ≡ world_after (run Tagged (take at moves) w) (happens Tagged m (run Tagged (take at moves) w))
@@ -39,19 +39,19 @@ admitted_one : (outcome : Result Happened Refusal) (happened : Happened) → out
 admitted_one outcome happened is = rw is refl
 
 pub one_done : (before now after : Pair) (moves : List Move) (at refused : ℕ) (m : Move) (outs : List Out) → at < length moves → get_or moves at m ≡ m
-    → ((w : World) → PairStandsFor now w → HasHappened after (happens Tagged m w) outs) → AreExpected outs
+    → ((w : World) → PairRepresents now w → HasHappened after (happens Tagged m w) outs) → AreExpected outs
     → AreDone before moves at refused now → AreDone before moves (at + 1) refused after
 one_done before now after moves at refused m outs within is happened expected done =
     let left = drop_more moves at m within ∙ ap (λ (x : Move). x ∷ drop (at + 1) moves) is in
     let gone = take_more moves at m within ∙ ap (λ (x : Move). take at moves ++ x ∷ []) is in
     record {
-      stands = λ w s.
+      representation = λ w s.
           let u = run Tagged (take at moves) w in
-          let h = happened u (done.stands w s) in
-          subst (PairStandsFor after) (after_did u (happens Tagged m u) h.happened h.is ∙ sym (next moves at m w gone)) h.stands;
+          let h = happened u (done.representation w s) in
+          subst (PairRepresents after) (after_did u (happens Tagged m u) h.happened h.is ∙ sym (next moves at m w gone)) h.representation;
       counted = λ w s.
           let u = run Tagged (take at moves) w in
-          let h = happened u (done.stands w s) in
+          let h = happened u (done.representation w s) in
           let more = refused_more moves (drop (at + 1) moves) at m u left in
           let none = admitted_one (happens Tagged m u) h.happened h.is in
           let before_it = done.counted w s in
@@ -59,7 +59,7 @@ one_done before now after moves at refused m outs within is happened expected do
       few = omega (arith, done.few);
       reports = λ w s.
           let u = run Tagged (take at moves) w in
-          let h = happened u (done.stands w s) in
+          let h = happened u (done.representation w s) in
           next_reports moves at m w gone (done.reports w s) (admitted_reports (happens Tagged m u) h.happened outs h.is h.same expected);
     }
 
@@ -86,18 +86,18 @@ admitted_is (fault.NotYet side at) outcome memory is = cc
 admitted_is (fault.Refused why) outcome memory is = cc
 
 pub one_skipped : (before now after : Pair) (moves : List Move) (at refused : ℕ) (m : Move) (why : PairFault) → at < length moves → get_or moves at m ≡ m → is_memory why ≡ false
-    → ((w : World) → PairStandsFor now w → IsRefusedAs why (happens Tagged m w)) → ((w : World) → PairStandsFor now w → PairStandsFor after w) → AreDone before moves at refused now → AreDone before moves (at + 1) (refused + 1) after
+    → ((w : World) → PairRepresents now w → IsRefusedAs why (happens Tagged m w)) → ((w : World) → PairRepresents now w → PairRepresents after w) → AreDone before moves at refused now → AreDone before moves (at + 1) (refused + 1) after
 one_skipped before now after moves at refused m why within is skipped refuses same done =
     let left = drop_more moves at m within ∙ ap (λ (x : Move). x ∷ drop (at + 1) moves) is in
     let gone = take_more moves at m within ∙ ap (λ (x : Move). take at moves ++ x ∷ []) is in
     record {
-      stands = λ w s.
+      representation = λ w s.
           let u = run Tagged (take at moves) w in
-          let it = refused_is why u (happens Tagged m u) skipped (refuses u (done.stands w s)) in
-          subst (PairStandsFor after) (sym (next moves at m w gone ∙ it.1)) (same u (done.stands w s));
+          let it = refused_is why u (happens Tagged m u) skipped (refuses u (done.representation w s)) in
+          subst (PairRepresents after) (sym (next moves at m w gone ∙ it.1)) (same u (done.representation w s));
       counted = λ w s.
           let u = run Tagged (take at moves) w in
-          let it = refused_is why u (happens Tagged m u) skipped (refuses u (done.stands w s)) in
+          let it = refused_is why u (happens Tagged m u) skipped (refuses u (done.representation w s)) in
           let more = refused_more moves (drop (at + 1) moves) at m u left in
           let one = it.0 in
           let before_it = done.counted w s in
@@ -105,17 +105,17 @@ one_skipped before now after moves at refused m why within is skipped refuses sa
       few = omega (arith, done.few);
       reports = λ w s.
           let u = run Tagged (take at moves) w in
-          next_reports moves at m w gone (done.reports w s) (refused_reports why (happens Tagged m u) skipped (refuses u (done.stands w s)));
+          next_reports moves at m w gone (done.reports w s) (refused_reports why (happens Tagged m u) skipped (refuses u (done.representation w s)));
     }
 
 pub stopped : (before now after : Pair) (moves : List Move) (at refused : ℕ) (m : Move) (why : PairFault) → at < length moves → get_or moves at m ≡ m → is_memory why ≡ true
-    → ((w : World) → PairStandsFor now w → IsRefusedAs why (happens Tagged m w)) → ((w : World) → PairStandsFor now w → PairStandsFor after w) → AreDone before moves at refused now
-    → (w : World) → PairStandsFor before w → HasStoppedAt at moves after w
+    → ((w : World) → PairRepresents now w → IsRefusedAs why (happens Tagged m w)) → ((w : World) → PairRepresents now w → PairRepresents after w) → AreDone before moves at refused now
+    → (w : World) → PairRepresents before w → HasStoppedAt at moves after w
 stopped before now after moves at refused m why within is memory admitted same done w s = record {
   move = m;
   there = slice_get-get_or moves at m within ∙ ap (λ (x : Move). Some x) is;
-  before = same (run Tagged (take at moves) w) (done.stands w s);
-  admitted = admitted_is why (happens Tagged m (run Tagged (take at moves) w)) memory (admitted (run Tagged (take at moves) w) (done.stands w s));
+  before = same (run Tagged (take at moves) w) (done.representation w s);
+  admitted = admitted_is why (happens Tagged m (run Tagged (take at moves) w)) memory (admitted (run Tagged (take at moves) w) (done.representation w s));
 }
 
 take_all : (moves : List Move) → take (length moves) moves ≡ moves
@@ -126,15 +126,15 @@ drop_all : (moves : List Move) → drop (length moves) moves ≡ []
 drop_all [] = refl
 drop_all (m ∷ moves) = drop_all moves
 
-pub all_done : (before now : Pair) (moves : List Move) (at refused : ℕ) → at ≡ length moves → AreDone before moves at refused now → (w : World) → PairStandsFor before w → PairStandsFor now (run Tagged moves w) × (refused ≡ refusals moves w)
+pub all_done : (before now : Pair) (moves : List Move) (at refused : ℕ) → at ≡ length moves → AreDone before moves at refused now → (w : World) → PairRepresents before w → PairRepresents now (run Tagged moves w) × (refused ≡ refusals moves w)
 all_done before now moves at refused end done w s =
     let all : take at moves ≡ moves = rw end (take_all moves) in
     let none : drop at moves ≡ [] = rw end (drop_all moves) in
     let count = done.counted w s in
     let left : refusals (drop at moves) (run Tagged (take at moves) w) ≡ 0 = ap (λ (ms : List Move). refusals ms (run Tagged (take at moves) w)) none in
-    (subst (λ (ms : List Move). PairStandsFor now (run Tagged ms w)) all (done.stands w s), omega (arith, count, left))
+    (subst (λ (ms : List Move). PairRepresents now (run Tagged ms w)) all (done.representation w s), omega (arith, count, left))
 
-pub all_reported : (before now : Pair) (moves : List Move) (at refused : ℕ) → at ≡ length moves → AreDone before moves at refused now → (w : World) → PairStandsFor before w → AllReportsExpected (outcomes Tagged moves w)
+pub all_reported : (before now : Pair) (moves : List Move) (at refused : ℕ) → at ≡ length moves → AreDone before moves at refused now → (w : World) → PairRepresents before w → AllReportsExpected (outcomes Tagged moves w)
 all_reported before now moves at refused end done w s =
     let all : take at moves ≡ moves = rw end (take_all moves) in
     subst (λ (ms : List Move). AllReportsExpected (outcomes Tagged ms w)) all (done.reports w s)

@@ -14,7 +14,7 @@ use Rattle.lapd_pair_laws.proofs.Reached.{every_run_safe}
 use Rattle.lapd_mod128.specs.Counting.{Tagged}
 use Rattle.lapd_pair_laws.specs.Histories as world
 use Rattle.lapd_pair_laws.specs.Histories.{Receipt}
-use Rattle.lapd_pair_laws.specs.Kept.{is_one_of}
+use Rattle.lapd_pair_laws.specs.Consistent.{is_one_of}
 use Rattle.lapd_pair_laws.specs.Safe.{IsAmong, AreNeighboursAfter, AreNeighbours, IsSafe}
 use Rattle.lapd_pair_laws.specs.World.{new_world, run}
 use Rattle.lapd_pair.specs.Establishments.{establishment_at}

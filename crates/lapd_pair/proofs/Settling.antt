@@ -25,7 +25,7 @@ use Rattle.lapd_pair.specs.declared.settled.Settled.{Settled}
 use Rattle.lapd_pair.specs.Line.{IsOn, IsFirst, fields_of}
 use Rattle.lapd_pair.specs.Moves.{IsRefusedAs}
 use Rattle.lapd_pair.specs.Pair.{IsReached}
-use Rattle.lapd_pair.specs.Runs.{PairStandsFor, HasHappened}
+use Rattle.lapd_pair.specs.Runs.{PairRepresents, HasHappened}
 use Rattle.lapd_pair.specs.Settles.{settled, HasSettled, Settles, HasStoppedSettling, IsEmptied, IsDrainedPair}
 use Rattle.lapd_pair.proofs.Pairs.{run_more, after_did}
 
@@ -58,17 +58,17 @@ with_lines w to_user to_network = record w { to_user = to_user; to_network = to_
 lines_are : (P : World → Type 0) (w : World) (to_user to_network : List Flight) → w.to_user ≡ to_user → w.to_network ≡ to_network → P (with_lines w to_user to_network) → P w
 lines_are P w to_user to_network u n p = subst P (ap (λ l. with_lines w l to_network) (sym u) ∙ ap (λ l. with_lines w w.to_user l) (sym n)) p
 
-pub deliver_to_network : (w : World) → Starts w.to_network → Some (record { side = Network; deed = Deliver }) ≡ next_move Tagged w
-deliver_to_network w s = sym (lines_are (λ v. next_move Tagged v ≡ Some (record { side = Network; deed = Deliver })) w w.to_user (s.frame ∷ s.rest) refl s.is (next_to_network Tagged w.user w.network w.to_user s.frame s.rest))
+pub deliver_to_network : (w : World) → Starts w.to_network → Some (record { side = Network; event = Deliver }) ≡ next_move Tagged w
+deliver_to_network w s = sym (lines_are (λ v. next_move Tagged v ≡ Some (record { side = Network; event = Deliver })) w w.to_user (s.frame ∷ s.rest) refl s.is (next_to_network Tagged w.user w.network w.to_user s.frame s.rest))
 
-pub deliver_to_user : (w : World) → w.to_network ≡ [] → Starts w.to_user → Some (record { side = User; deed = Deliver }) ≡ next_move Tagged w
-deliver_to_user w none s = sym (lines_are (λ v. next_move Tagged v ≡ Some (record { side = User; deed = Deliver })) w (s.frame ∷ s.rest) [] s.is none (next_to_user Tagged w.user w.network s.frame s.rest))
+pub deliver_to_user : (w : World) → w.to_network ≡ [] → Starts w.to_user → Some (record { side = User; event = Deliver }) ≡ next_move Tagged w
+deliver_to_user w none s = sym (lines_are (λ v. next_move Tagged v ≡ Some (record { side = User; event = Deliver })) w (s.frame ∷ s.rest) [] s.is none (next_to_user Tagged w.user w.network s.frame s.rest))
 
-pub t200_of_user : (w : World) → w.to_network ≡ [] → w.to_user ≡ [] → w.user.end.t200 ≡ true → Some (record { side = User; deed = Expire200 }) ≡ next_move Tagged w
-t200_of_user w n u on = sym (lines_are (λ v. next_move Tagged v ≡ Some (record { side = User; deed = Expire200 })) w [] [] u n (next_of_user Tagged w.user w.network on))
+pub t200_of_user : (w : World) → w.to_network ≡ [] → w.to_user ≡ [] → w.user.end.t200 ≡ true → Some (record { side = User; event = Expire200 }) ≡ next_move Tagged w
+t200_of_user w n u on = sym (lines_are (λ v. next_move Tagged v ≡ Some (record { side = User; event = Expire200 })) w [] [] u n (next_of_user Tagged w.user w.network on))
 
-pub t200_of_network : (w : World) → w.to_network ≡ [] → w.to_user ≡ [] → w.user.end.t200 ≡ false → w.network.end.t200 ≡ true → Some (record { side = Network; deed = Expire200 }) ≡ next_move Tagged w
-t200_of_network w n u off on = sym (lines_are (λ v. next_move Tagged v ≡ Some (record { side = Network; deed = Expire200 })) w [] [] u n (next_of_network Tagged w.user w.network off on))
+pub t200_of_network : (w : World) → w.to_network ≡ [] → w.to_user ≡ [] → w.user.end.t200 ≡ false → w.network.end.t200 ≡ true → Some (record { side = Network; event = Expire200 }) ≡ next_move Tagged w
+t200_of_network w n u off on = sym (lines_are (λ v. next_move Tagged v ≡ Some (record { side = Network; event = Expire200 })) w [] [] u n (next_of_network Tagged w.user w.network off on))
 
 abbrev no_move : Option Move
 no_move = None
@@ -79,7 +79,7 @@ nothing_next w n u off none = sym (lines_are (λ v. next_move Tagged v ≡ no_mo
 -- ---- The bound on the number of moves.
 
 -- from the number of waiting messages at each end
-pub bound_is : (p : Pair) (w : World) (user network : ℕ) → PairStandsFor p w
+pub bound_is : (p : Pair) (w : World) (user network : ℕ) → PairRepresents p w
     → user ≡ length w.user.end.given - w.user.end.first → network ≡ length w.network.end.given - w.network.end.first → 8 * (user + network + 4) ≡ bound w
 bound_is p w user network s user_waits network_waits =
     let a = left_settled w.user s.kept.user.settled in
@@ -94,33 +94,33 @@ pub none_mapped : {A B : Type 0} (f : A → B) (o : Option A) → is_none (optio
 none_mapped f None = refl
 none_mapped f (Some a) = refl
 
-pub none_told : {A : Type 0} (o : Option A) (b : Bool) → is_some o ≡ not b → b ≡ is_none o
-none_told None true told = refl
-none_told None false told = cc
-none_told (Some a) true told = cc
-none_told (Some a) false told = refl
+pub none_is_not_some : {A : Type 0} (o : Option A) (b : Bool) → is_some o ≡ not b → b ≡ is_none o
+none_is_not_some None true told = refl
+none_is_not_some None false told = cc
+none_is_not_some (Some a) true told = cc
+none_is_not_some (Some a) false told = refl
 
 pub record AreMade (before : Pair) (n : ℕ) (now : Pair) : Type 0 where
-  pub stands : (w : World) → PairStandsFor before w → PairStandsFor now (run Tagged (settling Tagged n w) w)
-  pub counted : (w : World) → PairStandsFor before w → length (settling Tagged n w) ≡ n
+  pub representation : (w : World) → PairRepresents before w → PairRepresents now (run Tagged (settling Tagged n w) w)
+  pub counted : (w : World) → PairRepresents before w → length (settling Tagged n w) ≡ n
 
 pub none_made : (p : Pair) → AreMade p 0 p
-none_made p = record { stands = λ w s. s; counted = λ w s. refl }
+none_made p = record { representation = λ w s. s; counted = λ w s. refl }
 
-pub one_made : (before now after : Pair) (n : ℕ) (m : Move) (outs : List Out) → AreMade before n now → ((w : World) → PairStandsFor now w → Some m ≡ next_move Tagged w)
-    → ((w : World) → PairStandsFor now w → HasHappened after (happens Tagged m w) outs) → AreMade before (n + 1) after
+pub one_made : (before now after : Pair) (n : ℕ) (m : Move) (outs : List Out) → AreMade before n now → ((w : World) → PairRepresents now w → Some m ≡ next_move Tagged w)
+    → ((w : World) → PairRepresents now w → HasHappened after (happens Tagged m w) outs) → AreMade before (n + 1) after
 one_made before now after n m outs made next happened =
     let same : suc n ≡ n + 1 = omega arith in
     subst (λ k. AreMade before k after) same (record {
-      stands = λ w s.
+      representation = λ w s.
           let u = run Tagged (settling Tagged n w) w in
-          let su = made.stands w s in
+          let su = made.representation w s in
           let more = one_more Tagged n w m (made.counted w s) (sym (next u su)) in
           let h = happened u su in
-          subst (PairStandsFor after) (after_did u (happens Tagged m u) h.happened h.is ∙ sym (run_more (settling Tagged n w) m w) ∙ ap (λ l. run Tagged l w) (sym more)) h.stands;
+          subst (PairRepresents after) (after_did u (happens Tagged m u) h.happened h.is ∙ sym (run_more (settling Tagged n w) m w) ∙ ap (λ l. run Tagged l w) (sym more)) h.representation;
       counted = λ w s.
           let u = run Tagged (settling Tagged n w) w in
-          let more = one_more Tagged n w m (made.counted w s) (sym (next u (made.stands w s))) in
+          let more = one_more Tagged n w m (made.counted w s) (sym (next u (made.representation w s))) in
           let count = made.counted w s in
           ap length more ∙ one_longer (settling Tagged n w) m ∙ ap suc count;
     })
@@ -130,27 +130,27 @@ one_made before now after n m outs made next happened =
     one_longer (x ∷ l) m = let rest = one_longer l m in omega (arith, rest)
 
 -- no further move is possible
-pub at_rest : (before now : Pair) (n : ℕ) → AreMade before n now → ((w : World) → PairStandsFor now w → no_move ≡ next_move Tagged w) → (w : World) → PairStandsFor before w → n ≤ bound w → HasSettled now (record { moves = n; rest = true }) w
-at_rest before now n made none w s few =
+pub no_move_is_left : (before now : Pair) (n : ℕ) → AreMade before n now → ((w : World) → PairRepresents now w → no_move ≡ next_move Tagged w) → (w : World) → PairRepresents before w → n ≤ bound w → HasSettled now (record { moves = n; rest = true }) w
+no_move_is_left before now n made none w s few =
     let u = run Tagged (settling Tagged n w) w in
-    let su = made.stands w s in
+    let su = made.representation w s in
     let all = no_more Tagged n (bound w) w few (sym (none u su)) in
     let there : settled w ≡ u = ap (λ l. run Tagged l w) all in
     record {
-      stands = subst (PairStandsFor now) (sym there) su;
+      representation = subst (PairRepresents now) (sym there) su;
       moves = sym (ap length all ∙ made.counted w s);
       rest = sym (ap (λ v. is_none (next_move Tagged v)) there ∙ ap is_none (sym (none u su)));
     }
 
 -- all moves within the bound are made
-pub all_made : (before now : Pair) (n : ℕ) (rest : Bool) → AreMade before n now → ((w : World) → PairStandsFor now w → rest ≡ is_none (next_move Tagged w)) → (w : World) → PairStandsFor before w → n ≡ bound w → HasSettled now (record { moves = n; rest = rest }) w
+pub all_made : (before now : Pair) (n : ℕ) (rest : Bool) → AreMade before n now → ((w : World) → PairRepresents now w → rest ≡ is_none (next_move Tagged w)) → (w : World) → PairRepresents before w → n ≡ bound w → HasSettled now (record { moves = n; rest = rest }) w
 all_made before now n rest made tells w s all =
     let u = run Tagged (settling Tagged n w) w in
     let there : u ≡ settled w = ap (λ k. run Tagged (settling Tagged k w) w) all in
     record {
-      stands = subst (PairStandsFor now) there (made.stands w s);
+      representation = subst (PairRepresents now) there (made.representation w s);
       moves = sym (made.counted w s) ∙ ap (λ k. length (settling Tagged k w)) all;
-      rest = tells u (made.stands w s) ∙ ap (λ v. is_none (next_move Tagged v)) there;
+      rest = tells u (made.representation w s) ∙ ap (λ v. is_none (next_move Tagged v)) there;
     }
 
 -- ---- An allocation fails.
@@ -166,16 +166,16 @@ first_is_admitted : (moves : List Move) (w : World) (m : Move) → first_admitte
 first_is_admitted [] w m is = cc
 first_is_admitted (first ∷ moves) w m is = first_by first m w (is_ok (happens Tagged first w)) (first_admitted Tagged moves w) refl (λ later. first_is_admitted moves w m later) is
 
-pub stopped_at : (before now after : Pair) (n : ℕ) (m : Move) (why : PairFault) → AreMade before n now → ((w : World) → PairStandsFor now w → Some m ≡ next_move Tagged w) → ((w : World) → PairStandsFor now w → IsRefusedAs why (happens Tagged m w))
-    → ((w : World) → PairStandsFor now w → PairStandsFor after w) → (w : World) → PairStandsFor before w → n < bound w → HasStoppedSettling why after w
+pub stopped_at : (before now after : Pair) (n : ℕ) (m : Move) (why : PairFault) → AreMade before n now → ((w : World) → PairRepresents now w → Some m ≡ next_move Tagged w) → ((w : World) → PairRepresents now w → IsRefusedAs why (happens Tagged m w))
+    → ((w : World) → PairRepresents now w → PairRepresents after w) → (w : World) → PairRepresents before w → n < bound w → HasStoppedSettling why after w
 stopped_at before now after n m why made next refuses same w s few =
     let u = run Tagged (settling Tagged n w) w in
-    let su = made.stands w s in
+    let su = made.representation w s in
     record {
       memory = by_fault why (happens Tagged m u) (refuses u su) (first_is_admitted tried u m (sym (next u su)));
       made = n;
       few = few;
-      stands = same u su;
+      representation = same u su;
     }
   where
     by_fault : (why : PairFault) (outcome : Result Happened Refusal) → IsRefusedAs why outcome → is_ok outcome ≡ true → why ≡ fault.Memory
@@ -194,8 +194,8 @@ drained_pair old new done settles = ∥∥₁_map old.reached (λ x.
       user = x.user;
       network = x.network;
       moves = x.moves;
-      stands = x.stand;
-      after = (settles w x.stand).stands;
+      representation = x.stand;
+      after = (settles w x.stand).representation;
       drained = λ q. every_quiet_line_drains Tagged x.user x.network x.few_of_user x.few_of_network x.some_of_user x.some_of_network x.moves q;
     })
 
@@ -205,7 +205,7 @@ no_frames : (from : Side) (line : Line) (none other : List Flight) → none ≡ 
 no_frames from line none [] is on on_other = refl
 no_frames from line none (f ∷ fs) is on on_other = let spelled = sym (ap (λ l. map (λ x. spelling from (fields_of x)) l) is) ∙ sym on.octets ∙ on_other.octets in cc
 
-quiet_again : (p : Pair) (w v : World) → PairStandsFor p w → PairStandsFor p v → IsQuiet w → IsQuiet v
+quiet_again : (p : Pair) (w v : World) → PairRepresents p w → PairRepresents p v → IsQuiet w → IsQuiet v
 unfolding begin
 quiet_again p w v s t q = record {
   user = t.user.link.state ∙ sym s.user.link.state ∙ q.user;
@@ -216,7 +216,7 @@ quiet_again p w v s t q = record {
   to_network = no_frames User p.to_network w.to_network v.to_network q.to_network s.to_network t.to_network;
 }
 
-left_again : (p : Pair) (w v : World) → PairStandsFor p w → PairStandsFor p v → left w ≡ left v
+left_again : (p : Pair) (w v : World) → PairRepresents p w → PairRepresents p v → left w ≡ left v
 left_again p w v s t =
     let given_user : length w.user.end.given ≡ length v.user.end.given = ap length (sym s.user.history.given ∙ t.user.history.given) in
     let given_network : length w.network.end.given ≡ length v.network.end.given = ap length (sym s.network.history.given ∙ t.network.history.given) in
@@ -242,7 +242,7 @@ left_again p w v s t =
       t.network.history.dropped,
     )
 
-module _ (old new : Pair) (done : Settled) (settles : Settles old new done) (w : World) (s : PairStandsFor old w) (q : IsQuiet w) where
+module _ (old new : Pair) (done : Settled) (settles : Settles old new done) (w : World) (s : PairRepresents old w) (q : IsQuiet w) where
   emptied_by : IsReached old.user old.network old.to_user old.to_network → IsEmptied done w (settled w)
   emptied_by x =
       let v = run Tagged x.moves (new_world x.user x.network) in
@@ -254,9 +254,9 @@ module _ (old new : Pair) (done : Settled) (settles : Settles old new done) (w :
       record {
         rest = i.rest ∙ ap is_none d.drained.rests;
         few = omega (arith, moves, few, left_again old w v s x.stand);
-        empty = left_again new (settled w) (settled v) h.stands i.stands ∙ d.drained.empty;
-        user = sym h.stands.user.history.dropped ∙ i.stands.user.history.dropped ∙ ap length d.drained.user.dropped ∙ sym x.stand.user.history.dropped ∙ s.user.history.dropped;
-        network = sym h.stands.network.history.dropped ∙ i.stands.network.history.dropped ∙ ap length d.drained.network.dropped ∙ sym x.stand.network.history.dropped ∙ s.network.history.dropped;
+        empty = left_again new (settled w) (settled v) h.representation i.representation ∙ d.drained.empty;
+        user = sym h.representation.user.history.dropped ∙ i.representation.user.history.dropped ∙ ap length d.drained.user.dropped ∙ sym x.stand.user.history.dropped ∙ s.user.history.dropped;
+        network = sym h.representation.network.history.dropped ∙ i.representation.network.history.dropped ∙ ap length d.drained.network.dropped ∙ sym x.stand.network.history.dropped ∙ s.network.history.dropped;
       }
 
   pub emptied : IsEmptied done w (settled w)

@@ -15,10 +15,10 @@ use Rattle.lapd_link_definition.specs.End.{StepState}
 use Rattle.lapd_link_definition.specs.Input as input
 use Rattle.lapd_link_definition.specs.Input.{Input, Expiry}
 use Rattle.lapd_link_definition.specs.Table.{step}
-use Rattle.lapd_pair_laws.specs.Kept.{IsKept}
+use Rattle.lapd_pair_laws.specs.Consistent.{IsConsistent}
 use Rattle.lapd_pair_laws.specs.Line.{Flight, without_lost, first_poll, first_final}
 use Rattle.lapd_pair_laws.specs.Move as world
-use Rattle.lapd_pair_laws.specs.Move.{View, Turn, Refusal, Refused, NothingThere, NotRunning, NotYet, view_after, stepped, hears, takes, delivers, busy_input, quietly, loses, restarts, acts, expires_200, expires_203}
+use Rattle.lapd_pair_laws.specs.Move.{View, ViewStep, Refusal, Refused, NothingThere, NotRunning, NotYet, view_after, stepped, receives, takes, delivers, busy_input, quietly, loses, restarts, acts, expires_200, expires_203}
 use Rattle.lapd_frame.proofs.Lengths.{content_is_short}
 use Rattle.lapd_pair.specs.declared.line.Line.{Line}
 use Rattle.lapd_pair.specs.declared.moves.Move.{Move}
@@ -27,28 +27,28 @@ use Rattle.lapd_pair.specs.declared.pair_fault.PairFault.{PairFault}
 use Rattle.lapd_pair.specs.declared.recorded_link.RecordedLink.{RecordedLink}
 use Rattle.lapd_pair.specs.Line.{fields_of, IsOn, IsFirst}
 use Rattle.lapd_pair.specs.Moves.{move_of, IsRefusedAs}
-use Rattle.lapd_pair.specs.Station.{IsStation, IsView, IsActed, IsDone, Acts, RefusesAs, ShowsAsBefore, ActsInView, RefusesInView, ShowsViewAsBefore}
+use Rattle.lapd_pair.specs.Station.{IsStation, IsView, IsActed, IsDone, Acts, StationRefusesAs, ShowsStationAsBefore, ActsInView, RefusesInView, ShowsViewAsBefore}
 use Rattle.lapd_pair.proofs.Lines.{first_is_read}
 
-abbrev Deed : Type 0
-Deed = Side → View → Result Turn Refusal
+abbrev ViewMove : Type 0
+ViewMove = Side → View → Result ViewStep Refusal
 
 -- ---- A step removes no frame from the line.
 
-abbrev Did : Turn → Result Turn Refusal
+abbrev Did : ViewStep → Result ViewStep Refusal
 Did acted = Ok acted
 
-same_acted : (a b : Turn) → Did a ≡ Did b → a ≡ b
+same_acted : (a b : ViewStep) → Did a ≡ Did b → a ≡ b
 same_acted a b h = cc
 
-stepped_takes_none : (octets : List ℕ) (place : ℕ) (v : View) (result : Result StepState LinkFault) (acted : Turn) → stepped octets place v result ≡ Did acted → acted.view.incoming ≡ v.incoming
+stepped_takes_none : (octets : List ℕ) (place : ℕ) (v : View) (result : Result StepState LinkFault) (acted : ViewStep) → stepped octets place v result ≡ Did acted → acted.view.incoming ≡ v.incoming
 unfolding view_after
-stepped_takes_none octets place v (Ok s) acted is = ap (λ (a : Turn). a.view.incoming) (sym (same_acted (record { view = view_after octets place v s; outs = s.outs }) acted is))
+stepped_takes_none octets place v (Ok s) acted is = ap (λ (a : ViewStep). a.view.incoming) (sym (same_acted (record { view = view_after octets place v s; outs = s.outs }) acted is))
 stepped_takes_none octets place v (Err fault) acted is = cc
 
 -- the action leaves the frames in transit to the side unchanged
-abbrev pub TakesNone : Deed → Type 0
-TakesNone deed = (side : Side) (v : View) (acted : Turn) → deed side v ≡ Did acted → acted.view.incoming ≡ v.incoming
+abbrev pub TakesNone : ViewMove → Type 0
+TakesNone mv = (side : Side) (v : View) (acted : ViewStep) → mv side v ≡ Did acted → acted.view.incoming ≡ v.incoming
 
 pub request_takes_none : (i : Input) (octets : List ℕ) → TakesNone (λ side v. takes Tagged i octets v)
 unfolding takes
@@ -56,10 +56,10 @@ request_takes_none i octets side v acted is = stepped_takes_none octets 0 v (ste
 
 -- ---- From a side to its view.
 
-pub acts_in_view : (deed : Deed) (old new : RecordedLink) (inward outward outward_new : Line) (r : Result (ArrayVec Out) PairFault) → TakesNone deed
-    → IfOk r (Acts old outward new outward_new deed) → IfOk r (ActsInView old inward outward new inward outward_new deed)
-acts_in_view deed old new inward outward outward_new (Err fault) none h = tt
-acts_in_view deed old new inward outward outward_new (Ok outs) none h = λ side v kept shown.
+pub acts_in_view : (mv : ViewMove) (old new : RecordedLink) (inward outward outward_new : Line) (r : Result (ArrayVec Out) PairFault) → TakesNone mv
+    → IfOk r (Acts old outward new outward_new mv) → IfOk r (ActsInView old inward outward new inward outward_new mv)
+acts_in_view mv old new inward outward outward_new (Err fault) none h = tt
+acts_in_view mv old new inward outward outward_new (Ok outs) none h = λ side v kept shown.
     let a = h side v kept shown.station shown.outgoing in
     record {
       acted = a.acted;
@@ -68,11 +68,11 @@ acts_in_view deed old new inward outward outward_new (Ok outs) none h = λ side 
       view = record { station = a.station; incoming = subst (IsOn (other_side side) inward) (sym (none side v a.acted a.is)) shown.incoming; outgoing = a.outgoing };
     }
 
-pub refuses_in_view : (deed : Deed) (old : RecordedLink) (inward outward : Line) (r : Result (ArrayVec Out) PairFault) → IfErr r (RefusesAs old deed) → IfErr r (RefusesInView old inward outward deed)
-refuses_in_view deed old inward outward (Ok outs) h = tt
-refuses_in_view deed old inward outward (Err fault) h = λ side v shown. h side v shown.station
+pub refuses_in_view : (mv : ViewMove) (old : RecordedLink) (inward outward : Line) (r : Result (ArrayVec Out) PairFault) → IfErr r (StationRefusesAs old mv) → IfErr r (RefusesInView old inward outward mv)
+refuses_in_view mv old inward outward (Ok outs) h = tt
+refuses_in_view mv old inward outward (Err fault) h = λ side v shown. h side v shown.station
 
-pub shows_view : (old new : RecordedLink) (inward outward outward_new : Line) (r : Result (ArrayVec Out) PairFault) → OnErr r (ShowsAsBefore old outward new outward_new)
+pub shows_view : (old new : RecordedLink) (inward outward outward_new : Line) (r : Result (ArrayVec Out) PairFault) → OnErr r (ShowsStationAsBefore old outward new outward_new)
     → OnErr r (ShowsViewAsBefore old inward outward new inward outward_new)
 shows_view old new inward outward outward_new (Ok outs) h = tt
 shows_view old new inward outward outward_new (Err fault) h = λ side v shown.
@@ -89,10 +89,10 @@ seen_alike side own other s inward inward_seen outward outward_seen v mine their
   outgoing = subst (λ (x : Side). IsOn x outward_seen v.outgoing) mine (goes (subst (λ (x : Side). IsOn x outward v.outgoing) (sym mine) shown.outgoing));
 }
 
-pub acts_as_seen : (deed : Deed) (old new : RecordedLink) (inward inward_seen inward_new outward outward_seen outward_new : Line) (r : Result (ArrayVec Out) PairFault) → ShowsViewAsBefore old inward outward old inward_seen outward_seen
-    → IfOk r (ActsInView old inward_seen outward_seen new inward_new outward_new deed) → IfOk r (ActsInView old inward outward new inward_new outward_new deed)
-acts_as_seen deed old new inward inward_seen inward_new outward outward_seen outward_new (Err fault) seen h = tt
-acts_as_seen deed old new inward inward_seen inward_new outward outward_seen outward_new (Ok outs) seen h = λ side v kept shown. h side v kept (seen side v shown)
+pub acts_as_seen : (mv : ViewMove) (old new : RecordedLink) (inward inward_seen inward_new outward outward_seen outward_new : Line) (r : Result (ArrayVec Out) PairFault) → ShowsViewAsBefore old inward outward old inward_seen outward_seen
+    → IfOk r (ActsInView old inward_seen outward_seen new inward_new outward_new mv) → IfOk r (ActsInView old inward outward new inward_new outward_new mv)
+acts_as_seen mv old new inward inward_seen inward_new outward outward_seen outward_new (Err fault) seen h = tt
+acts_as_seen mv old new inward inward_seen inward_new outward outward_seen outward_new (Ok outs) seen h = λ side v kept shown. h side v kept (seen side v shown)
 
 pub shows_as_seen : (old new : RecordedLink) (inward inward_seen inward_new outward outward_seen outward_new : Line) (r : Result (ArrayVec Out) PairFault) → ShowsViewAsBefore old inward outward old inward_seen outward_seen
     → OnErr r (ShowsViewAsBefore old inward_seen outward_seen new inward_new outward_new) → OnErr r (ShowsViewAsBefore old inward outward new inward_new outward_new)
@@ -101,42 +101,42 @@ shows_as_seen old new inward inward_seen inward_new outward outward_seen outward
 
 -- ---- An action that equals another for the states that the side represents.
 
-pub acts_as : (these those : Deed) (old new : RecordedLink) (outward outward_new : Line) (r : Result (ArrayVec Out) PairFault) → ((side : Side) (v : View) → IsStation side old v.station → those side v ≡ these side v)
+pub acts_as : (these those : ViewMove) (old new : RecordedLink) (outward outward_new : Line) (r : Result (ArrayVec Out) PairFault) → ((side : Side) (v : View) → IsStation side old v.station → those side v ≡ these side v)
     → IfOk r (Acts old outward new outward_new these) → IfOk r (Acts old outward new outward_new those)
 acts_as these those old new outward outward_new (Err fault) same h = tt
-acts_as these those old new outward outward_new (Ok outs) same h = λ side v kept shown on. subst (λ (x : Result Turn Refusal). IsActed side new outward_new x outs.items) (sym (same side v shown)) (h side v kept shown on)
+acts_as these those old new outward outward_new (Ok outs) same h = λ side v kept shown on. subst (λ (x : Result ViewStep Refusal). IsActed side new outward_new x outs.items) (sym (same side v shown)) (h side v kept shown on)
 
-pub refuses_as : (these those : Deed) (old : RecordedLink) (r : Result (ArrayVec Out) PairFault) → ((side : Side) (v : View) → IsStation side old v.station → those side v ≡ these side v)
-    → IfErr r (RefusesAs old these) → IfErr r (RefusesAs old those)
+pub refuses_as : (these those : ViewMove) (old : RecordedLink) (r : Result (ArrayVec Out) PairFault) → ((side : Side) (v : View) → IsStation side old v.station → those side v ≡ these side v)
+    → IfErr r (StationRefusesAs old these) → IfErr r (StationRefusesAs old those)
 refuses_as these those old (Ok outs) same h = tt
-refuses_as these those old (Err fault) same h = λ side v shown. subst (λ (x : Result Turn Refusal). IsRefusedAs fault x) (sym (same side v shown)) (h side v shown)
+refuses_as these those old (Err fault) same h = λ side v shown. subst (λ (x : Result ViewStep Refusal). IsRefusedAs fault x) (sym (same side v shown)) (h side v shown)
 
-pub acts_as_in_view : (these those : Deed) (old new : RecordedLink) (inward outward inward_new outward_new : Line) (r : Result (ArrayVec Out) PairFault) → ((side : Side) (v : View) → IsView side old inward outward v → those side v ≡ these side v)
+pub acts_as_in_view : (these those : ViewMove) (old new : RecordedLink) (inward outward inward_new outward_new : Line) (r : Result (ArrayVec Out) PairFault) → ((side : Side) (v : View) → IsView side old inward outward v → those side v ≡ these side v)
     → IfOk r (ActsInView old inward outward new inward_new outward_new these) → IfOk r (ActsInView old inward outward new inward_new outward_new those)
 acts_as_in_view these those old new inward outward inward_new outward_new (Err fault) same h = tt
-acts_as_in_view these those old new inward outward inward_new outward_new (Ok outs) same h = λ side v kept shown. subst (λ (x : Result Turn Refusal). IsDone side new inward_new outward_new x outs.items) (sym (same side v shown)) (h side v kept shown)
+acts_as_in_view these those old new inward outward inward_new outward_new (Ok outs) same h = λ side v kept shown. subst (λ (x : Result ViewStep Refusal). IsDone side new inward_new outward_new x outs.items) (sym (same side v shown)) (h side v kept shown)
 
-pub refuses_as_in_view : (these those : Deed) (old : RecordedLink) (inward outward : Line) (r : Result (ArrayVec Out) PairFault) → ((side : Side) (v : View) → IsView side old inward outward v → those side v ≡ these side v)
+pub refuses_as_in_view : (these those : ViewMove) (old : RecordedLink) (inward outward : Line) (r : Result (ArrayVec Out) PairFault) → ((side : Side) (v : View) → IsView side old inward outward v → those side v ≡ these side v)
     → IfErr r (RefusesInView old inward outward these) → IfErr r (RefusesInView old inward outward those)
 refuses_as_in_view these those old inward outward (Ok outs) same h = tt
-refuses_as_in_view these those old inward outward (Err fault) same h = λ side v shown. subst (λ (x : Result Turn Refusal). IsRefusedAs fault x) (sym (same side v shown)) (h side v shown)
+refuses_as_in_view these those old inward outward (Err fault) same h = λ side v shown. subst (λ (x : Result ViewStep Refusal). IsRefusedAs fault x) (sym (same side v shown)) (h side v shown)
 
 -- ---- Expiries.
 
-abbrev pub Refuses : Refusal → Result Turn Refusal
+abbrev pub Refuses : Refusal → Result ViewStep Refusal
 Refuses refusal = Err refusal
 
-pub stands_203 : (v : View) → v.station.end.t203 ≡ false → expires_203 Tagged v ≡ Err NotRunning
+pub stopped_203 : (v : View) → v.station.end.t203 ≡ false → expires_203 Tagged v ≡ Err NotRunning
 unfolding expires_203
-stands_203 v h = rw h refl
+stopped_203 v h = rw h refl
 
 pub runs_203 : (v : View) → v.station.end.t203 ≡ true → expires_203 Tagged v ≡ takes Tagged (Expiry T203) [] v
 unfolding expires_203
 runs_203 v h = rw h refl
 
-pub stands_200 : (side : Side) (v : View) → v.station.end.t200 ≡ false → expires_200 Tagged side v ≡ Err NotRunning
+pub stopped_200 : (side : Side) (v : View) → v.station.end.t200 ≡ false → expires_200 Tagged side v ≡ Err NotRunning
 unfolding expires_200
-stands_200 side v h = rw h refl
+stopped_200 side v h = rw h refl
 
 pub polls_200 : (side : Side) (v : View) (at : ℕ) → v.station.end.t200 ≡ true → first_poll v.outgoing ≡ Some at → expires_200 Tagged side v ≡ Err (NotYet (other_side side) at)
 unfolding expires_200
@@ -176,30 +176,30 @@ unread from octets frames read fault only first is = let there = read_of from oc
 pub same_read : (f g : Fields) → Read f ≡ Read g → f ≡ g
 same_read f g h = cc
 
-frame_takes_none : (frame : Flight) → TakesNone (λ side v. hears Tagged frame v)
-unfolding hears
+frame_takes_none : (frame : Flight) → TakesNone (λ side v. receives Tagged frame v)
+unfolding receives
 frame_takes_none frame side v acted is = stepped_takes_none frame.info frame.place v (step Tagged (input.Heard frame.control frame.role) v.station.end) acted is
 
-hears_first : (v : View) (frame : Flight) (rest : List Flight) → v.incoming ≡ frame ∷ rest → delivers Tagged v.incoming v ≡ hears Tagged frame (record v { incoming = rest })
+receives_first : (v : View) (frame : Flight) (rest : List Flight) → v.incoming ≡ frame ∷ rest → delivers Tagged v.incoming v ≡ receives Tagged frame (record v { incoming = rest })
 unfolding delivers
-hears_first v frame rest h = rw h refl
+receives_first v frame rest h = rw h refl
 
-pub delivered : (side : Side) (v : View) (frame : Flight) (rest : List Flight) (old new : RecordedLink) (inward inward_new outward outward_new : Line) (outs : ArrayVec Out) → v.incoming ≡ frame ∷ rest → IsKept Tagged v.station → IsView side old inward outward v
-    → Acts old outward new outward_new (λ side v. hears Tagged frame v) outs → ((from : Side) (frame : Flight) (rest : List Flight) → IsOn from inward (frame ∷ rest) → IsOn from inward_new rest)
+pub delivered : (side : Side) (v : View) (frame : Flight) (rest : List Flight) (old new : RecordedLink) (inward inward_new outward outward_new : Line) (outs : ArrayVec Out) → v.incoming ≡ frame ∷ rest → IsConsistent Tagged v.station → IsView side old inward outward v
+    → Acts old outward new outward_new (λ side v. receives Tagged frame v) outs → ((from : Side) (frame : Flight) (rest : List Flight) → IsOn from inward (frame ∷ rest) → IsOn from inward_new rest)
     → IsDone side new inward_new outward_new (delivers Tagged v.incoming v) outs.items
 delivered side v frame rest old new inward inward_new outward outward_new outs is kept shown acts takes =
     let a = acts side (record v { incoming = rest }) kept shown.station shown.outgoing in
     let left : IsOn (other_side side) inward_new rest = takes (other_side side) frame rest (subst (IsOn (other_side side) inward) is shown.incoming) in
     record {
       acted = a.acted;
-      is = hears_first v frame rest is ∙ a.is;
+      is = receives_first v frame rest is ∙ a.is;
       same = a.same;
       view = record { station = a.station; incoming = subst (IsOn (other_side side) inward_new) (sym (frame_takes_none frame side (record v { incoming = rest }) a.acted a.is)) left; outgoing = a.outgoing };
     }
 
 pub delivery_refused : (side : Side) (v : View) (frame : Flight) (rest : List Flight) (old : RecordedLink) (inward outward : Line) (fault : PairFault) → v.incoming ≡ frame ∷ rest → IsView side old inward outward v
-    → RefusesAs old (λ side v. hears Tagged frame v) fault → IsRefusedAs fault (delivers Tagged v.incoming v)
-delivery_refused side v frame rest old inward outward fault is shown refuses = subst (λ (x : Result Turn Refusal). IsRefusedAs fault x) (sym (hears_first v frame rest is)) (refuses side (record v { incoming = rest }) shown.station)
+    → StationRefusesAs old (λ side v. receives Tagged frame v) fault → IsRefusedAs fault (delivers Tagged v.incoming v)
+delivery_refused side v frame rest old inward outward fault is shown refuses = subst (λ (x : Result ViewStep Refusal). IsRefusedAs fault x) (sym (receives_first v frame rest is)) (refuses side (record v { incoming = rest }) shown.station)
 
 -- the side that sends on the line to this one
 pub sender_shown : (side own other : Side) (s : RecordedLink) (t : world.Station) → own ≡ s.link.side → other ≡ other_side own → IsStation side s t → other_side side ≡ other
@@ -207,7 +207,7 @@ sender_shown side own other s t mine theirs shown = sym (theirs ∙ ap other_sid
 
 -- ---- The action of each move.
 
-expiry_where : (running : Bool) (side : Side) (v : View) (acted : Turn) → (if running then takes Tagged (Expiry T203) [] v else Refuses NotRunning) ≡ Did acted → acted.view.incoming ≡ v.incoming
+expiry_where : (running : Bool) (side : Side) (v : View) (acted : ViewStep) → (if running then takes Tagged (Expiry T203) [] v else Refuses NotRunning) ≡ Did acted → acted.view.incoming ≡ v.incoming
 expiry_where true side v acted is = request_takes_none (Expiry T203) [] side v acted is
 expiry_where false side v acted is = cc
 
@@ -215,45 +215,45 @@ pub expiry_takes_none : TakesNone (λ side v. expires_203 Tagged v)
 unfolding expires_203
 expiry_takes_none side v acted is = expiry_where v.station.end.t203 side v acted is
 
-pub give_is : (deed : Move) (to : Side) (message : Vec ℕ Global) → deed ≡ moves.Give to message → (side : Side) (v : View) → acts Tagged side (move_of deed).deed v ≡ takes Tagged (input.Give message.items) [] v
+pub give_is : (mv : Move) (to : Side) (message : Vec ℕ Global) → mv ≡ moves.Give to message → (side : Side) (v : View) → acts Tagged side (move_of mv).event v ≡ takes Tagged (input.Give message.items) [] v
 unfolding acts
-give_is deed to message is side v = rw is refl
+give_is mv to message is side v = rw is refl
 
-pub establish_is : (deed : Move) (to : Side) → deed ≡ moves.Establish to → (side : Side) (v : View) → acts Tagged side (move_of deed).deed v ≡ takes Tagged input.Establish [] v
+pub establish_is : (mv : Move) (to : Side) → mv ≡ moves.Establish to → (side : Side) (v : View) → acts Tagged side (move_of mv).event v ≡ takes Tagged input.Establish [] v
 unfolding acts
-establish_is deed to is side v = rw is refl
+establish_is mv to is side v = rw is refl
 
-pub release_is : (deed : Move) (to : Side) → deed ≡ moves.Release to → (side : Side) (v : View) → acts Tagged side (move_of deed).deed v ≡ takes Tagged input.Release [] v
+pub release_is : (mv : Move) (to : Side) → mv ≡ moves.Release to → (side : Side) (v : View) → acts Tagged side (move_of mv).event v ≡ takes Tagged input.Release [] v
 unfolding acts
-release_is deed to is side v = rw is refl
+release_is mv to is side v = rw is refl
 
-pub deliver_is : (deed : Move) (to : Side) → deed ≡ moves.Deliver to → (side : Side) (v : View) → acts Tagged side (move_of deed).deed v ≡ delivers Tagged v.incoming v
+pub deliver_is : (mv : Move) (to : Side) → mv ≡ moves.Deliver to → (side : Side) (v : View) → acts Tagged side (move_of mv).event v ≡ delivers Tagged v.incoming v
 unfolding acts
-deliver_is deed to is side v = rw is refl
+deliver_is mv to is side v = rw is refl
 
-pub lose_is : (deed : Move) (to : Side) (at : ℕ) → deed ≡ moves.Lose to at → (side : Side) (v : View) → acts Tagged side (move_of deed).deed v ≡ loses at v
+pub lose_is : (mv : Move) (to : Side) (at : ℕ) → mv ≡ moves.Lose to at → (side : Side) (v : View) → acts Tagged side (move_of mv).event v ≡ loses at v
 unfolding acts
-lose_is deed to at is side v = rw is refl
+lose_is mv to at is side v = rw is refl
 
-pub expire_200_is : (deed : Move) (to : Side) → deed ≡ moves.Expire200 to → (side : Side) (v : View) → acts Tagged side (move_of deed).deed v ≡ expires_200 Tagged side v
+pub expire_200_is : (mv : Move) (to : Side) → mv ≡ moves.Expire200 to → (side : Side) (v : View) → acts Tagged side (move_of mv).event v ≡ expires_200 Tagged side v
 unfolding acts
-expire_200_is deed to is side v = rw is refl
+expire_200_is mv to is side v = rw is refl
 
-pub expire_203_is : (deed : Move) (to : Side) → deed ≡ moves.Expire203 to → (side : Side) (v : View) → acts Tagged side (move_of deed).deed v ≡ expires_203 Tagged v
+pub expire_203_is : (mv : Move) (to : Side) → mv ≡ moves.Expire203 to → (side : Side) (v : View) → acts Tagged side (move_of mv).event v ≡ expires_203 Tagged v
 unfolding acts
-expire_203_is deed to is side v = rw is refl
+expire_203_is mv to is side v = rw is refl
 
-pub busy_is : (deed : Move) (to : Side) (on : Bool) → deed ≡ moves.Busy to on → (side : Side) (v : View) → acts Tagged side (move_of deed).deed v ≡ takes Tagged (busy_input on) [] v
+pub busy_is : (mv : Move) (to : Side) (on : Bool) → mv ≡ moves.Busy to on → (side : Side) (v : View) → acts Tagged side (move_of mv).event v ≡ takes Tagged (busy_input on) [] v
 unfolding acts
-busy_is deed to on is side v = rw is refl
+busy_is mv to on is side v = rw is refl
 
-pub unit_as : (deed : Move) (to : Side) (unit : Vec ℕ Global) (octets : List ℕ) → deed ≡ moves.Unit to unit → octets ≡ unit.items → (side : Side) (v : View) → acts Tagged side (move_of deed).deed v ≡ takes Tagged (input.UnitData (length octets)) octets v
+pub unit_as : (mv : Move) (to : Side) (unit : Vec ℕ Global) (octets : List ℕ) → mv ≡ moves.Unit to unit → octets ≡ unit.items → (side : Side) (v : View) → acts Tagged side (move_of mv).event v ≡ takes Tagged (input.UnitData (length octets)) octets v
 unfolding acts
-unit_as deed to unit octets is same side v = rw (is, same) refl
+unit_as mv to unit octets is same side v = rw (is, same) refl
 
-pub restart_is : (deed : Move) (to : Side) → deed ≡ moves.Restart to → (side : Side) (v : View) → acts Tagged side (move_of deed).deed v ≡ quietly (restarts v)
+pub restart_is : (mv : Move) (to : Side) → mv ≡ moves.Restart to → (side : Side) (v : View) → acts Tagged side (move_of mv).event v ≡ quietly (restarts v)
 unfolding acts
-restart_is deed to is side v = rw is refl
+restart_is mv to is side v = rw is refl
 
 -- ---- A loss.
 
@@ -274,5 +274,5 @@ lost_shown side at v s inward inward_new outward there shown left = record {
   view = record { station = shown.station; incoming = left; outgoing = shown.outgoing };
 }
 
-pub given_as : (deed : Move) (to : Side) (message : Vec ℕ Global) (octets : List ℕ) → deed ≡ moves.Give to message → octets ≡ message.items → (side : Side) (v : View) → acts Tagged side (move_of deed).deed v ≡ takes Tagged (input.Give octets) [] v
-given_as deed to message octets is same side v = give_is deed to message is side v ∙ ap (λ (m : List ℕ). takes Tagged (input.Give m) [] v) (sym same)
+pub given_as : (mv : Move) (to : Side) (message : Vec ℕ Global) (octets : List ℕ) → mv ≡ moves.Give to message → octets ≡ message.items → (side : Side) (v : View) → acts Tagged side (move_of mv).event v ≡ takes Tagged (input.Give octets) [] v
+given_as mv to message octets is same side v = give_is mv to message is side v ∙ ap (λ (m : List ℕ). takes Tagged (input.Give m) [] v) (sym same)

@@ -5,7 +5,7 @@ use Rattle.std.specs.List.{range_with_len}
 use Rattle.std.specs.Vec.{vec_len, vec_capacity}
 use Rattle.lapd_pair_laws.specs.Histories as world
 use Rattle.lapd_pair_laws.specs.Histories.{Receipt}
-use Rattle.lapd_pair_laws.specs.Kept.{is_one_of}
+use Rattle.lapd_pair_laws.specs.Consistent.{is_one_of}
 use Rattle.lapd_pair.specs.declared.log.Log.{Log}
 use Rattle.lapd_pair.specs.declared.received.Received.{Received}
 use Rattle.lapd_pair.specs.declared.fate.Fate.{Fate}
@@ -94,7 +94,7 @@ abbrev pub step_room : Room
 step_room = record { messages = 0; receipts = 1; unit_data = 1; beginnings = 1 }
 
 -- the history has this much space
-pub record HasRoom (room : Room) (h : Log) : Type 0 where
+pub record HasHistoryRoom (room : Room) (h : Log) : Type 0 where
   pub given : vec_len h.given + room.messages ≤ vec_capacity h.given
   pub fates : vec_len h.fates + room.messages ≤ vec_capacity h.fates
   pub received : vec_len h.received + room.receipts ≤ vec_capacity h.received

@@ -11,4 +11,4 @@ pub mod Runs
 pub mod Settles
 pub mod Setup
 pub mod Station
-pub mod Telling
+pub mod Recording

@@ -9,13 +9,13 @@ use Rattle.lapd_pair_laws.specs.Move.{Refusal}
 use Rattle.lapd_pair_laws.specs.Safe.{AreSafe}
 use Rattle.lapd_pair_laws.specs.Tagged.{tag_world, tag_outcome}
 use Rattle.lapd_pair_laws.specs.World.{World, Happened, new_world, happens, world_after, run, outcomes}
-use Rattle.lapd_pair.specs.Pair.{StandForWorld}
+use Rattle.lapd_pair.specs.Pair.{RepresentWorld}
 use Rattle.lapd_pair.specs.declared.pair.Pair.{Pair}
 use Rattle.lapd_pair.specs.declared.pair_fault.RunFault.{RunFault}
 
 -- the pair represents the world
-abbrev pub PairStandsFor : Pair → World → Type 0
-PairStandsFor p w = StandForWorld p.user p.network p.to_user p.to_network w
+abbrev pub PairRepresents : Pair → World → Type 0
+PairRepresents p w = RepresentWorld p.user p.network p.to_user p.to_network w
 
 -- the world admits the move with these outputs, and the pair represents the world after it
 pub record HasHappened (p : Pair) (outcome : Result Happened Refusal) (outs : List Out) :
@@ -23,7 +23,7 @@ pub record HasHappened (p : Pair) (outcome : Result Happened Refusal) (outs : Li
   pub happened : Happened
   pub is : outcome ≡ Ok happened
   pub same : happened.outs ≡ outs
-  pub stands : PairStandsFor p happened.world
+  pub representation : PairRepresents p happened.world
 
 -- how many of these moves are refused when they are made one after another
 abbrev pub refused_of : Result Happened Refusal → ℕ
@@ -40,7 +40,7 @@ refusals (move ∷ moves) w = refused_of (happens Tagged move w)
 pub record HasStoppedAt (at : ℕ) (moves : List world.Move) (p : Pair) (w : World) : Type 0 where
   pub move : world.Move
   pub there : slice_get moves at ≡ Some move
-  pub before : PairStandsFor p (run Tagged (take at moves) w)
+  pub before : PairRepresents p (run Tagged (take at moves) w)
   pub admitted : is_ok (happens Tagged move (run Tagged (take at moves) w)) ≡ true
 
 -- the moves that a run made: all, or those before the move whose allocation failed
@@ -49,7 +49,7 @@ moves_made (Ok refused) moves = moves
 moves_made (Err fault) moves = take fault.at moves
 
 -- Every pair is the result of some moves from a new pair, such that:
---   `stands`         it represents the world after these moves, with tags as sequence numbers;
+--   `representation`         it represents the world after these moves, with tags as sequence numbers;
 --   `same`           the same moves over whole numbers lead to the same world, up to the tags;
 --   `same_outcomes`  and each move has the same result there, up to the tags;
 --   `safe`           the histories are safe in both directions;
@@ -58,7 +58,7 @@ pub record IsSafePair (p : Pair) : Type 0 where
   pub user : Parameters
   pub network : Parameters
   pub moves : List world.Move
-  pub stands : PairStandsFor p (run Tagged moves (new_world user network))
+  pub representation : PairRepresents p (run Tagged moves (new_world user network))
   pub same : run Tagged moves (new_world user network)
       ≡ tag_world (run Whole moves (new_world user network))
   pub same_outcomes : outcomes Tagged moves (new_world user network)

@@ -3,15 +3,15 @@ use Rattle.std.specs.Prelude.{◌≡◌, ℕ, List, [], length, Option, Some, No
 use Rattle.std.specs.declared.alloc.Global.{Global}
 use Rattle.lapd_frame.specs.declared.Side.{Side}
 use Rattle.lapd_frame.specs.Address.{other_side}
-use Rattle.lapd_link.specs.Link.{LinkStandsFor, setup_of}
-use Rattle.lapd_pair_laws.specs.Kept.{IsKept}
+use Rattle.lapd_link.specs.Link.{LinkRepresents, setup_of}
+use Rattle.lapd_pair_laws.specs.Consistent.{IsConsistent}
 use Rattle.lapd_pair_laws.specs.Line.{Flight}
 use Rattle.lapd_pair_laws.specs.Move as world
 use Rattle.arrayvec.specs.ArrayVec.{ArrayVec}
 use Rattle.lapd_mod128.specs.Counting.{Tagged}
 use Rattle.lapd_link_definition.specs.declared.out.Out.{Out}
 use Rattle.lapd_link_definition.specs.Input.{Input, Heard, Faulty, Give, UnitData}
-use Rattle.lapd_pair_laws.specs.Move.{View, Turn, Refusal}
+use Rattle.lapd_pair_laws.specs.Move.{View, ViewStep, Refusal}
 use Rattle.lapd_pair.specs.Histories.{IsHistory}
 use Rattle.lapd_pair.specs.Line.{IsOn}
 use Rattle.lapd_pair.specs.Setup.{setup_for}
@@ -21,7 +21,7 @@ use Rattle.lapd_pair.specs.declared.pair_fault.PairFault.{PairFault}
 use Rattle.lapd_pair.specs.declared.recorded_link.RecordedLink.{RecordedLink}
 
 pub record IsStation (side : Side) (s : RecordedLink) (t : world.Station) : Type 0 where
-  pub link : LinkStandsFor s.link t.end
+  pub link : LinkRepresents s.link t.end
   pub setup : setup_of s.link ≡ setup_for side
   pub history : IsHistory s.history t.end.given t.history
 
@@ -33,9 +33,10 @@ pub record IsView (side : Side) (s : RecordedLink) (inward outward : Line) (v : 
 
 -- The world admits an action with these outputs. The side and its outgoing line represent the
 -- result.
-pub record IsActed (side : Side) (s : RecordedLink) (outward : Line) (outcome : Result Turn Refusal)
+pub record IsActed (side : Side) (s : RecordedLink) (outward : Line)
+    (outcome : Result ViewStep Refusal)
     (outs : List Out) : Type 0 where
-  pub acted : Turn
+  pub acted : ViewStep
   pub is : outcome ≡ Ok acted
   pub same : acted.outs ≡ outs
   pub station : IsStation side s acted.view.station
@@ -43,18 +44,18 @@ pub record IsActed (side : Side) (s : RecordedLink) (outward : Line) (outcome : 
 
 -- the same with the frames in transit to the side
 pub record IsDone (side : Side) (s : RecordedLink) (inward outward : Line)
-    (outcome : Result Turn Refusal) (outs : List Out) : Type 0 where
-  pub acted : Turn
+    (outcome : Result ViewStep Refusal) (outs : List Out) : Type 0 where
+  pub acted : ViewStep
   pub is : outcome ≡ Ok acted
   pub same : acted.outs ≡ outs
   pub view : IsView side s inward outward acted.view
 
 -- the octets passed with an input: for a received frame, its information field, with a copy; other
 -- inputs have no copy
-abbrev pub IsHanded : Input → List ℕ → Option (Vec ℕ Global) → Type 0
-IsHanded (Heard control role) octets None = ⊥
-IsHanded (Heard control role) octets (Some copy) = copy.items ≡ octets
-IsHanded input octets copy = copy ≡ None
+abbrev pub HasOctets : Input → List ℕ → Option (Vec ℕ Global) → Type 0
+HasOctets (Heard control role) octets None = ⊥
+HasOctets (Heard control role) octets (Some copy) = copy.items ≡ octets
+HasOctets input octets copy = copy ≡ None
 
 -- the input is a request, with any unit data, or an expiry; it is not a frame or a message
 abbrev pub IsAsked : Input → List ℕ → Type 0
@@ -73,18 +74,20 @@ with_outs (Err fault) outs = Err fault
 
 -- an action changes the side and its outgoing line as the world defines it; incoming frames are not
 -- part of the statement
-abbrev pub Acts : RecordedLink → Line → RecordedLink → Line → (Side → View → Result Turn Refusal)
+abbrev pub Acts : RecordedLink → Line → RecordedLink → Line
+    → (Side → View → Result ViewStep Refusal)
     → ArrayVec Out → Type 0
-Acts old outward_old new outward_new deed outs =
-    (side : Side) (v : View) → IsKept Tagged v.station → IsStation side old v.station
-    → IsOn side outward_old v.outgoing → IsActed side new outward_new (deed side v) outs.items
+Acts old outward_old new outward_new mv outs =
+    (side : Side) (v : View) → IsConsistent Tagged v.station → IsStation side old v.station
+    → IsOn side outward_old v.outgoing → IsActed side new outward_new (mv side v) outs.items
 
-abbrev pub RefusesAs : RecordedLink → (Side → View → Result Turn Refusal) → PairFault → Type 0
-RefusesAs old deed fault = (side : Side) (v : View) → IsStation side old v.station
-    → IsRefusedAs fault (deed side v)
+abbrev pub StationRefusesAs : RecordedLink → (Side → View → Result ViewStep Refusal) → PairFault
+    → Type 0
+StationRefusesAs old mv fault = (side : Side) (v : View) → IsStation side old v.station
+    → IsRefusedAs fault (mv side v)
 
 -- the side and its outgoing line represent all that they represented before
-pub record ShowsAsBefore (old : RecordedLink) (outward_old : Line) (new : RecordedLink)
+pub record ShowsStationAsBefore (old : RecordedLink) (outward_old : Line) (new : RecordedLink)
     (outward_new : Line) : Type 0 where
   pub station : (side : Side) (t : world.Station) → IsStation side old t → IsStation side new t
   pub line : (from : Side) (frames : List Flight) → IsOn from outward_old frames
@@ -92,15 +95,16 @@ pub record ShowsAsBefore (old : RecordedLink) (outward_old : Line) (new : Record
 
 -- the same with the frames in transit to the side
 abbrev pub ActsInView : RecordedLink → Line → Line → RecordedLink → Line → Line
-    → (Side → View → Result Turn Refusal) → ArrayVec Out → Type 0
-ActsInView old inward_old outward_old new inward_new outward_new deed outs =
-    (side : Side) (v : View) → IsKept Tagged v.station → IsView side old inward_old outward_old v
-    → IsDone side new inward_new outward_new (deed side v) outs.items
+    → (Side → View → Result ViewStep Refusal) → ArrayVec Out → Type 0
+ActsInView old inward_old outward_old new inward_new outward_new mv outs =
+    (side : Side) (v : View) → IsConsistent Tagged v.station
+    → IsView side old inward_old outward_old v
+    → IsDone side new inward_new outward_new (mv side v) outs.items
 
-abbrev pub RefusesInView : RecordedLink → Line → Line → (Side → View → Result Turn Refusal)
+abbrev pub RefusesInView : RecordedLink → Line → Line → (Side → View → Result ViewStep Refusal)
     → PairFault → Type 0
-RefusesInView old inward_old outward_old deed fault = (side : Side) (v : View)
-    → IsView side old inward_old outward_old v → IsRefusedAs fault (deed side v)
+RefusesInView old inward_old outward_old mv fault = (side : Side) (v : View)
+    → IsView side old inward_old outward_old v → IsRefusedAs fault (mv side v)
 
 abbrev pub ShowsViewAsBefore : RecordedLink → Line → Line → RecordedLink → Line → Line → Type 0
 ShowsViewAsBefore old inward_old outward_old new inward_new outward_new = (side : Side) (v : View)

@@ -6,10 +6,10 @@ ghost use Rattle.lapd_link.specs.Link.{setup_of, is_address_of};
 ghost use Rattle.lapd_mod128.specs.Counting.{Tagged};
 ghost use Rattle.lapd_link_definition.specs.Input.{Give, UnitData, input_of};
 ghost use Rattle.lapd_pair_laws.specs.Line.{Flight};
-ghost use Rattle.lapd_pair_laws.specs.Move.{takes, hears, delivers, loses, expires_200, expires_203, acts, busy_input, quietly, restarts};
+ghost use Rattle.lapd_pair_laws.specs.Move.{takes, receives, delivers, loses, expires_200, expires_203, acts, busy_input, quietly, restarts};
 ghost use Rattle.lapd_pair.specs.Line.{fields_of};
 ghost use Rattle.lapd_pair.specs.Moves.{move_of};
-ghost use Rattle.lapd_pair.specs.Station.{Acts, with_outs, RefusesAs, ShowsAsBefore, ActsInView, RefusesInView, ShowsViewAsBefore, IsAsked};
+ghost use Rattle.lapd_pair.specs.Station.{Acts, with_outs, StationRefusesAs, ShowsStationAsBefore, ActsInView, RefusesInView, ShowsViewAsBefore, IsAsked};
 
 use crate::line::Line;
 use crate::moves::Move;
@@ -28,21 +28,21 @@ impl RecordedLink {
     pub fn act(
         &mut self,
         alloc: Global,
-        deed: &Move,
+        mv: &Move,
         inward: &mut Line,
         outward: &mut Line,
         outs: &mut Outs,
     ) -> Result<(), PairFault>
         ensures ok { IfOk (with_outs result outs.new)
             (ActsInView self.old inward.old outward.old self.new inward.new outward.new
-            (λ side v. acts Tagged side (move_of deed.now).deed v)) }
+            (λ side v. acts Tagged side (move_of mv.now).event v)) }
         ensures err { IfErr (with_outs result outs.new)
             (RefusesInView self.old inward.old outward.old
-            (λ side v. acts Tagged side (move_of deed.now).deed v)) }
+            (λ side v. acts Tagged side (move_of mv.now).event v)) }
         ensures unchanged { OnErr (with_outs result outs.new)
             (ShowsViewAsBefore self.old inward.old outward.old self.new inward.new outward.new) }
     {
-        match deed {
+        match mv {
             Move::Give(_, message) => self.take_message(alloc, message, outward, outs),
             Move::Establish(_) => self.take(Event::Establish, &[], outward, outs),
             Move::Release(_) => self.take(Event::Release, &[], outward, outs),
@@ -69,9 +69,10 @@ impl RecordedLink {
             (Acts self.old outward.old self.new outward.new
             (λ side v. takes Tagged (input_of event.entry) octets.now v)) }
         ensures err { IfErr (with_outs result outs.new)
-            (RefusesAs self.old (λ side v. takes Tagged (input_of event.entry) octets.now v)) }
+            (StationRefusesAs self.old
+            (λ side v. takes Tagged (input_of event.entry) octets.now v)) }
         ensures unchanged { OnErr (with_outs result outs.new)
-            (ShowsAsBefore self.old outward.old self.new outward.new) }
+            (ShowsStationAsBefore self.old outward.old self.new outward.new) }
     {
         if let Some(fault) = self.link.refusal(&event) {
             return Err(PairFault::Refused(fault));
@@ -88,9 +89,9 @@ impl RecordedLink {
             (Acts self.old outward.old self.new outward.new
             (λ side v. takes Tagged (busy_input on) [] v)) }
         ensures err { IfErr (with_outs result outs.new)
-            (RefusesAs self.old (λ side v. takes Tagged (busy_input on) [] v)) }
+            (StationRefusesAs self.old (λ side v. takes Tagged (busy_input on) [] v)) }
         ensures unchanged { OnErr (with_outs result outs.new)
-            (ShowsAsBefore self.old outward.old self.new outward.new) }
+            (ShowsStationAsBefore self.old outward.old self.new outward.new) }
     {
         if on {
             self.take(Event::BusyOn, &[], outward, outs)
@@ -110,10 +111,10 @@ impl RecordedLink {
             (Acts self.old outward.old self.new outward.new
             (λ side v. takes Tagged (UnitData (length octets.now)) octets.now v)) }
         ensures err { IfErr (with_outs result outs.new)
-            (RefusesAs self.old (λ side v. takes Tagged
+            (StationRefusesAs self.old (λ side v. takes Tagged
             (UnitData (length octets.now)) octets.now v)) }
         ensures unchanged { OnErr (with_outs result outs.new)
-            (ShowsAsBefore self.old outward.old self.new outward.new) }
+            (ShowsStationAsBefore self.old outward.old self.new outward.new) }
     {
         self.take(Event::Unit(octets.len()), octets, outward, outs)
     }
@@ -130,9 +131,9 @@ impl RecordedLink {
             (Acts self.old outward.old self.new outward.new
             (λ side v. takes Tagged (Give message.now) [] v)) }
         ensures err { IfErr (with_outs result outs.new)
-            (RefusesAs self.old (λ side v. takes Tagged (Give message.now) [] v)) }
+            (StationRefusesAs self.old (λ side v. takes Tagged (Give message.now) [] v)) }
         ensures unchanged { OnErr (with_outs result outs.new)
-            (ShowsAsBefore self.old outward.old self.new outward.new) }
+            (ShowsStationAsBefore self.old outward.old self.new outward.new) }
     {
         if let Some(fault) = self.link.give_refusal(message.len()) {
             return Err(PairFault::Refused(fault));
@@ -161,12 +162,12 @@ impl RecordedLink {
         ensures ok { IfOk (with_outs result outs.new)
             (λ outs. (flight : Flight) → fields_of flight ≡ frame.now → length flight.info ≤ n201
             → Acts self.old outward.old self.new outward.new
-            (λ side v. hears Tagged flight v) outs) }
+            (λ side v. receives Tagged flight v) outs) }
         ensures err { IfErr (with_outs result outs.new)
             (λ fault. (flight : Flight) → fields_of flight ≡ frame.now
-            → RefusesAs self.old (λ side v. hears Tagged flight v) fault) }
+            → StationRefusesAs self.old (λ side v. receives Tagged flight v) fault) }
         ensures unchanged { OnErr (with_outs result outs.new)
-            (ShowsAsBefore self.old outward.old self.new outward.new) }
+            (ShowsStationAsBefore self.old outward.old self.new outward.new) }
     {
         let Ok(copy) = Vec::from_slice(alloc, frame.info()) else {
             return Err(PairFault::Memory);
@@ -248,9 +249,9 @@ impl RecordedLink {
         ensures ok { IfOk (with_outs result outs.new)
             (Acts self.old outward.old self.new outward.new (λ side v. expires_203 Tagged v)) }
         ensures err { IfErr (with_outs result outs.new)
-            (RefusesAs self.old (λ side v. expires_203 Tagged v)) }
+            (StationRefusesAs self.old (λ side v. expires_203 Tagged v)) }
         ensures unchanged { OnErr (with_outs result outs.new)
-            (ShowsAsBefore self.old outward.old self.new outward.new) }
+            (ShowsStationAsBefore self.old outward.old self.new outward.new) }
     {
         if !self.link.running(Timer::T203) {
             return Err(PairFault::NotRunning);

@@ -1,8 +1,8 @@
 ghost use Rattle.std.specs.Prelude.{◌≡◌, ◌+◌, ◌-◌, ◌≤◌, ℕ, List, [], ◌∷◌, ◌++◌, map, length, Option, None, OnOk};
 ghost use Rattle.std.specs.Vec.{vec_len};
 ghost use Rattle.lapd_pair_laws.specs.Histories as world;
-ghost use Rattle.lapd_pair_laws.specs.Histories.{new_history, with_sending, with_acked, with_dropped, with_rest_dropped, with_receipt, with_unit};
-ghost use Rattle.lapd_pair_laws.specs.Kept.{AreSettled};
+ghost use Rattle.lapd_pair_laws.specs.Histories.{new_history, with_sending, with_acked, with_dropped, with_others_dropped, with_receipt, with_unit};
+ghost use Rattle.lapd_pair_laws.specs.Consistent.{AreSettled};
 ghost use Rattle.lapd_pair.specs.Establishments.{AreNumbered};
 ghost use Rattle.lapd_pair.specs.Fates.{ended, with_endings};
 
@@ -27,7 +27,7 @@ pub struct Log {
 }
 
 impl Log {
-    ghost use Rattle.lapd_pair.specs.Histories.{IsHistory, AreSame, AreSameButFates, HasRoom, TakesRoom, no_room, message_room, receipt_room, unit_room, beginning_room, step_room};
+    ghost use Rattle.lapd_pair.specs.Histories.{IsHistory, AreSame, AreSameButFates, HasHistoryRoom, TakesRoom, no_room, message_room, receipt_room, unit_room, beginning_room, step_room};
 
     /// Creates an empty history. Does not allocate.
     pub(crate) fn new(alloc: Global) -> Log
@@ -47,7 +47,7 @@ impl Log {
     /// Allocates space for the most that one step may record besides a submitted message: one
     /// message received, one unit data and one establishment.
     pub(crate) fn reserve(&mut self) -> Result<(), AllocError>
-        ensures ok { OnOk result (HasRoom step_room self.new) }
+        ensures ok { OnOk result (HasHistoryRoom step_room self.new) }
         ensures room { TakesRoom no_room self.old self.new }
         ensures same { AreSame self.old self.new }
         ensures history { (messages : List (List ℕ)) (h : world.History)
@@ -60,7 +60,7 @@ impl Log {
 
     /// Allocates space for one more submitted message.
     pub(crate) fn reserve_given(&mut self) -> Result<(), AllocError>
-        ensures ok { OnOk result (HasRoom message_room self.new) }
+        ensures ok { OnOk result (HasHistoryRoom message_room self.new) }
         ensures room { TakesRoom no_room self.old self.new }
         ensures same { AreSame self.old self.new }
         ensures history { (messages : List (List ℕ)) (h : world.History)
@@ -72,7 +72,7 @@ impl Log {
 
     /// Records a submitted message.
     pub(crate) fn give(&mut self, message: Vec<u8>)
-        requires { HasRoom message_room self.old }
+        requires { HasHistoryRoom message_room self.old }
         ensures room { TakesRoom message_room self.old self.new }
         ensures history { (messages : List (List ℕ)) (h : world.History) → AreSettled h
             → h.sent_in (length messages) ≡ None → IsHistory self.old messages h
@@ -88,7 +88,7 @@ impl Log {
 
     /// Records the beginning of an establishment.
     pub(crate) fn begin(&mut self)
-        requires { HasRoom beginning_room self.old }
+        requires { HasHistoryRoom beginning_room self.old }
         ensures room { TakesRoom beginning_room self.old self.new }
         ensures history { (messages : List (List ℕ)) (h : world.History)
             → IsHistory self.old messages h
@@ -102,7 +102,7 @@ impl Log {
 
     /// Records a message received in the present establishment.
     pub(crate) fn receive(&mut self, octets: Vec<u8>)
-        requires { HasRoom receipt_room self.old }
+        requires { HasHistoryRoom receipt_room self.old }
         ensures room { TakesRoom receipt_room self.old self.new }
         ensures history { (messages : List (List ℕ)) (h : world.History) (establishment place : ℕ)
             → length h.begun ≡ establishment → IsHistory self.old messages h
@@ -121,7 +121,7 @@ impl Log {
 
     /// Records received unit data.
     pub(crate) fn receive_unit(&mut self, octets: Vec<u8>)
-        requires { HasRoom unit_room self.old }
+        requires { HasHistoryRoom unit_room self.old }
         ensures room { TakesRoom unit_room self.old self.new }
         ensures history { (messages : List (List ℕ)) (h : world.History)
             → IsHistory self.old messages h → IsHistory self.new messages
@@ -176,7 +176,7 @@ impl Log {
         ensures room { TakesRoom no_room self.old self.new }
         ensures history { (messages : List (List ℕ)) (h : world.History) → AreSettled h
             → IsHistory self.old messages h
-            → IsHistory self.new messages (with_rest_dropped (length messages) h) }
+            → IsHistory self.new messages (with_others_dropped (length messages) h) }
     {
         self.drop_first(self.waiting());
     }

@@ -35,7 +35,7 @@ impl Pair {
     ghost use Rattle.lapd_pair_laws.specs.World.{World, new_world, happens, run, outcomes};
     ghost use Rattle.lapd_pair.specs.Moves.{move_of, IsRefusedAs};
     ghost use Rattle.lapd_pair.specs.Readers.{AreSafeReadings};
-    ghost use Rattle.lapd_pair.specs.Runs.{PairStandsFor, HasHappened, HasStoppedAt, IsSafePair, moves_made, refusals};
+    ghost use Rattle.lapd_pair.specs.Runs.{PairRepresents, HasHappened, HasStoppedAt, IsSafePair, moves_made, refusals};
     ghost use Rattle.lapd_pair.specs.Station.{with_outs};
 
     /// Creates a pair with both ends in state 4 and no frame in transit.
@@ -44,7 +44,8 @@ impl Pair {
     ///
     /// `AllocError` if the allocation of an I queue failed.
     pub fn new(alloc: Global, user: Params, network: Params) -> Result<Pair, AllocError>
-        ensures stands { IfOk result (λ pair. PairStandsFor pair (new_world user network)) }
+        ensures representation { IfOk result
+            (λ pair. PairRepresents pair (new_world user network)) }
         ensures readers { IfOk result (λ pair. AreSafeReadings pair) }
     {
         Ok(Pair {
@@ -71,19 +72,19 @@ impl Pair {
     /// P1 if the frame to deliver or lose does not exist. P2 if the timer does not run. P3 if T200
     /// waits for a frame in transit. P4 if the link refuses the move. P5, after these checks, if an
     /// allocation failed. The pair is unchanged.
-    pub fn apply(&mut self, deed: &Move) -> Result<Outs, PairFault>
-        ensures ok { IfOk result (λ outs. (w : World) → PairStandsFor self.old w
-            → HasHappened self.new (happens Tagged (move_of deed.now) w) outs.items) }
-        ensures err { IfErr result (λ fault. (w : World) → PairStandsFor self.old w
-            → IsRefusedAs fault (happens Tagged (move_of deed.now) w)) }
-        ensures unchanged { OnErr result ((w : World) → PairStandsFor self.old w
-            → PairStandsFor self.new w) }
+    pub fn apply(&mut self, mv: &Move) -> Result<Outs, PairFault>
+        ensures ok { IfOk result (λ outs. (w : World) → PairRepresents self.old w
+            → HasHappened self.new (happens Tagged (move_of mv.now) w) outs.items) }
+        ensures err { IfErr result (λ fault. (w : World) → PairRepresents self.old w
+            → IsRefusedAs fault (happens Tagged (move_of mv.now) w)) }
+        ensures unchanged { OnErr result ((w : World) → PairRepresents self.old w
+            → PairRepresents self.new w) }
         ensures reports { IfOk result (λ outs. AreExpected outs.items) }
         ensures safe { ∥ IsSafePair self.new ∥₁ }
         ensures readers { AreSafeReadings self.new }
     {
         let mut outs = Outs::new();
-        match self.apply_into(deed, &mut outs) {
+        match self.apply_into(mv, &mut outs) {
             Ok(()) => Ok(outs),
             Err(fault) => Err(fault),
         }
@@ -95,30 +96,30 @@ impl Pair {
     /// # Errors
     ///
     /// As for [`Pair::apply`]. The content of `outs` is then unspecified.
-    pub fn apply_into(&mut self, deed: &Move, outs: &mut Outs) -> Result<(), PairFault>
+    pub fn apply_into(&mut self, mv: &Move, outs: &mut Outs) -> Result<(), PairFault>
         ensures ok { IfOk (with_outs result outs.new)
-            (λ made. (w : World) → PairStandsFor self.old w
-            → HasHappened self.new (happens Tagged (move_of deed.now) w) made.items) }
+            (λ made. (w : World) → PairRepresents self.old w
+            → HasHappened self.new (happens Tagged (move_of mv.now) w) made.items) }
         ensures err { IfErr (with_outs result outs.new)
-            (λ fault. (w : World) → PairStandsFor self.old w
-            → IsRefusedAs fault (happens Tagged (move_of deed.now) w)) }
+            (λ fault. (w : World) → PairRepresents self.old w
+            → IsRefusedAs fault (happens Tagged (move_of mv.now) w)) }
         ensures unchanged { OnErr (with_outs result outs.new)
-            ((w : World) → PairStandsFor self.old w → PairStandsFor self.new w) }
+            ((w : World) → PairRepresents self.old w → PairRepresents self.new w) }
         ensures reports { IfOk (with_outs result outs.new) (λ made. AreExpected made.items) }
         ensures safe { ∥ IsSafePair self.new ∥₁ }
         ensures readers { AreSafeReadings self.new }
     {
-        match deed.side() {
+        match mv.side() {
             Side::User => self.user.act(
                 self.alloc,
-                deed,
+                mv,
                 &mut self.to_user,
                 &mut self.to_network,
                 outs,
             ),
             Side::Network => self.network.act(
                 self.alloc,
-                deed,
+                mv,
                 &mut self.to_network,
                 &mut self.to_user,
                 outs,
@@ -135,20 +136,20 @@ impl Pair {
     /// `RunFault`, with the index of the move, if an allocation failed. The moves made before it
     /// remain in effect.
     pub fn run(&mut self, moves: &[Move]) -> Result<u64, RunFault>
-        ensures ok { IfOk result (λ refused. (w : World) → PairStandsFor self.old w
-            → PairStandsFor self.new (run Tagged (map move_of moves.now) w)
+        ensures ok { IfOk result (λ refused. (w : World) → PairRepresents self.old w
+            → PairRepresents self.new (run Tagged (map move_of moves.now) w)
             × (refused ≡ refusals (map move_of moves.now) w)) }
-        ensures err { IfErr result (λ fault. (w : World) → PairStandsFor self.old w
+        ensures err { IfErr result (λ fault. (w : World) → PairRepresents self.old w
             → HasStoppedAt fault.at (map move_of moves.now) self.new w) }
-        ensures reports { (w : World) → PairStandsFor self.old w
+        ensures reports { (w : World) → PairRepresents self.old w
             → AllReportsExpected (outcomes Tagged (moves_made result (map move_of moves.now)) w) }
         ensures safe { ∥ IsSafePair self.new ∥₁ }
         ensures readers { AreSafeReadings self.new }
     {
         let mut refused = 0;
         let mut outs = Outs::new();
-        for (at, deed) in moves.iter().enumerate() {
-            match self.apply_into(deed, &mut outs) {
+        for (at, mv) in moves.iter().enumerate() {
+            match self.apply_into(mv, &mut outs) {
                 Ok(()) => {}
                 Err(fault) => {
                     if fault.is_memory() {
@@ -164,20 +165,20 @@ impl Pair {
 
 /// The contents of a pair.
 impl Pair {
-    ghost use Rattle.lapd_link.specs.Link.{LinkStandsFor, setup_of};
+    ghost use Rattle.lapd_link.specs.Link.{LinkRepresents, setup_of};
     ghost use Rattle.lapd_frame.specs.Address.{other_side};
     ghost use Rattle.lapd_frame.specs.Frame.{spelling};
     ghost use Rattle.lapd_pair_laws.specs.World.{World, left, view_of};
     ghost use Rattle.lapd_pair.specs.Histories.{of_received, octets_and_establishment, fates_of};
     ghost use Rattle.lapd_pair.specs.Line.{fields_of};
     ghost use Rattle.lapd_pair.specs.Readers.{history_of, given_by, fates_by, received_by, begun_by};
-    ghost use Rattle.lapd_pair.specs.Runs.{PairStandsFor};
+    ghost use Rattle.lapd_pair.specs.Runs.{PairRepresents};
     ghost use Rattle.lapd_pair.specs.Setup.{setup_for};
     ghost use Rattle.lapd_pair.specs.Station.{IsStation};
 
     /// The recorded link of this side.
     fn station(&self, side: Side) -> &RecordedLink
-        ensures shows { (w : World) → PairStandsFor self.now w
+        ensures shows { (w : World) → PairRepresents self.now w
             → IsStation side result.now (view_of side w).station }
         ensures history { result.now.history ≡ history_of side self.now }
     {
@@ -189,7 +190,7 @@ impl Pair {
 
     /// The messages that this side's layer 3 submitted and the link accepted, in order.
     pub fn given(&self, side: Side) -> &[Vec<u8>]
-        ensures shows { (w : World) → PairStandsFor self.now w
+        ensures shows { (w : World) → PairRepresents self.now w
             → map (λ message. message.items) result.now ≡ (view_of side w).station.end.given }
         ensures now { result.now ≡ given_by side self.now }
     {
@@ -198,7 +199,7 @@ impl Pair {
 
     /// The messages that this side's layer 3 received, in order.
     pub fn received(&self, side: Side) -> &[Received]
-        ensures shows { (w : World) → PairStandsFor self.now w
+        ensures shows { (w : World) → PairRepresents self.now w
             → map of_received result.now ≡ map octets_and_establishment
             (view_of side w).station.history.received }
         ensures now { result.now ≡ received_by side self.now }
@@ -208,7 +209,7 @@ impl Pair {
 
     /// The unit data that this side's layer 3 received, in order.
     pub fn units(&self, side: Side) -> &[Vec<u8>]
-        ensures { (w : World) → PairStandsFor self.now w
+        ensures { (w : World) → PairRepresents self.now w
             → map (λ unit. unit.items) result.now ≡ (view_of side w).station.history.units }
     {
         self.station(side).history.units()
@@ -216,7 +217,7 @@ impl Pair {
 
     /// The fate of each message of [`Pair::given`].
     pub fn fates(&self, side: Side) -> &[Fate]
-        ensures shows { (w : World) → PairStandsFor self.now w
+        ensures shows { (w : World) → PairRepresents self.now w
             → result.now ≡ fates_of (length (view_of side w).station.end.given)
             (view_of side w).station.history }
         ensures now { result.now ≡ fates_by side self.now }
@@ -227,7 +228,7 @@ impl Pair {
     /// For each establishment of this side, how many messages the side had received before it
     /// began.
     pub fn begun(&self, side: Side) -> &[u64]
-        ensures shows { (w : World) → PairStandsFor self.now w
+        ensures shows { (w : World) → PairRepresents self.now w
             → result.now ≡ (view_of side w).station.history.begun }
         ensures now { result.now ≡ begun_by side self.now }
     {
@@ -236,7 +237,7 @@ impl Pair {
 
     /// How many messages of this side were acknowledged.
     pub fn acknowledged(&self, side: Side) -> u64
-        ensures { (w : World) → PairStandsFor self.now w
+        ensures { (w : World) → PairRepresents self.now w
             → result ≡ length (view_of side w).station.history.acked }
     {
         self.station(side).history.acknowledged()
@@ -244,7 +245,7 @@ impl Pair {
 
     /// How many messages of this side were dropped. The peer may have received them.
     pub fn dropped(&self, side: Side) -> u64
-        ensures { (w : World) → PairStandsFor self.now w
+        ensures { (w : World) → PairRepresents self.now w
             → result ≡ length (view_of side w).station.history.dropped }
     {
         self.station(side).history.dropped()
@@ -252,14 +253,14 @@ impl Pair {
 
     /// How many messages of both sides are neither acknowledged nor dropped.
     pub fn left(&self) -> u64
-        ensures { (w : World) → PairStandsFor self.now w → result ≡ left w }
+        ensures { (w : World) → PairRepresents self.now w → result ≡ left w }
     {
         self.user.history.waiting() as u64 + self.network.history.waiting() as u64
     }
 
     /// The octets of the frames in transit to this side, in order.
     pub fn line(&self, to: Side) -> &[FrameOctets]
-        ensures { (w : World) → PairStandsFor self.now w
+        ensures { (w : World) → PairRepresents self.now w
             → map (λ frame. frame.items) result.now ≡ map
             (λ frame. spelling (other_side to) (fields_of frame)) (view_of to w).incoming }
     {
@@ -271,9 +272,9 @@ impl Pair {
 
     /// This side's end of the link, of SAPI 0 and TEI 64.
     pub fn link(&self, side: Side) -> &Link
-        ensures end { (w : World) → PairStandsFor self.now w
-            → LinkStandsFor result.now (view_of side w).station.end }
-        ensures setup { (w : World) → PairStandsFor self.now w
+        ensures end { (w : World) → PairRepresents self.now w
+            → LinkRepresents result.now (view_of side w).station.end }
+        ensures setup { (w : World) → PairRepresents self.now w
             → setup_of result.now ≡ setup_for side }
     {
         &self.station(side).link
@@ -287,7 +288,7 @@ impl Pair {
     ghost use Rattle.lapd_pair_laws.specs.Settle.{next_move, bound};
     ghost use Rattle.lapd_pair.specs.Moves.{move_of};
     ghost use Rattle.lapd_pair.specs.Readers.{AreSafeReadings};
-    ghost use Rattle.lapd_pair.specs.Runs.{PairStandsFor, IsSafePair};
+    ghost use Rattle.lapd_pair.specs.Runs.{PairRepresents, IsSafePair};
     ghost use Rattle.lapd_pair.specs.Settles.{Settles, StopsSettling, EmptiesWhereQuiet, IsDrainedPair};
 
     /// Makes moves until none is possible, at most 8 for each message of [`Pair::left`] and 32
@@ -313,10 +314,10 @@ impl Pair {
         let most = self.most_moves();
         let mut outs = Outs::new();
         for moves in 0..most {
-            let Some(deed) = self.next_move() else {
+            let Some(mv) = self.next_move() else {
                 return Ok(Settled { moves, rest: true });
             };
-            match self.apply_into(&deed, &mut outs) {
+            match self.apply_into(&mv, &mut outs) {
                 Ok(()) => {}
                 Err(fault) => return Err(fault),
             }
@@ -329,7 +330,7 @@ impl Pair {
 
     /// The most moves that `settle` makes.
     fn most_moves(&self) -> u64
-        ensures { (w : World) → PairStandsFor self.now w → result ≡ bound w }
+        ensures { (w : World) → PairRepresents self.now w → result ≡ bound w }
     {
         let left = u64::from(self.user.link.waiting()) + u64::from(self.network.link.waiting());
         8 * (left + 4)
@@ -337,8 +338,8 @@ impl Pair {
 
     /// The move that `settle` makes next.
     fn next_move(&self) -> Option<Move>
-        ensures { (w : World) → PairStandsFor self.now w
-            → option_map (λ deed. move_of deed) result ≡ next_move Tagged w }
+        ensures { (w : World) → PairRepresents self.now w
+            → option_map (λ mv. move_of mv) result ≡ next_move Tagged w }
     {
         if self.to_network.first().is_some() {
             return Some(Move::Deliver(Side::Network));

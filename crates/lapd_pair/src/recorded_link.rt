@@ -4,16 +4,16 @@ ghost use Rattle.std.specs.Prelude.{◌≡◌, ◌≤◌, ◌+◌, ◌==◌, not
 ghost use Rattle.std.specs.declared.alloc.Global.{Global};
 ghost use Rattle.lapd_frame.specs.declared.Side.{Side};
 ghost use Rattle.lapd_frame.specs.Frame.{n201};
-ghost use Rattle.lapd_link.specs.Link.{LinkStandsFor, setup_of, IsForLink};
+ghost use Rattle.lapd_link.specs.Link.{LinkRepresents, setup_of, IsForLink};
 ghost use Rattle.lapd_mod128.specs.Counting.{Tagged};
 ghost use Rattle.lapd_link_definition.specs.declared.out.Out as states;
 ghost use Rattle.lapd_link_definition.specs.Counts.{ups, unit_ups};
 ghost use Rattle.lapd_link_definition.specs.End.{End, new_end};
 ghost use Rattle.lapd_link_definition.specs.Input.{Give, input_of};
 ghost use Rattle.lapd_link_definition.specs.Table.{step};
-ghost use Rattle.lapd_pair_laws.specs.Histories.{Occasion, Story, told, with_beginning};
+ghost use Rattle.lapd_pair_laws.specs.Histories.{Occasion, Story, after_outputs, with_beginning};
 ghost use Rattle.lapd_pair_laws.specs.Histories as histories;
-ghost use Rattle.lapd_pair_laws.specs.Kept.{IsKept};
+ghost use Rattle.lapd_pair_laws.specs.Consistent.{IsConsistent};
 ghost use Rattle.lapd_pair_laws.specs.Line.{Flight};
 ghost use Rattle.lapd_pair_laws.specs.Move as world;
 ghost use Rattle.lapd_pair_laws.specs.Move.{View, stepped};
@@ -37,7 +37,7 @@ pub struct RecordedLink {
 
 /// Creates this side's link, with SAPI 0 and TEI 64.
 pub fn new_link(alloc: Global, side: Side, params: Params) -> Result<Link, AllocError>
-    ensures end { IfOk result (λ link. LinkStandsFor link (new_end params)) }
+    ensures end { IfOk result (λ link. LinkRepresents link (new_end params)) }
     ensures setup { IfOk result (λ link. setup_of link ≡ setup_for side) }
 {
     let tei = Tei::new(64).unwrap();
@@ -45,10 +45,10 @@ pub fn new_link(alloc: Global, side: Side, params: Params) -> Result<Link, Alloc
 }
 
 impl RecordedLink {
-    ghost use Rattle.lapd_pair.specs.Histories.{IsHistory, HasRoom, step_room, data_room, message_room};
-    ghost use Rattle.lapd_pair.specs.Station.{IsStation, IsActed, IsHanded, with_outs};
+    ghost use Rattle.lapd_pair.specs.Histories.{IsHistory, HasHistoryRoom, step_room, data_room, message_room};
+    ghost use Rattle.lapd_pair.specs.Station.{IsStation, IsActed, HasOctets, with_outs};
     ghost use Rattle.lapd_pair.specs.Moves.{IsRefusedAs};
-    ghost use Rattle.lapd_pair.specs.Telling.{IsTelling, IsCopy, flight_of, with_sent, history_told};
+    ghost use Rattle.lapd_pair.specs.Recording.{IsBetweenOutputs, IsCopy, flight_of, with_sent, history_after};
 
     /// Creates a side with its end of the link in state 4 and an empty history.
     pub fn new(alloc: Global, side: Side, params: Params) -> Result<RecordedLink, AllocError>
@@ -65,7 +65,7 @@ impl RecordedLink {
     /// Allocates the space on the line and in the history that one step may need.
     pub fn make_room(&mut self, outward: &mut Line) -> Result<(), AllocError>
         ensures line_room { OnOk result (HasRoomFor MOST_OUTPUTS outward.new) }
-        ensures history_room { OnOk result (HasRoom step_room self.new.history) }
+        ensures history_room { OnOk result (HasHistoryRoom step_room self.new.history) }
         ensures station { (side : Side) (t : world.Station) → IsStation side self.old t
             → IsStation side self.new t }
         ensures line { (from : Side) (frames : List Flight) → IsOn from outward.old frames
@@ -79,7 +79,7 @@ impl RecordedLink {
     /// Allocates the space on the line and in the history that a submitted message needs.
     pub fn make_room_for_message(&mut self, outward: &mut Line) -> Result<(), AllocError>
         ensures line_room { OnOk result (HasRoomFor MOST_OUTPUTS outward.new) }
-        ensures history_room { OnOk result (HasRoom message_room self.new.history) }
+        ensures history_room { OnOk result (HasHistoryRoom message_room self.new.history) }
         ensures station { (side : Side) (t : world.Station) → IsStation side self.old t
             → IsStation side self.new t }
         ensures line { (from : Side) (frames : List Flight) → IsOn from outward.old frames
@@ -96,7 +96,7 @@ impl RecordedLink {
         requires { HasRoomFor 1 outward.old }
         ensures shows { (side : Side) (e : End) (o : Occasion) (rest : List states.Out)
             (copy : Option (Vec ℕ Global)) (t : Story) → octets.now ≡ o.octets
-            → IsTelling side e o (out.now ∷ rest) self.now outward.old copy t
+            → IsBetweenOutputs side e o (out.now ∷ rest) self.now outward.old copy t
             → IsOn side outward.new (with_sent (flight_of o t.history.passed out.now) t.line) }
         ensures room { (n : ℕ) → HasRoomFor (n + 1) outward.old → HasRoomFor n outward.new }
     {
@@ -109,15 +109,15 @@ impl RecordedLink {
     /// just received moves into the history.
     #[inline(always)]
     fn write_down(&mut self, out: &Out, copy: &mut Option<Vec<u8>>)
-        requires { IfSome copy.old (λ _. HasRoom data_room self.old.history) }
+        requires { IfSome copy.old (λ _. HasHistoryRoom data_room self.old.history) }
         ensures shows { (side : Side) (e : End) (o : Occasion) (rest : List states.Out)
             (line : Line) (t : Story)
-            → IsTelling side e o (out.now ∷ rest) self.old line copy.old t
-            → IsHistory self.new.history e.given (history_told o out.now t.history) }
+            → IsBetweenOutputs side e o (out.now ∷ rest) self.old line copy.old t
+            → IsHistory self.new.history e.given (history_after o out.now t.history) }
         ensures copied { (octets : List ℕ) (rest : List states.Out)
             → IsCopy octets (ups (out.now ∷ rest) + unit_ups (out.now ∷ rest)) copy.old
             → IsCopy octets (ups rest + unit_ups rest) copy.new }
-        ensures room { IfSome copy.new (λ _. HasRoom data_room self.new.history) }
+        ensures room { IfSome copy.new (λ _. HasHistoryRoom data_room self.new.history) }
         ensures link { self.new.link ≡ self.old.link }
     {
         match out {
@@ -156,10 +156,11 @@ impl RecordedLink {
         outward: &mut Line,
     )
         requires line_room { HasRoomFor (length outs.now) outward.old }
-        requires history_room { IfSome copy.old (λ _. HasRoom data_room self.old.history) }
+        requires history_room { IfSome copy.old (λ _. HasHistoryRoom data_room self.old.history) }
         ensures shows { (side : Side) (e : End) (o : Occasion) (t : Story) → octets.now ≡ o.octets
-            → IsTelling side e o outs.now self.old outward.old copy.old t
-            → IsTelling side e o [] self.new outward.new copy.new (told o outs.now t) }
+            → IsBetweenOutputs side e o outs.now self.old outward.old copy.old t
+            → IsBetweenOutputs side e o [] self.new outward.new copy.new
+            (after_outputs o outs.now t) }
         ensures link { self.new.link ≡ self.old.link }
     {
         for out in outs {
@@ -170,12 +171,12 @@ impl RecordedLink {
 
     /// Records the beginning of an establishment, if one begins.
     fn note_beginning(&mut self, begins: bool)
-        requires { HasRoom step_room self.old.history }
+        requires { HasHistoryRoom step_room self.old.history }
         ensures shows { (messages : List (List ℕ)) (h : histories.History) (before now : ℕ)
             → begins ≡ not (before == now)
             → IsHistory self.old.history messages h → IsHistory self.new.history messages
             (with_beginning before now h) }
-        ensures room { HasRoom data_room self.new.history }
+        ensures room { HasHistoryRoom data_room self.new.history }
         ensures link { self.new.link ≡ self.old.link }
     {
         if begins {
@@ -197,11 +198,11 @@ impl RecordedLink {
     ) -> Result<(), PairFault>
         requires for_link { IsForLink self.old.link event }
         requires line_room { HasRoomFor MOST_OUTPUTS outward.old }
-        requires history_room { HasRoom step_room self.old.history }
+        requires history_room { HasHistoryRoom step_room self.old.history }
         ensures ok { IfOk (with_outs result outs.new)
-            (λ outs. (side : Side) (place : ℕ) (v : View) → IsKept Tagged v.station
+            (λ outs. (side : Side) (place : ℕ) (v : View) → IsConsistent Tagged v.station
             → IsStation side self.old v.station → IsOn side outward.old v.outgoing
-            → length octets.now ≤ n201 → IsHanded (input_of event.entry) octets.now copy
+            → length octets.now ≤ n201 → HasOctets (input_of event.entry) octets.now copy
             → IsActed side self.new outward.new (stepped octets.now place v
             (step Tagged (input_of event.entry) v.station.end)) outs.items) }
         ensures err { IfErr (with_outs result outs.new)
@@ -232,9 +233,9 @@ impl RecordedLink {
         outs: &mut Outs,
     ) -> Result<(), PairFault>
         requires line_room { HasRoomFor MOST_OUTPUTS outward.old }
-        requires history_room { HasRoom message_room self.old.history }
+        requires history_room { HasHistoryRoom message_room self.old.history }
         ensures ok { IfOk (with_outs result outs.new)
-            (λ outs. (side : Side) (v : View) → IsKept Tagged v.station
+            (λ outs. (side : Side) (v : View) → IsConsistent Tagged v.station
             → IsStation side self.old v.station → IsOn side outward.old v.outgoing
             → copy.items ≡ message.items
             → IsActed side self.new outward.new (stepped [] 0 v

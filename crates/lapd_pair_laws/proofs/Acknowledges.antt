@@ -4,12 +4,12 @@ use Rattle.std.proofs.Common.{◌≡◌, ◌⊎◌, inl, inr, ℕ, zero, suc, �
 use Rattle.std.specs.List.{range_with_len}
 use Rattle.lapd_pair_laws.specs.Safe.{IsAmong}
 use Rattle.lapd_pair_laws.specs.Kinds.{Kind, Status, messages, numbers, rejections}
-use Rattle.lapd_pair_laws.specs.Parties.{Sender, Party, hearing_now, hears, OnHearing, frames_heard}
-use Rattle.lapd_pair_laws.specs.Conjuncts.{HasPlace, IsGot, IsPlaced, IsNumbering, IsAwaiting, IsHeard, most_asks}
-use Rattle.lapd_pair_laws.proofs.Hearings.{on_both, by_open}
+use Rattle.lapd_pair_laws.specs.Parties.{Sender, Party, reception_now, receives, OnReception, frames_received}
+use Rattle.lapd_pair_laws.specs.Conjuncts.{HasPlace, IsGot, IsPlaced, IsNumbering, IsAwaiting, IsReceivable, most_asks}
+use Rattle.lapd_pair_laws.proofs.Receptions.{on_both, by_open}
 use Rattle.lapd_pair_laws.proofs.Lists.{each_map}
 use Rattle.lapd_pair_laws.proofs.Losses.{asked_less, rejected_map, exchange_less}
-use Rattle.lapd_pair_laws.proofs.MidSteps.{Mid, numbering, open_kept, no_answer_out}
+use Rattle.lapd_pair_laws.proofs.MidSteps.{Mid, numbering, open_consistent, no_answer_out}
 use Rattle.lapd_pair_laws.proofs.Parts.{part_whole, part_first}
 use Rattle.lapd_pair_laws.proofs.Runs.{climb_top}
 
@@ -38,24 +38,24 @@ among_either place (x ∷ xs) ys (inr there) = elim (among_either place xs ys th
 placed_acknowledging : (nr : ℕ) (s : Sender) → (m : _) → IsPlaced s m → IsPlaced (acknowledging_sender nr s) m
 placed_acknowledging nr s m p = record { place = p.place; same = p.same; sent = p.sent }
 
-awaiting_acknowledging : (x : Party) (nr : ℕ) (ks : List Kind) (n : ℕ) → IsAwaiting n (hearing_now x (Status nr ∷ ks)) → IsAwaiting n (hearing_now (acknowledging nr x) ks)
+awaiting_acknowledging : (x : Party) (nr : ℕ) (ks : List Kind) (n : ℕ) → IsAwaiting n (reception_now x (Status nr ∷ ks)) → IsAwaiting n (reception_now (acknowledging nr x) ks)
 awaiting_acknowledging x nr ks n w = record { rejecting = w.rejecting; at = w.at; above = w.above }
 
-pub keeps_acknowledging : (x y : Party) (out : List Kind) (nr : ℕ) (ks : List Kind) → Mid x y out (Status nr ∷ ks) → Mid (acknowledging nr x) y out ks
-keeps_acknowledging x y out nr ks m =
-    let was = hearing_now x (Status nr ∷ ks) in
+pub preserves_acknowledging : (x y : Party) (out : List Kind) (nr : ℕ) (ks : List Kind) → Mid x y out (Status nr ∷ ks) → Mid (acknowledging nr x) y out ks
+preserves_acknowledging x y out nr ks m =
+    let was = reception_now x (Status nr ∷ ks) in
     let z = acknowledging nr x in
-    let now = hearing_now z ks in
+    let now = reception_now z ks in
     let n : IsNumbering x.sends = numbering m in
     let acks = m.its.heard.acks in
     let low : x.sends.va ≤ nr = acks.climb.0 in
     let high_ : nr ≤ x.sends.vs = climb_top nr x.sends.vs (numbers ks) acks.climb.1 in
     let got : IsGot x.sends.base nr y.takes.received = acks.known.0 in
-    let reached : OnHearing (λ h. nr ≤ h.vr) (hears y out) = by_open (λ h. nr ≤ h.vr) y out (no_answer_out nr (numbers ks) refl m) (λ opened. climb_top nr y.takes.vr (numbers ks) (acks.top opened).0.1) in
+    let reached : OnReception (λ h. nr ≤ h.vr) (receives y out) = by_open (λ h. nr ≤ h.vr) y out (no_answer_out nr (numbers ks) refl m) (λ opened. climb_top nr y.takes.vr (numbers ks) (acks.top opened).0.1) in
     record {
       opened = m.opened;
       mine = record {
-        kept = open_kept x.state x.asked x.leaving z.sends m.opened (record {
+        kept = open_consistent x.state x.asked x.leaving z.sends m.opened (record {
           first = omega (arith, n.first, low);
           next = n.next;
           ordered = high_;
@@ -68,7 +68,7 @@ keeps_acknowledging x y out nr ks m =
         lately = m.mine.lately;
         none_yet = m.mine.none_yet;
         below = m.mine.below;
-        heard = on_both (λ h. nr ≤ h.vr) (IsHeard x y (Some was)) (IsHeard z y (Some now)) (hears y out) (λ h above i. record {
+        heard = on_both (λ h. nr ≤ h.vr) (IsReceivable x y (Some was)) (IsReceivable z y (Some now)) (receives y out) (λ h above i. record {
           stream = record {
             placed = each_map (IsPlaced x.sends) (IsPlaced z.sends) (messages h.frames) (λ m. placed_acknowledging nr x.sends m) i.stream.placed;
             near = i.stream.near;
@@ -101,7 +101,7 @@ keeps_acknowledging x y out nr ks m =
         heard = record {
           stream = m.its.heard.stream;
           acks = record { climb = acks.climb.1; known = acks.known.1; top = λ opened. ((acks.top opened).0.1, (acks.top opened).1) };
-          asked = asked_less x.state x.sends.base y.takes.received (part_whole (frames_heard (hears y out))) (part_first (Status nr) ks) m.its.heard.asked;
+          asked = asked_less x.state x.sends.base y.takes.received (part_whole (frames_received (receives y out))) (part_first (Status nr) ks) m.its.heard.asked;
           rejected = m.its.heard.rejected;
         };
         exchange = exchange_less (most_asks y.state) (part_first (Status nr) ks) (part_whole out) m.its.exchange;

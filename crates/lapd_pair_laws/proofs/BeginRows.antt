@@ -19,17 +19,17 @@ use Rattle.lapd_link_definition.specs.Established.{in_7_and_8}
 use Rattle.lapd_link_definition.specs.Input.{Heard}
 use Rattle.lapd_link_definition.specs.Procedures.{out_where, counted, put, state_to, start, stop, clear_exception_conditions, zero_state_variables, discard_i_queue, discard_unacknowledged}
 use Rattle.lapd_link_definition.specs.TeiAssigned.{tei_assigned}
-use Rattle.lapd_pair_laws.specs.Histories.{Occasion, Story, told, with_beginning}
+use Rattle.lapd_pair_laws.specs.Histories.{Occasion, Story, after_outputs, with_beginning}
 use Rattle.lapd_pair_laws.specs.Move.{story_after}
 use Rattle.lapd_pair_laws.specs.Kinds.{Kind, Asks, Accepts}
 use Rattle.lapd_pair_laws.specs.Parties.{Sender, Party}
-use Rattle.lapd_pair_laws.specs.Conjuncts.{IsEmpty, IsHolding, IsNumbering, IsKept, is_holding, most_asks, high}
+use Rattle.lapd_pair_laws.specs.Conjuncts.{IsEmpty, IsHolding, IsNumbering, IsConsistentSender, is_holding, most_asks, high}
 use Rattle.lapd_pair_laws.specs.Invariant.{Both}
 use Rattle.lapd_pair_laws.proofs.Begins.{beginning, IsFresh, by_acceptance, by_asking}
 use Rattle.lapd_pair_laws.proofs.Closed.{still_sender}
 use Rattle.lapd_pair_laws.proofs.ClosedRows.{here}
 use Rattle.lapd_pair_laws.proofs.Closings.{all_passed, passes_all}
-use Rattle.lapd_pair_laws.proofs.ActionEffects.{Context, story, occasion, seen, line, told_append}
+use Rattle.lapd_pair_laws.proofs.ActionEffects.{Context, story, occasion, seen, line, after_outputs_append}
 use Rattle.lapd_pair_laws.proofs.Lists.{by_test}
 use Rattle.lapd_pair_laws.proofs.MidSteps.{Mid, open_numbering, open_holds, open_asks_none}
 use Rattle.lapd_pair_laws.proofs.Receipts.{high_given}
@@ -42,13 +42,13 @@ abbrev rebegun : List ℕ → Story → Story
 rebegun b t = record t { history = record (t.history) { begun = b } }
 
 abbrev pub AreBlind : List Out → Type 0
-AreBlind outs = (o u : Occasion) (b : List ℕ) (t : Story) → told u outs (rebegun b t) ≡ rebegun b (told o outs t)
+AreBlind outs = (o u : Occasion) (b : List ℕ) (t : Story) → after_outputs u outs (rebegun b t) ≡ rebegun b (after_outputs o outs t)
 
 pub none_is_blind : AreBlind []
 none_is_blind o u b t = refl
 
 blind_more : (xs ys : List Out) → AreBlind xs → AreBlind ys → AreBlind (xs ++ ys)
-blind_more xs ys p q o u b t = told_append u xs ys (rebegun b t) ∙ ap (λ r. told u ys r) (p o u b t) ∙ q o u b (told o xs t) ∙ ap (λ r. rebegun b r) (sym (told_append o xs ys t))
+blind_more xs ys p q o u b t = after_outputs_append u xs ys (rebegun b t) ∙ ap (λ r. after_outputs u ys r) (p o u b t) ∙ q o u b (after_outputs o xs t) ∙ ap (λ r. rebegun b r) (sym (after_outputs_append o xs ys t))
 
 dropped_blind : (test : Bool) (n : ℕ) → AreBlind (out_where test (Dropped n))
 dropped_blind true n o u b t = refl
@@ -101,9 +101,9 @@ by_outstanding P s same other = cases (s.end.window.vs == s.end.window.va) refl
 abbrev waiting_from : ℕ → ℕ → ℕ → Party → Party
 waiting_from first next passed x = record x { sends = still_sender first next passed x.sends }
 
-seems_kept : (c : Context) (s : StepState) (p : Party) (l : List Kind) → Seems c s p l → Seems c (discards_by true s) p l
+seems_preserved : (c : Context) (s : StepState) (p : Party) (l : List Kind) → Seems c s p l → Seems c (discards_by true s) p l
 unfolding story_after
-seems_kept c s p l w = by_story c (discards_by true s) (story c s) p l (told_append _ s.outs [] _) w.party w.line
+seems_preserved c s p l w = by_story c (discards_by true s) (story c s) p l (after_outputs_append _ s.outs [] _) w.party w.line
 
 discards_all : (s : StepState) → discards_by false s ≡ put Established (discard_i_queue s)
 unfolding put discard_i_queue
@@ -115,8 +115,8 @@ discards_all s = ap (λ l. outs_of l) (sym (append_assoc s.outs (counted (waitin
 seems_all_dropped : (c : Context) (s : StepState) (p : Party) (l : List Kind) → Seems c s p l → Seems c (discards_by false s) (dropping p) l
 seems_all_dropped c s p l w = subst (λ t. Seems c t (dropping p) l) (sym (discards_all s)) (seems_put c Established (discard_i_queue s) (dropping p) l (λ o t. refl) (seems_discard c s p l w))
 
-kept_blind : (s : StepState) → AreBlind s.outs → AreBlind (discards_by true s).outs
-kept_blind s blind = blind_more s.outs [] blind none_is_blind
+preserved_blind : (s : StepState) → AreBlind s.outs → AreBlind (discards_by true s).outs
+preserved_blind s blind = blind_more s.outs [] blind none_is_blind
 
 all_dropped_blind : (s : StepState) → AreBlind s.outs → AreBlind (discards_by false s).outs
 all_dropped_blind s blind = blind_more s.outs (counted (waiting s.end) Dropped ++ Established ∷ []) blind
@@ -159,11 +159,11 @@ unfolding put
 put_blind s out one blind = blind_more s.outs (out ∷ []) blind one
 
 -- what the invariant states in state 5
-holding_in_5 : (state : State) (asked leaving : Bool) (s : Sender) → state ≡ AwaitingEstablishment → leaving ≡ false → asked ≡ false → IsKept state asked leaving s → IsHolding s
-holding_in_5 state asked leaving s is stays itself kept = subst (λ a. IsKept AwaitingEstablishment a false s) itself (subst (λ on. IsKept AwaitingEstablishment asked on s) stays (subst (λ st. IsKept st asked leaving s) is kept))
+holding_in_5 : (state : State) (asked leaving : Bool) (s : Sender) → state ≡ AwaitingEstablishment → leaving ≡ false → asked ≡ false → IsConsistentSender state asked leaving s → IsHolding s
+holding_in_5 state asked leaving s is stays itself kept = subst (λ a. IsConsistentSender AwaitingEstablishment a false s) itself (subst (λ on. IsConsistentSender AwaitingEstablishment asked on s) stays (subst (λ st. IsConsistentSender st asked leaving s) is kept))
 
-empty_in_5 : (state : State) (asked leaving : Bool) (s : Sender) → state ≡ AwaitingEstablishment → leaving ≡ false → asked ≡ true → IsKept state asked leaving s → IsEmpty s
-empty_in_5 state asked leaving s is stays by_layer3 kept = subst (λ a. IsKept AwaitingEstablishment a false s) by_layer3 (subst (λ on. IsKept AwaitingEstablishment asked on s) stays (subst (λ st. IsKept st asked leaving s) is kept))
+empty_in_5 : (state : State) (asked leaving : Bool) (s : Sender) → state ≡ AwaitingEstablishment → leaving ≡ false → asked ≡ true → IsConsistentSender state asked leaving s → IsEmpty s
+empty_in_5 state asked leaving s is stays by_layer3 kept = subst (λ a. IsConsistentSender AwaitingEstablishment a false s) by_layer3 (subst (λ on. IsConsistentSender AwaitingEstablishment asked on s) stays (subst (λ st. IsConsistentSender st asked leaving s) is kept))
 
 -- the establishment is confirmed or indicated, and the link is established
 pub ends_established : (c : Context) (ks : List Kind) (s : StepState) → s.end.state ≡ AwaitingEstablishment → s.end.release_pending ≡ false → AreBlind s.outs → Both (seen c s) c.peer (line c s) (Accepts ∷ ks)
@@ -179,7 +179,7 @@ ends_established c ks s is stays blind b =
     (λ by_layer3. begun_by_ua c ks s (put Confirmed s) s.end.first s.end.next x.sends.passed is stays (put_blind s Confirmed (λ o u b t. refl) blind) (seems_put c Confirmed s x l (λ o t. refl) (here c s))
     (fresh_empty x y l (Accepts ∷ ks) b (empty_in_5 s.end.state s.end.layer3_initiated s.end.release_pending x.sends is stays by_layer3 b.mine.kept)) b)
     (λ itself. by_outstanding After s
-    (λ none. begun_by_ua c ks s (discards_by true s) s.end.first s.end.next x.sends.passed is stays (kept_blind s blind) (seems_kept c s x l (here c s))
+    (λ none. begun_by_ua c ks s (discards_by true s) s.end.first s.end.next x.sends.passed is stays (preserved_blind s blind) (seems_preserved c s x l (here c s))
     (fresh_settled x y l (Accepts ∷ ks) b none (holding_in_5 s.end.state s.end.layer3_initiated s.end.release_pending x.sends is stays itself b.mine.kept) (b.mine.below (holds s.end.state s.end.layer3_initiated s.end.release_pending is stays itself))) b)
     (begun_by_ua c ks s (discards_by false s) n n (all_passed x.sends) is stays (all_dropped_blind s blind) (seems_all_dropped c s x l (here c s)) (fresh_dropped x y l (Accepts ∷ ks) b) b))
   where
@@ -206,7 +206,7 @@ ends_sabme_in_4 c ks s is blind b =
     let s4 = s3 ▷ put Established in
     let s5 = s4 ▷ start T203 in
     let p = zeroed n (cleared x) in
-    let kept : IsEmpty x.sends = subst (λ st. IsKept st s.end.layer3_initiated s.end.release_pending x.sends) is b.mine.kept in
+    let kept : IsEmpty x.sends = subst (λ st. IsConsistentSender st s.end.layer3_initiated s.end.release_pending x.sends) is b.mine.kept in
     let said : Seems c s2 (cleared x) k = seems_clear c s1 x k (seems_send c Answer (Ua true) Accepts s x l refl (here c s)) in
     ends_begun c n ks (s5 ▷ state_to MultipleFrameEstablished) (beginning s.end.first s.end.next x.sends.passed false x) k
     (seems_state e MultipleFrameEstablished s5 p k (seems_start e T203 s4 p k (seems_put e Established s3 p k (λ o t. refl)
@@ -254,6 +254,6 @@ ends_sabme_in_7_8 c ks s opened blind b =
     let said : Seems c s3 (cleared x) k = seems_put c (Report letter.F) s2 (cleared x) k (λ o t. refl) (seems_clear c s1 x k (seems_send c Answer (Ua true) Accepts s x l refl (here c s))) in
     let unheeded : AreBlind s3.outs = put_blind s2 (Report letter.F) (λ o u b t. refl) (clear_blind s1 (put_blind s (Send Answer (Ua true)) (λ o u b t. refl) blind)) in
     by_outstanding (λ d. Ends c ks (end_step Whole (d ▷ stop T200 ▷ start T203 ▷ zero_state_variables ▷ state_to MultipleFrameEstablished))) s3
-    (λ none. begun_by_sabme c ks s (discards_by true s3) s.end.first s.end.next x.sends.passed opened (kept_blind s3 unheeded) (seems_kept c s3 (cleared x) k said)
+    (λ none. begun_by_sabme c ks s (discards_by true s3) s.end.first s.end.next x.sends.passed opened (preserved_blind s3 unheeded) (seems_preserved c s3 (cleared x) k said)
     (fresh_settled x y l (Asks ∷ ks) b (as_before s none) (record { first = numbers_.first; next = numbers_.next; ordered = numbers_.ordered; within = numbers_.within }) (b.mine.below (open_holds s.end.state s.end.layer3_initiated s.end.release_pending opened))) b)
     (begun_by_sabme c ks s (discards_by false s3) n n (all_passed x.sends) opened (all_dropped_blind s3 unheeded) (seems_all_dropped c s3 (cleared x) k said) (fresh_dropped x y l (Asks ∷ ks) b) b)

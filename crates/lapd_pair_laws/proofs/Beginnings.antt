@@ -2,8 +2,8 @@
 use Rattle.lapd_link_definition.specs.End.{begin}
 use Rattle.lapd_pair_laws.specs.Move.{Deliver}
 use Rattle.lapd_pair_laws.proofs.BeginRows.{none_is_blind, ends_established, ends_sabme_in_4, ends_sabme_in_7_8}
-use Rattle.lapd_pair_laws.proofs.Delivers.{Beginnings, keeps_deliver}
-use Rattle.lapd_pair_laws.proofs.Worlds.{Keeps}
+use Rattle.lapd_pair_laws.proofs.Delivers.{Beginnings, preserves_deliver}
+use Rattle.lapd_pair_laws.proofs.Worlds.{Preserves}
 
 pub beginnings : Beginnings
 unfolding begin
@@ -13,5 +13,5 @@ beginnings = record {
   in_7_or_8 = λ c ks opened b. ends_sabme_in_7_8 c ks (begin c.view.station.end) opened none_is_blind b;
 }
 
-pub keeps_delivery : Keeps Deliver
-keeps_delivery = keeps_deliver beginnings
+pub preserves_delivery : Preserves Deliver
+preserves_delivery = preserves_deliver beginnings

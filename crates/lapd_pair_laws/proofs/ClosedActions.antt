@@ -17,12 +17,12 @@ use Rattle.lapd_link_definition.specs.EndOfStep.{is_7_or_8, is_established, may_
 use Rattle.lapd_link_definition.specs.End.{End, StepState, unsent, waiting, runs}
 use Rattle.lapd_link_definition.specs.Procedures.{out_where, counted, put, state_to, rc_to, increment_rc, layer3_initiated_to, release_pending_to, start, stop, expired, clear_exception_conditions, discard_i_queue, establish_data_link, reestablish_data_link}
 use Rattle.lapd_link_definition.proofs.Sending.{sends_none}
-use Rattle.lapd_pair_laws.specs.Histories.{Occasion, Story, tell, told, with_dropped}
+use Rattle.lapd_pair_laws.specs.Histories.{Occasion, Story, after_output, after_outputs, with_dropped}
 use Rattle.lapd_pair_laws.specs.Move.{story_after}
 use Rattle.lapd_pair_laws.specs.Kinds.{Kind, Asks, kind_of, kinds}
 use Rattle.lapd_pair_laws.specs.Parties.{Party, party_of}
 use Rattle.lapd_pair_laws.specs.Invariant.{Both}
-use Rattle.lapd_pair_laws.proofs.ActionEffects.{Context, story, occasion, seen, line, told_append, stop_told, one_behind}
+use Rattle.lapd_pair_laws.proofs.ActionEffects.{Context, story, occasion, seen, line, after_outputs_append, after_stop, one_behind}
 
 -- the side and its line
 pub record Seems (c : Context) (s : StepState) (p : Party) (l : List Kind) : Type 0 where
@@ -35,11 +35,11 @@ by_story c t after p l so q r = record { party = ap (λ st. party_of c.base t.en
 -- ---- Outputs that are not recorded.
 
 abbrev pub IsUntold : Out → Type 0
-IsUntold out = (o : Occasion) (t : Story) → tell o out t ≡ t
+IsUntold out = (o : Occasion) (t : Story) → after_output o out t ≡ t
 
 pub seems_put : (c : Context) (out : Out) (s : StepState) (p : Party) (l : List Kind) → IsUntold out → Seems c s p l → Seems c (put out s) p l
 unfolding story_after put
-seems_put c out s p l untold w = by_story c (put out s) (story c s) p l (told_append _ s.outs (out ∷ []) _ ∙ untold (occasion c s) (story c s)) w.party w.line
+seems_put c out s p l untold w = by_story c (put out s) (story c s) p l (after_outputs_append _ s.outs (out ∷ []) _ ∙ untold (occasion c s) (story c s)) w.party w.line
 
 pub seems_rc : (c : Context) (n : ℕ) (s : StepState) (p : Party) (l : List Kind) → Seems c s p l → Seems c (rc_to n s) p l
 unfolding story_after rc_to
@@ -55,24 +55,24 @@ seems_expired c s p l w = record { party = w.party; line = w.line }
 
 pub seems_start : (c : Context) (timer : Timer) (s : StepState) (p : Party) (l : List Kind) → Seems c s p l → Seems c (start timer s) p l
 unfolding story_after start
-seems_start c T200 s p l w = by_story c (start T200 s) (story c s) p l (told_append _ s.outs (Start T200 ∷ []) _) w.party w.line
-seems_start c T201 s p l w = by_story c (start T201 s) (story c s) p l (told_append _ s.outs (Start T201 ∷ []) _) w.party w.line
-seems_start c T202 s p l w = by_story c (start T202 s) (story c s) p l (told_append _ s.outs (Start T202 ∷ []) _) w.party w.line
-seems_start c T203 s p l w = by_story c (start T203 s) (story c s) p l (told_append _ s.outs (Start T203 ∷ []) _) w.party w.line
+seems_start c T200 s p l w = by_story c (start T200 s) (story c s) p l (after_outputs_append _ s.outs (Start T200 ∷ []) _) w.party w.line
+seems_start c T201 s p l w = by_story c (start T201 s) (story c s) p l (after_outputs_append _ s.outs (Start T201 ∷ []) _) w.party w.line
+seems_start c T202 s p l w = by_story c (start T202 s) (story c s) p l (after_outputs_append _ s.outs (Start T202 ∷ []) _) w.party w.line
+seems_start c T203 s p l w = by_story c (start T203 s) (story c s) p l (after_outputs_append _ s.outs (Start T203 ∷ []) _) w.party w.line
 
 pub seems_stop : (c : Context) (timer : Timer) (s : StepState) (p : Party) (l : List Kind) → Seems c s p l → Seems c (stop timer s) p l
 unfolding story_after stop
-seems_stop c T200 s p l w = by_story c (stop T200 s) (story c s) p l (told_append _ s.outs (out_where (runs T200 s.end) (Stop T200)) _ ∙ stop_told (runs T200 s.end) T200 (occasion c s) (story c s)) w.party w.line
-seems_stop c T201 s p l w = by_story c (stop T201 s) (story c s) p l (told_append _ s.outs (out_where (runs T201 s.end) (Stop T201)) _ ∙ stop_told (runs T201 s.end) T201 (occasion c s) (story c s)) w.party w.line
-seems_stop c T202 s p l w = by_story c (stop T202 s) (story c s) p l (told_append _ s.outs (out_where (runs T202 s.end) (Stop T202)) _ ∙ stop_told (runs T202 s.end) T202 (occasion c s) (story c s)) w.party w.line
-seems_stop c T203 s p l w = by_story c (stop T203 s) (story c s) p l (told_append _ s.outs (out_where (runs T203 s.end) (Stop T203)) _ ∙ stop_told (runs T203 s.end) T203 (occasion c s) (story c s)) w.party w.line
+seems_stop c T200 s p l w = by_story c (stop T200 s) (story c s) p l (after_outputs_append _ s.outs (out_where (runs T200 s.end) (Stop T200)) _ ∙ after_stop (runs T200 s.end) T200 (occasion c s) (story c s)) w.party w.line
+seems_stop c T201 s p l w = by_story c (stop T201 s) (story c s) p l (after_outputs_append _ s.outs (out_where (runs T201 s.end) (Stop T201)) _ ∙ after_stop (runs T201 s.end) T201 (occasion c s) (story c s)) w.party w.line
+seems_stop c T202 s p l w = by_story c (stop T202 s) (story c s) p l (after_outputs_append _ s.outs (out_where (runs T202 s.end) (Stop T202)) _ ∙ after_stop (runs T202 s.end) T202 (occasion c s) (story c s)) w.party w.line
+seems_stop c T203 s p l w = by_story c (stop T203 s) (story c s) p l (after_outputs_append _ s.outs (out_where (runs T203 s.end) (Stop T203)) _ ∙ after_stop (runs T203 s.end) T203 (occasion c s) (story c s)) w.party w.line
 
 -- ---- Actions with a visible effect.
 
 pub seems_send : (c : Context) (role : Role) (control : Control) (u : Kind) (s : StepState) (p : Party) (l : List Kind) → kind_of role control [] 0 ≡ u → Seems c s p l → Seems c (put (Send role control) s) p (l ++ u ∷ [])
 unfolding story_after put
 seems_send c role control u s p l is w =
-    by_story c (put (Send role control) s) (told (occasion c s) (Send role control ∷ []) (story c s)) p (l ++ u ∷ []) (told_append _ s.outs (Send role control ∷ []) _) w.party
+    by_story c (put (Send role control) s) (after_outputs (occasion c s) (Send role control ∷ []) (story c s)) p (l ++ u ∷ []) (after_outputs_append _ s.outs (Send role control ∷ []) _) w.party
     (one_behind (story c s).line role control u is ∙ ap (λ ks. ks ++ u ∷ []) w.line)
 
 pub seems_state : (c : Context) (state : State) (s : StepState) (p : Party) (l : List Kind) → Seems c s p l → Seems c (state_to state s) (record p { state = state }) l
@@ -117,14 +117,14 @@ dropped_history n t = record t { history = with_dropped n t.history }
 abbrev pub SameStory : Story → Story → Type 0
 SameStory t u = (base : ℕ) (e : End) → (party_of base e t.history ≡ party_of base e u.history) × (t.line ≡ u.line)
 
-dropped_told : (n : ℕ) (o : Occasion) (t : Story) → SameStory (told o (counted n Dropped) t) (dropped_history n t)
-dropped_told zero o t base e = (ap (λ q. passing q) (omega arith), refl)
+after_dropped : (n : ℕ) (o : Occasion) (t : Story) → SameStory (after_outputs o (counted n Dropped) t) (dropped_history n t)
+after_dropped zero o t base e = (ap (λ q. passing q) (omega arith), refl)
   where
     passing : ℕ → Party
     passing q = party_of base e (record (t.history) { passed = q })
-dropped_told (suc n) o t base e = by_some (nat_lt 0 (suc n)) (grind (arith, nat_tests))
+after_dropped (suc n) o t base e = by_some (nat_lt 0 (suc n)) (grind (arith, nat_tests))
   where
-    by_some : (test : Bool) → test ≡ true → (party_of base e (told o (out_where test (Dropped (suc n))) t).history ≡ party_of base e (dropped_history (suc n) t).history) × ((told o (out_where test (Dropped (suc n))) t).line ≡ t.line)
+    by_some : (test : Bool) → test ≡ true → (party_of base e (after_outputs o (out_where test (Dropped (suc n))) t).history ≡ party_of base e (dropped_history (suc n) t).history) × ((after_outputs o (out_where test (Dropped (suc n))) t).line ≡ t.line)
     by_some true is = (refl, refl)
     by_some false is = cc
 
@@ -133,11 +133,11 @@ unfolding story_after discard_i_queue
 seems_discard c s p l w =
     let n = waiting s.end in
     let e = (discard_i_queue s).end in
-    let so : story c (discard_i_queue s) ≡ told (occasion c s) (counted n Dropped) (story c s) = told_append _ s.outs (counted n Dropped) _ in
-    let told_so = dropped_told n (occasion c s) (story c s) c.base e in
+    let so : story c (discard_i_queue s) ≡ after_outputs (occasion c s) (counted n Dropped) (story c s) = after_outputs_append _ s.outs (counted n Dropped) _ in
+    let after_outputs_so = after_dropped n (occasion c s) (story c s) c.base e in
     record {
-      party = ap (λ st. party_of c.base e st.history) so ∙ told_so.0 ∙ ap (λ q. at q) w.party;
-      line = ap (λ st. kinds st.line) so ∙ ap (λ fs. kinds fs) told_so.1 ∙ w.line;
+      party = ap (λ st. party_of c.base e st.history) so ∙ after_outputs_so.0 ∙ ap (λ q. at q) w.party;
+      line = ap (λ st. kinds st.line) so ∙ ap (λ fs. kinds fs) after_outputs_so.1 ∙ w.line;
     }
   where
     at : Party → Party

@@ -14,14 +14,14 @@ use Rattle.lapd_link_definition.specs.EndOfStep.{is_7_or_8, end_step}
 use Rattle.lapd_link_definition.specs.End.{StepState, ◌▷◌}
 use Rattle.lapd_link_definition.specs.Procedures.{put, state_to, rc_to, increment_rc, layer3_initiated_to, release_pending_to, start, stop, expired, discard_i_queue, establish_data_link, reestablish_data_link}
 use Rattle.lapd_pair_laws.specs.Kinds.{Kind, Asks, Accepts, Refuses, tally, ask_of, answer_of}
-use Rattle.lapd_pair_laws.specs.Parties.{Party, hearing_now, heard_in}
-use Rattle.lapd_pair_laws.specs.Conjuncts.{IsNumbering, IsEmpty, IsKept, is_holding, most_asks}
+use Rattle.lapd_pair_laws.specs.Parties.{Party, reception_now, received_in}
+use Rattle.lapd_pair_laws.specs.Conjuncts.{IsNumbering, IsEmpty, IsConsistentSender, is_holding, most_asks}
 use Rattle.lapd_pair_laws.specs.Invariant.{Both}
 use Rattle.lapd_pair_laws.proofs.Closed.{still, still_sender, same, deaf}
 use Rattle.lapd_pair_laws.proofs.Closings.{all_passed, passes_all, empties, leaving_is_empty, empty_where_leaving, asking, settling, refusing, accepts}
 use Rattle.lapd_pair_laws.proofs.ActionEffects.{Context, seen, line}
 use Rattle.lapd_pair_laws.proofs.Lists.{by_test}
-use Rattle.lapd_pair_laws.proofs.Losses.{hears_less, both_less}
+use Rattle.lapd_pair_laws.proofs.Losses.{receives_less, both_less}
 use Rattle.lapd_pair_laws.proofs.MidSteps.{open_numbering, open_holds, open_asks_none}
 use Rattle.lapd_pair_laws.proofs.Parts.{part_whole, part_first}
 use Rattle.lapd_pair_laws.proofs.ClosedActions.{Seems, IsUntold, Ends, ends_closed, dropping, seems_put, seems_rc, seems_increment, seems_expired, seems_start, seems_stop, seems_send, seems_state, seems_layer3, seems_pending, seems_discard, seems_establish, seems_reestablish}
@@ -45,14 +45,14 @@ ends_refusing c ks s closed b =
     let x = seen c s in
     ends_closed c ks (put (Send Answer (Dm true)) s) x (line c s ++ Refuses ∷ []) closed (seems_send c Answer (Dm true) Refuses s x (line c s) refl (here c s))
     (refusing x c.peer (line c s) ks s.end.state s.end.layer3_initiated s.end.release_pending x.sends.first x.sends.next x.sends.passed x.takes.rejecting b closed (omega (arith, b.mine.exchange.one)) b.mine.kept b.mine.passed (λ h. h)
-    (same refl (hears_less x (part_first Asks ks))))
+    (same refl (receives_less x (part_first Asks ks))))
 
 pub ends_accepting : (c : Context) (ks : List Kind) (s : StepState) → is_7_or_8 s.end.state ≡ false → Both (seen c s) c.peer (line c s) (Asks ∷ ks) → Ends c ks (end_step Whole (put (Send Answer (Ua true)) s))
 ends_accepting c ks s closed b =
     let x = seen c s in
     ends_closed c ks (put (Send Answer (Ua true)) s) x (line c s ++ Accepts ∷ []) closed (seems_send c Answer (Ua true) Accepts s x (line c s) refl (here c s))
     (accepts x c.peer (line c s) ks s.end.state s.end.layer3_initiated s.end.release_pending x.sends.first x.sends.next x.sends.passed x.takes.rejecting b closed (omega (arith, b.mine.exchange.one)) b.mine.kept b.mine.passed (λ h. h)
-    (same refl (hears_less x (part_first Asks ks))))
+    (same refl (receives_less x (part_first Asks ks))))
 
 -- ---- Layer 3 requests establishment or release.
 
@@ -80,9 +80,9 @@ ends_established_by_layer3 c ks s is b =
     ends_closed c ks (s ▷ discard_i_queue ▷ layer3_initiated_to true) (still s.end.state true s.end.release_pending n n (all_passed x.sends) x.takes.rejecting x) l closed
     (seems_layer3 c true (s ▷ discard_i_queue) (dropping x) l (seems_discard c s x l (here c s)))
     (settling x c.peer l ks ks s.end.state true s.end.release_pending n n (all_passed x.sends) x.takes.rejecting (part_whole ks) b closed b.mine.exchange.one
-    (subst (λ st. IsKept st true s.end.release_pending (still_sender n n (all_passed x.sends) x.sends)) (sym is) (empties n n (all_passed x.sends) x.sends refl refl)) (passes_all x c.peer l ks b)
+    (subst (λ st. IsConsistentSender st true s.end.release_pending (still_sender n n (all_passed x.sends) x.sends)) (sym is) (empties n n (all_passed x.sends) x.sends refl refl)) (passes_all x c.peer l ks b)
     (λ h. let never : is_holding AwaitingEstablishment true s.end.release_pending ≡ true = subst (λ st. is_holding st true s.end.release_pending ≡ true) is h in cc)
-    (same refl (hears_less x (part_whole ks))))
+    (same refl (receives_less x (part_whole ks))))
 
 never_holds : (state : State) (asked : Bool) → state ≡ AwaitingEstablishment → is_holding state asked true ≡ true → ⊥
 never_holds state true is h = let never : is_holding AwaitingEstablishment true true ≡ true = subst (λ st. is_holding st true true ≡ true) is h in cc
@@ -99,9 +99,9 @@ ends_release_pending c ks s is b =
     ends_closed c ks (s ▷ discard_i_queue ▷ release_pending_to true) z l closed
     (seems_pending c true (s ▷ discard_i_queue) (dropping x) l (seems_discard c s x l (here c s)))
     (settling x c.peer l ks ks s.end.state s.end.layer3_initiated true n n (all_passed x.sends) x.takes.rejecting (part_whole ks) b closed b.mine.exchange.one
-    (subst (λ st. IsKept st s.end.layer3_initiated true (still_sender n n (all_passed x.sends) x.sends)) (sym is) (leaving_is_empty s.end.layer3_initiated (still_sender n n (all_passed x.sends) x.sends) (empties n n (all_passed x.sends) x.sends refl refl))) (passes_all x c.peer l ks b)
+    (subst (λ st. IsConsistentSender st s.end.layer3_initiated true (still_sender n n (all_passed x.sends) x.sends)) (sym is) (leaving_is_empty s.end.layer3_initiated (still_sender n n (all_passed x.sends) x.sends) (empties n n (all_passed x.sends) x.sends refl refl))) (passes_all x c.peer l ks b)
     (λ h. absurd (never_holds s.end.state s.end.layer3_initiated is h))
-    (deaf (subst (λ st. heard_in st true (hearing_now z ks) ks ≡ None) (sym is) refl)))
+    (deaf (subst (λ st. received_in st true (reception_now z ks) ks ≡ None) (sym is) refl)))
 
 -- in states 7 and 8
 pub ends_releasing : (c : Context) (ks : List Kind) (s : StepState) → is_7_or_8 s.end.state ≡ true → Both (seen c s) c.peer (line c s) ks
@@ -201,7 +201,7 @@ ends_released_by_ua c ks s is pending b =
     let s2 = s1 ▷ rc_to 0 in
     let s3 = s2 ▷ put (Send Command (Disc true)) in
     let s4 = s3 ▷ start T200 in
-    let kept : IsEmpty x.sends = empty_where_leaving s.end.layer3_initiated x.sends (subst (λ on. IsKept AwaitingEstablishment s.end.layer3_initiated on x.sends) pending (subst (λ st. IsKept st s.end.layer3_initiated s.end.release_pending x.sends) is b.mine.kept)) in
+    let kept : IsEmpty x.sends = empty_where_leaving s.end.layer3_initiated x.sends (subst (λ on. IsConsistentSender AwaitingEstablishment s.end.layer3_initiated on x.sends) pending (subst (λ st. IsConsistentSender st s.end.layer3_initiated s.end.release_pending x.sends) is b.mine.kept)) in
     ends_closed c ks (s4 ▷ state_to AwaitingRelease) (still AwaitingRelease s.end.layer3_initiated false x.sends.first x.sends.next x.sends.passed x.takes.rejecting x) k refl
     (seems_state c AwaitingRelease s4 p k (seems_start c T200 s3 p k (seems_send c Command (Disc true) Asks s2 p l refl (seems_rc c 0 s1 p l (seems_pending c false s x l (here c s))))))
     (asking x c.peer l ks (Accepts ∷ ks) AwaitingRelease s.end.layer3_initiated false x.sends.first x.sends.next x.sends.passed x.takes.rejecting (part_first Accepts ks) b refl refl (omega (arith, one, most)) (omega (arith, one, most))
@@ -217,7 +217,7 @@ ends_released c k ks s is answers b =
     let most : most_asks s.end.state ≡ 1 = ap (λ st. most_asks st) is in
     let s1 = s ▷ stop T200 in
     let s2 = s1 ▷ put ReleaseConfirm in
-    let kept : IsEmpty x.sends = subst (λ st. IsKept st s.end.layer3_initiated s.end.release_pending x.sends) is b.mine.kept in
+    let kept : IsEmpty x.sends = subst (λ st. IsConsistentSender st s.end.layer3_initiated s.end.release_pending x.sends) is b.mine.kept in
     ends_closed c ks (s2 ▷ state_to TeiAssigned) (still TeiAssigned s.end.layer3_initiated s.end.release_pending x.sends.first x.sends.next x.sends.passed x.takes.rejecting x) l refl
     (seems_state c TeiAssigned s2 x l (seems_put c ReleaseConfirm s1 x l (λ o t. refl) (seems_stop c T200 s x l (here c s))))
     (settling x c.peer l ks (k ∷ ks) TeiAssigned s.end.layer3_initiated s.end.release_pending x.sends.first x.sends.next x.sends.passed x.takes.rejecting (part_first k ks) b refl (omega (arith, one, most, answers))
@@ -270,7 +270,7 @@ ends_t200_in_6 c ks s is no_ask no_answer b =
     let t1 = s ▷ expired T200 in
     let t2 = t1 ▷ put (Report letter.H) in
     let t3 = t2 ▷ put ReleaseConfirm in
-    let kept : IsEmpty x.sends = subst (λ st. IsKept st s.end.layer3_initiated s.end.release_pending x.sends) is b.mine.kept in
+    let kept : IsEmpty x.sends = subst (λ st. IsConsistentSender st s.end.layer3_initiated s.end.release_pending x.sends) is b.mine.kept in
     by_test (λ (t : StepState). Ends c ks (end_step Whole t)) (nat_lt s.end.rc s.end.parameters.n200) _ _
     (λ _. ends_asking_again c ks s (s3 ▷ start T200) closed most no_ask no_answer (seems_start c T200 s3 x k (seems_send c Command (Disc true) Asks s2 x l refl (seems_expired c s1 x l (seems_increment c s x l (here c s))))) b)
     (λ _. ends_closed c ks (state_to TeiAssigned t3) (still TeiAssigned s.end.layer3_initiated s.end.release_pending x.sends.first x.sends.next x.sends.passed x.takes.rejecting x) l refl

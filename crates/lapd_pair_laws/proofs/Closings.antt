@@ -5,11 +5,11 @@ use Rattle.lapd_link_definition.specs.declared.state.State.{State}
 use Rattle.lapd_link_definition.specs.declared.state.State.TheVariants.{TeiAssigned, AwaitingEstablishment, AwaitingRelease, MultipleFrameEstablished, TimerRecovery}
 use Rattle.lapd_link_definition.specs.EndOfStep.{is_7_or_8}
 use Rattle.lapd_pair_laws.specs.Kinds.{Kind, Asks, Accepts, Refuses, numbers, tally, ask_of, answer_of}
-use Rattle.lapd_pair_laws.specs.Parties.{Sender, Party, hears}
-use Rattle.lapd_pair_laws.specs.Conjuncts.{IsNumbering, IsEmpty, IsKept, is_holding, most_asks}
+use Rattle.lapd_pair_laws.specs.Parties.{Sender, Party, receives}
+use Rattle.lapd_pair_laws.specs.Conjuncts.{IsNumbering, IsEmpty, IsConsistentSender, is_holding, most_asks}
 use Rattle.lapd_pair_laws.specs.Invariant.{Both}
 use Rattle.lapd_pair_laws.proofs.Closed.{still, still_sender, unspoken, quietly, accepting, asks_is_quiet, refuses_is_quiet, Less, deaf, closing}
-use Rattle.lapd_pair_laws.proofs.Hearings.{closed_hears_nothing}
+use Rattle.lapd_pair_laws.proofs.Receptions.{closed_receives_nothing}
 use Rattle.lapd_pair_laws.proofs.Lists.{tally_more}
 use Rattle.lapd_pair_laws.proofs.Losses.{both_less}
 use Rattle.lapd_pair_laws.proofs.Parts.{Part, part_whole, part_first, part_tally}
@@ -19,7 +19,7 @@ use Rattle.lapd_pair_laws.proofs.Parts.{Part, part_whole, part_first, part_tally
 within_numbering : (s : Sender) → IsNumbering s → s.first ≤ length s.given
 within_numbering s n = omega (arith, n.first, n.next, n.ordered, n.within)
 
-first_within : (state : State) (asked leaving : Bool) (s : Sender) → IsKept state asked leaving s → s.first ≤ length s.given
+first_within : (state : State) (asked leaving : Bool) (s : Sender) → IsConsistentSender state asked leaving s → s.first ≤ length s.given
 first_within TeiAssigned asked leaving s k = omega (arith, k.first)
 first_within AwaitingEstablishment true leaving s k = omega (arith, k.first)
 first_within AwaitingEstablishment false true s k = omega (arith, k.first)
@@ -40,31 +40,31 @@ passes_all x y out back b = let within : x.sends.first ≤ length x.sends.given 
 pub empties : (first next passed : ℕ) (s : Sender) → first ≡ length s.given → next ≡ length s.given → IsEmpty (still_sender first next passed s)
 empties first next passed s f n = record { first = f; next = n }
 
-pub leaving_is_empty : (asked : Bool) (s : Sender) → IsEmpty s → IsKept AwaitingEstablishment asked true s
+pub leaving_is_empty : (asked : Bool) (s : Sender) → IsEmpty s → IsConsistentSender AwaitingEstablishment asked true s
 leaving_is_empty true s e = e
 leaving_is_empty false s e = e
 
-pub empty_where_leaving : (asked : Bool) (s : Sender) → IsKept AwaitingEstablishment asked true s → IsEmpty s
+pub empty_where_leaving : (asked : Bool) (s : Sender) → IsConsistentSender AwaitingEstablishment asked true s → IsEmpty s
 empty_where_leaving true s e = e
 empty_where_leaving false s e = e
 
 -- ---- It requests: it sends SABME or DISC with no frame of the exchange in transit.
 
 module _ (x y : Party) (out back back_was : List Kind) (state : State) (asked leaving : Bool) (first next passed : ℕ) (rejecting : Bool) (part : Part back back_was) (b : Both x y out back_was) where
-  pub asking : is_7_or_8 state ≡ false → most_asks state ≡ 1 → tally ask_of out ≡ 0 → tally answer_of back ≡ 0 → IsKept state asked leaving (still_sender first next passed x.sends) → passed ≡ first → (is_holding state asked leaving ≡ true → is_holding x.state x.asked x.leaving ≡ true)
+  pub asking : is_7_or_8 state ≡ false → most_asks state ≡ 1 → tally ask_of out ≡ 0 → tally answer_of back ≡ 0 → IsConsistentSender state asked leaving (still_sender first next passed x.sends) → passed ≡ first → (is_holding state asked leaving ≡ true → is_holding x.state x.asked x.leaving ≡ true)
       → Both (still state asked leaving first next passed rejecting x) y (out ++ Asks ∷ []) back
   asking closed most no_ask no_answer kept passed_ holds =
       let asks = tally_more ask_of Asks out in let answers = tally_more answer_of Asks out in let less = part_tally ask_of part in
       closing x y out (out ++ Asks ∷ []) back_was back state asked leaving first next passed rejecting closed part (quietly Asks asks_is_quiet) kept passed_ holds
-      (deaf (closed_hears_nothing (still state asked leaving first next passed rejecting x) back closed no_answer))
+      (deaf (closed_receives_nothing (still state asked leaving first next passed rejecting x) back closed no_answer))
       (omega (arith, asks, no_ask, no_answer, most)) (omega (arith, answers, less, b.its.exchange.one)) (λ answer. none (omega (arith, answer, answers))) b
     where
       none : 0 < tally answer_of out → numbers back ≡ []
       none answer = (both_less x y (part_whole out) part b).its.exchange.before answer
 
   -- it sends no frame
-  pub settling : is_7_or_8 state ≡ false → tally ask_of out + tally answer_of back ≤ most_asks state → IsKept state asked leaving (still_sender first next passed x.sends) → passed ≡ first → (is_holding state asked leaving ≡ true → is_holding x.state x.asked x.leaving ≡ true)
-      → Less state x.state (hears (still state asked leaving first next passed rejecting x) back) (hears x back_was) → Both (still state asked leaving first next passed rejecting x) y out back
+  pub settling : is_7_or_8 state ≡ false → tally ask_of out + tally answer_of back ≤ most_asks state → IsConsistentSender state asked leaving (still_sender first next passed x.sends) → passed ≡ first → (is_holding state asked leaving ≡ true → is_holding x.state x.asked x.leaving ≡ true)
+      → Less state x.state (receives (still state asked leaving first next passed rejecting x) back) (receives x back_was) → Both (still state asked leaving first next passed rejecting x) y out back
   settling closed one kept passed_ holds less =
       let fewer = part_tally ask_of part in
       closing x y out out back_was back state asked leaving first next passed rejecting closed part unspoken kept passed_ holds less one (omega (arith, fewer, b.its.exchange.one)) (both_less x y (part_whole out) part b).its.exchange.before b
@@ -107,16 +107,16 @@ is_asked x y out back b =
     }
 
 module _ (x y : Party) (out back : List Kind) (state : State) (asked leaving : Bool) (first next passed : ℕ) (rejecting : Bool) (b : Both x y out (Asks ∷ back)) where
-  pub refusing : is_7_or_8 state ≡ false → tally ask_of out + tally answer_of back ≤ most_asks state → IsKept state asked leaving (still_sender first next passed x.sends) → passed ≡ first → (is_holding state asked leaving ≡ true → is_holding x.state x.asked x.leaving ≡ true)
-      → Less state x.state (hears (still state asked leaving first next passed rejecting x) back) (hears x (Asks ∷ back)) → Both (still state asked leaving first next passed rejecting x) y (out ++ Refuses ∷ []) back
+  pub refusing : is_7_or_8 state ≡ false → tally ask_of out + tally answer_of back ≤ most_asks state → IsConsistentSender state asked leaving (still_sender first next passed x.sends) → passed ≡ first → (is_holding state asked leaving ≡ true → is_holding x.state x.asked x.leaving ≡ true)
+      → Less state x.state (receives (still state asked leaving first next passed rejecting x) back) (receives x (Asks ∷ back)) → Both (still state asked leaving first next passed rejecting x) y (out ++ Refuses ∷ []) back
   refusing closed one kept passed_ holds less =
       let i = is_asked x y out back b in
       let asks = tally_more ask_of Refuses out in let answers = tally_more answer_of Refuses out in
       closing x y out (out ++ Refuses ∷ []) (Asks ∷ back) back state asked leaving first next passed rejecting closed (part_first Asks back) (quietly Refuses refuses_is_quiet) kept passed_ holds less
       (omega (arith, asks, one)) (omega (arith, answers, i.asks, i.answers, i.room)) (λ _. i.nothing) b
 
-  pub accepts : is_7_or_8 state ≡ false → tally ask_of out + tally answer_of back ≤ most_asks state → IsKept state asked leaving (still_sender first next passed x.sends) → passed ≡ first → (is_holding state asked leaving ≡ true → is_holding x.state x.asked x.leaving ≡ true)
-      → Less state x.state (hears (still state asked leaving first next passed rejecting x) back) (hears x (Asks ∷ back)) → Both (still state asked leaving first next passed rejecting x) y (out ++ Accepts ∷ []) back
+  pub accepts : is_7_or_8 state ≡ false → tally ask_of out + tally answer_of back ≤ most_asks state → IsConsistentSender state asked leaving (still_sender first next passed x.sends) → passed ≡ first → (is_holding state asked leaving ≡ true → is_holding x.state x.asked x.leaving ≡ true)
+      → Less state x.state (receives (still state asked leaving first next passed rejecting x) back) (receives x (Asks ∷ back)) → Both (still state asked leaving first next passed rejecting x) y (out ++ Accepts ∷ []) back
   accepts closed one kept passed_ holds less =
       let i = is_asked x y out back b in
       let asks = tally_more ask_of Accepts out in let answers = tally_more answer_of Accepts out in

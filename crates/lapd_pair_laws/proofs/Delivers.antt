@@ -21,19 +21,19 @@ use Rattle.lapd_link_definition.specs.TeiAssigned.{tei_assigned, unsolicited_ua}
 use Rattle.lapd_link_definition.specs.TimerRecovery.{timer_recovery}
 use Rattle.lapd_pair_laws.specs.Histories.{with_unit}
 use Rattle.lapd_pair_laws.specs.Line.{Flight}
-use Rattle.lapd_pair_laws.specs.Move.{Deliver, Station, View, acts, delivers, hears, story_after}
+use Rattle.lapd_pair_laws.specs.Move.{Deliver, Station, View, acts, delivers, receives, story_after}
 use Rattle.lapd_pair_laws.specs.Kinds.{Kind, Asks, Accepts, Refuses, Foreign, kind, kind_of, kinds}
 use Rattle.lapd_pair_laws.specs.Parties.{party_of}
 use Rattle.lapd_pair_laws.proofs.ClosedRows.{here, passed_over, ends_as_it_was, ends_refusing, ends_accepting, ends_disconnected, ends_refused, ends_released_by_ua, ends_released}
-use Rattle.lapd_pair_laws.proofs.Deeds.{Before, ends_nothing, opened_in, closed_in}
-use Rattle.lapd_pair_laws.proofs.ActionEffects.{Context, story, seen, line, Goes, told_append}
+use Rattle.lapd_pair_laws.proofs.EachEvent.{Before, ends_nothing, opened_in, closed_in}
+use Rattle.lapd_pair_laws.proofs.ActionEffects.{Context, story, seen, line, HoldsMid, after_outputs_append}
 use Rattle.lapd_pair_laws.proofs.Lists.{by_test}
 use Rattle.lapd_pair_laws.proofs.MidSteps.{enter, open_asks_none}
-use Rattle.lapd_pair_laws.proofs.OpenRows.{goes_i_in_7, goes_rr_in_7, goes_rnr_in_7, goes_rej_in_7, goes_i_in_8, goes_rr_in_8, goes_rnr_in_8, goes_rej_in_8}
+use Rattle.lapd_pair_laws.proofs.OpenRows.{mid_i_in_7, mid_rr_in_7, mid_rnr_in_7, mid_rej_in_7, mid_i_in_8, mid_rr_in_8, mid_rnr_in_8, mid_rej_in_8}
 use Rattle.lapd_pair_laws.proofs.ClosedActions.{Seems, Ends, seems_put}
 use Rattle.lapd_pair_laws.proofs.Steps.{context, begun, ends_open, holds_after}
 use Rattle.lapd_pair_laws.proofs.Units.{ends_as_seen}
-use Rattle.lapd_pair_laws.proofs.Worlds.{Holds, Keeps, left_by}
+use Rattle.lapd_pair_laws.proofs.Worlds.{Holds, Preserves, left_by}
 
 -- ---- Frames that change nothing.
 
@@ -55,7 +55,7 @@ no_refusal c ks s opened b = let one = b.mine.exchange.one in let none = open_as
 seems_unit : (c : Context) (s : StepState) → Seems c (put UnitUp s) (seen c s) (line c s)
 unfolding story_after put
 seems_unit c s =
-    let so : story c (put UnitUp s) ≡ record (story c s) { history = with_unit c.octets (story c s).history } = told_append _ s.outs (UnitUp ∷ []) _ in
+    let so : story c (put UnitUp s) ≡ record (story c s) { history = with_unit c.octets (story c s).history } = after_outputs_append _ s.outs (UnitUp ∷ []) _ in
     record { party = ap (λ st. party_of c.base s.end st.history) so; line = ap (λ st. kinds st.line) so }
 
 pub ends_unit : (c : Context) (ks : List Kind) (s : StepState) → Before c ks s → Ends c ks (end_step Whole (put UnitUp s))
@@ -69,14 +69,14 @@ pub record Beginnings : Type 0 where
   pub in_4 : (c : Context) (ks : List Kind) → (begin c.view.station.end).end.state ≡ TeiAssigned → Before c (Asks ∷ ks) (begin c.view.station.end) → Ends c ks (end_step Whole (tei_assigned (Heard (Sabme true) Command) (begin c.view.station.end)))
   pub in_7_or_8 : (c : Context) (ks : List Kind) → is_7_or_8 (begin c.view.station.end).end.state ≡ true → Before c (Asks ∷ ks) (begin c.view.station.end) → Ends c ks (end_step Whole (in_7_and_8 (Heard (Sabme true) Command) (begin c.view.station.end)))
 
-abbrev Comes : Context → Role → Control → List Kind → StepState → Type 0
-Comes c role control ks s = Before c (kind_of role control c.octets c.place ∷ ks) s
+abbrev HoldsAtDelivery : Context → Role → Control → List Kind → StepState → Type 0
+HoldsAtDelivery c role control ks s = Before c (kind_of role control c.octets c.place ∷ ks) s
 
 module _ (begins : Beginnings) (c : Context) (ks : List Kind) where
   abbrev s : StepState
   s = begin c.view.station.end
 
-  in_state_4 : (control : Control) (role : Role) → s.end.state ≡ TeiAssigned → Comes c role control ks s → Ends c ks (end_step Whole (tei_assigned (Heard control role) s))
+  in_state_4 : (control : Control) (role : Role) → s.end.state ≡ TeiAssigned → HoldsAtDelivery c role control ks s → Ends c ks (end_step Whole (tei_assigned (Heard control role) s))
   unfolding tei_assigned
   in_state_4 (Sabme true) Command is b = begins.in_4 c ks is b
   in_state_4 (Sabme false) Command is b = absurd (no_foreign c ks s b)
@@ -86,7 +86,7 @@ module _ (begins : Beginnings) (c : Context) (ks : List Kind) where
   in_state_4 (Ua false) Answer is b = absurd (no_foreign c ks s b)
   in_state_4 control role is b = ends_passed c _ ks s b
 
-  in_state_5 : (control : Control) (role : Role) → s.end.state ≡ AwaitingEstablishment → Comes c role control ks s → Ends c ks (end_step Whole (awaiting_establishment (Heard control role) s))
+  in_state_5 : (control : Control) (role : Role) → s.end.state ≡ AwaitingEstablishment → HoldsAtDelivery c role control ks s → Ends c ks (end_step Whole (awaiting_establishment (Heard control role) s))
   unfolding awaiting_establishment ua_final
   in_state_5 (Sabme true) Command is b = ends_accepting c ks s (closed_in AwaitingEstablishment s is refl) b
   in_state_5 (Sabme false) Command is b = absurd (no_foreign c ks s b)
@@ -98,7 +98,7 @@ module _ (begins : Beginnings) (c : Context) (ks : List Kind) where
   in_state_5 (Dm false) Answer is b = absurd (no_foreign c ks s b)
   in_state_5 control role is b = ends_passed c _ ks s b
 
-  in_state_6 : (control : Control) (role : Role) → s.end.state ≡ AwaitingRelease → Comes c role control ks s → Ends c ks (end_step Whole (awaiting_release (Heard control role) s))
+  in_state_6 : (control : Control) (role : Role) → s.end.state ≡ AwaitingRelease → HoldsAtDelivery c role control ks s → Ends c ks (end_step Whole (awaiting_release (Heard control role) s))
   unfolding awaiting_release
   in_state_6 (Sabme true) Command is b = ends_refusing c ks s (closed_in AwaitingRelease s is refl) b
   in_state_6 (Sabme false) Command is b = absurd (no_foreign c ks s b)
@@ -110,7 +110,7 @@ module _ (begins : Beginnings) (c : Context) (ks : List Kind) where
   in_state_6 (Dm false) Answer is b = absurd (no_foreign c ks s b)
   in_state_6 control role is b = ends_passed c _ ks s b
 
-  in_both : (control : Control) (role : Role) → is_7_or_8 s.end.state ≡ true → Comes c role control ks s → Ends c ks (end_step Whole (in_7_and_8 (Heard control role) s))
+  in_both : (control : Control) (role : Role) → is_7_or_8 s.end.state ≡ true → HoldsAtDelivery c role control ks s → Ends c ks (end_step Whole (in_7_and_8 (Heard control role) s))
   unfolding in_7_and_8
   in_both (Sabme true) Command opened b = begins.in_7_or_8 c ks opened b
   in_both (Sabme false) Command opened b = absurd (no_foreign c ks s b)
@@ -123,32 +123,32 @@ module _ (begins : Beginnings) (c : Context) (ks : List Kind) where
   in_both (Frmr f) Answer opened b = absurd (no_foreign c ks s b)
   in_both control role opened b = ends_passed c _ ks s b
 
-  opening : (control : Control) (role : Role) (state : State) → s.end.state ≡ state → is_7_or_8 state ≡ true → Comes c role control ks s → Goes c (kind_of role control c.octets c.place ∷ ks) s
+  opening : (control : Control) (role : Role) (state : State) → s.end.state ≡ state → is_7_or_8 state ≡ true → HoldsAtDelivery c role control ks s → HoldsMid c (kind_of role control c.octets c.place ∷ ks) s
   opening control role state is opened b = enter (seen c s) c.peer (line c s) (kind_of role control c.octets c.place ∷ ks) (opened_in state s is opened) b
 
-  in_state_7 : (control : Control) (role : Role) → s.end.state ≡ MultipleFrameEstablished → Comes c role control ks s → Ends c ks (end_step Whole (multiple_frame_established Whole (Heard control role) s))
+  in_state_7 : (control : Control) (role : Role) → s.end.state ≡ MultipleFrameEstablished → HoldsAtDelivery c role control ks s → Ends c ks (end_step Whole (multiple_frame_established Whole (Heard control role) s))
   unfolding multiple_frame_established
-  in_state_7 (I ns nr p) Command is b = ends_open c ks _ (goes_i_in_7 c ns nr p ks s (opening (I ns nr p) Command MultipleFrameEstablished is refl b))
+  in_state_7 (I ns nr p) Command is b = ends_open c ks _ (mid_i_in_7 c ns nr p ks s (opening (I ns nr p) Command MultipleFrameEstablished is refl b))
   in_state_7 (I ns nr p) Answer is b = absurd (no_foreign c ks s b)
-  in_state_7 (Rr nr pf) role is b = ends_open c ks _ (goes_rr_in_7 c nr pf role ks s is (opening (Rr nr pf) role MultipleFrameEstablished is refl b))
-  in_state_7 (Rnr nr pf) role is b = ends_open c ks _ (goes_rnr_in_7 c nr pf role ks s is (opening (Rnr nr pf) role MultipleFrameEstablished is refl b))
-  in_state_7 (Rej nr pf) role is b = ends_open c ks _ (goes_rej_in_7 c nr pf role ks s is (opening (Rej nr pf) role MultipleFrameEstablished is refl b))
+  in_state_7 (Rr nr pf) role is b = ends_open c ks _ (mid_rr_in_7 c nr pf role ks s is (opening (Rr nr pf) role MultipleFrameEstablished is refl b))
+  in_state_7 (Rnr nr pf) role is b = ends_open c ks _ (mid_rnr_in_7 c nr pf role ks s is (opening (Rnr nr pf) role MultipleFrameEstablished is refl b))
+  in_state_7 (Rej nr pf) role is b = ends_open c ks _ (mid_rej_in_7 c nr pf role ks s is (opening (Rej nr pf) role MultipleFrameEstablished is refl b))
   in_state_7 (Dm true) Answer is b = absurd (no_refusal c ks s (opened_in MultipleFrameEstablished s is refl) b)
   in_state_7 (Dm false) Answer is b = absurd (no_foreign c ks s b)
   in_state_7 control role is b = in_both control role (opened_in MultipleFrameEstablished s is refl) b
 
-  in_state_8 : (control : Control) (role : Role) → s.end.state ≡ TimerRecovery → Comes c role control ks s → Ends c ks (end_step Whole (timer_recovery Whole (Heard control role) s))
+  in_state_8 : (control : Control) (role : Role) → s.end.state ≡ TimerRecovery → HoldsAtDelivery c role control ks s → Ends c ks (end_step Whole (timer_recovery Whole (Heard control role) s))
   unfolding timer_recovery
-  in_state_8 (I ns nr p) Command is b = ends_open c ks _ (goes_i_in_8 c ns nr p ks s (opening (I ns nr p) Command TimerRecovery is refl b))
+  in_state_8 (I ns nr p) Command is b = ends_open c ks _ (mid_i_in_8 c ns nr p ks s (opening (I ns nr p) Command TimerRecovery is refl b))
   in_state_8 (I ns nr p) Answer is b = absurd (no_foreign c ks s b)
-  in_state_8 (Rr nr pf) role is b = ends_open c ks _ (goes_rr_in_8 c nr pf role ks s is (opening (Rr nr pf) role TimerRecovery is refl b))
-  in_state_8 (Rnr nr pf) role is b = ends_open c ks _ (goes_rnr_in_8 c nr pf role ks s is (opening (Rnr nr pf) role TimerRecovery is refl b))
-  in_state_8 (Rej nr pf) role is b = ends_open c ks _ (goes_rej_in_8 c nr pf role ks s is (opening (Rej nr pf) role TimerRecovery is refl b))
+  in_state_8 (Rr nr pf) role is b = ends_open c ks _ (mid_rr_in_8 c nr pf role ks s is (opening (Rr nr pf) role TimerRecovery is refl b))
+  in_state_8 (Rnr nr pf) role is b = ends_open c ks _ (mid_rnr_in_8 c nr pf role ks s is (opening (Rnr nr pf) role TimerRecovery is refl b))
+  in_state_8 (Rej nr pf) role is b = ends_open c ks _ (mid_rej_in_8 c nr pf role ks s is (opening (Rej nr pf) role TimerRecovery is refl b))
   in_state_8 (Dm true) Answer is b = absurd (no_refusal c ks s (opened_in TimerRecovery s is refl) b)
   in_state_8 (Dm false) Answer is b = absurd (no_foreign c ks s b)
   in_state_8 control role is b = in_both control role (opened_in TimerRecovery s is refl) b
 
-  by_each_state : (state : State) (control : Control) (role : Role) → s.end.state ≡ state → Comes c role control ks s → Ends c ks (end_step Whole (by_state Whole state (Heard control role) s))
+  by_each_state : (state : State) (control : Control) (role : Role) → s.end.state ≡ state → HoldsAtDelivery c role control ks s → Ends c ks (end_step Whole (by_state Whole state (Heard control role) s))
   unfolding by_state
   by_each_state TeiAssigned control role is b = in_state_4 control role is b
   by_each_state AwaitingEstablishment control role is b = in_state_5 control role is b
@@ -156,9 +156,9 @@ module _ (begins : Beginnings) (c : Context) (ks : List Kind) where
   by_each_state MultipleFrameEstablished control role is b = in_state_7 control role is b
   by_each_state TimerRecovery control role is b = in_state_8 control role is b
 
-  pub ends_heard : (state : State) (control : Control) (role : Role) → s.end.state ≡ state → Comes c role control ks s → Ends c ks (end_step Whole (row Whole state (Heard control role) s))
+  pub ends_received : (state : State) (control : Control) (role : Role) → s.end.state ≡ state → HoldsAtDelivery c role control ks s → Ends c ks (end_step Whole (row Whole state (Heard control role) s))
   unfolding row
-  ends_heard state control role is b = by_test (λ (t : StepState). Ends c ks (end_step Whole t)) (is_unit_data control role) _ _
+  ends_received state control role is b = by_test (λ (t : StepState). Ends c ks (end_step Whole t)) (is_unit_data control role) _ _
       (λ _. ends_unit c ks s (passed_over c (kind_of role control c.octets c.place) ks s b)) (λ _. by_each_state state control role is b)
 
 -- ---- From what the side sees.
@@ -166,14 +166,14 @@ module _ (begins : Beginnings) (c : Context) (ks : List Kind) where
 module _ (begins : Beginnings) where
   delivered : (station peer : Station) (incoming outgoing : List Flight) → Holds (record { station = station; incoming = incoming; outgoing = outgoing }) peer
       → Holds (left_by (record { station = station; incoming = incoming; outgoing = outgoing }) (delivers Whole incoming (record { station = station; incoming = incoming; outgoing = outgoing }))) peer
-  unfolding delivers hears begin step
+  unfolding delivers receives begin step
   delivered station peer [] outgoing h = h
   delivered station peer (frame ∷ rest) outgoing h =
       let v : View = record { station = station; incoming = frame ∷ rest; outgoing = outgoing } in
       let c = context h.base frame.info frame.place v rest peer h.its_base in
       holds_after frame.info frame.place v h.base h.its_base peer rest (end_step Whole (row Whole station.end.state (Heard frame.control frame.role) (begin station.end)))
-      (ends_heard begins c (kinds rest) station.end.state frame.control frame.role refl (begun c (kind frame ∷ kinds rest) h.both))
+      (ends_received begins c (kinds rest) station.end.state frame.control frame.role refl (begun c (kind frame ∷ kinds rest) h.both))
 
-  pub keeps_deliver : Keeps Deliver
+  pub preserves_deliver : Preserves Deliver
   unfolding acts
-  keeps_deliver v peer small h = delivered v.station peer v.incoming v.outgoing h
+  preserves_deliver v peer small h = delivered v.station peer v.incoming v.outgoing h

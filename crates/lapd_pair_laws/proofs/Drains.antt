@@ -13,22 +13,22 @@ use Rattle.lapd_link_definition.specs.End.{End, StepState, begin}
 use Rattle.lapd_link_definition.specs.Input.{Heard}
 use Rattle.lapd_link_definition.specs.Table.{by_state, row, step, is_unit_data}
 use Rattle.lapd_pair_laws.specs.Line.{Flight}
-use Rattle.lapd_pair_laws.specs.Move.{Deliver, Station, View, acts, hears, view_after, story_after, delivers}
+use Rattle.lapd_pair_laws.specs.Move.{Deliver, Station, View, acts, receives, view_after, story_after, delivers}
 use Rattle.lapd_pair_laws.specs.World.{World, swapped, view_of}
 use Rattle.lapd_pair_laws.specs.Kinds.{Kind, kind, kinds}
 use Rattle.lapd_pair_laws.specs.Parties.{party}
 use Rattle.lapd_pair_laws.specs.Invariant.{Both, IsInvariant}
-use Rattle.lapd_pair_laws.proofs.ActionEffects.{Context, seen, line, Goes}
+use Rattle.lapd_pair_laws.proofs.ActionEffects.{Context, seen, line, HoldsMid}
 use Rattle.lapd_pair_laws.proofs.Lists.{by_test}
 use Rattle.lapd_pair_laws.proofs.MidSteps.{enter}
 use Rattle.lapd_pair_laws.proofs.Steps.{context, begun}
 use Rattle.lapd_pair_laws.proofs.Worlds.{left_by, exchanged}
-use Rattle.lapd_pair_laws.specs.Timed.{IsClosed, IsRested, AreRested}
+use Rattle.lapd_pair_laws.specs.Timed.{IsClosed, IsSettledEnd, AreSettledEnds}
 use Rattle.lapd_pair_laws.proofs.Flow.{source, sink, Stage, Clean, Waiting, Polling, Answered, IsAt, Flow}
 use Rattle.lapd_pair_laws.proofs.Draws.{with_pending, is_ready, AreReady, Draws}
 use Rattle.lapd_pair_laws.proofs.DrawRows as rows
 use Rattle.lapd_pair_laws.proofs.DrawCloses.{draws_close}
-use Rattle.lapd_pair_laws.proofs.Resting.{closed_step}
+use Rattle.lapd_pair_laws.proofs.SettledEnds.{closed_step}
 
 -- ---- The view of a side.
 
@@ -41,7 +41,7 @@ pub record Seen (n : ℕ) (v : View) (peer : Station) : Type 0 where
 
 pub record Drains (n : ℕ) (w : World) : Type 0 where
   pub holds : IsInvariant w
-  pub rested : AreRested w
+  pub ends_settled : AreSettledEnds w
   pub sees : Seen n (view_of side.User w) w.network
 
 -- both are open
@@ -63,7 +63,7 @@ turned f = record { a = f.b; b = f.a; mine = f.its; its = f.mine; most = let le 
 pub drains_swapped : (n : ℕ) (w : World) → Drains n w → Drains n (swapped w)
 drains_swapped n w d = record {
   holds = exchanged w d.holds;
-  rested = record { user = d.rested.network; network = d.rested.user };
+  ends_settled = record { user = d.ends_settled.network; network = d.ends_settled.user };
   sees = let s = d.sees in record { flow = turned s.flow; idle = s.its_idle; its_idle = s.idle; going = s.coming; coming = s.going };
 }
 
@@ -82,7 +82,7 @@ pub after_step : (octets : List ℕ) (place n : ℕ) (v : View) (peer : Station)
     → Draws (context base octets place v incoming peer its_base) peer.end (kinds incoming) n s → Seen n (view_after octets place (record v { incoming = incoming }) s) peer
 unfolding view_after
 after_step octets place n v peer incoming base its_base s closed opened its_idle coming d =
-    let bare : Flow s.end peer.end (kinds d.frames) (kinds incoming) n = subst (λ b. Flow s.end peer.end (with_pending b s.end.window.vr (kinds d.frames)) (kinds incoming) n) (closed.told opened) d.flow in
+    let bare : Flow s.end peer.end (kinds d.frames) (kinds incoming) n = subst (λ b. Flow s.end peer.end (with_pending b s.end.window.vr (kinds d.frames)) (kinds incoming) n) (closed.acknowledged opened) d.flow in
     record {
       flow = subst (λ l. Flow s.end peer.end (kinds l) (kinds incoming) n) (sym d.so) bare;
       idle = d.idle;
@@ -99,7 +99,7 @@ kept_after octets place n v peer incoming base its_base s d = d.kept
 
 -- ---- A frame is delivered.
 
-module _ (station peer : Station) (frame : Flight) (rest outgoing : List Flight) (n base its_base : ℕ) (both : Both (party base station) (party its_base peer) (kinds outgoing) (kinds (frame ∷ rest))) (rested : IsRested station.end) where
+module _ (station peer : Station) (frame : Flight) (rest outgoing : List Flight) (n base its_base : ℕ) (both : Both (party base station) (party its_base peer) (kinds outgoing) (kinds (frame ∷ rest))) (ends_settled : IsSettledEnd station.end) where
   abbrev v : View
   v = record { station = station; incoming = frame ∷ rest; outgoing = outgoing }
 
@@ -109,11 +109,11 @@ module _ (station peer : Station) (frame : Flight) (rest outgoing : List Flight)
   abbrev e : End
   e = station.end
 
-  by_open_state : (state : State) → e.state ≡ state → is_7_or_8 state ≡ true → is_7_or_8 peer.end.state ≡ true → is_ready frame.control ≡ true → Goes c (kind frame ∷ kinds rest) (begin e) → Draws c peer.end (kind frame ∷ kinds rest) n (begin e)
+  by_open_state : (state : State) → e.state ≡ state → is_7_or_8 state ≡ true → is_7_or_8 peer.end.state ≡ true → is_ready frame.control ≡ true → HoldsMid c (kind frame ∷ kinds rest) (begin e) → Draws c peer.end (kind frame ∷ kinds rest) n (begin e)
       → Draws c peer.end (kinds rest) (n - 1) (by_state Whole state (Heard frame.control frame.role) (begin e))
   unfolding by_state begin
-  by_open_state MultipleFrameEstablished is opened its_open plain m d = rows.in_7 base its_base frame.place frame.info (record v { incoming = rest }) peer its_open (kinds rest) n frame.control frame.role (begin e) plain is (rested.closed.told (rw is refl)) (m, d)
-  by_open_state TimerRecovery is opened its_open plain m d = rows.in_8 base its_base frame.place frame.info (record v { incoming = rest }) peer its_open (kinds rest) n frame.control frame.role (begin e) plain is (rested.closed.told (rw is refl)) (m, d)
+  by_open_state MultipleFrameEstablished is opened its_open plain m d = rows.in_7 base its_base frame.place frame.info (record v { incoming = rest }) peer its_open (kinds rest) n frame.control frame.role (begin e) plain is (ends_settled.closed.acknowledged (rw is refl)) (m, d)
+  by_open_state TimerRecovery is opened its_open plain m d = rows.in_8 base its_base frame.place frame.info (record v { incoming = rest }) peer its_open (kinds rest) n frame.control frame.role (begin e) plain is (ends_settled.closed.acknowledged (rw is refl)) (m, d)
   by_open_state TeiAssigned is opened its_open plain m d = cc
   by_open_state AwaitingEstablishment is opened its_open plain m d = cc
   by_open_state AwaitingRelease is opened its_open plain m d = cc
@@ -125,12 +125,12 @@ module _ (station peer : Station) (frame : Flight) (rest outgoing : List Flight)
   unfolding row begin story_after
   draws_row s =
       let opened = mine_open s.flow in
-      let m : Goes c (kind frame ∷ kinds rest) (begin e) = enter (seen c (begin e)) c.peer (line c (begin e)) (kind frame ∷ kinds rest) opened (begun c (kind frame ∷ kinds rest) both) in
+      let m : HoldsMid c (kind frame ∷ kinds rest) (begin e) = enter (seen c (begin e)) c.peer (line c (begin e)) (kind frame ∷ kinds rest) opened (begun c (kind frame ∷ kinds rest) both) in
       let d : Draws c peer.end (kind frame ∷ kinds rest) n (begin e) = record {
         frames = outgoing;
         so = refl;
         kept = refl;
-        flow = subst (λ b. Flow e peer.end (with_pending b e.window.vr (kinds outgoing)) (kind frame ∷ kinds rest) n) (sym (rested.closed.told opened)) s.flow;
+        flow = subst (λ b. Flow e peer.end (with_pending b e.window.vr (kinds outgoing)) (kind frame ∷ kinds rest) n) (sym (ends_settled.closed.acknowledged opened)) s.flow;
         idle = s.idle;
         ready = s.going;
       } in
@@ -138,9 +138,9 @@ module _ (station peer : Station) (frame : Flight) (rest outgoing : List Flight)
       (λ unit. absurd (not_unit frame.control frame.role s.coming.0 unit)) (λ _. by_open_state e.state refl opened (its_open s.flow) s.coming.0 m d))
 
   pub seen_delivered : Seen n v peer → Seen (n - 1) (left_by v (acts Whole side.User Deliver v)) peer
-  unfolding acts delivers hears step
+  unfolding acts delivers receives step
   seen_delivered s = let d = draws_row s in after_step frame.info frame.place (n - 1) v peer rest base its_base done (closed_step (Heard frame.control frame.role) e done refl) (mine_open d.flow) s.its_idle s.coming.1 d
 
-  pub kept_delivered : Seen n v peer → (left_by v (acts Whole side.User Deliver v)).station.history.dropped ≡ v.station.history.dropped
-  unfolding acts delivers hears step
-  kept_delivered s = kept_after frame.info frame.place (n - 1) v peer rest base its_base done (draws_row s)
+  pub preserved_delivered : Seen n v peer → (left_by v (acts Whole side.User Deliver v)).station.history.dropped ≡ v.station.history.dropped
+  unfolding acts delivers receives step
+  preserved_delivered s = kept_after frame.info frame.place (n - 1) v peer rest base its_base done (draws_row s)

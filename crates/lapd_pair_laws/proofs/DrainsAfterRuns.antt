@@ -3,21 +3,21 @@ use Rattle.std.proofs.Common.{◌≡◌, ℕ, zero, suc, ◌+◌, ◌*◌, ◌�
 use Rattle.lapd_mod128.specs.Counting.{Reading, Whole, Tagged}
 use Rattle.lapd_supervision.specs.Tags.{tag_variables}
 use Rattle.lapd_link_definition.specs.Parameters.{Parameters}
-use Rattle.lapd_pair_laws.specs.Kept.{IsKeptWorld}
+use Rattle.lapd_pair_laws.specs.Consistent.{IsConsistentWorld}
 use Rattle.lapd_pair_laws.specs.Line.{Flight}
 use Rattle.lapd_pair_laws.specs.Move.{Move, Refusal}
 use Rattle.lapd_pair_laws.specs.Tagged.{tag_flight, tag_world, tag_outcome}
 use Rattle.lapd_pair_laws.specs.World.{World, Happened, new_world, world_after, happens, run}
-use Rattle.lapd_pair_laws.proofs.Keeping.{new_world_kept, run_kept}
+use Rattle.lapd_pair_laws.proofs.Consistency.{new_world_consistent, run_consistent}
 use Rattle.lapd_pair_laws.proofs.TaggedMoves.{move_on_tags, move_near, run_on_tags, left_on_tags, safe_on_tags}
 use Rattle.lapd_pair_laws.specs.Invariant.{IsInvariant}
 use Rattle.lapd_pair_laws.proofs.Nearness.{within_by_invariant}
 use Rattle.lapd_pair_laws.proofs.Reached.{near_moves, reached_tags}
-use Rattle.lapd_pair_laws.proofs.Whole.{each_move_keeps, each_run_keeps}
+use Rattle.lapd_pair_laws.proofs.Whole.{each_move_preserves, each_run_preserves}
 use Rattle.lapd_pair_laws.proofs.Worlds.{new_holds}
 use Rattle.lapd_pair_laws.specs.Settle.{IsQuiet, first_admitted, tried, next_move, then_on, settling, bound, most_moves}
 use Rattle.lapd_pair_laws.specs.Drained.{IsDrainedTo, IsDrained}
-use Rattle.lapd_pair_laws.proofs.Resting.{new_rests, run_rests}
+use Rattle.lapd_pair_laws.proofs.SettledEnds.{new_settles, run_settles}
 use Rattle.lapd_pair_laws.proofs.Settles.{quiet_line_drains}
 
 -- ---- On tags the same moves are made.
@@ -26,10 +26,10 @@ admitted_on_tags : (r : Result Happened Refusal) → is_ok (tag_outcome r) ≡ i
 admitted_on_tags (Ok happened) = refl
 admitted_on_tags (Err refusal) = refl
 
-move_tagged : (move : Move) (w : World) → IsInvariant w → IsKeptWorld Whole w → happens Tagged move (tag_world w) ≡ tag_outcome (happens Whole move w)
+move_tagged : (move : Move) (w : World) → IsInvariant w → IsConsistentWorld Whole w → happens Tagged move (tag_world w) ≡ tag_outcome (happens Whole move w)
 move_tagged move w i kept = move_on_tags move w kept (move_near move w kept (within_by_invariant w i))
 
-first_on_tags : (moves : List Move) (w : World) → IsInvariant w → IsKeptWorld Whole w → first_admitted Tagged moves (tag_world w) ≡ first_admitted Whole moves w
+first_on_tags : (moves : List Move) (w : World) → IsInvariant w → IsConsistentWorld Whole w → first_admitted Tagged moves (tag_world w) ≡ first_admitted Whole moves w
 first_on_tags [] w i kept = refl
 first_on_tags (move ∷ moves) w i kept =
     let here : is_ok (happens Tagged move (tag_world w)) ≡ is_ok (happens Whole move w) = ap is_ok (move_tagged move w i kept) ∙ admitted_on_tags (happens Whole move w) in
@@ -43,16 +43,16 @@ then_same : (o : Option Move) (f g : Move → List Move) → ((move : Move) → 
 then_same None f g same = refl
 then_same (Some move) f g same = ap (λ l. move ∷ l) (same move)
 
-pub settling_on_tags : (fuel : ℕ) (w : World) → IsInvariant w → IsKeptWorld Whole w → settling Tagged fuel (tag_world w) ≡ settling Whole fuel w
+pub settling_on_tags : (fuel : ℕ) (w : World) → IsInvariant w → IsConsistentWorld Whole w → settling Tagged fuel (tag_world w) ≡ settling Whole fuel w
 settling_on_tags zero w i kept = refl
 settling_on_tags (suc fuel) w i kept =
     ap (λ o. then_on o (λ move. settling Tagged fuel (world_after (tag_world w) (happens Tagged move (tag_world w))))) (first_on_tags tried w i kept)
     ∙ then_same (next_move Whole w) _ _ (λ move.
     ap (λ r. settling Tagged fuel (world_after (tag_world w) r)) (move_tagged move w i kept)
     ∙ ap (λ v. settling Tagged fuel v) (after_on_tags w (happens Whole move w))
-    ∙ settling_on_tags fuel (world_after w (happens Whole move w)) (each_move_keeps move w i) (run_kept Whole (move ∷ []) w kept))
+    ∙ settling_on_tags fuel (world_after w (happens Whole move w)) (each_move_preserves move w i) (run_consistent Whole (move ∷ []) w kept))
 
-drained_to_on_tags : (w v : World) → IsInvariant v → IsKeptWorld Whole v → IsDrainedTo Whole w v → IsDrainedTo Tagged (tag_world w) (tag_world v)
+drained_to_on_tags : (w v : World) → IsInvariant v → IsConsistentWorld Whole v → IsDrainedTo Whole w v → IsDrainedTo Tagged (tag_world w) (tag_world v)
 drained_to_on_tags w v i kept d = record {
   rests = first_on_tags tried v i kept ∙ d.rests;
   empty = left_on_tags v ∙ d.empty;
@@ -61,7 +61,7 @@ drained_to_on_tags w v i kept d = record {
   safe = (safe_on_tags v).1 d.safe;
 }
 
-drained_on_tags : (w : World) → IsInvariant w → IsKeptWorld Whole w → IsDrained Whole w → IsDrained Tagged (tag_world w)
+drained_on_tags : (w : World) → IsInvariant w → IsConsistentWorld Whole w → IsDrained Whole w → IsDrained Tagged (tag_world w)
 drained_on_tags w i kept d =
     let moves = settling Whole (bound w) w in
     let bounds : bound (tag_world w) ≡ bound w = ap (λ n. 8 * (n + 4)) (left_on_tags w) in
@@ -72,7 +72,7 @@ drained_on_tags w i kept d =
     let counted : length (settling Tagged (bound (tag_world w)) (tag_world w)) ≡ length moves = ap length same in
     record {
       few = omega (arith, few, counted, most);
-      drained = subst (λ v. IsDrainedTo Tagged (tag_world w) v) (sym after) (drained_to_on_tags w (run Whole moves w) (each_run_keeps moves w i) (run_kept Whole moves w kept) d.drained);
+      drained = subst (λ v. IsDrainedTo Tagged (tag_world w) v) (sym after) (drained_to_on_tags w (run Whole moves w) (each_run_preserves moves w i) (run_consistent Whole moves w kept) d.drained);
     }
 
 -- ---- From a new world.
@@ -89,13 +89,13 @@ module _ (user network : Parameters) (user_small : user.k ≤ 127) (network_smal
   reached = run Whole moves start
 
   holds : IsInvariant reached
-  holds = each_run_keeps moves start (new_holds user network user_small network_small)
+  holds = each_run_preserves moves start (new_holds user network user_small network_small)
 
-  kept : IsKeptWorld Whole reached
-  kept = run_kept Whole moves start (new_world_kept Whole user network user_small network_small)
+  kept : IsConsistentWorld Whole reached
+  kept = run_consistent Whole moves start (new_world_consistent Whole user network user_small network_small)
 
   drained_whole : IsQuiet reached → IsDrained Whole reached
-  drained_whole q = let d = quiet_line_drains reached holds kept (run_rests moves start (new_rests user network user_some network_some)) q in d
+  drained_whole q = let d = quiet_line_drains reached holds kept (run_settles moves start (new_settles user network user_some network_some)) q in d
 
   quiet_by_tags : IsQuiet (tag_world reached) → IsQuiet reached
   unfolding tag_variables

@@ -10,7 +10,7 @@ use Rattle.lapd_link_definition.specs.End.{End, StepState, begin}
 use Rattle.lapd_link_definition.specs.Established.{multiple_frame_established}
 use Rattle.lapd_link_definition.specs.Input.{Expiry}
 use Rattle.lapd_link_definition.specs.Table.{by_state, row, step}
-use Rattle.lapd_pair_laws.specs.Move.{Expire200, Station, View, Turn, Refusal, acts, takes, story_after, expires_200}
+use Rattle.lapd_pair_laws.specs.Move.{Expire200, Station, View, ViewStep, Refusal, acts, takes, story_after, expires_200}
 use Rattle.lapd_pair_laws.proofs.ActionEffects.{Context}
 use Rattle.lapd_pair_laws.proofs.Lists.{by_test}
 use Rattle.lapd_pair_laws.proofs.Steps.{context}
@@ -19,7 +19,7 @@ use Rattle.lapd_pair_laws.proofs.Flow.{source, sink, Stage, Clean, Waiting, Poll
 use Rattle.lapd_pair_laws.proofs.Draws.{Draws}
 use Rattle.lapd_pair_laws.proofs.DrawCloses.{draws_close, draws_t200}
 use Rattle.lapd_pair_laws.proofs.Drains.{Seen, mine_open, after_step, kept_after}
-use Rattle.lapd_pair_laws.proofs.Resting.{closed_step}
+use Rattle.lapd_pair_laws.proofs.SettledEnds.{closed_step}
 
 module _ (station peer : Station) (n : ℕ) where
   abbrev v : View
@@ -64,9 +64,9 @@ module _ (station peer : Station) (n : ℕ) where
   unfolding acts expires_200 takes step
   seen_expired on s =
       let d = draws_row on s in
-      by_test (λ (r : Result Turn Refusal). Seen (n - 1) (left_by v r) peer) e.t200 _ _
+      by_test (λ (r : Result ViewStep Refusal). Seen (n - 1) (left_by v r) peer) e.t200 _ _
       (λ _. after_step [] 0 (n - 1) v peer [] 0 0 done (closed_step (Expiry T200) e done refl) (mine_open d.flow) s.its_idle tt d) (λ off. cc)
 
-  pub kept_expired : e.t200 ≡ true → Seen n v peer → (left_by v (acts Whole side.User Expire200 v)).station.history.dropped ≡ v.station.history.dropped
+  pub preserved_expired : e.t200 ≡ true → Seen n v peer → (left_by v (acts Whole side.User Expire200 v)).station.history.dropped ≡ v.station.history.dropped
   unfolding acts expires_200 takes step
-  kept_expired on s = by_test (λ (r : Result Turn Refusal). (left_by v r).station.history.dropped ≡ v.station.history.dropped) e.t200 _ _ (λ _. kept_after [] 0 (n - 1) v peer [] 0 0 done (draws_row on s)) (λ off. cc)
+  preserved_expired on s = by_test (λ (r : Result ViewStep Refusal). (left_by v r).station.history.dropped ≡ v.station.history.dropped) e.t200 _ _ (λ _. kept_after [] 0 (n - 1) v peer [] 0 0 done (draws_row on s)) (λ off. cc)

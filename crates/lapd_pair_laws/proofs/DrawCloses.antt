@@ -22,7 +22,7 @@ use Rattle.lapd_pair_laws.proofs.Flow.{source, sink, Stream, Lighter, Flow}
 use Rattle.lapd_pair_laws.proofs.StreamReceipts as receives
 use Rattle.lapd_pair_laws.proofs.Speaks as speaks
 use Rattle.lapd_pair_laws.proofs.Draws.{with_pending, is_ready, ready_more, Draws}
-use Rattle.lapd_pair_laws.proofs.Tells.{rr_tells, enquiry_tells, next_sent, next_tells, last_sent, last_tells, ensure_tells}
+use Rattle.lapd_pair_laws.proofs.Tells.{rr_puts, enquiry_puts, next_sent, next_puts, last_sent, last_puts, ensure_puts}
 use Rattle.lapd_pair_laws.proofs.DrawRows.{pending_messages}
 
 -- ---- A message is sent, and with it the pending acknowledgement.
@@ -37,7 +37,7 @@ flow_sent : (x z y : End) (pending : Bool) (m : Message) (ks out : List Kind) (n
 flow_sent x z y pending m ks out n u is one_more at same_source same_sink f =
     let vr = x.window.vr in
     let k = Numbered m vr in
-    let bare : Stream (source x) (sink y) out ks f.a = speaks.as_said (source x) (sink y) (with_pending pending vr out) ks out ks f.a (sym (pending_messages pending vr out)) (sym (pending_polls pending vr out)) refl refl refl f.mine in
+    let bare : Stream (source x) (sink y) out ks f.a = speaks.as_sent (source x) (sink y) (with_pending pending vr out) ks out ks f.a (sym (pending_messages pending vr out)) (sym (pending_polls pending vr out)) refl refl refl f.mine in
     let l : Lighter 1 (record (source x) { vs = x.window.vs + 1; unsent = u; t200 = true }) (sink y) (out ++ k ∷ []) ks f.a = speaks.sends (source x) (sink y) out ks m vr u f.a is one_more at bare in
     record {
       a = f.a - 1;
@@ -48,11 +48,11 @@ flow_sent x z y pending m ks out n u is one_more at same_source same_sink f =
     }
   where
     its : (b : Bool) → Stream (source y) (sink x) ks (with_pending b x.window.vr out) f.b → Stream (source y) (sink x) ks (out ++ Numbered m x.window.vr ∷ []) f.b
-    its true st = receives.said_more (source y) (sink x) ks (out ++ Status x.window.vr ∷ []) (out ++ Numbered m x.window.vr ∷ []) f.b
+    its true st = receives.sends_more (source y) (sink x) ks (out ++ Status x.window.vr ∷ []) (out ++ Numbered m x.window.vr ∷ []) f.b
         (rejections_same (Numbered m x.window.vr) out refl ∙ sym (rejections_same (Status x.window.vr) out refl))
         (λ j a. subst (λ ns. IsAmong j ns) (numbers_more (Status x.window.vr) out x.window.vr refl ∙ sym (numbers_more (Numbered m x.window.vr) out x.window.vr refl)) a)
         (let p = tally_more final_of (Status x.window.vr) out in let q = tally_more final_of (Numbered m x.window.vr) out in omega (arith, p, q)) st
-    its false st = receives.said_more (source y) (sink x) ks out (out ++ Numbered m x.window.vr ∷ []) f.b
+    its false st = receives.sends_more (source y) (sink x) ks out (out ++ Numbered m x.window.vr ∷ []) f.b
         (rejections_same (Numbered m x.window.vr) out refl)
         (λ j a. subst (λ ns. IsAmong j ns) (sym (numbers_more (Numbered m x.window.vr) out x.window.vr refl)) (receives.among_more j x.window.vr (numbers out) a))
         (let q = tally_more final_of (Numbered m x.window.vr) out in omega (arith, q)) st
@@ -75,8 +75,8 @@ module _ (c : Context) (peer : End) (ks : List Kind) (n : ℕ) where
       let left : length s.end.given - s.end.next ≡ (length s.end.given - (s.end.next + 1)) + 1 = omega (arith, free) in
       record {
         frames = d.frames ++ f ∷ [];
-        so = (ensure_tells c (transmit_i_frame Whole s)).line ∙ (next_tells c s).line ∙ ap (λ l. l ++ f ∷ []) d.so;
-        kept = (ensure_tells c (transmit_i_frame Whole s)).dropped ∙ (next_tells c s).dropped ∙ d.kept;
+        so = (ensure_puts c (transmit_i_frame Whole s)).line ∙ (next_puts c s).line ∙ ap (λ l. l ++ f ∷ []) d.so;
+        kept = (ensure_puts c (transmit_i_frame Whole s)).dropped ∙ (next_puts c s).dropped ∙ d.kept;
         flow = subst (λ l. Flow t.end peer l ks n) (sym (kinds_more d.frames f))
             (flow_sent s.end t.end peer s.end.window.ack_pending m ks (kinds d.frames) n (length s.end.given - (s.end.next + 1)) is left refl refl refl d.flow);
         idle = d.idle;
@@ -96,8 +96,8 @@ module _ (c : Context) (peer : End) (ks : List Kind) (n : ℕ) where
       let now : Flow s.end peer (kinds d.frames ++ Status s.end.window.vr ∷ []) ks n = subst (λ b. Flow s.end peer (with_pending b s.end.window.vr (kinds d.frames)) ks n) pending d.flow in
       record {
         frames = d.frames ++ f ∷ [];
-        so = (rr_tells c s).line ∙ ap (λ l. l ++ f ∷ []) d.so;
-        kept = (rr_tells c s).dropped ∙ d.kept;
+        so = (rr_puts c s).line ∙ ap (λ l. l ++ f ∷ []) d.so;
+        kept = (rr_puts c s).dropped ∙ d.kept;
         flow = subst (λ l. Flow t.end peer l ks n) (sym (kinds_more d.frames f)) (record { a = now.a; b = now.b; mine = now.mine; its = now.its; most = now.most });
         idle = d.idle;
         ready = ready_more d.frames f refl d.ready;
@@ -116,7 +116,7 @@ flow_polled : (x z y : End) (u : Kind) (nr n : ℕ) → x.t200 ≡ true → poll
     → Flow x y [] [] n → Flow z y (u ∷ []) [] (n - 1)
 flow_polled x z y u nr n runs poll mild no_final same_source same_sink f =
     let l = speaks.polls (source x) (sink y) u f.a runs poll f.mine in
-    let its : Stream (source y) (sink x) [] (u ∷ []) f.b = receives.said_more (source y) (sink x) [] [] (u ∷ []) f.b (ap (λ r. r ++ []) mild) (λ j none. absurd none) (omega (arith, no_final)) f.its in
+    let its : Stream (source y) (sink x) [] (u ∷ []) f.b = receives.sends_more (source y) (sink x) [] [] (u ∷ []) f.b (ap (λ r. r ++ []) mild) (λ j none. absurd none) (omega (arith, no_final)) f.its in
     record {
       a = f.a - 2;
       b = f.b;
@@ -135,16 +135,16 @@ draws_t200 c peer n s runs idle none kept f =
     by_test (λ (t : StepState). Draws c peer [] (n - 1) t) (sends_last s.end.parameters.recovery s.end.window) _ _
     (λ _. let u = last_sent c s in record {
       frames = u ∷ [];
-      so = (last_tells c (expired T200 s)).line ∙ ap (λ l. l ++ u ∷ []) none;
-      kept = (last_tells c (expired T200 s)).dropped ∙ kept;
+      so = (last_puts c (expired T200 s)).line ∙ ap (λ l. l ++ u ∷ []) none;
+      kept = (last_puts c (expired T200 s)).dropped ∙ kept;
       flow = flow_polled s.end (state_to TimerRecovery (rc_to 1 (retransmit_last_i_frame Whole (expired T200 s)))).end peer (kind u) s.end.window.vr n runs refl refl refl refl refl f;
       idle = idle;
       ready = (refl, tt);
     })
     (λ _. let u = without_info Command (status_frame true s.end.window) in record {
       frames = u ∷ [];
-      so = (enquiry_tells c (expired T200 s)).line ∙ ap (λ l. l ++ u ∷ []) none;
-      kept = (enquiry_tells c (expired T200 s)).dropped ∙ kept;
+      so = (enquiry_puts c (expired T200 s)).line ∙ ap (λ l. l ++ u ∷ []) none;
+      kept = (enquiry_puts c (expired T200 s)).dropped ∙ kept;
       flow = let z = (state_to TimerRecovery (rc_to 1 (transmit_enquiry (expired T200 s)))).end in subst (λ k. Flow z peer (k ∷ []) [] (n - 1)) (sym (enquiry_kind s.end.window)) (flow_polled s.end z peer (Enquiry s.end.window.vr) s.end.window.vr n runs refl refl refl refl refl f);
       idle = idle;
       ready = (ready_enquiry s.end.window idle, tt);

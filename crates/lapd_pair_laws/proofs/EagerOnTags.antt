@@ -14,14 +14,14 @@ use Rattle.lapd_link_definition.specs.declared.state.State.TheVariants.{TeiAssig
 use Rattle.lapd_link_definition.specs.Input.{Expiry}
 use Rattle.lapd_link_definition.specs.Sound.{IsSound}
 use Rattle.lapd_pair_laws.specs.Line.{Flight}
-use Rattle.lapd_pair_laws.specs.Move.{Deed, Expire200, Move, View, Turn, Refusal, acts}
-use Rattle.lapd_pair_laws.specs.Tagged.{tag_flight, tag_world, tag_outcome, IsNearDeed}
+use Rattle.lapd_pair_laws.specs.Move.{PairEvent, Expire200, Move, View, ViewStep, Refusal, acts}
+use Rattle.lapd_pair_laws.specs.Tagged.{tag_flight, tag_world, tag_outcome, IsNearEvent}
 use Rattle.lapd_pair_laws.specs.World.{World, view_of, world_after}
-use Rattle.lapd_pair_laws.proofs.TaggedMoves.{tag_view, tag_acted, takes_on_tags, acts_on_tags, view_of_on_tags, in_world_on_tags, after_on_tags, first_near, deed_near}
+use Rattle.lapd_pair_laws.proofs.TaggedMoves.{tag_view, tag_acted, takes_on_tags, acts_on_tags, view_of_on_tags, in_world_on_tags, after_on_tags, first_near, event_is_near}
 use Rattle.lapd_pair_laws.specs.Kinds.{Kind, kind, kind_of, kinds, tally, ask_of, answer_of, poll_of, final_of}
 use Rattle.lapd_pair_laws.specs.Invariant.{IsInvariant}
 use Rattle.lapd_pair_laws.specs.Eager.{awaited, awaited_in, expires_eagerly, acts_eagerly, happens_eagerly, run_eagerly, outcomes_eagerly}
-use Rattle.lapd_pair_laws.proofs.Eager.{small_by_invariant, sound_by_invariant, eager_move_keeps}
+use Rattle.lapd_pair_laws.proofs.Eager.{small_by_invariant, sound_by_invariant, eager_move_preserves}
 use Rattle.lapd_pair_laws.proofs.Nearness.{within_by_invariant}
 
 -- ---- Awaited frames.
@@ -62,7 +62,7 @@ awaited_on_tags v = awaited_alike v.station.end.state v.outgoing v.incoming
 
 -- ---- The moves of a side.
 
-either_on_tags : (test : Bool) (x y : Result Turn Refusal) (u v : Result Turn Refusal) → x ≡ tag_acted u → y ≡ tag_acted v → (if test then x else y) ≡ tag_acted (if test then u else v)
+either_on_tags : (test : Bool) (x y : Result ViewStep Refusal) (u v : Result ViewStep Refusal) → x ≡ tag_acted u → y ≡ tag_acted v → (if test then x else y) ≡ tag_acted (if test then u else v)
 either_on_tags true x y u v one other = one
 either_on_tags false x y u v one other = other
 
@@ -71,28 +71,28 @@ module _ (who : Side) (v : View) (small : v.station.end.parameters.k ≤ 127) (s
   unfolding expires_eagerly acts
   expires_on_tags = rw (awaited_on_tags v) (either_on_tags (v.station.end.t200 && (awaited_in v == 0)) _ _ _ _ (takes_on_tags who v small sound (Expiry T200) [] tt) (acts_on_tags who v small sound Expire200 tt))
 
-  eager_acts_on_tags : (deed : Deed) → IsNearDeed deed v → acts_eagerly Tagged who deed (tag_view v) ≡ tag_acted (acts_eagerly Whole who deed v)
+  eager_acts_on_tags : (event : PairEvent) → IsNearEvent event v → acts_eagerly Tagged who event (tag_view v) ≡ tag_acted (acts_eagerly Whole who event v)
   eager_acts_on_tags Expire200 near = expires_on_tags
-  eager_acts_on_tags deed near = acts_on_tags who v small sound deed near
+  eager_acts_on_tags event near = acts_on_tags who v small sound event near
 
 -- ---- A move, and a run.
 
-deed_is_near : (who : Side) (deed : Deed) (w : World) → IsInvariant w → IsNearDeed deed (view_of who w)
-deed_is_near side.User deed w i = deed_near deed (view_of side.User w) (first_near w.network.end.parameters.k w.to_user w.user.end i.network_window i.user_sound (within_by_invariant w i).to_user)
-deed_is_near side.Network deed w i = deed_near deed (view_of side.Network w) (first_near w.user.end.parameters.k w.to_network w.network.end i.user_window i.network_sound (within_by_invariant w i).to_network)
+each_event_is_near : (who : Side) (event : PairEvent) (w : World) → IsInvariant w → IsNearEvent event (view_of who w)
+each_event_is_near side.User event w i = event_is_near event (view_of side.User w) (first_near w.network.end.parameters.k w.to_user w.user.end i.network_window i.user_sound (within_by_invariant w i).to_user)
+each_event_is_near side.Network event w i = event_is_near event (view_of side.Network w) (first_near w.user.end.parameters.k w.to_network w.network.end i.user_window i.network_sound (within_by_invariant w i).to_network)
 
 eager_move_on_tags : (move : Move) (w : World) → IsInvariant w → happens_eagerly Tagged move (tag_world w) ≡ tag_outcome (happens_eagerly Whole move w)
 unfolding happens_eagerly
 eager_move_on_tags move w i =
     let v = view_of move.side w in
-    rw (view_of_on_tags move.side w, eager_acts_on_tags move.side v (small_by_invariant move.side w i) (sound_by_invariant move.side w i) move.deed (deed_is_near move.side move.deed w i))
-    (in_world_on_tags move.side w (acts_eagerly Whole move.side move.deed v))
+    rw (view_of_on_tags move.side w, eager_acts_on_tags move.side v (small_by_invariant move.side w i) (sound_by_invariant move.side w i) move.event (each_event_is_near move.side move.event w i))
+    (in_world_on_tags move.side w (acts_eagerly Whole move.side move.event v))
 
 pub eager_run_on_tags : (moves : List Move) (w : World) → IsInvariant w → run_eagerly Tagged moves (tag_world w) ≡ tag_world (run_eagerly Whole moves w)
 eager_run_on_tags [] w i = refl
-eager_run_on_tags (move ∷ moves) w i = rw (eager_move_on_tags move w i, after_on_tags w (happens_eagerly Whole move w)) (eager_run_on_tags moves (world_after w (happens_eagerly Whole move w)) (eager_move_keeps move w i))
+eager_run_on_tags (move ∷ moves) w i = rw (eager_move_on_tags move w i, after_on_tags w (happens_eagerly Whole move w)) (eager_run_on_tags moves (world_after w (happens_eagerly Whole move w)) (eager_move_preserves move w i))
 
 pub eager_outcomes_on_tags : (moves : List Move) (w : World) → IsInvariant w → outcomes_eagerly Tagged moves (tag_world w) ≡ map tag_outcome (outcomes_eagerly Whole moves w)
 eager_outcomes_on_tags [] w i = refl
 eager_outcomes_on_tags (move ∷ moves) w i =
-    rw (eager_move_on_tags move w i, after_on_tags w (happens_eagerly Whole move w), eager_outcomes_on_tags moves (world_after w (happens_eagerly Whole move w)) (eager_move_keeps move w i)) refl
+    rw (eager_move_on_tags move w i, after_on_tags w (happens_eagerly Whole move w), eager_outcomes_on_tags moves (world_after w (happens_eagerly Whole move w)) (eager_move_preserves move w i)) refl

@@ -39,16 +39,16 @@ abbrev pub IsJunkThenWhole : ℕ → ℕ → List Message → Type 0
 IsJunkThenWhole low end [] = low ≡ end
 IsJunkThenWhole low end (m ∷ ms) = IsWhole low end (m ∷ ms) ⊎ ((low < m.number) × IsJunkThenWhole low end ms)
 
-abbrev pub IsComing : Bool → ℕ → ℕ → List Message → Type 0
-IsComing false low end ms = IsWhole low end ms
-IsComing true low end ms = IsJunkThenWhole low end ms
+abbrev pub IsInTransit : Bool → ℕ → ℕ → List Message → Type 0
+IsInTransit false low end ms = IsWhole low end ms
+IsInTransit true low end ms = IsJunkThenWhole low end ms
 
 -- x needs no recovery: the messages that y awaits are in transit up to V(S), no REJ is, and T200
 -- will be stopped if it runs
 pub record IsClean (x : Source) (y : Sink) (out back : List Kind) : Type 0 where
   pub in_7 : x.state ≡ MultipleFrameEstablished
   pub free : x.busy ≡ false
-  pub coming : IsComing y.rejecting y.vr x.vs (messages out)
+  pub coming : IsInTransit y.rejecting y.vr x.vs (messages out)
   pub wanted : rejections back ≡ []
   pub timed : x.t200 ≡ false → x.vs ≡ x.va
   pub stopped : x.t200 ≡ true → (y.vr < x.vs) ⊎ IsAmong x.vs (numbers back)

@@ -11,11 +11,11 @@ use Rattle.lapd_pair_laws.specs.Move.{Station}
 use Rattle.lapd_pair_laws.specs.Tagged.{tag_flight, tag_station, tag_world}
 use Rattle.lapd_pair_laws.specs.World.{World}
 use Rattle.lapd_pair_laws.specs.Kinds.{Kind, Message, kind, kind_of, kinds, message_of, messages}
-use Rattle.lapd_pair_laws.specs.Parties.{hears, party, sender_of}
-use Rattle.lapd_pair_laws.specs.Conjuncts.{Each, IsPlaced, IsHeard}
+use Rattle.lapd_pair_laws.specs.Parties.{receives, party, sender_of}
+use Rattle.lapd_pair_laws.specs.Conjuncts.{Each, IsPlaced, IsReceivable}
 use Rattle.lapd_pair_laws.specs.Invariant.{Half, IsInvariant}
-use Rattle.lapd_pair_laws.specs.Fresh.{IsFresh, AreFresh, ComeFresh}
-use Rattle.lapd_pair_laws.proofs.Hearings.{from_open}
+use Rattle.lapd_pair_laws.specs.Fresh.{IsFresh, AreFresh, AllAreFresh}
+use Rattle.lapd_pair_laws.proofs.Receptions.{from_open}
 
 each_part : (P : Message → Type 0) (xs ys : List Message) → Each P (xs ++ ys) → Each P xs × Each P ys
 each_part P [] ys e = (tt, e)
@@ -34,10 +34,10 @@ frames_fresh base x (frame ∷ rest) placed =
 
 fresh_to : (x y : Station) (base its_base : ℕ) (frames : List Flight) (back : List Kind) → Half (party base x) (party its_base y) (kinds frames) back → is_7_or_8 y.end.state ≡ true → AreFresh x frames
 fresh_to x y base its_base frames back half opened =
-    let heard = from_open (IsHeard (party base x) (party its_base y) (hears (party base x) back)) (party its_base y) (kinds frames) opened half.heard in
+    let heard = from_open (IsReceivable (party base x) (party its_base y) (receives (party base x) back)) (party its_base y) (kinds frames) opened half.heard in
     frames_fresh base x frames heard.stream.placed
 
-pub fresh_by_invariant : (w : World) → IsInvariant w → ComeFresh w
+pub fresh_by_invariant : (w : World) → IsInvariant w → AllAreFresh w
 fresh_by_invariant w i = record {
   to_user = fresh_to w.network w.user i.network_base i.user_base w.to_user (kinds w.to_network) i.both.its;
   to_network = fresh_to w.user w.network i.user_base i.network_base w.to_network (kinds w.to_user) i.both.mine;
@@ -54,7 +54,7 @@ frames_in_tags : (x : Station) (frames : List Flight) → AreFresh x frames → 
 frames_in_tags x [] fresh = tt
 frames_in_tags x (frame ∷ rest) fresh = (frame_in_tags x frame.role frame.control frame.place fresh.0, frames_in_tags x rest fresh.1)
 
-pub fresh_in_tags : (w : World) → IsInvariant w → ComeFresh (tag_world w)
+pub fresh_in_tags : (w : World) → IsInvariant w → AllAreFresh (tag_world w)
 fresh_in_tags w i = let fresh = fresh_by_invariant w i in record {
   to_user = λ opened. frames_in_tags w.network w.to_user (fresh.to_user opened);
   to_network = λ opened. frames_in_tags w.user w.to_network (fresh.to_network opened);

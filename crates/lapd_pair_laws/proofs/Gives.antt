@@ -19,16 +19,16 @@ use Rattle.lapd_link_definition.specs.TimerRecovery.{timer_recovery}
 use Rattle.lapd_pair_laws.specs.Histories.{Receipt}
 use Rattle.lapd_pair_laws.specs.Move.{Give, acts, takes, story_after}
 use Rattle.lapd_pair_laws.specs.Kinds.{Message, Kind, kinds, messages}
-use Rattle.lapd_pair_laws.specs.Parties.{Sender, Party, Hearing, hears}
-use Rattle.lapd_pair_laws.specs.Conjuncts.{IsKept, IsPlaced, IsHeard, AreGiven}
+use Rattle.lapd_pair_laws.specs.Parties.{Sender, Party, Reception, receives}
+use Rattle.lapd_pair_laws.specs.Conjuncts.{IsConsistentSender, IsPlaced, IsReceivable, AreGiven}
 use Rattle.lapd_pair_laws.specs.Invariant.{Both}
 use Rattle.lapd_pair_laws.proofs.ActionEffects.{Context, seen, line}
-use Rattle.lapd_pair_laws.proofs.Hearings.{on_map}
+use Rattle.lapd_pair_laws.proofs.Receptions.{on_map}
 use Rattle.lapd_pair_laws.proofs.Lists.{each_map, get_more}
 use Rattle.lapd_pair_laws.proofs.ClosedActions.{Seems, Ends}
 use Rattle.lapd_pair_laws.proofs.Steps.{context, begun, by_refusal}
 use Rattle.lapd_pair_laws.proofs.Units.{ends_as_seen}
-use Rattle.lapd_pair_laws.proofs.Worlds.{Keeps}
+use Rattle.lapd_pair_laws.proofs.Worlds.{Preserves}
 
 -- ---- The states in which a message is accepted.
 
@@ -62,14 +62,14 @@ module _ (message : List ℕ) where
   more_given : (s : Sender) → length s.given ≤ length (giving_sender message s).given
   more_given s = let more : length (s.given ++ message ∷ []) ≡ length s.given + length (message ∷ []) = length-append s.given (message ∷ []) in omega (arith, more)
 
-  kept_giving : (state : State) (asked leaving : Bool) (s : Sender) → Takes state asked leaving → IsKept state asked leaving s → IsKept state asked leaving (giving_sender message s)
-  kept_giving AwaitingEstablishment false false s in_5 k = let more = more_given s in record { first = k.first; next = k.next; ordered = k.ordered; within = omega (arith, k.within, more) }
-  kept_giving MultipleFrameEstablished asked leaving s in_7 k = let more = more_given s in record { first = k.first; next = k.next; ordered = k.ordered; window = k.window; within = omega (arith, k.within, more); since = k.since }
-  kept_giving TimerRecovery asked leaving s in_8 k = let more = more_given s in record { first = k.first; next = k.next; ordered = k.ordered; window = k.window; within = omega (arith, k.within, more); since = k.since }
-  kept_giving TeiAssigned asked leaving s none k = elim none [ ]
-  kept_giving AwaitingEstablishment false true s none k = elim none [ ]
-  kept_giving AwaitingEstablishment true leaving s none k = elim none [ ]
-  kept_giving AwaitingRelease asked leaving s none k = elim none [ ]
+  giving_consistent : (state : State) (asked leaving : Bool) (s : Sender) → Takes state asked leaving → IsConsistentSender state asked leaving s → IsConsistentSender state asked leaving (giving_sender message s)
+  giving_consistent AwaitingEstablishment false false s in_5 k = let more = more_given s in record { first = k.first; next = k.next; ordered = k.ordered; within = omega (arith, k.within, more) }
+  giving_consistent MultipleFrameEstablished asked leaving s in_7 k = let more = more_given s in record { first = k.first; next = k.next; ordered = k.ordered; window = k.window; within = omega (arith, k.within, more); since = k.since }
+  giving_consistent TimerRecovery asked leaving s in_8 k = let more = more_given s in record { first = k.first; next = k.next; ordered = k.ordered; window = k.window; within = omega (arith, k.within, more); since = k.since }
+  giving_consistent TeiAssigned asked leaving s none k = elim none [ ]
+  giving_consistent AwaitingEstablishment false true s none k = elim none [ ]
+  giving_consistent AwaitingEstablishment true leaving s none k = elim none [ ]
+  giving_consistent AwaitingRelease asked leaving s none k = elim none [ ]
 
   given_still : (given : List (List ℕ)) (received : List Receipt) → AreGiven given received → AreGiven (given ++ message ∷ []) received
   given_still given [] are = tt
@@ -79,8 +79,8 @@ module _ (message : List ℕ) where
   placed_giving s m p = record { place = p.place; same = get_more s.given (message ∷ []) m.place m.octets p.same; sent = p.sent }
 
   module _ (x y : Party) where
-    heard_giving : (here : Option Hearing) (h : Hearing) → IsHeard x y here h → IsHeard (giving message x) y here h
-    heard_giving here h i = record {
+    received_giving : (here : Option Reception) (h : Reception) → IsReceivable x y here h → IsReceivable (giving message x) y here h
+    received_giving here h i = record {
       stream = record {
         placed = each_map (IsPlaced x.sends) (IsPlaced (giving_sender message x.sends)) (messages h.frames) (placed_giving x.sends) i.stream.placed;
         near = i.stream.near;
@@ -94,19 +94,19 @@ module _ (message : List ℕ) where
     }
 
     -- and the frames that the side itself processes
-    hears_giving : (there : Option Hearing) (h : Hearing) → IsHeard y x there h → IsHeard y (giving message x) there h
-    hears_giving there h i = record { stream = i.stream; acks = i.acks; asked = i.asked; rejected = i.rejected }
+    receives_giving : (there : Option Reception) (h : Reception) → IsReceivable y x there h → IsReceivable y (giving message x) there h
+    receives_giving there h i = record { stream = i.stream; acks = i.acks; asked = i.asked; rejected = i.rejected }
 
     pub gives_both : (out back : List Kind) → Takes x.state x.asked x.leaving → Both x y out back → Both (giving message x) y out back
     gives_both out back takes b = let z = giving message x in record {
       mine = record {
-        kept = kept_giving x.state x.asked x.leaving x.sends takes b.mine.kept;
+        kept = giving_consistent x.state x.asked x.leaving x.sends takes b.mine.kept;
         passed = b.mine.passed;
         past = b.mine.past;
         lately = b.mine.lately;
         none_yet = b.mine.none_yet;
         below = b.mine.below;
-        heard = on_map (IsHeard x y (hears x back)) (IsHeard z y (hears x back)) (hears y out) (heard_giving (hears x back)) b.mine.heard;
+        heard = on_map (IsReceivable x y (receives x back)) (IsReceivable z y (receives x back)) (receives y out) (received_giving (receives x back)) b.mine.heard;
         exchange = b.mine.exchange;
         histories = let h = b.mine.histories in record { as_given = given_still x.sends.given y.takes.received h.as_given; row = h.row; prefix = h.prefix; arrived = h.arrived };
       };
@@ -117,7 +117,7 @@ module _ (message : List ℕ) where
         lately = b.its.lately;
         none_yet = b.its.none_yet;
         below = b.its.below;
-        heard = on_map (IsHeard y x (hears y out)) (IsHeard y z (hears y out)) (hears x back) (hears_giving (hears y out)) b.its.heard;
+        heard = on_map (IsReceivable y x (receives y out)) (IsReceivable y z (receives y out)) (receives x back) (receives_giving (receives y out)) b.its.heard;
         exchange = b.its.exchange;
         histories = b.its.histories;
       };
@@ -151,8 +151,8 @@ pub taken_where : (message : List ℕ) (e : End) → refused (input.Give message
 taken_where message e none = takes_where e.state e.layer3_initiated e.release_pending (waiting e == e.parameters.room) (not_too_long (nat_lt n201 (length message)) _ none)
 
 -- the move, accepted or refused
-pub keeps_give : (message : List ℕ) → Keeps (Give message)
+pub preserves_give : (message : List ℕ) → Preserves (Give message)
 unfolding acts takes
-keeps_give message v peer small h =
+preserves_give message v peer small h =
     let c = context h.base [] 0 v v.incoming peer h.its_base in
     by_refusal [] 0 v h.base h.its_base peer (input.Give message) h (λ none. ends_given c (kinds v.incoming) message v.station.end (taken_where message v.station.end none) (begun c (kinds v.incoming) h.both))

@@ -5,17 +5,17 @@ use Rattle.lapd_link_definition.specs.declared.state.State.TheVariants.{TeiAssig
 use Rattle.lapd_link_definition.specs.EndOfStep.{is_7_or_8}
 use Rattle.lapd_pair_laws.specs.Histories.{Receipt}
 use Rattle.lapd_pair_laws.specs.Kinds.{Message, Kind, Numbered, Status, Rejection, Enquiry, Final, messages, numbers, rejections, bit, tally, poll_of}
-use Rattle.lapd_pair_laws.specs.Parties.{Sender, Party, Hearing, hearing_now, hears, OnHearing, frames_heard}
-use Rattle.lapd_pair_laws.specs.Conjuncts.{Each, IsGot, IsPlaced, IsNumbering, IsInOrder, IsClimb, NoneAsked, OneAsked, AreAsked, IsAwaiting, IsSentBack, AtMostOne, AreRejected, IsHeard, high, IsInStep, IsRow}
-use Rattle.lapd_pair_laws.proofs.Acknowledges.{acknowledging, keeps_acknowledging}
-use Rattle.lapd_pair_laws.proofs.Hearings.{on_map, on_both, from_open}
+use Rattle.lapd_pair_laws.specs.Parties.{Sender, Party, Reception, reception_now, receives, OnReception, frames_received}
+use Rattle.lapd_pair_laws.specs.Conjuncts.{Each, IsGot, IsPlaced, IsNumbering, IsInOrder, IsClimb, NoneAsked, OneAsked, AreAsked, IsAwaiting, IsSentBack, AtMostOne, AreRejected, IsReceivable, high, IsInStep, IsRow}
+use Rattle.lapd_pair_laws.proofs.Acknowledges.{acknowledging, preserves_acknowledging}
+use Rattle.lapd_pair_laws.proofs.Receptions.{on_map, on_both, from_open}
 use Rattle.lapd_pair_laws.proofs.Lists.{each_map}
 use Rattle.lapd_pair_laws.proofs.Losses.{rejected_map}
-use Rattle.lapd_pair_laws.proofs.MidSteps.{Mid, numbering, open_kept}
+use Rattle.lapd_pair_laws.proofs.MidSteps.{Mid, numbering, open_consistent}
 use Rattle.lapd_pair_laws.proofs.Polls.{established, to_established}
 use Rattle.lapd_pair_laws.proofs.Receipts.{place_below}
 use Rattle.lapd_pair_laws.proofs.Runs.{NonePolls, all_is_junk}
-use Rattle.lapd_pair_laws.proofs.FrameInHand.{turned, final_left, rejection_left}
+use Rattle.lapd_pair_laws.proofs.FrameOfStep.{turned, final_left, rejection_left}
 
 abbrev pub backing_sender : ℕ → Sender → Sender
 backing_sender nr s = record s { vs = nr; next = s.first }
@@ -26,7 +26,7 @@ backing nr x = record x { sends = backing_sender nr x.sends }
 placed_backing : (nr : ℕ) (s : Sender) (m : Message) → IsPlaced s m → IsPlaced (backing_sender nr s) m
 placed_backing nr s m p = record { place = p.place; same = p.same; sent = p.sent }
 
-awaits_backing : (x : Party) (nr : ℕ) (back : List Kind) (n : ℕ) → IsAwaiting n (hearing_now x back) → IsAwaiting n (hearing_now (backing nr x) back)
+awaits_backing : (x : Party) (nr : ℕ) (back : List Kind) (n : ℕ) → IsAwaiting n (reception_now x back) → IsAwaiting n (reception_now (backing nr x) back)
 awaits_backing x nr back n w = record { rejecting = w.rejecting; at = w.at; above = w.above }
 
 -- if none of the rising numbers exceeds `limit`, they rise from `low` to at most `limit`
@@ -39,7 +39,7 @@ known_below base limit zero received row names got = omega arith
 known_below base limit (suc n) received row names got = let last : base + n < high received = place_below 0 0 (base + n) received row (got n (omega arith)) in omega (arith, last, names)
 
 -- if no REJ is in transit, the condition on REJ holds
-pub no_rejections : (state : State) (vs base : ℕ) (received : List Receipt) (waiting : Option Hearing) (ns : List ℕ) → ns ≡ [] → AreRejected state vs base received waiting ns
+pub no_rejections : (state : State) (vs base : ℕ) (received : List Receipt) (waiting : Option Reception) (ns : List ℕ) → ns ≡ [] → AreRejected state vs base received waiting ns
 no_rejections TeiAssigned vs base received waiting ns none = tt
 no_rejections AwaitingEstablishment vs base received waiting ns none = none
 no_rejections AwaitingRelease vs base received waiting ns none = tt
@@ -48,21 +48,21 @@ no_rejections TimerRecovery vs base received waiting ns none = tt
 
 -- The N(R) acknowledges all that the peer received, and the messages it will process are in order
 -- up to V(A): then this side may set V(S) back.
-pub keeps_backing : (x y : Party) (out back : List Kind) (nr : ℕ) → x.sends.va ≡ nr → high y.takes.received ≤ x.sends.base + nr → rejections back ≡ []
-    → OnHearing (λ h. IsInOrder h.rejecting h.vr nr (messages h.frames)) (hears y out) → Mid x y out back → Mid (backing nr x) y out back
-keeps_backing x y out back nr at names none order m =
+pub preserves_backing : (x y : Party) (out back : List Kind) (nr : ℕ) → x.sends.va ≡ nr → high y.takes.received ≤ x.sends.base + nr → rejections back ≡ []
+    → OnReception (λ h. IsInOrder h.rejecting h.vr nr (messages h.frames)) (receives y out) → Mid x y out back → Mid (backing nr x) y out back
+preserves_backing x y out back nr at names none order m =
     let z = backing nr x in
-    let was = Some (hearing_now x back) in
-    let now = Some (hearing_now z back) in
+    let was = Some (reception_now x back) in
+    let now = Some (reception_now z back) in
     let n : IsNumbering x.sends = numbering m in
-    let Order : Hearing → Type 0 = λ h. IsInOrder h.rejecting h.vr nr (messages h.frames) in
+    let Order : Reception → Type 0 = λ h. IsInOrder h.rejecting h.vr nr (messages h.frames) in
     let acks = m.its.heard.acks in
     let low : x.sends.va ≤ nr = omega (arith, at) in
     let within : Each (λ k. k ≤ nr) (numbers back) = each_map (λ k. IsGot x.sends.base k y.takes.received) (λ k. k ≤ nr) (numbers back) (λ k. known_below x.sends.base nr k y.takes.received m.mine.histories.row names) acks.known in
     record {
       opened = m.opened;
       mine = record {
-        kept = open_kept x.state x.asked x.leaving z.sends m.opened (record {
+        kept = open_consistent x.state x.asked x.leaving z.sends m.opened (record {
           first = n.first;
           next = omega (arith, n.first, at);
           ordered = omega (arith, at);
@@ -75,7 +75,7 @@ keeps_backing x y out back nr at names none order m =
         lately = m.mine.lately;
         none_yet = m.mine.none_yet;
         below = λ _. names;
-        heard = on_both Order (IsHeard x y was) (IsHeard z y now) (hears y out) (λ h o i. record {
+        heard = on_both Order (IsReceivable x y was) (IsReceivable z y now) (receives y out) (λ h o i. record {
           stream = record {
             placed = each_map (IsPlaced x.sends) (IsPlaced z.sends) (messages h.frames) (placed_backing nr x.sends) i.stream.placed;
             near = i.stream.near;
@@ -105,7 +105,7 @@ keeps_backing x y out back nr at names none order m =
             top = λ opened. ((acks.top opened).0, its_reached opened);
           };
           asked = m.its.heard.asked;
-          rejected = no_rejections x.state nr x.sends.base y.takes.received (hears y out) (rejections back) none;
+          rejected = no_rejections x.state nr x.sends.base y.takes.received (receives y out) (rejections back) none;
         };
         exchange = m.its.exchange;
         histories = m.its.histories;
@@ -117,7 +117,7 @@ keeps_backing x y out back nr at names none order m =
     reached (suc vr) step = let level : high y.takes.received ≡ x.sends.base + suc vr = step.level (omega arith) in omega (arith, level, names)
 
     its_reached : is_7_or_8 y.state ≡ true → y.takes.vr ≤ nr
-    its_reached opened = reached y.takes.vr ((from_open (IsHeard x y (Some (hearing_now x back))) y out opened m.mine.heard).stream.step (inl m.opened))
+    its_reached opened = reached y.takes.vr ((from_open (IsReceivable x y (Some (reception_now x back))) y out opened m.mine.heard).stream.step (inl m.opened))
 
 -- ---- By a REJ with F=0, in state 7.
 
@@ -133,13 +133,13 @@ none_polls (Status nr ∷ ks) none = none_polls ks (omega (arith, none))
 none_polls (Enquiry nr ∷ ks) none = absurd (omega (arith, none))
 none_polls (k ∷ ks) none = none_polls ks (omega (arith, none))
 
-pub polls_heard : (P : List Kind → Type 0) (o : Option Hearing) → P (frames_heard o) → OnHearing (λ h. P h.frames) o
-polls_heard P None p = tt
-polls_heard P (Some h) p = p
+pub polls_received : (P : List Kind → Type 0) (o : Option Reception) → P (frames_received o) → OnReception (λ h. P h.frames) o
+polls_received P None p = tt
+polls_received P (Some h) p = p
 
 -- the messages that the peer will process are stale, above the number that it awaits, and so in
 -- order
-all_junk : (nr : ℕ) (h : Hearing) → IsAwaiting nr h → tally poll_of h.frames ≡ 0 → IsInOrder h.rejecting h.vr nr (messages h.frames)
+all_junk : (nr : ℕ) (h : Reception) → IsAwaiting nr h → tally poll_of h.frames ≡ 0 → IsInOrder h.rejecting h.vr nr (messages h.frames)
 all_junk nr h w none = subst (λ b. IsInOrder b h.vr nr (messages h.frames)) (sym w.rejecting)
     (all_is_junk h.vr nr (messages h.frames) (none_polls h.frames none) (subst (λ v. Each (λ m. m.polled ≡ false → v < m.number) (messages h.frames)) (sym w.at) w.above))
 
@@ -148,23 +148,23 @@ rest_of_one P n [] one = (one, refl)
 rest_of_one P n (o ∷ ns) one = absurd one
 
 pub sent_back_in_7 : (x y : Party) (out : List Kind) (nr : ℕ) (ks : List Kind) → x.state ≡ MultipleFrameEstablished → Mid x y out (Rejection nr ∷ ks)
-    → IsSentBack x.sends.vs x.sends.base y.takes.received (hears y out) nr × (rejections ks ≡ [])
+    → IsSentBack x.sends.vs x.sends.base y.takes.received (receives y out) nr × (rejections ks ≡ [])
 sent_back_in_7 x y out nr ks is m =
-    rest_of_one (IsSentBack x.sends.vs x.sends.base y.takes.received (hears y out)) nr (rejections ks)
-    (subst (λ s. AreRejected s x.sends.vs x.sends.base y.takes.received (hears y out) (nr ∷ rejections ks)) is m.its.heard.rejected)
+    rest_of_one (IsSentBack x.sends.vs x.sends.base y.takes.received (receives y out)) nr (rejections ks)
+    (subst (λ s. AreRejected s x.sends.vs x.sends.base y.takes.received (receives y out) (nr ∷ rejections ks)) is m.its.heard.rejected)
 
-pub none_asked_in_7 : (x y : Party) (out back : List Kind) → x.state ≡ MultipleFrameEstablished → Mid x y out back → NoneAsked (frames_heard (hears y out)) back
-none_asked_in_7 x y out back is m = subst (λ s. AreAsked s x.sends.base y.takes.received (frames_heard (hears y out)) back) is m.its.heard.asked
+pub none_asked_in_7 : (x y : Party) (out back : List Kind) → x.state ≡ MultipleFrameEstablished → Mid x y out back → NoneAsked (frames_received (receives y out)) back
+none_asked_in_7 x y out back is m = subst (λ s. AreAsked s x.sends.base y.takes.received (frames_received (receives y out)) back) is m.its.heard.asked
 
 pub back_by_rejection : (x y : Party) (out : List Kind) (nr : ℕ) (ks : List Kind) → x.state ≡ MultipleFrameEstablished → Mid x y out (Rejection nr ∷ ks) → Mid (backing nr (acknowledging nr x)) y out ks
 back_by_rejection x y out nr ks is m =
     let t : Mid x y out (Status nr ∷ ks) = turned x y out (Status nr ∷ ks) (Rejection nr ∷ ks) (rejection_left nr ks) m in
     let facts = sent_back_in_7 x y out nr ks is m in
-    let None_ : Hearing → Type 0 = λ h. tally poll_of h.frames ≡ 0 in
-    let none : OnHearing None_ (hears y out) = polls_heard (λ l. tally poll_of l ≡ 0) (hears y out) (none_asked_in_7 x y out (Rejection nr ∷ ks) is m).polls in
-    keeps_backing (acknowledging nr x) y out ks nr refl facts.0.names facts.1
-    (on_both (IsAwaiting nr) None_ (λ h. IsInOrder h.rejecting h.vr nr (messages h.frames)) (hears y out) (λ h w n. all_junk nr h w n) facts.0.waits none)
-    (keeps_acknowledging x y out nr ks t)
+    let None_ : Reception → Type 0 = λ h. tally poll_of h.frames ≡ 0 in
+    let none : OnReception None_ (receives y out) = polls_received (λ l. tally poll_of l ≡ 0) (receives y out) (none_asked_in_7 x y out (Rejection nr ∷ ks) is m).polls in
+    preserves_backing (acknowledging nr x) y out ks nr refl facts.0.names facts.1
+    (on_both (IsAwaiting nr) None_ (λ h. IsInOrder h.rejecting h.vr nr (messages h.frames)) (receives y out) (λ h w n. all_junk nr h w n) facts.0.waits none)
+    (preserves_acknowledging x y out nr ks t)
 
 -- ---- By a final, in state 8.
 
@@ -172,17 +172,17 @@ pub order_of_none : (rejecting : Bool) (low end : ℕ) (ms : List Message) → m
 order_of_none true low end ms none = subst (λ l. IsInOrder true low end l) (sym none) tt
 order_of_none false low end ms none = subst (λ l. IsInOrder false low end l) (sym none) tt
 
-pub asked_in_8 : (x y : Party) (out back : List Kind) → x.state ≡ TimerRecovery → Mid x y out back → OneAsked x.sends.base y.takes.received (frames_heard (hears y out)) back
-asked_in_8 x y out back is m = subst (λ s. AreAsked s x.sends.base y.takes.received (frames_heard (hears y out)) back) is m.its.heard.asked
+pub asked_in_8 : (x y : Party) (out back : List Kind) → x.state ≡ TimerRecovery → Mid x y out back → OneAsked x.sends.base y.takes.received (frames_received (receives y out)) back
+asked_in_8 x y out back is m = subst (λ s. AreAsked s x.sends.base y.takes.received (frames_received (receives y out)) back) is m.its.heard.asked
 
 pub back_by_final : (x y : Party) (out : List Kind) (nr : ℕ) (ks : List Kind) → x.state ≡ TimerRecovery → Mid x y out (Final nr ∷ ks) → Mid (established (backing nr (acknowledging nr x))) y out ks
 back_by_final x y out nr ks is m =
     let t : Mid x y out (Status nr ∷ ks) = turned x y out (Status nr ∷ ks) (Final nr ∷ ks) (final_left nr ks) m in
     let asked = asked_in_8 x y out (Final nr ∷ ks) is m in
     let named = asked.names.0 in
-    let gone : messages (frames_heard (hears y out)) ≡ [] = asked.alone (omega arith) in
-    let none : OnHearing (λ h. messages h.frames ≡ []) (hears y out) = polls_heard (λ l. messages l ≡ []) (hears y out) gone in
+    let gone : messages (frames_received (receives y out)) ≡ [] = asked.alone (omega arith) in
+    let none : OnReception (λ h. messages h.frames ≡ []) (receives y out) = polls_received (λ l. messages l ≡ []) (receives y out) gone in
     to_established (backing nr (acknowledging nr x)) y out ks (record { polls = omega (arith, asked.one); finals = omega (arith, asked.one) }) named.1
-    (keeps_backing (acknowledging nr x) y out ks nr refl named.0 named.1
-    (on_map (λ h. messages h.frames ≡ []) (λ h. IsInOrder h.rejecting h.vr nr (messages h.frames)) (hears y out) (λ h n. order_of_none h.rejecting h.vr nr (messages h.frames) n) none)
-    (keeps_acknowledging x y out nr ks t))
+    (preserves_backing (acknowledging nr x) y out ks nr refl named.0 named.1
+    (on_map (λ h. messages h.frames ≡ []) (λ h. IsInOrder h.rejecting h.vr nr (messages h.frames)) (receives y out) (λ h n. order_of_none h.rejecting h.vr nr (messages h.frames) n) none)
+    (preserves_acknowledging x y out nr ks t))

@@ -12,10 +12,10 @@ use Rattle.lapd_pair_laws.specs.Move.{Station}
 use Rattle.lapd_pair_laws.specs.Tagged.{IsFirstWithin, AreFirstWithin}
 use Rattle.lapd_pair_laws.specs.World.{World}
 use Rattle.lapd_pair_laws.specs.Kinds.{Kind, kind_of, kinds, messages, numbers, tally, foreign_of}
-use Rattle.lapd_pair_laws.specs.Parties.{hears, party}
-use Rattle.lapd_pair_laws.specs.Conjuncts.{Each, IsNearTo, IsClimb, IsHeard}
+use Rattle.lapd_pair_laws.specs.Parties.{receives, party}
+use Rattle.lapd_pair_laws.specs.Conjuncts.{Each, IsNearTo, IsClimb, IsReceivable}
 use Rattle.lapd_pair_laws.specs.Invariant.{Half, IsInvariant}
-use Rattle.lapd_pair_laws.proofs.Hearings.{from_open}
+use Rattle.lapd_pair_laws.proofs.Receptions.{from_open}
 use Rattle.lapd_pair_laws.proofs.Runs.{climb_top}
 
 frame_within : (k : ℕ) (role : Role) (control : Control) (info : List ℕ) (place : ℕ) (ks : List Kind) (m : StateVariables)
@@ -39,7 +39,7 @@ frame_within k role control info place ks m near climb clean = tt
 first_within : (x y : Station) (base its_base : ℕ) (frames : List Flight) (back : List Kind) → Half (party base x) (party its_base y) (kinds frames) back → IsFirstWithin x.end.parameters.k frames y.end
 first_within x y base its_base [] back half = tt
 first_within x y base its_base (frame ∷ rest) back half = λ is.
-    let heard = from_open (IsHeard (party base x) (party its_base y) (hears (party base x) back)) (party its_base y) (kinds (frame ∷ rest)) is half.heard in
+    let heard = from_open (IsReceivable (party base x) (party its_base y) (receives (party base x) back)) (party its_base y) (kinds (frame ∷ rest)) is half.heard in
     frame_within x.end.parameters.k frame.role frame.control frame.info frame.place (kinds rest) y.end.window heard.stream.near heard.acks.climb half.exchange.clean
 
 pub within_by_invariant : (w : World) → IsInvariant w → AreFirstWithin w

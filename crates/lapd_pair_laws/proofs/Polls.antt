@@ -5,20 +5,20 @@ use Rattle.lapd_link_definition.specs.declared.state.State.TheVariants.{TeiAssig
 use Rattle.lapd_link_definition.specs.EndOfStep.{is_7_or_8}
 use Rattle.lapd_pair_laws.specs.Histories.{Receipt}
 use Rattle.lapd_pair_laws.specs.Kinds.{Kind, Status, Enquiry, Final, message_of, messages, numbers, rejections, tally, poll_of, final_of}
-use Rattle.lapd_pair_laws.specs.Parties.{Party, Hearing, hearing_now, hears, OnHearing, frames_heard}
-use Rattle.lapd_pair_laws.specs.Conjuncts.{IsGot, IsStream, AreAcknowledging, NoneAsked, NoneBehindPoll, OneAsked, AreAsked, AreRejected, IsHeard, IsExchange, high}
-use Rattle.lapd_pair_laws.proofs.Hearings.{on_map, on_both, one_more}
+use Rattle.lapd_pair_laws.specs.Parties.{Party, Reception, reception_now, receives, OnReception, frames_received}
+use Rattle.lapd_pair_laws.specs.Conjuncts.{IsGot, IsStream, AreAcknowledging, NoneAsked, NoneBehindPoll, OneAsked, AreAsked, AreRejected, IsReceivable, IsExchange, high}
+use Rattle.lapd_pair_laws.proofs.Receptions.{on_map, on_both, one_more}
 use Rattle.lapd_pair_laws.proofs.Lists.{tally_more}
-use Rattle.lapd_pair_laws.proofs.MidSteps.{Mid, numbering, open_holds, open_asks_none, got_where_heard}
-use Rattle.lapd_pair_laws.proofs.SupervisoryFrames.{say, acks_said, asked_said, rejected_said, asked_heard, finals_more, no_finals, behind_more}
-use Rattle.lapd_pair_laws.proofs.FrameInHand.{turned, enquiry_left}
+use Rattle.lapd_pair_laws.proofs.MidSteps.{Mid, numbering, open_holds, open_asks_none, got_where_received}
+use Rattle.lapd_pair_laws.proofs.SupervisoryFrames.{sends_supervisory, acks_sent, asked_sent, rejected_sent, asked_received, finals_more, no_finals, behind_more}
+use Rattle.lapd_pair_laws.proofs.FrameOfStep.{turned, enquiry_left}
 
 -- ---- A poll is answered.
 
 -- its V(R) acknowledges all that this side received, if the peer processes frames
-pub named_where_heard : {x y : Party} {out back : List Kind} → Mid x y out back → OnHearing (λ h. is_7_or_8 y.state ≡ true → high x.takes.received ≤ y.sends.base + x.takes.vr) (hears y out)
-named_where_heard {x = x} {y = y} {out = out} {back = back} m =
-    on_map (IsHeard x y (Some (hearing_now x back))) _ (hears y out) (λ h i opened. (m.its.heard.stream.step (inl opened)).below) m.mine.heard
+pub named_where_received : {x y : Party} {out back : List Kind} → Mid x y out back → OnReception (λ h. is_7_or_8 y.state ≡ true → high x.takes.received ≤ y.sends.base + x.takes.vr) (receives y out)
+named_where_received {x = x} {y = y} {out = out} {back = back} m =
+    on_map (IsReceivable x y (Some (reception_now x back))) _ (receives y out) (λ h i opened. (m.its.heard.stream.step (inl opened)).below) m.mine.heard
 
 -- the poll in hand is the only one in transit: a final may answer it
 answered : (state : State) (base nr vr : ℕ) (received : List Receipt) (ks back : List Kind) → (is_7_or_8 state ≡ true → high received ≤ base + vr)
@@ -41,27 +41,27 @@ pub answering : (x y : Party) (out : List Kind) (nr : ℕ) (ks : List Kind) → 
 answering x y out nr ks w =
     let m : Mid x y out (Status nr ∷ ks) = turned x y out (Status nr ∷ ks) (Enquiry nr ∷ ks) (enquiry_left nr ks) w in
     let u = Final x.takes.vr in
-    let was = Some (hearing_now x (Enquiry nr ∷ ks)) in
-    let here = Some (hearing_now x (Status nr ∷ ks)) in
-    let Got : Hearing → Type 0 = λ h. IsGot y.sends.base x.takes.vr x.takes.received in
-    let Named : Hearing → Type 0 = λ h. is_7_or_8 y.state ≡ true → high x.takes.received ≤ y.sends.base + x.takes.vr in
-    say x y out (Status nr ∷ ks) u (record { no_acceptance = refl; no_message = refl; no_ask = refl; no_answer = refl; known = refl })
-    (on_both (IsHeard x y here) Got _ (hears y out) (λ h i got. acks_said x.takes (is_7_or_8 x.state) y.sends.base h.va h.vs u h.frames m.opened refl got i.acks) m.mine.heard (got_where_heard m))
-    (on_both (IsHeard x y was) Named _ (hears y out) (λ h i named. answered y.state y.sends.base nr x.takes.vr x.takes.received ks h.frames named i.asked) w.mine.heard (named_where_heard w))
-    (on_map (IsHeard x y here) _ (hears y out) (λ h i. rejected_said y.state y.sends.vs y.sends.base x.takes.received here u h.frames refl i.rejected) m.mine.heard)
-    (asked_heard x.state x.sends.base y.takes.received u (hears y out) (Status nr ∷ ks) refl refl m.its.heard.asked) m
+    let was = Some (reception_now x (Enquiry nr ∷ ks)) in
+    let here = Some (reception_now x (Status nr ∷ ks)) in
+    let Got : Reception → Type 0 = λ h. IsGot y.sends.base x.takes.vr x.takes.received in
+    let Named : Reception → Type 0 = λ h. is_7_or_8 y.state ≡ true → high x.takes.received ≤ y.sends.base + x.takes.vr in
+    sends_supervisory x y out (Status nr ∷ ks) u (record { no_acceptance = refl; no_message = refl; no_ask = refl; no_answer = refl; known = refl })
+    (on_both (IsReceivable x y here) Got _ (receives y out) (λ h i got. acks_sent x.takes (is_7_or_8 x.state) y.sends.base h.va h.vs u h.frames m.opened refl got i.acks) m.mine.heard (got_where_received m))
+    (on_both (IsReceivable x y was) Named _ (receives y out) (λ h i named. answered y.state y.sends.base nr x.takes.vr x.takes.received ks h.frames named i.asked) w.mine.heard (named_where_received w))
+    (on_map (IsReceivable x y here) _ (receives y out) (λ h i. rejected_sent y.state y.sends.vs y.sends.base x.takes.received here u h.frames refl i.rejected) m.mine.heard)
+    (asked_received x.state x.sends.base y.takes.received u (receives y out) (Status nr ∷ ks) refl refl m.its.heard.asked) m
 
 -- ---- This side polls.
 
 -- no poll of its own, and no answer to one, is in transit
 pub record IsSettled (x y : Party) (out back : List Kind) : Type 0 where
-  pub polls : tally poll_of (frames_heard (hears y out)) ≡ 0
+  pub polls : tally poll_of (frames_received (receives y out)) ≡ 0
   pub finals : tally final_of back ≡ 0
 
 -- in state 7 there is never one
 pub settled_in_7 : (x y : Party) (out back : List Kind) → x.state ≡ MultipleFrameEstablished → Mid x y out back → IsSettled x y out back
 settled_in_7 x y out back is m =
-    let none : NoneAsked (frames_heard (hears y out)) back = subst (λ s. AreAsked s x.sends.base y.takes.received (frames_heard (hears y out)) back) is m.its.heard.asked in
+    let none : NoneAsked (frames_received (receives y out)) back = subst (λ s. AreAsked s x.sends.base y.takes.received (frames_received (receives y out)) back) is m.its.heard.asked in
     record { polls = none.polls; finals = none.finals }
 
 no_polls : (ks : List Kind) → tally poll_of ks ≡ 0 → NoneBehindPoll ks
@@ -82,7 +82,7 @@ recovering x = record x { state = TimerRecovery }
 -- to state 8, without a frame
 pub to_recovery : (x y : Party) (out back : List Kind) → IsSettled x y out back → Mid x y out back → Mid (recovering x) y out back
 to_recovery x y out back settled m =
-    let was = Some (hearing_now x back) in
+    let was = Some (reception_now x back) in
     record {
       opened = refl;
       mine = record {
@@ -92,7 +92,7 @@ to_recovery x y out back settled m =
         lately = m.mine.lately;
         none_yet = λ _. m.mine.none_yet m.opened;
         below = λ _. m.mine.below (open_holds x.state x.asked x.leaving m.opened);
-        heard = on_map (IsHeard x y was) (IsHeard (recovering x) y was) (hears y out) (λ h i. record {
+        heard = on_map (IsReceivable x y was) (IsReceivable (recovering x) y was) (receives y out) (λ h i. record {
           stream = subst (λ b. IsStream b x.sends y.takes.received h.vr h.rejecting (messages h.frames)) m.opened i.stream;
           acks = subst (λ b. AreAcknowledging b x.takes y.sends.base h.va h.vs (numbers h.frames)) m.opened i.acks;
           asked = i.asked;
@@ -111,7 +111,7 @@ to_recovery x y out back settled m =
         heard = record {
           stream = m.its.heard.stream;
           acks = m.its.heard.acks;
-          asked = settled_asks x.sends.base y.takes.received (frames_heard (hears y out)) back settled.polls settled.finals;
+          asked = settled_asks x.sends.base y.takes.received (frames_received (receives y out)) back settled.polls settled.finals;
           rejected = tt;
         };
         exchange = m.its.exchange;
@@ -120,8 +120,8 @@ to_recovery x y out back settled m =
     }
 
 -- the poll is sent
-asked_once : (base : ℕ) (received : List Receipt) (u : Kind) (there : Option Hearing) (back : List Kind) → message_of u ≡ [] → poll_of u ≡ 1 → tally poll_of (frames_heard there) ≡ 0 → tally final_of back ≡ 0
-    → OneAsked base received (frames_heard (option_map (one_more u) there)) back
+asked_once : (base : ℕ) (received : List Receipt) (u : Kind) (there : Option Reception) (back : List Kind) → message_of u ≡ [] → poll_of u ≡ 1 → tally poll_of (frames_received there) ≡ 0 → tally final_of back ≡ 0
+    → OneAsked base received (frames_received (option_map (one_more u) there)) back
 asked_once base received u None back no_message poll polls finals = settled_asks base received [] back refl finals
 asked_once base received u (Some h) back no_message poll polls finals =
     let more = tally_more poll_of u h.frames in
@@ -137,13 +137,13 @@ enquiring x y out back settled w =
     let z = recovering x in
     let m : Mid z y out back = to_recovery x y out back settled w in
     let u = Enquiry x.takes.vr in
-    let Heard : Hearing → Type 0 = IsHeard z y (Some (hearing_now z back)) in
-    let Got : Hearing → Type 0 = λ h. IsGot y.sends.base x.takes.vr x.takes.received in
-    say z y out back u (record { no_acceptance = refl; no_message = refl; no_ask = refl; no_answer = refl; known = refl })
-    (on_both Heard Got _ (hears y out) (λ h i got. acks_said x.takes true y.sends.base h.va h.vs u h.frames refl refl got i.acks) m.mine.heard (got_where_heard m))
-    (on_map Heard _ (hears y out) (λ h i. asked_said y.state y.sends.base x.takes.received back u h.frames refl refl i.asked) m.mine.heard)
-    (on_map Heard _ (hears y out) (λ h i. rejected_said y.state y.sends.vs y.sends.base x.takes.received (Some (hearing_now z back)) u h.frames refl i.rejected) m.mine.heard)
-    (asked_once x.sends.base y.takes.received u (hears y out) back refl refl settled.polls settled.finals) m
+    let Heard : Reception → Type 0 = IsReceivable z y (Some (reception_now z back)) in
+    let Got : Reception → Type 0 = λ h. IsGot y.sends.base x.takes.vr x.takes.received in
+    sends_supervisory z y out back u (record { no_acceptance = refl; no_message = refl; no_ask = refl; no_answer = refl; known = refl })
+    (on_both Heard Got _ (receives y out) (λ h i got. acks_sent x.takes true y.sends.base h.va h.vs u h.frames refl refl got i.acks) m.mine.heard (got_where_received m))
+    (on_map Heard _ (receives y out) (λ h i. asked_sent y.state y.sends.base x.takes.received back u h.frames refl refl i.asked) m.mine.heard)
+    (on_map Heard _ (receives y out) (λ h i. rejected_sent y.state y.sends.vs y.sends.base x.takes.received (Some (reception_now z back)) u h.frames refl i.rejected) m.mine.heard)
+    (asked_once x.sends.base y.takes.received u (receives y out) back refl refl settled.polls settled.finals) m
 
 -- ---- The answer arrives: to state 7, with no poll outstanding.
 
@@ -152,7 +152,7 @@ established x = record x { state = MultipleFrameEstablished }
 
 pub to_established : (x y : Party) (out back : List Kind) → IsSettled x y out back → rejections back ≡ [] → Mid x y out back → Mid (established x) y out back
 to_established x y out back settled none m =
-    let was = Some (hearing_now x back) in
+    let was = Some (reception_now x back) in
     record {
       opened = refl;
       mine = record {
@@ -162,7 +162,7 @@ to_established x y out back settled none m =
         lately = m.mine.lately;
         none_yet = λ _. m.mine.none_yet m.opened;
         below = λ _. m.mine.below (open_holds x.state x.asked x.leaving m.opened);
-        heard = on_map (IsHeard x y was) (IsHeard (established x) y was) (hears y out) (λ h i. record {
+        heard = on_map (IsReceivable x y was) (IsReceivable (established x) y was) (receives y out) (λ h i. record {
           stream = subst (λ b. IsStream b x.sends y.takes.received h.vr h.rejecting (messages h.frames)) m.opened i.stream;
           acks = subst (λ b. AreAcknowledging b x.takes y.sends.base h.va h.vs (numbers h.frames)) m.opened i.acks;
           asked = i.asked;
@@ -182,7 +182,7 @@ to_established x y out back settled none m =
           stream = m.its.heard.stream;
           acks = m.its.heard.acks;
           asked = record { polls = settled.polls; finals = settled.finals };
-          rejected = subst (λ ns. AreRejected MultipleFrameEstablished x.sends.vs x.sends.base y.takes.received (hears y out) ns) (sym none) tt;
+          rejected = subst (λ ns. AreRejected MultipleFrameEstablished x.sends.vs x.sends.base y.takes.received (receives y out) ns) (sym none) tt;
         };
         exchange = m.its.exchange;
         histories = m.its.histories;

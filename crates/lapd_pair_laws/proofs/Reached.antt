@@ -8,34 +8,34 @@ use Rattle.lapd_link_definition.specs.declared.out.Out.TheVariants.{Send, SendMe
 use Rattle.lapd_link_definition.specs.Parameters.{Parameters}
 use Rattle.lapd_link_definition.specs.Reports.{IsExpectedOut, AreExpected}
 use Rattle.lapd_link_definition.specs.Tagging.{tag_out}
-use Rattle.lapd_pair_laws.specs.Kept.{IsKeptWorld}
+use Rattle.lapd_pair_laws.specs.Consistent.{IsConsistentWorld}
 use Rattle.lapd_pair_laws.specs.Move.{Move, Refusal}
 use Rattle.lapd_pair_laws.specs.Safe.{AreSafe}
 use Rattle.lapd_pair_laws.specs.Tagged.{tag_world, tag_outcome, AreNearMoves}
 use Rattle.lapd_pair_laws.specs.World.{World, Happened, new_world, world_after, happens, run, outcomes}
-use Rattle.lapd_pair_laws.proofs.Keeping.{new_world_kept, run_kept}
+use Rattle.lapd_pair_laws.proofs.Consistency.{new_world_consistent, run_consistent}
 use Rattle.lapd_pair_laws.proofs.TaggedMoves.{move_near, run_on_tags, outcomes_on_tags, safe_on_tags, new_world_on_tags}
 use Rattle.lapd_pair_laws.specs.Invariant.{IsInvariant}
 use Rattle.lapd_pair_laws.specs.Reports.{ReportsExpected, AllReportsExpected, AreFirstDue}
-use Rattle.lapd_pair_laws.specs.Fresh.{ComeFresh}
+use Rattle.lapd_pair_laws.specs.Fresh.{AllAreFresh}
 use Rattle.lapd_pair_laws.specs.Exchanges.{AskOneAtATime}
 use Rattle.lapd_pair_laws.specs.Eager.{run_eagerly, outcomes_eagerly}
-use Rattle.lapd_pair_laws.proofs.WhatIsDue.{due_by_invariant, due_in_tags}
-use Rattle.lapd_pair_laws.proofs.Eager.{eager_run_keeps, eager_reports}
+use Rattle.lapd_pair_laws.proofs.NextDue.{due_by_invariant, due_in_tags}
+use Rattle.lapd_pair_laws.proofs.Eager.{eager_run_preserves, eager_reports}
 use Rattle.lapd_pair_laws.proofs.EagerOnTags.{awaited_alike, eager_run_on_tags, eager_outcomes_on_tags}
 use Rattle.lapd_pair_laws.proofs.Freshness.{fresh_by_invariant, fresh_in_tags}
 use Rattle.lapd_pair_laws.proofs.Nearness.{within_by_invariant}
-use Rattle.lapd_pair_laws.proofs.Whole.{each_move_keeps, each_run_keeps, each_report_is_expected}
+use Rattle.lapd_pair_laws.proofs.Whole.{each_move_preserves, each_run_preserves, each_report_is_expected}
 use Rattle.lapd_pair_laws.proofs.Worlds.{new_holds, safe_by_invariant}
 
 -- each move is near: tags decide as whole numbers do
-pub near_moves : (moves : List Move) (w : World) → IsInvariant w → IsKeptWorld Whole w → AreNearMoves moves w
+pub near_moves : (moves : List Move) (w : World) → IsInvariant w → IsConsistentWorld Whole w → AreNearMoves moves w
 near_moves [] w i kept = tt
-near_moves (move ∷ moves) w i kept = (move_near move w kept (within_by_invariant w i), near_moves moves (world_after w (happens Whole move w)) (each_move_keeps move w i) (run_kept Whole (move ∷ []) w kept))
+near_moves (move ∷ moves) w i kept = (move_near move w kept (within_by_invariant w i), near_moves moves (world_after w (happens Whole move w)) (each_move_preserves move w i) (run_consistent Whole (move ∷ []) w kept))
 
 pub reports_of_run : (moves : List Move) (w : World) → IsInvariant w → AllReportsExpected (outcomes Whole moves w)
 reports_of_run [] w i = tt
-reports_of_run (move ∷ moves) w i = (each_report_is_expected move w i, reports_of_run moves (world_after w (happens Whole move w)) (each_move_keeps move w i))
+reports_of_run (move ∷ moves) w i = (each_report_is_expected move w i, reports_of_run moves (world_after w (happens Whole move w)) (each_move_preserves move w i))
 
 -- ---- On tags.
 
@@ -80,9 +80,9 @@ module _ (world_in : Reading → World) (same : world_in Tagged ≡ tag_world (w
   due_in Whole = due_by_invariant (world_in Whole) i
   due_in Tagged = subst (λ w. AreFirstDue Tagged w) (sym same) (due_in_tags (world_in Whole) i)
 
-  fresh_in : (r : Reading) → ComeFresh (world_in r)
+  fresh_in : (r : Reading) → AllAreFresh (world_in r)
   fresh_in Whole = fresh_by_invariant (world_in Whole) i
-  fresh_in Tagged = subst (λ w. ComeFresh w) (sym same) (fresh_in_tags (world_in Whole) i)
+  fresh_in Tagged = subst (λ w. AllAreFresh w) (sym same) (fresh_in_tags (world_in Whole) i)
 
   one_in : (r : Reading) → AskOneAtATime (world_in r)
   one_in Whole = one_by_invariant (world_in Whole) i
@@ -97,8 +97,8 @@ module _ (user network : Parameters) (user_window : user.k ≤ 127) (network_win
   begins : IsInvariant start
   begins = new_holds user network user_window network_window
 
-  kept : IsKeptWorld Whole start
-  kept = new_world_kept Whole user network user_window network_window
+  kept : IsConsistentWorld Whole start
+  kept = new_world_consistent Whole user network user_window network_window
 
   pub reached_tags : run Tagged moves (new_world user network) ≡ tag_world (run Whole moves (new_world user network))
   reached_tags = ap (λ w. run Tagged moves w) (sym (new_world_on_tags user network)) ∙ run_on_tags moves start kept (near_moves moves start begins kept)
@@ -107,7 +107,7 @@ module _ (user network : Parameters) (user_window : user.k ≤ 127) (network_win
   reached_outcomes = ap (λ w. outcomes Tagged moves w) (sym (new_world_on_tags user network)) ∙ outcomes_on_tags moves start kept (near_moves moves start begins kept)
 
   reached : IsInvariant (run Whole moves (new_world user network))
-  reached = each_run_keeps moves start begins
+  reached = each_run_preserves moves start begins
 
   eager_tags : run_eagerly Tagged moves (new_world user network) ≡ tag_world (run_eagerly Whole moves (new_world user network))
   eager_tags = ap (λ w. run_eagerly Tagged moves w) (sym (new_world_on_tags user network)) ∙ eager_run_on_tags moves start begins
@@ -116,7 +116,7 @@ module _ (user network : Parameters) (user_window : user.k ≤ 127) (network_win
   eager_outcomes = ap (λ w. outcomes_eagerly Tagged moves w) (sym (new_world_on_tags user network)) ∙ eager_outcomes_on_tags moves start begins
 
   eagerly_reached : IsInvariant (run_eagerly Whole moves (new_world user network))
-  eagerly_reached = eager_run_keeps moves start begins
+  eagerly_reached = eager_run_preserves moves start begins
 
 pub every_run_safe : (r : Reading) (user network : Parameters) → user.k ≤ 127 → network.k ≤ 127 → (moves : List Move) → AreSafe (run r moves (new_world user network))
 every_run_safe r user network u n moves = safe_in (λ r. run r moves (new_world user network)) (reached_tags user network u n moves) (reached user network u n moves) r
@@ -127,7 +127,7 @@ every_run_reports r user network u n moves = reports_in (λ r. outcomes r moves 
 pub every_run_is_due : (r : Reading) (user network : Parameters) → user.k ≤ 127 → network.k ≤ 127 → (moves : List Move) → AreFirstDue r (run r moves (new_world user network))
 every_run_is_due r user network u n moves = due_in (λ r. run r moves (new_world user network)) (reached_tags user network u n moves) (reached user network u n moves) r
 
-pub every_run_is_fresh : (r : Reading) (user network : Parameters) → user.k ≤ 127 → network.k ≤ 127 → (moves : List Move) → ComeFresh (run r moves (new_world user network))
+pub every_run_is_fresh : (r : Reading) (user network : Parameters) → user.k ≤ 127 → network.k ≤ 127 → (moves : List Move) → AllAreFresh (run r moves (new_world user network))
 every_run_is_fresh r user network u n moves = fresh_in (λ r. run r moves (new_world user network)) (reached_tags user network u n moves) (reached user network u n moves) r
 
 pub every_run_asks_one : (r : Reading) (user network : Parameters) → user.k ≤ 127 → network.k ≤ 127 → (moves : List Move) → AskOneAtATime (run r moves (new_world user network))
@@ -144,5 +144,5 @@ every_eager_run_reports r user network u n moves = reports_in (λ r. outcomes_ea
 pub every_eager_run_is_due : (r : Reading) (user network : Parameters) → user.k ≤ 127 → network.k ≤ 127 → (moves : List Move) → AreFirstDue r (run_eagerly r moves (new_world user network))
 every_eager_run_is_due r user network u n moves = due_in (λ r. run_eagerly r moves (new_world user network)) (eager_tags user network u n moves) (eagerly_reached user network u n moves) r
 
-pub every_eager_run_is_fresh : (r : Reading) (user network : Parameters) → user.k ≤ 127 → network.k ≤ 127 → (moves : List Move) → ComeFresh (run_eagerly r moves (new_world user network))
+pub every_eager_run_is_fresh : (r : Reading) (user network : Parameters) → user.k ≤ 127 → network.k ≤ 127 → (moves : List Move) → AllAreFresh (run_eagerly r moves (new_world user network))
 every_eager_run_is_fresh r user network u n moves = fresh_in (λ r. run_eagerly r moves (new_world user network)) (eager_tags user network u n moves) (eagerly_reached user network u n moves) r

@@ -18,9 +18,9 @@ place_stays place [] r h = absurd h
 place_stays place (s ∷ rs) r (inl here) = inl here
 place_stays place (s ∷ rs) r (inr there) = inr (place_stays place rs r there)
 
-pub place_comes : (rs : List Receipt) (r : Receipt) → HasPlace r.place (rs ++ r ∷ [])
-place_comes [] r = inl refl
-place_comes (s ∷ rs) r = inr (place_comes rs r)
+pub place_arrives : (rs : List Receipt) (r : Receipt) → HasPlace r.place (rs ++ r ∷ [])
+place_arrives [] r = inl refl
+place_arrives (s ∷ rs) r = inr (place_arrives rs r)
 
 -- a place received was received before, or is that of the new message
 pub place_either : (place : ℕ) (rs : List Receipt) (r : Receipt) → HasPlace place (rs ++ r ∷ []) → HasPlace place rs ⊎ (r.place ≡ place)

@@ -6,29 +6,29 @@ use Rattle.lapd_link_definition.specs.declared.state.State.TheVariants.{TeiAssig
 use Rattle.lapd_link_definition.specs.EndOfStep.{is_7_or_8}
 use Rattle.lapd_pair_laws.specs.Histories.{Receipt}
 use Rattle.lapd_pair_laws.specs.Kinds.{Message, Kind, Numbered, Status, Rejection, messages, numbers, rejections, tally, final_of}
-use Rattle.lapd_pair_laws.specs.Parties.{Party, Hearing, hearing_now, hears, OnHearing}
-use Rattle.lapd_pair_laws.specs.Conjuncts.{IsGot, IsRun, IsNext, IsInOrder, AreAsked, IsAwaiting, IsSentBack, AtMostOne, AreRejected, IsHeard, high, IsInStep}
-use Rattle.lapd_pair_laws.proofs.Hearings.{on_map, on_both, by_open}
+use Rattle.lapd_pair_laws.specs.Parties.{Party, Reception, reception_now, receives, OnReception}
+use Rattle.lapd_pair_laws.specs.Conjuncts.{IsGot, IsRun, IsNext, IsInOrder, AreAsked, IsAwaiting, IsSentBack, AtMostOne, AreRejected, IsReceivable, high, IsInStep}
+use Rattle.lapd_pair_laws.proofs.Receptions.{on_map, on_both, by_open}
 use Rattle.lapd_pair_laws.proofs.Lists.{rejections_append, tally_more}
 use Rattle.lapd_pair_laws.proofs.Losses.{rejected_map}
-use Rattle.lapd_pair_laws.proofs.MidSteps.{Mid, no_answer_out, got_where_heard}
+use Rattle.lapd_pair_laws.proofs.MidSteps.{Mid, no_answer_out, got_where_received}
 use Rattle.lapd_pair_laws.proofs.Runs.{order_is_junk, run_above}
-use Rattle.lapd_pair_laws.proofs.SupervisoryFrames.{say, acks_said, no_finals, asked_heard}
+use Rattle.lapd_pair_laws.proofs.SupervisoryFrames.{sends_supervisory, acks_sent, no_finals, asked_received}
 use Rattle.lapd_pair_laws.proofs.Takes.{discarding}
-use Rattle.lapd_pair_laws.proofs.FrameInHand.{left_of}
+use Rattle.lapd_pair_laws.proofs.FrameOfStep.{left_of}
 
 abbrev pub rejecting_now : Party → Party
 rejecting_now x = record x { takes = record (x.takes) { rejecting = true } }
 
-awaits_still : (x : Party) (back : List Kind) (nr : ℕ) → IsAwaiting nr (hearing_now x back) → IsAwaiting nr (hearing_now (rejecting_now x) back)
+awaits_still : (x : Party) (back : List Kind) (nr : ℕ) → IsAwaiting nr (reception_now x back) → IsAwaiting nr (reception_now (rejecting_now x) back)
 awaits_still x back nr w = record { rejecting = refl; at = w.at; above = w.above }
 
 -- the reject condition may begin at any time
 pub begin_rejecting : (x y : Party) (out back : List Kind) → Mid x y out back → Mid (rejecting_now x) y out back
 begin_rejecting x y out back m =
     let z = rejecting_now x in
-    let was = Some (hearing_now x back) in
-    let now = Some (hearing_now z back) in
+    let was = Some (reception_now x back) in
+    let now = Some (reception_now z back) in
     record {
       opened = m.opened;
       mine = record {
@@ -38,7 +38,7 @@ begin_rejecting x y out back m =
         lately = m.mine.lately;
         none_yet = m.mine.none_yet;
         below = m.mine.below;
-        heard = on_map (IsHeard x y was) (IsHeard z y now) (hears y out) (λ h i. record {
+        heard = on_map (IsReceivable x y was) (IsReceivable z y now) (receives y out) (λ h i. record {
           stream = i.stream;
           acks = record { climb = i.acks.climb; known = i.acks.known; top = i.acks.top };
           asked = i.asked;
@@ -97,7 +97,7 @@ rejected_asked TimerRecovery base vr nr received m n ks back w t =
     no_final (suc f) same = let gone = w.alone (omega (arith, same)) in cc
 
 -- this side was not rejecting, so none of its REJ was in transit; now this one is
-first_rejection : (state : State) (vs base vr : ℕ) (received : List Receipt) (was now : Option Hearing) (ks : List Kind) → is_7_or_8 state ≡ true
+first_rejection : (state : State) (vs base vr : ℕ) (received : List Receipt) (was now : Option Reception) (ks : List Kind) → is_7_or_8 state ≡ true
     → ((nr : ℕ) → IsSentBack vs base received was nr → ⊥) → (state ≡ MultipleFrameEstablished → IsSentBack vs base received now vr)
     → AreRejected state vs base received was (rejections ks) → AreRejected state vs base received now (rejections (ks ++ Rejection vr ∷ []))
 first_rejection TeiAssigned vs base vr received was now ks opened none new w = tt
@@ -119,12 +119,12 @@ rejecting_message x y out m nr ks no_poll other fresh w =
     let t : Mid x y out (Status nr ∷ ks) = subst (λ b. Mid x y out (left_of b nr ∷ ks)) no_poll (discarding x y out m nr ks w) in
     let b : Mid z y out (Status nr ∷ ks) = begin_rejecting x y out (Status nr ∷ ks) t in
     let u = Rejection x.takes.vr in
-    let was = Some (hearing_now x (Numbered m nr ∷ ks)) in
-    let now = Some (hearing_now z (Status nr ∷ ks)) in
-    let Was : Hearing → Type 0 = IsHeard x y was in
-    let Now : Hearing → Type 0 = IsHeard z y now in
-    let Got : Hearing → Type 0 = λ h. IsGot y.sends.base x.takes.vr x.takes.received in
-    let Opened : Hearing → Type 0 = λ h. is_7_or_8 y.state ≡ true in
+    let was = Some (reception_now x (Numbered m nr ∷ ks)) in
+    let now = Some (reception_now z (Status nr ∷ ks)) in
+    let Was : Reception → Type 0 = IsReceivable x y was in
+    let Now : Reception → Type 0 = IsReceivable z y now in
+    let Got : Reception → Type 0 = λ h. IsGot y.sends.base x.takes.vr x.takes.received in
+    let Opened : Reception → Type 0 = λ h. is_7_or_8 y.state ≡ true in
     let stream = w.its.heard.stream in
     let step : IsInStep y.sends.base x.takes.vr x.takes.received = stream.step (inr tt) in
     let above = first_above x.takes.rejecting false x.takes.vr y.sends.vs m (messages ks) fresh no_poll refl other stream.order in
@@ -133,14 +133,14 @@ rejecting_message x y out m nr ks no_poll other fresh w =
       names = step.below;
       waits = record { rejecting = refl; at = refl; above = run_above (m.number + 1) x.takes.vr y.sends.vs (messages ks) (omega (arith, above.0)) above.2 };
     } in
-    let opened : OnHearing Opened (hears y out) = by_open Opened y out (no_answer_out nr (numbers ks) refl w) (λ o. o) in
-    let Both : Hearing → Type 0 = λ h. Opened h × Was h in
-    let both : OnHearing Both (hears y out) = on_both Opened Was Both (hears y out) (λ h p q. (p, q)) opened w.mine.heard in
-    say z y out (Status nr ∷ ks) u (record { no_acceptance = refl; no_message = refl; no_ask = refl; no_answer = refl; known = refl })
-    (on_both Now Got _ (hears y out) (λ h i got. acks_said z.takes (is_7_or_8 x.state) y.sends.base h.va h.vs u h.frames w.opened refl got i.acks) b.mine.heard (got_where_heard b))
-    (on_both Was Now _ (hears y out) (λ h i j. rejected_asked y.state y.sends.base x.takes.vr 0 x.takes.received m nr ks h.frames i.asked j.asked) w.mine.heard b.mine.heard)
-    (on_map Both _ (hears y out) (λ h i. first_rejection y.state y.sends.vs y.sends.base x.takes.vr x.takes.received was now h.frames i.0 (λ n s. not_rejecting n s) (λ _. sent_back) i.1.rejected) both)
-    (asked_heard x.state x.sends.base y.takes.received u (hears y out) (Status nr ∷ ks) refl refl b.its.heard.asked) b
+    let opened : OnReception Opened (receives y out) = by_open Opened y out (no_answer_out nr (numbers ks) refl w) (λ o. o) in
+    let Both : Reception → Type 0 = λ h. Opened h × Was h in
+    let both : OnReception Both (receives y out) = on_both Opened Was Both (receives y out) (λ h p q. (p, q)) opened w.mine.heard in
+    sends_supervisory z y out (Status nr ∷ ks) u (record { no_acceptance = refl; no_message = refl; no_ask = refl; no_answer = refl; known = refl })
+    (on_both Now Got _ (receives y out) (λ h i got. acks_sent z.takes (is_7_or_8 x.state) y.sends.base h.va h.vs u h.frames w.opened refl got i.acks) b.mine.heard (got_where_received b))
+    (on_both Was Now _ (receives y out) (λ h i j. rejected_asked y.state y.sends.base x.takes.vr 0 x.takes.received m nr ks h.frames i.asked j.asked) w.mine.heard b.mine.heard)
+    (on_map Both _ (receives y out) (λ h i. first_rejection y.state y.sends.vs y.sends.base x.takes.vr x.takes.received was now h.frames i.0 (λ n s. not_rejecting n s) (λ _. sent_back) i.1.rejected) both)
+    (asked_received x.state x.sends.base y.takes.received u (receives y out) (Status nr ∷ ks) refl refl b.its.heard.asked) b
   where
-    not_rejecting : (n : ℕ) → IsSentBack y.sends.vs y.sends.base x.takes.received (Some (hearing_now x (Numbered m nr ∷ ks))) n → ⊥
+    not_rejecting : (n : ℕ) → IsSentBack y.sends.vs y.sends.base x.takes.received (Some (reception_now x (Numbered m nr ∷ ks))) n → ⊥
     not_rejecting n s = let r : x.takes.rejecting ≡ true = s.waits.rejecting in cc

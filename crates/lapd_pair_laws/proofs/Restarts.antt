@@ -6,11 +6,11 @@ use Rattle.lapd_link_definition.specs.declared.state.State.TheVariants.{TeiAssig
 use Rattle.lapd_pair_laws.specs.Histories.{Receipt}
 use Rattle.lapd_pair_laws.specs.Move.{Restart, restarts, acts}
 use Rattle.lapd_pair_laws.specs.Kinds.{Kind}
-use Rattle.lapd_pair_laws.specs.Parties.{Sender, Party, Hearing, hearing_now, heard_in, OnHearing, party}
-use Rattle.lapd_pair_laws.specs.Conjuncts.{IsKept, IsInOrder, AreAsked, AreRejected, IsHeard, IsExchange, most_asks}
+use Rattle.lapd_pair_laws.specs.Parties.{Sender, Party, Reception, reception_now, received_in, OnReception, party}
+use Rattle.lapd_pair_laws.specs.Conjuncts.{IsConsistentSender, IsInOrder, AreAsked, AreRejected, IsReceivable, IsExchange, most_asks}
 use Rattle.lapd_pair_laws.specs.Invariant.{Both}
 use Rattle.lapd_pair_laws.proofs.Closings.{passes_all}
-use Rattle.lapd_pair_laws.proofs.Worlds.{Keeps}
+use Rattle.lapd_pair_laws.proofs.Worlds.{Preserves}
 
 -- ---- The line is empty.
 
@@ -25,7 +25,7 @@ nothing_asked AwaitingRelease base received = tt
 nothing_asked MultipleFrameEstablished base received = record { polls = refl; finals = refl }
 nothing_asked TimerRecovery base received = record { one = omega arith; behind = tt; alone = λ final. refl; names = tt }
 
-nothing_rejected : (state : State) (vs base : ℕ) (received : List Receipt) (waiting : Option Hearing) → AreRejected state vs base received waiting []
+nothing_rejected : (state : State) (vs base : ℕ) (received : List Receipt) (waiting : Option Reception) → AreRejected state vs base received waiting []
 nothing_rejected TeiAssigned vs base received waiting = tt
 nothing_rejected AwaitingEstablishment vs base received waiting = refl
 nothing_rejected AwaitingRelease vs base received waiting = tt
@@ -38,7 +38,7 @@ nothing_exchanged most = record { one = omega arith; behind = tt; before = λ an
 -- ---- If the other side is open, it processes no frame.
 
 module _ (x y : Party) (is : x.state ≡ TeiAssigned) where
-  silence : y.sends.va ≤ y.sends.vs → IsHeard x y None (hearing_now y [])
+  silence : y.sends.va ≤ y.sends.vs → IsReceivable x y None (reception_now y [])
   silence ordered = rw is record {
     stream = record { placed = tt; near = tt; order = nothing_in_order y.takes.rejecting y.takes.vr x.sends.vs; step = λ some. elim some [ inl speaks ↦ cc | inr never ↦ absurd never ]; between = λ speaks. cc };
     acks = record { climb = ordered; known = tt; top = λ speaks. cc };
@@ -46,7 +46,7 @@ module _ (x y : Party) (is : x.state ≡ TeiAssigned) where
     rejected = nothing_rejected y.state y.sends.vs y.sends.base x.takes.received None;
   }
 
-silent_in : (P : Hearing → Type 0) (state : State) (asked leaving : Bool) (s : Sender) (now : Hearing) → IsKept state asked leaving s → (s.va ≤ s.vs → P now) → OnHearing P (heard_in state leaving now [])
+silent_in : (P : Reception → Type 0) (state : State) (asked leaving : Bool) (s : Sender) (now : Reception) → IsConsistentSender state asked leaving s → (s.va ≤ s.vs → P now) → OnReception P (received_in state leaving now [])
 silent_in P TeiAssigned asked leaving s now kept p = tt
 silent_in P AwaitingEstablishment asked true s now kept p = tt
 silent_in P AwaitingEstablishment asked false s now kept p = tt
@@ -71,7 +71,7 @@ restarts_both x y out back b = let z = restarting x in record {
     lately = b.mine.lately;
     none_yet = λ opened. cc;
     below = λ holding. cc;
-    heard = silent_in (IsHeard z y None) y.state y.asked y.leaving y.sends (hearing_now y []) b.its.kept (silence z y refl);
+    heard = silent_in (IsReceivable z y None) y.state y.asked y.leaving y.sends (reception_now y []) b.its.kept (silence z y refl);
     exchange = nothing_exchanged (most_asks TeiAssigned);
     histories = b.mine.histories;
   };
@@ -88,8 +88,8 @@ restarts_both x y out back b = let z = restarting x in record {
   };
 }
 
-pub keeps_restart : Keeps Restart
+pub preserves_restart : Preserves Restart
 unfolding acts restarts initial_variables
-keeps_restart v peer small h =
+preserves_restart v peer small h =
     let b = restarts_both (party h.base v.station) (party h.its_base peer) _ _ h.both in
     record { base = h.base; its_base = h.its_base; both = b }

@@ -7,18 +7,18 @@ use Rattle.lapd_link_definition.specs.declared.state.State.TheVariants.{Multiple
 use Rattle.lapd_link_definition.specs.EndOfStep.{is_7_or_8}
 use Rattle.lapd_pair_laws.specs.Histories.{Receipt}
 use Rattle.lapd_pair_laws.specs.Kinds.{Message, Kind, Numbered, messages, numbers, rejections, bit, tally, poll_of, final_of}
-use Rattle.lapd_pair_laws.specs.Parties.{Sender, Party, Hearing, hearing_now, hears, OnHearing, frames_heard}
-use Rattle.lapd_pair_laws.specs.Conjuncts.{Each, HasPlace, IsGot, IsPlaced, IsNearTo, IsNumbering, IsKept, IsPast, IsStream, NoneAsked, NoneBehindPoll, OneAsked, AreAsked, IsAwaiting, IsSentBack, AreRejected, IsHeard, most_asks, high}
+use Rattle.lapd_pair_laws.specs.Parties.{Sender, Party, Reception, reception_now, receives, OnReception, frames_received}
+use Rattle.lapd_pair_laws.specs.Conjuncts.{Each, HasPlace, IsGot, IsPlaced, IsNearTo, IsNumbering, IsConsistentSender, IsPast, IsStream, NoneAsked, NoneBehindPoll, OneAsked, AreAsked, IsAwaiting, IsSentBack, AreRejected, IsReceivable, most_asks, high}
 use Rattle.lapd_pair_laws.specs.Invariant.{IsSpeaking}
-use Rattle.lapd_pair_laws.proofs.GoingBack.{none_polls, none_asked_in_7, polls_heard}
-use Rattle.lapd_pair_laws.proofs.Hearings.{on_both, on_mapped, hears_more, one_more}
+use Rattle.lapd_pair_laws.proofs.GoingBack.{none_polls, none_asked_in_7, polls_received}
+use Rattle.lapd_pair_laws.proofs.Receptions.{on_both, on_mapped, receives_more, one_more}
 use Rattle.lapd_pair_laws.proofs.Lists.{messages_append, each_more, each_map, tally_more, nat_cases}
 use Rattle.lapd_pair_laws.proofs.Losses.{rejected_map, one_map}
-use Rattle.lapd_pair_laws.proofs.MidSteps.{Mid, numbering, open_kept, open_holds, open_asks_none, got_where_heard}
+use Rattle.lapd_pair_laws.proofs.MidSteps.{Mid, numbering, open_consistent, open_holds, open_asks_none, got_where_received}
 use Rattle.lapd_pair_laws.proofs.Polls.{IsSettled, settled_in_7, recovering, to_recovery}
 use Rattle.lapd_pair_laws.proofs.Receipts.{place_below}
 use Rattle.lapd_pair_laws.proofs.Runs.{order_more, order_again, climb_to}
-use Rattle.lapd_pair_laws.proofs.SupervisoryFrames.{acks_said, asked_said, rejected_said, exchange_said, exchange_heard, no_finals}
+use Rattle.lapd_pair_laws.proofs.SupervisoryFrames.{acks_sent, asked_sent, rejected_sent, exchange_sent, exchange_received, no_finals}
 
 -- ---- Which establishment a place was sent in.
 
@@ -51,14 +51,14 @@ next_message s = record { number = s.vs; polled = false; place = s.next; octets 
 placed_sending : (s : Sender) (m : Message) → IsPlaced s m → IsPlaced (sending_sender s) m
 placed_sending s m p = record { place = p.place; same = p.same; sent = sent_still s.next s.era m.place s.sent_in p.sent }
 
-awaits_sending : (x : Party) (back : List Kind) (n : ℕ) → IsAwaiting n (hearing_now x back) → IsAwaiting n (hearing_now (sending x) back)
+awaits_sending : (x : Party) (back : List Kind) (n : ℕ) → IsAwaiting n (reception_now x back) → IsAwaiting n (reception_now (sending x) back)
 awaits_sending x back n w = record { rejecting = w.rejecting; at = w.at; above = w.above }
 
-none_polled_more : (u : Kind) (there : Option Hearing) (back : List Kind) → poll_of u ≡ 0 → NoneAsked (frames_heard there) back → NoneAsked (frames_heard (option_map (one_more u) there)) back
+none_polled_more : (u : Kind) (there : Option Reception) (back : List Kind) → poll_of u ≡ 0 → NoneAsked (frames_received there) back → NoneAsked (frames_received (option_map (one_more u) there)) back
 none_polled_more u None back no_poll w = w
 none_polled_more u (Some h) back no_poll w = let more = tally_more poll_of u h.frames in record { polls = omega (arith, w.polls, more, no_poll); finals = w.finals }
 
-awaits_more : (nr : ℕ) (m : Message) (vr : ℕ) (there : Option Hearing) → nr < m.number → OnHearing (IsAwaiting nr) there → OnHearing (IsAwaiting nr) (option_map (one_more (Numbered m vr)) there)
+awaits_more : (nr : ℕ) (m : Message) (vr : ℕ) (there : Option Reception) → nr < m.number → OnReception (IsAwaiting nr) there → OnReception (IsAwaiting nr) (option_map (one_more (Numbered m vr)) there)
 awaits_more nr m vr None above w = tt
 awaits_more nr m vr (Some h) above w = record {
   rejecting = w.rejecting;
@@ -67,7 +67,7 @@ awaits_more nr m vr (Some h) above w = record {
 }
 
 module _ (x y : Party) (out back : List Kind) (is : x.state ≡ MultipleFrameEstablished) (room : x.sends.vs < x.sends.va + x.sends.k) (unsent : x.sends.next < length x.sends.given) (m : Mid x y out back) where
-  stream_sending : (h : Hearing) → tally poll_of h.frames ≡ 0 → IsHeard x y (Some (hearing_now x back)) h
+  stream_sending : (h : Reception) → tally poll_of h.frames ≡ 0 → IsReceivable x y (Some (reception_now x back)) h
       → IsStream (is_7_or_8 x.state) (sending_sender x.sends) y.takes.received h.vr h.rejecting (messages (h.frames ++ Numbered (next_message x.sends) x.takes.vr ∷ []))
   stream_sending h no_poll i =
       let s = x.sends in
@@ -84,29 +84,29 @@ module _ (x y : Party) (out back : List Kind) (is : x.state ≡ MultipleFrameEst
         between = λ _. (low, omega (arith, top));
       })
 
-  pub keeps_sending : Mid (sending x) y (out ++ Numbered (next_message x.sends) x.takes.vr ∷ []) back
-  keeps_sending =
+  pub preserves_sending : Mid (sending x) y (out ++ Numbered (next_message x.sends) x.takes.vr ∷ []) back
+  preserves_sending =
       let z = sending x in
       let s = x.sends in
       let u = Numbered (next_message s) x.takes.vr in
-      let was = Some (hearing_now x back) in
-      let now = Some (hearing_now z back) in
+      let was = Some (reception_now x back) in
+      let now = Some (reception_now z back) in
       let n : IsNumbering s = numbering m in
-      let none : NoneAsked (frames_heard (hears y out)) back = none_asked_in_7 x y out back is m in
-      let Was : Hearing → Type 0 = IsHeard x y was in
-      let Now : Hearing → Type 0 = IsHeard z y now in
-      let Got : Hearing → Type 0 = λ h. IsGot y.sends.base x.takes.vr x.takes.received in
-      let Poll : Hearing → Type 0 = λ h. tally poll_of h.frames ≡ 0 in
-      let GotPoll : Hearing → Type 0 = λ h. Got h × Poll h in
-      let facts : OnHearing GotPoll (hears y out) = on_both Got Poll GotPoll (hears y out) (λ h g p. (g, p)) (got_where_heard m) (polls_heard (λ l. tally poll_of l ≡ 0) (hears y out) none.polls) in
-      let heard : OnHearing (λ h. Now (one_more u h)) (hears y out) = on_both GotPoll Was (λ h. Now (one_more u h)) (hears y out) (λ h f i. record {
+      let none : NoneAsked (frames_received (receives y out)) back = none_asked_in_7 x y out back is m in
+      let Was : Reception → Type 0 = IsReceivable x y was in
+      let Now : Reception → Type 0 = IsReceivable z y now in
+      let Got : Reception → Type 0 = λ h. IsGot y.sends.base x.takes.vr x.takes.received in
+      let Poll : Reception → Type 0 = λ h. tally poll_of h.frames ≡ 0 in
+      let GotPoll : Reception → Type 0 = λ h. Got h × Poll h in
+      let facts : OnReception GotPoll (receives y out) = on_both Got Poll GotPoll (receives y out) (λ h g p. (g, p)) (got_where_received m) (polls_received (λ l. tally poll_of l ≡ 0) (receives y out) none.polls) in
+      let heard : OnReception (λ h. Now (one_more u h)) (receives y out) = on_both GotPoll Was (λ h. Now (one_more u h)) (receives y out) (λ h f i. record {
         stream = stream_sending h f.1 i;
-        acks = acks_said x.takes (is_7_or_8 x.state) y.sends.base h.va h.vs u h.frames m.opened refl f.0 i.acks;
-        asked = asked_said y.state y.sends.base x.takes.received back u h.frames refl refl i.asked;
-        rejected = rejected_said y.state y.sends.vs y.sends.base x.takes.received now u h.frames refl (rejected_map y.state y.sends.vs y.sends.base x.takes.received now was (rejections h.frames) (awaits_sending x back) i.rejected);
+        acks = acks_sent x.takes (is_7_or_8 x.state) y.sends.base h.va h.vs u h.frames m.opened refl f.0 i.acks;
+        asked = asked_sent y.state y.sends.base x.takes.received back u h.frames refl refl i.asked;
+        rejected = rejected_sent y.state y.sends.vs y.sends.base x.takes.received now u h.frames refl (rejected_map y.state y.sends.vs y.sends.base x.takes.received now was (rejections h.frames) (awaits_sending x back) i.rejected);
       }) facts m.mine.heard in
-      let there = option_map (one_more u) (hears y out) in
-      let more : hears y (out ++ u ∷ []) ≡ there = hears_more y out u refl in
+      let there = option_map (one_more u) (receives y out) in
+      let more : receives y (out ++ u ∷ []) ≡ there = receives_more y out u refl in
       let below : high y.takes.received ≤ s.base + s.vs = m.mine.below (open_holds x.state x.asked x.leaving m.opened) in
       record {
         opened = m.opened;
@@ -117,8 +117,8 @@ module _ (x y : Party) (out back : List Kind) (is : x.state ≡ MultipleFrameEst
           lately = m.mine.lately;
           none_yet = m.mine.none_yet;
           below = λ _. omega (arith, below);
-          heard = on_mapped Now (one_more u) (hears y out) heard;
-          exchange = exchange_said (most_asks x.state) u out back (open_asks_none x.state m.opened) refl refl m.mine.exchange;
+          heard = on_mapped Now (one_more u) (receives y out) heard;
+          exchange = exchange_sent (most_asks x.state) u out back (open_asks_none x.state m.opened) refl refl m.mine.exchange;
           histories = record {
             as_given = m.mine.histories.as_given;
             row = m.mine.histories.row;
@@ -136,12 +136,12 @@ module _ (x y : Party) (out back : List Kind) (is : x.state ≡ MultipleFrameEst
           heard = record {
             stream = m.its.heard.stream;
             acks = let a = m.its.heard.acks in record { climb = climb_to s.va s.vs (s.vs + 1) (numbers back) (omega arith) a.climb; known = a.known; top = λ opened. ((a.top opened).0, omega (arith, (a.top opened).1)) };
-            asked = subst (λ st. AreAsked st s.base y.takes.received (frames_heard there) back) (sym is) (none_polled_more u (hears y out) back refl none);
-            rejected = subst (λ st. AreRejected st (s.vs + 1) s.base y.takes.received there (rejections back)) (sym is) (one_map (IsSentBack s.vs s.base y.takes.received (hears y out)) (IsSentBack (s.vs + 1) s.base y.takes.received there) (rejections back)
-                (λ nr w. record { below = omega (arith, w.below); names = w.names; waits = awaits_more nr (next_message s) x.takes.vr (hears y out) w.below w.waits })
-                (subst (λ st. AreRejected st s.vs s.base y.takes.received (hears y out) (rejections back)) is m.its.heard.rejected));
+            asked = subst (λ st. AreAsked st s.base y.takes.received (frames_received there) back) (sym is) (none_polled_more u (receives y out) back refl none);
+            rejected = subst (λ st. AreRejected st (s.vs + 1) s.base y.takes.received there (rejections back)) (sym is) (one_map (IsSentBack s.vs s.base y.takes.received (receives y out)) (IsSentBack (s.vs + 1) s.base y.takes.received there) (rejections back)
+                (λ nr w. record { below = omega (arith, w.below); names = w.names; waits = awaits_more nr (next_message s) x.takes.vr (receives y out) w.below w.waits })
+                (subst (λ st. AreRejected st s.vs s.base y.takes.received (receives y out) (rejections back)) is m.its.heard.rejected));
           };
-          exchange = exchange_heard (most_asks y.state) u back out refl m.its.exchange;
+          exchange = exchange_received (most_asks y.state) u back out refl m.its.exchange;
           histories = m.its.histories;
         });
       }
@@ -159,8 +159,8 @@ module _ (x y : Party) (out back : List Kind) (is : x.state ≡ MultipleFrameEst
         ];
       }
 
-      kept : IsNumbering x.sends → IsKept x.state x.asked x.leaving (sending_sender x.sends)
-      kept n = open_kept x.state x.asked x.leaving (sending_sender x.sends) m.opened (numbered n)
+      kept : IsNumbering x.sends → IsConsistentSender x.state x.asked x.leaving (sending_sender x.sends)
+      kept n = open_consistent x.state x.asked x.leaving (sending_sender x.sends) m.opened (numbered n)
 
       past : IsPast (sending_sender x.sends)
       past place era sent = elim (same_or_not place x.sends.next) [
@@ -205,8 +205,8 @@ no_poll_before : (ks : List Kind) (m : Message) (vr : ℕ) → tally poll_of ks 
 no_poll_before [] m vr none = ((λ _. refl), tt)
 no_poll_before (k ∷ ks) m vr none = ((λ poll. absurd (omega (arith, poll, none))), no_poll_before ks m vr (omega (arith, none)))
 
-polled_once : (base : ℕ) (received : List Receipt) (m : Message) (vr : ℕ) (there : Option Hearing) (back : List Kind) → m.polled ≡ true → tally poll_of (frames_heard there) ≡ 0 → tally final_of back ≡ 0
-    → OneAsked base received (frames_heard (option_map (one_more (Numbered m vr)) there)) back
+polled_once : (base : ℕ) (received : List Receipt) (m : Message) (vr : ℕ) (there : Option Reception) (back : List Kind) → m.polled ≡ true → tally poll_of (frames_received there) ≡ 0 → tally final_of back ≡ 0
+    → OneAsked base received (frames_received (option_map (one_more (Numbered m vr)) there)) back
 polled_once base received m vr None back polls none finals = record { one = omega (arith, finals); behind = tt; alone = λ _. refl; names = no_finals base (high received) back finals }
 polled_once base received m vr (Some h) back polls none finals =
     let more = tally_more poll_of (Numbered m vr) h.frames in
@@ -215,7 +215,7 @@ polled_once base received m vr (Some h) back polls none finals =
 
 -- in state 8, with no poll and no final in transit
 module _ (x y : Party) (out back : List Kind) (is : x.state ≡ TimerRecovery) (some : x.sends.va < x.sends.vs) (settled : IsSettled x y out back) (m : Mid x y out back) where
-  stream_repeating : (h : Hearing) → tally poll_of h.frames ≡ 0 → IsHeard x y (Some (hearing_now x back)) h
+  stream_repeating : (h : Reception) → tally poll_of h.frames ≡ 0 → IsReceivable x y (Some (reception_now x back)) h
       → IsStream (is_7_or_8 x.state) x.sends y.takes.received h.vr h.rejecting (messages (h.frames ++ Numbered (last_message x.sends) x.takes.vr ∷ []))
   stream_repeating h no_poll i =
       let s = x.sends in
@@ -237,20 +237,20 @@ module _ (x y : Party) (out back : List Kind) (is : x.state ≡ TimerRecovery) (
   saying_last =
       let s = x.sends in
       let u = Numbered (last_message s) x.takes.vr in
-      let now = Some (hearing_now x back) in
-      let Now : Hearing → Type 0 = IsHeard x y now in
-      let Got : Hearing → Type 0 = λ h. IsGot y.sends.base x.takes.vr x.takes.received in
-      let Poll : Hearing → Type 0 = λ h. tally poll_of h.frames ≡ 0 in
-      let GotPoll : Hearing → Type 0 = λ h. Got h × Poll h in
-      let facts : OnHearing GotPoll (hears y out) = on_both Got Poll GotPoll (hears y out) (λ h g p. (g, p)) (got_where_heard m) (polls_heard (λ l. tally poll_of l ≡ 0) (hears y out) settled.polls) in
-      let heard : OnHearing (λ h. Now (one_more u h)) (hears y out) = on_both GotPoll Now (λ h. Now (one_more u h)) (hears y out) (λ h f i. record {
+      let now = Some (reception_now x back) in
+      let Now : Reception → Type 0 = IsReceivable x y now in
+      let Got : Reception → Type 0 = λ h. IsGot y.sends.base x.takes.vr x.takes.received in
+      let Poll : Reception → Type 0 = λ h. tally poll_of h.frames ≡ 0 in
+      let GotPoll : Reception → Type 0 = λ h. Got h × Poll h in
+      let facts : OnReception GotPoll (receives y out) = on_both Got Poll GotPoll (receives y out) (λ h g p. (g, p)) (got_where_received m) (polls_received (λ l. tally poll_of l ≡ 0) (receives y out) settled.polls) in
+      let heard : OnReception (λ h. Now (one_more u h)) (receives y out) = on_both GotPoll Now (λ h. Now (one_more u h)) (receives y out) (λ h f i. record {
         stream = stream_repeating h f.1 i;
-        acks = acks_said x.takes (is_7_or_8 x.state) y.sends.base h.va h.vs u h.frames m.opened refl f.0 i.acks;
-        asked = asked_said y.state y.sends.base x.takes.received back u h.frames refl refl i.asked;
-        rejected = rejected_said y.state y.sends.vs y.sends.base x.takes.received now u h.frames refl i.rejected;
+        acks = acks_sent x.takes (is_7_or_8 x.state) y.sends.base h.va h.vs u h.frames m.opened refl f.0 i.acks;
+        asked = asked_sent y.state y.sends.base x.takes.received back u h.frames refl refl i.asked;
+        rejected = rejected_sent y.state y.sends.vs y.sends.base x.takes.received now u h.frames refl i.rejected;
       }) facts m.mine.heard in
-      let there = option_map (one_more u) (hears y out) in
-      let more : hears y (out ++ u ∷ []) ≡ there = hears_more y out u refl in
+      let there = option_map (one_more u) (receives y out) in
+      let more : receives y (out ++ u ∷ []) ≡ there = receives_more y out u refl in
       record {
         opened = m.opened;
         mine = subst (λ o. IsSpeaking x y (out ++ u ∷ []) back now o) (sym more) (record {
@@ -260,8 +260,8 @@ module _ (x y : Party) (out back : List Kind) (is : x.state ≡ TimerRecovery) (
           lately = m.mine.lately;
           none_yet = m.mine.none_yet;
           below = m.mine.below;
-          heard = on_mapped Now (one_more u) (hears y out) heard;
-          exchange = exchange_said (most_asks x.state) u out back (open_asks_none x.state m.opened) refl refl m.mine.exchange;
+          heard = on_mapped Now (one_more u) (receives y out) heard;
+          exchange = exchange_sent (most_asks x.state) u out back (open_asks_none x.state m.opened) refl refl m.mine.exchange;
           histories = m.mine.histories;
         });
         its = subst (λ o. IsSpeaking y x back (out ++ u ∷ []) o now) (sym more) (record {
@@ -274,16 +274,16 @@ module _ (x y : Party) (out back : List Kind) (is : x.state ≡ TimerRecovery) (
           heard = record {
             stream = m.its.heard.stream;
             acks = m.its.heard.acks;
-            asked = subst (λ st. AreAsked st s.base y.takes.received (frames_heard there) back) (sym is) (polled_once s.base y.takes.received (last_message s) x.takes.vr (hears y out) back refl settled.polls settled.finals);
+            asked = subst (λ st. AreAsked st s.base y.takes.received (frames_received there) back) (sym is) (polled_once s.base y.takes.received (last_message s) x.takes.vr (receives y out) back refl settled.polls settled.finals);
             rejected = subst (λ st. AreRejected st s.vs s.base y.takes.received there (rejections back)) (sym is) tt;
           };
-          exchange = exchange_heard (most_asks y.state) u back out refl m.its.exchange;
+          exchange = exchange_received (most_asks y.state) u back out refl m.its.exchange;
           histories = m.its.histories;
         });
       }
 
-pub keeps_repeating : (x y : Party) (out back : List Kind) → x.state ≡ MultipleFrameEstablished → x.sends.va < x.sends.vs → Mid x y out back → Mid (repeating x) y (out ++ Numbered (last_message x.sends) x.takes.vr ∷ []) back
-keeps_repeating x y out back is some m =
+pub preserves_repeating : (x y : Party) (out back : List Kind) → x.state ≡ MultipleFrameEstablished → x.sends.va < x.sends.vs → Mid x y out back → Mid (repeating x) y (out ++ Numbered (last_message x.sends) x.takes.vr ∷ []) back
+preserves_repeating x y out back is some m =
     let settled : IsSettled x y out back = settled_in_7 x y out back is m in
     let z = recovering x in
     let t : Mid z y out back = to_recovery x y out back settled m in

@@ -3,7 +3,7 @@ use Rattle.std.proofs.Common.{◌≡◌, ℕ, ◌+◌, ◌-◌, nat_lt, nat_le, 
 use Rattle.std.proofs.lemmas.Bool.Decides.{nat_tests}
 use Rattle.std.proofs.lemmas.List.Folds.{list_any-append}
 use Rattle.std.specs.List.{filter, range_with_len}
-use Rattle.lapd_pair_laws.specs.Kept.{is_one_of, AreSettled}
+use Rattle.lapd_pair_laws.specs.Consistent.{is_one_of, AreSettled}
 use Rattle.lapd_pair_laws.specs.Move.{Station}
 use Rattle.lapd_pair_laws.specs.World.{left_of}
 

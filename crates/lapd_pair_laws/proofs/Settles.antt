@@ -8,12 +8,12 @@ use Rattle.lapd_link_definition.specs.declared.state.State.TheVariants.{Multiple
 use Rattle.lapd_link_definition.specs.EndOfStep.{is_7_or_8}
 use Rattle.lapd_link_definition.specs.End.{End, begin}
 use Rattle.lapd_link_definition.specs.Table.{step}
-use Rattle.lapd_pair_laws.specs.Kept.{is_one_of, AreSettled, IsKeptWorld}
+use Rattle.lapd_pair_laws.specs.Consistent.{is_one_of, AreSettled, IsConsistentWorld}
 use Rattle.lapd_pair_laws.specs.Line.{Flight}
-use Rattle.lapd_pair_laws.specs.Move.{Deed, Deliver, Expire200, Move, Station, acts, hears, takes, delivers, expires_200}
+use Rattle.lapd_pair_laws.specs.Move.{PairEvent, Deliver, Expire200, Move, Station, acts, receives, takes, delivers, expires_200}
 use Rattle.lapd_pair_laws.specs.Safe.{IsAmong}
 use Rattle.lapd_pair_laws.specs.World.{World, swapped, view_of, world_after, happens, run, left, left_of}
-use Rattle.lapd_pair_laws.proofs.Keeping.{run_kept}
+use Rattle.lapd_pair_laws.proofs.Consistency.{run_consistent}
 use Rattle.lapd_pair_laws.proofs.Settled.{left_settled}
 use Rattle.lapd_pair_laws.proofs.Swaps.{network_alike}
 use Rattle.lapd_pair_laws.specs.Kinds.{kinds}
@@ -22,30 +22,30 @@ use Rattle.lapd_pair_laws.specs.Conjuncts.{IsNumbering}
 use Rattle.lapd_pair_laws.specs.Invariant.{IsInvariant}
 use Rattle.lapd_pair_laws.proofs.MidSteps.{Mid, enter, numbering}
 use Rattle.lapd_pair_laws.proofs.Moves.{after_by_user}
-use Rattle.lapd_pair_laws.proofs.Whole.{each_move_keeps}
+use Rattle.lapd_pair_laws.proofs.Whole.{each_move_preserves}
 use Rattle.lapd_pair_laws.proofs.Worlds.{left_by, safe_by_invariant}
 use Rattle.lapd_pair_laws.specs.Settle.{IsQuiet, next_move, settling, bound, most_moves}
 use Rattle.lapd_pair_laws.specs.Drained.{IsServed, IsDrained}
-use Rattle.lapd_pair_laws.specs.Timed.{IsTimedIn, IsRested, AreRested}
+use Rattle.lapd_pair_laws.specs.Timed.{IsTimedIn, IsSettledEnd, AreSettledEnds}
 use Rattle.lapd_pair_laws.proofs.Facts.{between_open}
-use Rattle.lapd_pair_laws.proofs.Flow.{Source, Sink, source, sink, IsComing, Stage, Clean, Waiting, Polling, Answered, IsAt, weight, Stream, fresh}
-use Rattle.lapd_pair_laws.proofs.Drains.{Seen, Drains, drains_swapped, seen_delivered, kept_delivered, mine_open}
-use Rattle.lapd_pair_laws.proofs.DrainsByT200.{seen_expired, kept_expired}
-use Rattle.lapd_pair_laws.proofs.Resting.{move_rests}
+use Rattle.lapd_pair_laws.proofs.Flow.{Source, Sink, source, sink, IsInTransit, Stage, Clean, Waiting, Polling, Answered, IsAt, weight, Stream, fresh}
+use Rattle.lapd_pair_laws.proofs.Drains.{Seen, Drains, drains_swapped, seen_delivered, preserved_delivered, mine_open}
+use Rattle.lapd_pair_laws.proofs.DrainsByT200.{seen_expired, preserved_expired}
+use Rattle.lapd_pair_laws.proofs.SettledEnds.{move_settles}
 use Rattle.lapd_pair_laws.proofs.Stepping.{user_move, network_move}
 
 -- ---- One move.
 
-user_drains : (n : ℕ) (deed : Deed) (w : World) → Drains n w → Seen (n - 1) (left_by (view_of side.User w) (acts Whole side.User deed (view_of side.User w))) w.network → Drains (n - 1) (world_after w (happens Whole (user_move deed) w))
+user_drains : (n : ℕ) (event : PairEvent) (w : World) → Drains n w → Seen (n - 1) (left_by (view_of side.User w) (acts Whole side.User event (view_of side.User w))) w.network → Drains (n - 1) (world_after w (happens Whole (user_move event) w))
 unfolding happens
-user_drains n deed w d s = record {
-  holds = each_move_keeps (user_move deed) w d.holds;
-  rested = move_rests (user_move deed) w d.rested;
-  sees = rw (after_by_user w (acts Whole side.User deed (view_of side.User w))) s;
+user_drains n event w d s = record {
+  holds = each_move_preserves (user_move event) w d.holds;
+  ends_settled = move_settles (user_move event) w d.ends_settled;
+  sees = rw (after_by_user w (acts Whole side.User event (view_of side.User w))) s;
 }
 
-network_drains : (n : ℕ) (deed : Deed) (w : World) → Drains (n - 1) (world_after (swapped w) (happens Whole (user_move deed) (swapped w))) → Drains (n - 1) (world_after w (happens Whole (network_move deed) w))
-network_drains n deed w d = rw (network_alike Whole deed w) (drains_swapped (n - 1) (world_after (swapped w) (happens Whole (user_move deed) (swapped w))) d)
+network_drains : (n : ℕ) (event : PairEvent) (w : World) → Drains (n - 1) (world_after (swapped w) (happens Whole (user_move event) (swapped w))) → Drains (n - 1) (world_after w (happens Whole (network_move event) w))
+network_drains n event w d = rw (network_alike Whole event w) (drains_swapped (n - 1) (world_after (swapped w) (happens Whole (user_move event) (swapped w))) d)
 
 -- the same messages were dropped
 pub record SameDropped (w v : World) : Type 0 where
@@ -55,12 +55,12 @@ pub record SameDropped (w v : World) : Type 0 where
 same_twice : {w v u : World} → SameDropped w v → SameDropped v u → SameDropped w u
 same_twice a b = record { user = b.user ∙ a.user; network = b.network ∙ a.network }
 
-user_kept : (deed : Deed) (w : World) → (left_by (view_of side.User w) (acts Whole side.User deed (view_of side.User w))).station.history.dropped ≡ w.user.history.dropped → SameDropped w (world_after w (happens Whole (user_move deed) w))
+user_preserved : (event : PairEvent) (w : World) → (left_by (view_of side.User w) (acts Whole side.User event (view_of side.User w))).station.history.dropped ≡ w.user.history.dropped → SameDropped w (world_after w (happens Whole (user_move event) w))
 unfolding happens
-user_kept deed w same = rw (after_by_user w (acts Whole side.User deed (view_of side.User w))) (record { user = same; network = refl })
+user_preserved event w same = rw (after_by_user w (acts Whole side.User event (view_of side.User w))) (record { user = same; network = refl })
 
-network_kept : (deed : Deed) (w : World) → SameDropped (swapped w) (world_after (swapped w) (happens Whole (user_move deed) (swapped w))) → SameDropped w (world_after w (happens Whole (network_move deed) w))
-network_kept deed w same = rw (network_alike Whole deed w) (record { user = same.network; network = same.user })
+network_preserved : (event : PairEvent) (w : World) → SameDropped (swapped w) (world_after (swapped w) (happens Whole (user_move event) (swapped w))) → SameDropped w (world_after w (happens Whole (network_move event) w))
+network_preserved event w same = rw (network_alike Whole event w) (record { user = same.network; network = same.user })
 
 -- one settling move, if any is possible; else no T200 runs and the line is empty
 pub record MovesOn (n : ℕ) (w : World) : Type 0 where
@@ -76,7 +76,7 @@ pub record IsStill (w : World) : Type 0 where
   pub user : w.user.end.t200 ≡ false
   pub network : w.network.end.t200 ≡ false
 
-pub record Stands (w : World) : Type 0 where
+pub record Settles (w : World) : Type 0 where
   pub is : next_move Whole w ≡ None
   pub still : IsStill w
 
@@ -85,13 +85,13 @@ module _ (n : ℕ) (user network : Station) where
   at to_user to_network = record { user = user; network = network; to_user = to_user; to_network = to_network }
 
   by_user : (frame : Flight) (rest to_network : List Flight) → Drains n (at (frame ∷ rest) to_network) → Drains (n - 1) (world_after (at (frame ∷ rest) to_network) (happens Whole (user_move Deliver) (at (frame ∷ rest) to_network)))
-  by_user frame rest to_network d = user_drains n Deliver (at (frame ∷ rest) to_network) d (seen_delivered user network frame rest to_network n d.holds.user_base d.holds.network_base d.holds.both d.rested.user d.sees)
+  by_user frame rest to_network d = user_drains n Deliver (at (frame ∷ rest) to_network) d (seen_delivered user network frame rest to_network n d.holds.user_base d.holds.network_base d.holds.both d.ends_settled.user d.sees)
 
-  by_user_kept : (frame : Flight) (rest to_network : List Flight) → Drains n (at (frame ∷ rest) to_network) → SameDropped (at (frame ∷ rest) to_network) (world_after (at (frame ∷ rest) to_network) (happens Whole (user_move Deliver) (at (frame ∷ rest) to_network)))
-  by_user_kept frame rest to_network d = user_kept Deliver (at (frame ∷ rest) to_network) (kept_delivered user network frame rest to_network n d.holds.user_base d.holds.network_base d.holds.both d.rested.user d.sees)
+  by_user_preserved : (frame : Flight) (rest to_network : List Flight) → Drains n (at (frame ∷ rest) to_network) → SameDropped (at (frame ∷ rest) to_network) (world_after (at (frame ∷ rest) to_network) (happens Whole (user_move Deliver) (at (frame ∷ rest) to_network)))
+  by_user_preserved frame rest to_network d = user_preserved Deliver (at (frame ∷ rest) to_network) (preserved_delivered user network frame rest to_network n d.holds.user_base d.holds.network_base d.holds.both d.ends_settled.user d.sees)
 
-  expired_kept : user.end.t200 ≡ true → Drains n (at [] []) → SameDropped (at [] []) (world_after (at [] []) (happens Whole (user_move Expire200) (at [] [])))
-  expired_kept on d = user_kept Expire200 (at [] []) (kept_expired user network n on d.sees)
+  expired_preserved : user.end.t200 ≡ true → Drains n (at [] []) → SameDropped (at [] []) (world_after (at [] []) (happens Whole (user_move Expire200) (at [] [])))
+  expired_preserved on d = user_preserved Expire200 (at [] []) (preserved_expired user network n on d.sees)
 
   expired : user.end.t200 ≡ true → Drains n (at [] []) → Drains (n - 1) (world_after (at [] []) (happens Whole (user_move Expire200) (at [] [])))
   expired on d = user_drains n Expire200 (at [] []) d (seen_expired user network n on d.sees)
@@ -100,7 +100,7 @@ module _ (n : ℕ) (user network : Station) where
 some_at : (x : Source) (y : Sink) (a : ℕ) → x.t200 ≡ true → Stream x y [] [] a → 1 ≤ a
 some_at x y a on s = by_stage s.stage s.so s.most
   where
-    still : (rejecting : Bool) → (y.vr < x.vs) ⊎ IsAmong x.vs [] → IsComing rejecting y.vr x.vs [] → ⊥
+    still : (rejecting : Bool) → (y.vr < x.vs) ⊎ IsAmong x.vs [] → IsInTransit rejecting y.vr x.vs [] → ⊥
     still false (inl less) same = absurd (omega (arith, less, same))
     still true (inl less) same = absurd (omega (arith, less, same))
     still rejecting (inr none) same = absurd none
@@ -111,41 +111,41 @@ some_at x y a on s = by_stage s.stage s.so s.most
     by_stage Polling w most = absurd (omega (arith, w.1))
     by_stage Answered w most = absurd (omega (arith, w.1))
 
-pub progress : (n : ℕ) (user network : Station) (to_user to_network : List Flight) → Drains n (at n user network to_user to_network) → MovesOn n (at n user network to_user to_network) ⊎ Stands (at n user network to_user to_network)
-unfolding happens acts delivers hears takes expires_200 step
+pub progress : (n : ℕ) (user network : Station) (to_user to_network : List Flight) → Drains n (at n user network to_user to_network) → MovesOn n (at n user network to_user to_network) ⊎ Settles (at n user network to_user to_network)
+unfolding happens acts delivers receives takes expires_200 step
 progress n user network to_user (frame ∷ rest) d = inl (record {
   move = network_move Deliver;
   is = refl;
   some = let le = d.sees.flow.most in omega (arith, le);
   drains = network_drains n Deliver (at n user network to_user (frame ∷ rest)) (by_user n network user frame rest to_user (drains_swapped n (at n user network to_user (frame ∷ rest)) d));
-  kept = network_kept Deliver (at n user network to_user (frame ∷ rest)) (by_user_kept n network user frame rest to_user (drains_swapped n (at n user network to_user (frame ∷ rest)) d));
+  kept = network_preserved Deliver (at n user network to_user (frame ∷ rest)) (by_user_preserved n network user frame rest to_user (drains_swapped n (at n user network to_user (frame ∷ rest)) d));
 })
 progress n user network (frame ∷ rest) [] d = inl (record {
   move = user_move Deliver;
   is = refl;
   some = let le = d.sees.flow.most in omega (arith, le);
   drains = by_user n user network frame rest [] d;
-  kept = by_user_kept n user network frame rest [] d;
+  kept = by_user_preserved n user network frame rest [] d;
 })
 progress n user network [] [] d = by_timers user.end.t200 network.end.t200 refl refl
   where
     w : World
     w = at n user network [] []
 
-    by_timers : (a b : Bool) → user.end.t200 ≡ a → network.end.t200 ≡ b → MovesOn n w ⊎ Stands w
+    by_timers : (a b : Bool) → user.end.t200 ≡ a → network.end.t200 ≡ b → MovesOn n w ⊎ Settles w
     by_timers true b on other = inl (record {
       move = user_move Expire200;
       is = rw on refl;
       some = let f = d.sees.flow in let some = some_at (source user.end) (sink network.end) f.a on f.mine in let le = f.most in omega (arith, some, le);
       drains = expired n user network on d;
-      kept = expired_kept n user network on d;
+      kept = expired_preserved n user network on d;
     })
     by_timers false true off on = inl (record {
       move = network_move Expire200;
       is = rw (off, on) refl;
       some = let f = d.sees.flow in let some = some_at (source network.end) (sink user.end) f.b on f.its in let le = f.most in omega (arith, some, le);
       drains = network_drains n Expire200 w (expired n network user on (drains_swapped n w d));
-      kept = network_kept Expire200 w (expired_kept n network user on (drains_swapped n w d));
+      kept = network_preserved Expire200 w (expired_preserved n network user on (drains_swapped n w d));
     })
     by_timers false false off none = inr (record { is = rw (off, none) refl; still = record { to_user = refl; to_network = refl; user = off; network = none } })
 
@@ -155,27 +155,27 @@ progress n user network [] [] d = by_timers user.end.t200 network.end.t200 refl 
 pub record Ends (begun w : World) : Type 0 where
   pub n : ℕ
   pub drains : Drains n w
-  pub stands : Stands w
+  pub runs_at_place : Settles w
   pub kept : SameDropped begun w
 
-none_on : (fuel : ℕ) (w : World) → Stands w → settling Whole fuel w ≡ []
+none_on : (fuel : ℕ) (w : World) → Settles w → settling Whole fuel w ≡ []
 none_on zero w s = refl
 none_on (suc fuel) w s = rw s.is refl
 
-stood : (fuel n : ℕ) (w : World) → Drains n w → Stands w → Ends w (run Whole (settling Whole fuel w) w)
-stood fuel n w d stands = rw (none_on fuel w stands) (record { n = n; drains = d; stands = stands; kept = record { user = refl; network = refl } })
+stood : (fuel n : ℕ) (w : World) → Drains n w → Settles w → Ends w (run Whole (settling Whole fuel w) w)
+stood fuel n w d runs_at_place = rw (none_on fuel w runs_at_place) (record { n = n; drains = d; runs_at_place = runs_at_place; kept = record { user = refl; network = refl } })
 
 moved_on : (fuel : ℕ) (w : World) (move : Move) → next_move Whole w ≡ Some move → SameDropped w (world_after w (happens Whole move w)) → Ends (world_after w (happens Whole move w)) (run Whole (settling Whole fuel (world_after w (happens Whole move w))) (world_after w (happens Whole move w))) → Ends w (run Whole (settling Whole (suc fuel) w) w)
-moved_on fuel w move is same ends = rw is (record { n = ends.n; drains = ends.drains; stands = ends.stands; kept = same_twice same ends.kept })
+moved_on fuel w move is same ends = rw is (record { n = ends.n; drains = ends.drains; runs_at_place = ends.runs_at_place; kept = same_twice same ends.kept })
 
 pub settles : (fuel n : ℕ) (w : World) → n ≤ fuel → Drains n w → Ends w (run Whole (settling Whole fuel w) w)
 settles zero n w few d = elim (progress n w.user w.network w.to_user w.to_network d) [
   | inl on ↦ absurd (let some = on.some in omega (arith, few, some))
-  | inr stands ↦ stood zero n w d stands
+  | inr runs_at_place ↦ stood zero n w d runs_at_place
 ]
 settles (suc fuel) n w few d = elim (progress n w.user w.network w.to_user w.to_network d) [
   | inl on ↦ moved_on fuel w on.move on.is on.kept (settles fuel (n - 1) (world_after w (happens Whole on.move w)) (omega (arith, few)) on.drains)
-  | inr stands ↦ stood (suc fuel) n w d stands
+  | inr runs_at_place ↦ stood (suc fuel) n w d runs_at_place
 ]
 
 -- each move reduces the remaining work, which bounds their number
@@ -186,7 +186,7 @@ few_moves (suc fuel) n w d = elim (progress n w.user w.network w.to_user w.to_ne
       let rest = few_moves fuel (n - 1) (world_after w (happens Whole on.move w)) on.drains in
       let some = on.some in
       rw on.is (omega (arith, rest, some))
-  | inr stands ↦ rw stands.is (omega arith)
+  | inr runs_at_place ↦ rw runs_at_place.is (omega arith)
 ]
 
 -- ---- If no move is possible, no message is left.
@@ -199,15 +199,15 @@ none_unsent k next given m some same free sent =
     grind (arith, nat_tests, none)
 
 -- a side has no unsent or unacknowledged message
-side_done : (x y : End) (a : ℕ) → Stream (source x) (sink y) [] [] a → x.t200 ≡ false → IsRested x → (length x.given ≤ x.next) × (x.window.vs ≡ x.window.va)
+side_done : (x y : End) (a : ℕ) → Stream (source x) (sink y) [] [] a → x.t200 ≡ false → IsSettledEnd x → (length x.given ≤ x.next) × (x.window.vs ≡ x.window.va)
 unfolding begin
-side_done x y a s off rested = by_stage s.stage s.so
+side_done x y a s off ends_settled = by_stage s.stage s.so
   where
     by_stage : (stage : Stage) → IsAt stage (source x) (sink y) [] [] → (length x.given ≤ x.next) × (x.window.vs ≡ x.window.va)
     by_stage Clean c =
         let same : x.window.vs ≡ x.window.va = c.timed off in
-        let sent = rested.closed.sent in
-        let some = rested.some in
+        let sent = ends_settled.closed.sent in
+        let some = ends_settled.some in
         (none_unsent x.parameters.k x.next (length x.given) x.window some same c.free (rw (c.in_7) at sent), same)
     by_stage Waiting w = let on = w.1 in cc
     by_stage Polling w = absurd (omega (arith, w.1))
@@ -217,21 +217,21 @@ entered : {n : ℕ} {w : World} (d : Drains n w) → is_7_or_8 w.user.end.state 
 entered {w = w} d opened = enter (party d.holds.user_base w.user) (party d.holds.network_base w.network) (kinds w.to_network) (kinds w.to_user) opened d.holds.both
 
 user_empty : (n : ℕ) (w : World) → Drains n w → IsStill w → AreSettled w.user.history → left_of w.user ≡ 0
-user_empty n w d stands settled =
+user_empty n w d runs_at_place settled =
     let f = d.sees.flow in
     let num : IsNumbering (party d.holds.user_base w.user).sends = numbering (entered d (mine_open f)) in
-    let s : Stream (source w.user.end) (sink w.network.end) [] [] f.a = subst (λ l. Stream (source w.user.end) (sink w.network.end) (kinds l) [] f.a) stands.to_network (subst (λ l. Stream (source w.user.end) (sink w.network.end) (kinds w.to_network) (kinds l) f.a) stands.to_user f.mine) in
-    let done = side_done w.user.end w.network.end f.a s stands.user d.rested.user in
+    let s : Stream (source w.user.end) (sink w.network.end) [] [] f.a = subst (λ l. Stream (source w.user.end) (sink w.network.end) (kinds l) [] f.a) runs_at_place.to_network (subst (λ l. Stream (source w.user.end) (sink w.network.end) (kinds w.to_network) (kinds l) f.a) runs_at_place.to_user f.mine) in
+    let done = side_done w.user.end w.network.end f.a s runs_at_place.user d.ends_settled.user in
     let passed : w.user.history.passed ≡ w.user.end.first = d.holds.both.mine.passed in
     let first : w.user.end.first ≡ d.holds.user_base + w.user.end.window.va = num.first in
     let next : w.user.end.next ≡ d.holds.user_base + w.user.end.window.vs = num.next in
     left_settled w.user settled ∙ omega (arith, passed, first, next, done.0, done.1)
 
-pub nothing_left : (begun w : World) → IsKeptWorld Whole w → Ends begun w → left w ≡ 0
+pub nothing_left : (begun w : World) → IsConsistentWorld Whole w → Ends begun w → left w ≡ 0
 nothing_left begun w kept e =
-    let stands = e.stands.still in
-    let user = user_empty e.n w e.drains stands kept.user.settled in
-    let network = user_empty e.n (swapped w) (drains_swapped e.n w e.drains) (record { to_user = stands.to_network; to_network = stands.to_user; user = stands.network; network = stands.user }) kept.network.settled in
+    let runs_at_place = e.runs_at_place.still in
+    let user = user_empty e.n w e.drains runs_at_place kept.user.settled in
+    let network = user_empty e.n (swapped w) (drains_swapped e.n w e.drains) (record { to_user = runs_at_place.to_network; to_network = runs_at_place.to_user; user = runs_at_place.network; network = runs_at_place.user }) kept.network.settled in
     omega (arith, user, network)
 
 -- ---- The remaining work of a quiet line.
@@ -239,9 +239,9 @@ nothing_left begun w kept e =
 stream_begins : (x : Source) (y : Sink) → x.state ≡ MultipleFrameEstablished → x.va ≤ y.vr → y.vr ≤ x.vs → (x.t200 ≡ false → (x.vs ≡ x.va) × (x.busy ≡ false)) → Stream x y [] [] (3 * (x.unsent + (x.vs - x.va)) + 4)
 stream_begins x y is low high timed = by_timer x.t200 refl
   where
-    same_coming : (rejecting : Bool) → y.vr ≡ x.vs → IsComing rejecting y.vr x.vs []
-    same_coming false same = same
-    same_coming true same = same
+    same_in_transit : (rejecting : Bool) → y.vr ≡ x.vs → IsInTransit rejecting y.vr x.vs []
+    same_in_transit false same = same
+    same_in_transit true same = same
 
     by_fresh : (rejecting : Bool) → 3 * x.unsent + 2 * (x.vs - y.vr) + fresh rejecting + 3 ≤ 3 * (x.unsent + (x.vs - x.va)) + 4
     by_fresh true = omega (arith, low, high)
@@ -254,7 +254,7 @@ stream_begins x y is low high timed = by_timer x.t200 refl
         let same : y.vr ≡ x.vs = omega (arith, low, high, t.0) in
         record {
           stage = Clean;
-          so = record { in_7 = is; free = t.1; coming = same_coming y.rejecting same; wanted = refl; timed = λ _. t.0; stopped = λ on. cc };
+          so = record { in_7 = is; free = t.1; coming = same_in_transit y.rejecting same; wanted = refl; timed = λ _. t.0; stopped = λ on. cc };
           most = omega (arith, same);
         }
 
@@ -271,7 +271,7 @@ side_left s base num passed settled =
     left_settled s settled ∙ omega (arith, passed, first, next, ordered, within)
 
 -- two sides in state 7, with an empty line
-module _ (user network : Station) (i : IsInvariant (record { user = user; network = network; to_user = []; to_network = [] })) (rested : AreRested (record { user = user; network = network; to_user = []; to_network = [] }))
+module _ (user network : Station) (i : IsInvariant (record { user = user; network = network; to_user = []; to_network = [] })) (ends_settled : AreSettledEnds (record { user = user; network = network; to_user = []; to_network = [] }))
     (user_settled : AreSettled user.history) (network_settled : AreSettled network.history)
     (user_in_7 : user.end.state ≡ MultipleFrameEstablished) (network_in_7 : network.end.state ≡ MultipleFrameEstablished)
     (user_free : user.end.window.own_busy ≡ false) (network_free : network.end.window.own_busy ≡ false) where
@@ -292,13 +292,13 @@ module _ (user network : Station) (i : IsInvariant (record { user = user; networ
       let left_network = side_left network i.network_base (numbering its) i.both.its.passed network_settled in
       record {
         holds = i;
-        rested = rested;
+        ends_settled = ends_settled;
         sees = record {
           flow = record {
             a = 3 * ((length user.end.given - user.end.next) + (user.end.window.vs - user.end.window.va)) + 4;
             b = 3 * ((length network.end.given - network.end.next) + (network.end.window.vs - network.end.window.va)) + 4;
-            mine = stream_begins (source user.end) (sink network.end) user_in_7 between.0 between.1 (in_7 user.end user_in_7 rested.user.timed);
-            its = stream_begins (source network.end) (sink user.end) network_in_7 between_its.0 between_its.1 (in_7 network.end network_in_7 rested.network.timed);
+            mine = stream_begins (source user.end) (sink network.end) user_in_7 between.0 between.1 (in_7 user.end user_in_7 ends_settled.user.timed);
+            its = stream_begins (source network.end) (sink user.end) network_in_7 between_its.0 between_its.1 (in_7 network.end network_in_7 ends_settled.network.timed);
             most = omega (arith, left_user, left_network);
           };
           idle = user_free;
@@ -311,11 +311,11 @@ module _ (user network : Station) (i : IsInvariant (record { user = user; networ
 abbrev with_lines : World → List Flight → List Flight → World
 with_lines w to_user to_network = record w { to_user = to_user; to_network = to_network }
 
-pub quiet_drains : (w : World) → IsInvariant w → IsKeptWorld Whole w → AreRested w → IsQuiet w → Drains (most_moves w) w
-quiet_drains w i kept rested q =
+pub quiet_drains : (w : World) → IsInvariant w → IsConsistentWorld Whole w → AreSettledEnds w → IsQuiet w → Drains (most_moves w) w
+quiet_drains w i kept ends_settled q =
     let F : World → Type 0 = λ v. Drains (most_moves v) v in
     let same : with_lines w [] [] ≡ w = ap (λ l. with_lines w l []) (sym q.to_user) ∙ ap (λ l. with_lines w w.to_user l) (sym q.to_network) in
-    subst F same (empty_drains w.user w.network (subst IsInvariant (sym same) i) (subst AreRested (sym same) rested) kept.user.settled kept.network.settled q.user q.network q.user_free q.network_free)
+    subst F same (empty_drains w.user w.network (subst IsInvariant (sym same) i) (subst AreSettledEnds (sym same) ends_settled) kept.user.settled kept.network.settled q.user q.network q.user_free q.network_free)
 
 -- ---- The theorem, on whole numbers.
 
@@ -335,17 +335,17 @@ side_served before after settled none same = record {
     all_passed : (place given passed : ℕ) → place < given → given ≤ passed → nat_lt place passed ≡ true
     all_passed place given passed there all = grind (arith, nat_tests, there, all)
 
-pub quiet_line_drains : (w : World) → IsInvariant w → IsKeptWorld Whole w → AreRested w → IsQuiet w → IsDrained Whole w
-quiet_line_drains w i kept rested q =
-    let drains = quiet_drains w i kept rested q in
+pub quiet_line_drains : (w : World) → IsInvariant w → IsConsistentWorld Whole w → AreSettledEnds w → IsQuiet w → IsDrained Whole w
+quiet_line_drains w i kept ends_settled q =
+    let drains = quiet_drains w i kept ends_settled q in
     let ends = settles (bound w) (most_moves w) w (omega arith) drains in
     let after = run Whole (settling Whole (bound w) w) w in
-    let kept_after = run_kept Whole (settling Whole (bound w) w) w kept in
+    let kept_after = run_consistent Whole (settling Whole (bound w) w) w kept in
     let none = nothing_left w after kept_after ends in
     record {
       few = few_moves (bound w) (most_moves w) w drains;
       drained = record {
-        rests = ends.stands.is;
+        rests = ends.runs_at_place.is;
         empty = none;
         user = side_served w.user after.user kept_after.user.settled (omega (arith, none)) ends.kept.user;
         network = side_served w.network after.network kept_after.network.settled (omega (arith, none)) ends.kept.network;

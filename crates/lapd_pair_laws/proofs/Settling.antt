@@ -5,7 +5,7 @@ use Rattle.std.proofs.lemmas.Bool.Decides.{nat_tests}
 use Rattle.std.proofs.lemmas.List.Folds.{list_any-append}
 use Rattle.std.proofs.lemmas.List.FromFn.{length-range_with_len}
 use Rattle.lapd_pair_laws.specs.Histories.{History, with_acked, with_dropped}
-use Rattle.lapd_pair_laws.specs.Kept.{is_one_of, AreSettled}
+use Rattle.lapd_pair_laws.specs.Consistent.{is_one_of, AreSettled}
 use Rattle.lapd_pair_laws.proofs.Settled.{one_of_range}
 
 more_settled : (acked dropped new : Bool) (place passed n : ℕ) → (acked || dropped) ≡ nat_lt place passed → new ≡ (nat_le passed place && nat_lt place (passed + n)) → ((acked || new) || dropped) ≡ nat_lt place (passed + n)

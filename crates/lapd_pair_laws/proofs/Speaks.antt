@@ -4,8 +4,8 @@ use Rattle.lapd_link_definition.specs.declared.state.State.TheVariants.{Multiple
 use Rattle.lapd_pair_laws.specs.Safe.{IsAmong}
 use Rattle.lapd_pair_laws.specs.Kinds.{Message, Kind, Numbered, Status, messages, numbers, rejections, tally, poll_of, final_of}
 use Rattle.lapd_pair_laws.proofs.Lists.{messages_append}
-use Rattle.lapd_pair_laws.proofs.Flow.{Source, Sink, IsWhole, IsJunkThenWhole, IsComing, IsClean, Stage, Clean, Waiting, Polling, Answered, IsAt, weight, Stream, Lighter}
-use Rattle.lapd_pair_laws.proofs.StreamReceipts.{coming_ordered}
+use Rattle.lapd_pair_laws.proofs.Flow.{Source, Sink, IsWhole, IsJunkThenWhole, IsInTransit, IsClean, Stage, Clean, Waiting, Polling, Answered, IsAt, weight, Stream, Lighter}
+use Rattle.lapd_pair_laws.proofs.StreamReceipts.{in_transit_ordered}
 
 -- One more message is in transit.
 whole_more : (low end : ℕ) (ms : List Message) (m : Message) → m.number ≡ end → IsWhole low end ms → IsWhole low (end + 1) (ms ++ m ∷ [])
@@ -17,14 +17,14 @@ junk_more low end [] m is w = inl (is ∙ sym w, omega (arith, w))
 junk_more low end (n ∷ ms) m is (inl w) = inl (whole_more low end (n ∷ ms) m is w)
 junk_more low end (n ∷ ms) m is (inr j) = inr (j.0, junk_more low end ms m is j.1)
 
-coming_more : (rejecting : Bool) (low end : ℕ) (ms : List Message) (m : Message) → m.number ≡ end → IsComing rejecting low end ms → IsComing rejecting low (end + 1) (ms ++ m ∷ [])
-coming_more false low end ms m is c = whole_more low end ms m is c
-coming_more true low end ms m is c = junk_more low end ms m is c
+in_transit_more : (rejecting : Bool) (low end : ℕ) (ms : List Message) (m : Message) → m.number ≡ end → IsInTransit rejecting low end ms → IsInTransit rejecting low (end + 1) (ms ++ m ∷ [])
+in_transit_more false low end ms m is c = whole_more low end ms m is c
+in_transit_more true low end ms m is c = junk_more low end ms m is c
 
 -- A stream depends on the line only through messages, polls, REJ, N(R) and finals.
-pub as_said : (x : Source) (y : Sink) (out back now left : List Kind) (a : ℕ) → messages now ≡ messages out → tally poll_of now ≡ tally poll_of out → rejections left ≡ rejections back → numbers left ≡ numbers back → tally final_of left ≡ tally final_of back
+pub as_sent : (x : Source) (y : Sink) (out back now left : List Kind) (a : ℕ) → messages now ≡ messages out → tally poll_of now ≡ tally poll_of out → rejections left ≡ rejections back → numbers left ≡ numbers back → tally final_of left ≡ tally final_of back
     → Stream x y out back a → Stream x y now left a
-as_said x y out back now left a same_messages polls same_rejections same_numbers finals s = by_stage s.stage s.so s.most
+as_sent x y out back now left a same_messages polls same_rejections same_numbers finals s = by_stage s.stage s.so s.most
   where
     by_stage : (stage : Stage) → IsAt stage x y out back → weight stage x y ≤ a → Stream x y now left a
     by_stage Clean c most = record {
@@ -32,7 +32,7 @@ as_said x y out back now left a same_messages polls same_rejections same_numbers
       so = record {
         in_7 = c.in_7;
         free = c.free;
-        coming = subst (λ ms. IsComing y.rejecting y.vr x.vs ms) (sym same_messages) c.coming;
+        coming = subst (λ ms. IsInTransit y.rejecting y.vr x.vs ms) (sym same_messages) c.coming;
         wanted = same_rejections ∙ c.wanted;
         timed = c.timed;
         stopped = subst (λ ns. x.t200 ≡ true → (y.vr < x.vs) ⊎ IsAmong x.vs ns) (sym same_numbers) c.stopped;
@@ -50,7 +50,7 @@ module _ (x : Source) (y : Sink) (out : List Kind) (nr : ℕ) (ks : List Kind) (
   hand = Status nr ∷ ks
 
   -- it acknowledges all, and T200 is stopped: x needs no recovery
-  pub acked_all : x.state ≡ MultipleFrameEstablished → x.busy ≡ false → x.vs ≡ nr → IsComing y.rejecting y.vr x.vs (messages out) → rejections ks ≡ [] → Stream x y out hand a → Stream (record x { va = nr; t200 = false }) y out ks a
+  pub acked_all : x.state ≡ MultipleFrameEstablished → x.busy ≡ false → x.vs ≡ nr → IsInTransit y.rejecting y.vr x.vs (messages out) → rejections ks ≡ [] → Stream x y out hand a → Stream (record x { va = nr; t200 = false }) y out ks a
   acked_all in_7 free all coming none s = record {
     stage = Clean;
     so = record { in_7 = in_7; free = free; coming = coming; wanted = none; timed = λ _. all; stopped = λ no. cc };
@@ -117,9 +117,9 @@ acked_in_8 x y out k nr ks a in_8 no_final s = by_stage s.stage s.so s.most
 abbrev pub back_at : ℕ → Source → Source
 back_at nr x = record { state = MultipleFrameEstablished; t200 = false; busy = false; vs = nr; va = nr; unsent = x.unsent + (x.vs - nr) }
 
-pub goes_back : (x : Source) (y : Sink) (out : List Kind) (k : Kind) (nr : ℕ) (ks : List Kind) (a : ℕ) → (IsClean x y out (k ∷ ks) → ⊥) → y.vr ≡ nr → nr ≤ x.vs → IsComing y.rejecting y.vr nr (messages out) → rejections ks ≡ []
+pub mid_back : (x : Source) (y : Sink) (out : List Kind) (k : Kind) (nr : ℕ) (ks : List Kind) (a : ℕ) → (IsClean x y out (k ∷ ks) → ⊥) → y.vr ≡ nr → nr ≤ x.vs → IsInTransit y.rejecting y.vr nr (messages out) → rejections ks ≡ []
     → Stream x y out (k ∷ ks) a → Stream (back_at nr x) y out ks a
-goes_back x y out k nr ks a dirty at below coming none s = record {
+mid_back x y out k nr ks a dirty at below coming none s = record {
   stage = Clean;
   so = record { in_7 = refl; free = refl; coming = coming; wanted = none; timed = λ _. refl; stopped = λ no. cc };
   most = by_stage s.stage s.so s.most;
@@ -152,7 +152,7 @@ sends x y out back m n u a in_7 one_more is s = by_stage s.stage s.so s.most
 
     by_stage : (stage : Stage) → IsAt stage x y out back → weight stage x y ≤ a → Lighter 1 (record x { vs = x.vs + 1; unsent = u; t200 = true }) y (out ++ Numbered m n ∷ []) back a
     by_stage Clean c most =
-        let low : y.vr ≤ x.vs = coming_ordered y.rejecting y.vr x.vs (messages out) c.coming in
+        let low : y.vr ≤ x.vs = in_transit_ordered y.rejecting y.vr x.vs (messages out) c.coming in
         record {
           some = omega (arith, most, one_more);
           stream = record {
@@ -160,7 +160,7 @@ sends x y out back m n u a in_7 one_more is s = by_stage s.stage s.so s.most
             so = record {
               in_7 = in_7;
               free = c.free;
-              coming = subst (λ ms. IsComing y.rejecting y.vr (x.vs + 1) ms) (sym (messages_append out (Numbered m n ∷ []))) (coming_more y.rejecting y.vr x.vs (messages out) m is c.coming);
+              coming = subst (λ ms. IsInTransit y.rejecting y.vr (x.vs + 1) ms) (sym (messages_append out (Numbered m n ∷ []))) (in_transit_more y.rejecting y.vr x.vs (messages out) m is c.coming);
               wanted = c.wanted;
               timed = λ no. cc;
               stopped = λ _. inl (omega (arith, low));
@@ -174,9 +174,9 @@ sends x y out back m n u a in_7 one_more is s = by_stage s.stage s.so s.most
 
 -- ---- T200 expires while the line is empty.
 
-coming_none : (rejecting : Bool) (low end : ℕ) → IsComing rejecting low end [] → low ≡ end
-coming_none false low end c = c
-coming_none true low end c = c
+in_transit_none : (rejecting : Bool) (low end : ℕ) → IsInTransit rejecting low end [] → low ≡ end
+in_transit_none false low end c = c
+in_transit_none true low end c = c
 
 pub polls : (x : Source) (y : Sink) (u : Kind) (a : ℕ) → x.t200 ≡ true → poll_of u ≡ 1 → Stream x y [] [] a → Lighter 2 (record x { state = TimerRecovery; t200 = true }) y (u ∷ []) [] a
 polls x y u a runs poll s = by_stage s.stage s.so s.most
@@ -186,7 +186,7 @@ polls x y u a runs poll s = by_stage s.stage s.so s.most
     still (inr none) same = absurd none
 
     by_stage : (stage : Stage) → IsAt stage x y [] [] → weight stage x y ≤ a → Lighter 2 (record x { state = TimerRecovery; t200 = true }) y (u ∷ []) [] a
-    by_stage Clean c most = absurd (still (c.stopped runs) (coming_none y.rejecting y.vr x.vs c.coming))
+    by_stage Clean c most = absurd (still (c.stopped runs) (in_transit_none y.rejecting y.vr x.vs c.coming))
     by_stage Waiting w most = record { some = omega (arith, most); stream = record { stage = Polling; so = (refl, omega (arith, poll)); most = omega (arith, most) } }
     by_stage Polling w most = absurd (omega (arith, w.1))
     by_stage Answered w most = absurd (omega (arith, w.1))

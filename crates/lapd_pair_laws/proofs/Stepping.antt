@@ -4,28 +4,28 @@ use Rattle.lapd_frame.specs.declared.Side.TheVariants as side
 use Rattle.lapd_mod128.specs.Counting.{Reading}
 use Rattle.lapd_link_definition.specs.Table.{step}
 use Rattle.lapd_pair_laws.specs.Line.{Flight}
-use Rattle.lapd_pair_laws.specs.Move.{Deed, Deliver, Expire200, Move, Station, hears, takes, delivers, expires_200, acts}
+use Rattle.lapd_pair_laws.specs.Move.{PairEvent, Deliver, Expire200, Move, Station, receives, takes, delivers, expires_200, acts}
 use Rattle.lapd_pair_laws.specs.World.{World, world_after, happens, run}
 use Rattle.lapd_pair_laws.specs.Settle.{next_move, settling}
 
 -- ---- The next move.
 
-abbrev pub user_move : Deed → Move
-user_move deed = record { side = side.User; deed = deed }
+abbrev pub user_move : PairEvent → Move
+user_move event = record { side = side.User; event = event }
 
-abbrev pub network_move : Deed → Move
-network_move deed = record { side = side.Network; deed = deed }
+abbrev pub network_move : PairEvent → Move
+network_move event = record { side = side.Network; event = event }
 
 module _ (r : Reading) (user network : Station) where
   abbrev at : List Flight → List Flight → World
   at to_user to_network = record { user = user; network = network; to_user = to_user; to_network = to_network }
 
   pub next_to_network : (to_user : List Flight) (frame : Flight) (rest : List Flight) → next_move r (at to_user (frame ∷ rest)) ≡ Some (network_move Deliver)
-  unfolding happens acts delivers hears step
+  unfolding happens acts delivers receives step
   next_to_network to_user frame rest = refl
 
   pub next_to_user : (frame : Flight) (rest : List Flight) → next_move r (at (frame ∷ rest) []) ≡ Some (user_move Deliver)
-  unfolding happens acts delivers hears step
+  unfolding happens acts delivers receives step
   next_to_user frame rest = refl
 
   pub next_of_user : user.end.t200 ≡ true → next_move r (at [] []) ≡ Some (user_move Expire200)

@@ -12,8 +12,8 @@ use Rattle.lapd_pair_laws.specs.Move.{Station, View, stepped, view_after, story_
 use Rattle.lapd_pair_laws.specs.Kinds.{Kind, kinds}
 use Rattle.lapd_pair_laws.specs.Parties.{party}
 use Rattle.lapd_pair_laws.specs.Invariant.{Both}
-use Rattle.lapd_pair_laws.proofs.Closes.{goes_close}
-use Rattle.lapd_pair_laws.proofs.ActionEffects.{Context, seen, line, Goes}
+use Rattle.lapd_pair_laws.proofs.Closes.{mid_close}
+use Rattle.lapd_pair_laws.proofs.ActionEffects.{Context, seen, line, HoldsMid}
 use Rattle.lapd_pair_laws.proofs.MidSteps.{leave}
 use Rattle.lapd_pair_laws.proofs.ClosedActions.{Ends}
 use Rattle.lapd_pair_laws.proofs.Worlds.{Holds, left_by}
@@ -28,8 +28,8 @@ unfolding story_after begin
 begun c ks b = b
 
 -- an open side closes its step
-pub ends_open : (c : Context) (ks : List Kind) (s : StepState) → Goes c ks s → Ends c ks (end_step Whole s)
-ends_open c ks s m = let done = goes_close c s ks m in record { base = c.base; both = leave (seen c (end_step Whole s)) c.peer (line c (end_step Whole s)) ks done }
+pub ends_open : (c : Context) (ks : List Kind) (s : StepState) → HoldsMid c ks s → Ends c ks (end_step Whole s)
+ends_open c ks s m = let done = mid_close c s ks m in record { base = c.base; both = leave (seen c (end_step Whole s)) c.peer (line c (end_step Whole s)) ks done }
 
 -- and the view after the step
 pub holds_after : (octets : List ℕ) (place : ℕ) (v : View) (base its_base : ℕ) (peer : Station) (incoming : List Flight) (s : StepState) → Ends (context base octets place v incoming peer its_base) (kinds incoming) s → Holds (view_after octets place (record v { incoming = incoming }) s) peer

@@ -4,7 +4,7 @@ use Rattle.lapd_link_definition.specs.declared.state.State.TheVariants.{TimerRec
 use Rattle.lapd_pair_laws.specs.Safe.{IsAmong}
 use Rattle.lapd_pair_laws.specs.Kinds.{Message, Kind, Numbered, Status, Rejection, Final, message_of, messages, number_of, numbers, rejection_of, rejections, tally, poll_of, final_of}
 use Rattle.lapd_pair_laws.proofs.Lists.{rejections_same, numbers_more, tally_more}
-use Rattle.lapd_pair_laws.proofs.Flow.{Source, Sink, IsWhole, IsJunkThenWhole, IsComing, IsClean, Stage, Clean, Waiting, Polling, Answered, IsAt, burden, weight, Stream, Lighter}
+use Rattle.lapd_pair_laws.proofs.Flow.{Source, Sink, IsWhole, IsJunkThenWhole, IsInTransit, IsClean, Stage, Clean, Waiting, Polling, Answered, IsAt, burden, weight, Stream, Lighter}
 
 -- ---- Lists.
 
@@ -17,9 +17,9 @@ junk_ordered low end [] w = omega (arith, w)
 junk_ordered low end (m ∷ ms) (inl w) = whole_ordered low end (m ∷ ms) w
 junk_ordered low end (m ∷ ms) (inr j) = junk_ordered low end ms j.1
 
-pub coming_ordered : (rejecting : Bool) (low end : ℕ) (ms : List Message) → IsComing rejecting low end ms → low ≤ end
-coming_ordered false low end ms c = whole_ordered low end ms c
-coming_ordered true low end ms c = junk_ordered low end ms c
+pub in_transit_ordered : (rejecting : Bool) (low end : ℕ) (ms : List Message) → IsInTransit rejecting low end ms → low ≤ end
+in_transit_ordered false low end ms c = whole_ordered low end ms c
+in_transit_ordered true low end ms c = junk_ordered low end ms c
 
 pub among_end : (n : ℕ) (ns : List ℕ) → IsAmong n (ns ++ n ∷ [])
 among_end n [] = inl refl
@@ -31,17 +31,17 @@ among_more n m (x ∷ ns) (inl same) = inl same
 among_more n m (x ∷ ns) (inr rest) = inr (among_more n m ns rest)
 
 -- the awaited message is accepted
-whole_taken : (rejecting : Bool) (low end : ℕ) (m : Message) (ms : List Message) → m.number ≡ low → IsComing rejecting low end (m ∷ ms) → IsWhole (low + 1) end ms
+whole_taken : (rejecting : Bool) (low end : ℕ) (m : Message) (ms : List Message) → m.number ≡ low → IsInTransit rejecting low end (m ∷ ms) → IsWhole (low + 1) end ms
 whole_taken false low end m ms is c = c.1
 whole_taken true low end m ms is (inl w) = w.1
 whole_taken true low end m ms is (inr j) = let above = j.0 in absurd (omega (arith, above, is))
 
 -- any other is discarded
-junk_passed : (low end : ℕ) (m : Message) (ms : List Message) → (m.number ≡ low → ⊥) → IsComing true low end (m ∷ ms) → IsComing true low end ms
+junk_passed : (low end : ℕ) (m : Message) (ms : List Message) → (m.number ≡ low → ⊥) → IsInTransit true low end (m ∷ ms) → IsInTransit true low end ms
 junk_passed low end m ms other (inl w) = absurd (other w.0)
 junk_passed low end m ms other (inr j) = j.1
 
-none_rejected : (low end : ℕ) (m : Message) (ms : List Message) → (m.number ≡ low → ⊥) → IsComing false low end (m ∷ ms) → ⊥
+none_rejected : (low end : ℕ) (m : Message) (ms : List Message) → (m.number ≡ low → ⊥) → IsInTransit false low end (m ∷ ms) → ⊥
 none_rejected low end m ms other w = other w.0
 
 -- ---- The message in hand.
@@ -96,7 +96,7 @@ module _ (y : Source) (x : Sink) (m : Message) (nr : ℕ) (ks out : List Kind) w
   rejected b other not_yet no_poll s = by_stage s.stage s.so (rw not_yet at (let most = s.most in most))
     where
       by_stage : (stage : Stage) → IsAt stage y x back out → weight stage y (record { vr = x.vr; rejecting = false }) ≤ b → Lighter 1 y (rejecting_now x) left (out ++ Rejection x.vr ∷ []) b
-      by_stage Clean c most = absurd (none_rejected x.vr y.vs m (messages ks) other (subst (λ r. IsComing r x.vr y.vs (m ∷ messages ks)) not_yet c.coming))
+      by_stage Clean c most = absurd (none_rejected x.vr y.vs m (messages ks) other (subst (λ r. IsInTransit r x.vr y.vs (m ∷ messages ks)) not_yet c.coming))
       by_stage Waiting w most = record { some = omega (arith, most); stream = record { stage = Waiting; so = w; most = omega (arith, most) } }
       by_stage Polling w most = record { some = omega (arith, most); stream = record { stage = Polling; so = (w.0, let p = w.1 in rw no_poll at p); most = omega (arith, most) } }
       by_stage Answered w most = let more = tally_more final_of (Rejection x.vr) out in record { some = omega (arith, most); stream = record { stage = Answered; so = (w.0, omega (arith, more, w.1)); most = omega (arith, most) } }
@@ -111,7 +111,7 @@ module _ (y : Source) (x : Sink) (m : Message) (nr : ℕ) (ks out : List Kind) w
         so = record {
           in_7 = c.in_7;
           free = c.free;
-          coming = subst (λ r. IsComing r x.vr y.vs (messages ks)) (sym rejects) (junk_passed x.vr y.vs m (messages ks) other (subst (λ r. IsComing r x.vr y.vs (m ∷ messages ks)) rejects c.coming));
+          coming = subst (λ r. IsInTransit r x.vr y.vs (messages ks)) (sym rejects) (junk_passed x.vr y.vs m (messages ks) other (subst (λ r. IsInTransit r x.vr y.vs (m ∷ messages ks)) rejects c.coming));
           wanted = c.wanted;
           timed = c.timed;
           stopped = c.stopped;
@@ -143,7 +143,7 @@ done y x k ks out b no_message no_poll s = by_stage s.stage s.so s.most
     by_stage : (stage : Stage) → IsAt stage y x (k ∷ ks) out → weight stage y x ≤ b → Stream y x ks out b
     by_stage Clean c most = record {
       stage = Clean;
-      so = record { in_7 = c.in_7; free = c.free; coming = subst (λ ms. IsComing x.rejecting x.vr y.vs ms) same c.coming; wanted = c.wanted; timed = c.timed; stopped = c.stopped };
+      so = record { in_7 = c.in_7; free = c.free; coming = subst (λ ms. IsInTransit x.rejecting x.vr y.vs ms) same c.coming; wanted = c.wanted; timed = c.timed; stopped = c.stopped };
       most = most;
     }
     by_stage Waiting w most = record { stage = Waiting; so = w; most = most }
@@ -151,9 +151,9 @@ done y x k ks out b no_message no_poll s = by_stage s.stage s.so s.most
     by_stage Answered w most = record { stage = Answered; so = w; most = most }
 
 -- The receiving side sends more N(R), but no more REJ and finals.
-pub said_more : (y : Source) (x : Sink) (back out more : List Kind) (b : ℕ) → rejections more ≡ rejections out → ((n : ℕ) → IsAmong n (numbers out) → IsAmong n (numbers more)) → tally final_of more ≡ tally final_of out
+pub sends_more : (y : Source) (x : Sink) (back out more : List Kind) (b : ℕ) → rejections more ≡ rejections out → ((n : ℕ) → IsAmong n (numbers out) → IsAmong n (numbers more)) → tally final_of more ≡ tally final_of out
     → Stream y x back out b → Stream y x back more b
-said_more y x back out more b same_rejections among finals s = by_stage s.stage s.so s.most
+sends_more y x back out more b same_rejections among finals s = by_stage s.stage s.so s.most
   where
     either : (y.vs ≡ y.vs) → (x.vr < y.vs) ⊎ IsAmong y.vs (numbers out) → (x.vr < y.vs) ⊎ IsAmong y.vs (numbers more)
     either same (inl less) = inl less

@@ -5,24 +5,24 @@ use Rattle.lapd_link_definition.specs.declared.state.State.TheVariants.{TeiAssig
 use Rattle.lapd_link_definition.specs.EndOfStep.{is_7_or_8}
 use Rattle.lapd_pair_laws.specs.Histories.{Receipt}
 use Rattle.lapd_pair_laws.specs.Kinds.{Kind, Status, Final, Unnumbered, message_of, messages, number_of, numbers, rejection_of, rejections, tally, ask_of, answer_of, poll_of, final_of, foreign_of, is_acceptance}
-use Rattle.lapd_pair_laws.specs.Parties.{Sender, Receiver, Party, Hearing, hearing_now, hears, OnHearing, frames_heard}
-use Rattle.lapd_pair_laws.specs.Conjuncts.{Each, IsGot, IsStream, IsClimb, AreAcknowledging, NoneAsked, NoneBehindPoll, NamesAll, FinalsNameAll, OneAsked, AreAsked, IsAwaiting, AreRejected, IsHeard, NoneBehindAsk, IsExchange, most_asks, high}
+use Rattle.lapd_pair_laws.specs.Parties.{Sender, Receiver, Party, Reception, reception_now, receives, OnReception, frames_received}
+use Rattle.lapd_pair_laws.specs.Conjuncts.{Each, IsGot, IsStream, IsClimb, AreAcknowledging, NoneAsked, NoneBehindPoll, NamesAll, FinalsNameAll, OneAsked, AreAsked, IsAwaiting, AreRejected, IsReceivable, NoneBehindAsk, IsExchange, most_asks, high}
 use Rattle.lapd_pair_laws.specs.Invariant.{IsSpeaking}
-use Rattle.lapd_pair_laws.proofs.Hearings.{on_map, on_both, on_mapped, hears_more, one_more}
+use Rattle.lapd_pair_laws.proofs.Receptions.{on_map, on_both, on_mapped, receives_more, one_more}
 use Rattle.lapd_pair_laws.proofs.Lists.{messages_same, numbers_same, numbers_more, rejections_same, tally_more, each_more}
 use Rattle.lapd_pair_laws.proofs.Losses.{rejected_map}
-use Rattle.lapd_pair_laws.proofs.MidSteps.{Mid, got_where_heard, open_asks_none}
+use Rattle.lapd_pair_laws.proofs.MidSteps.{Mid, got_where_received, open_asks_none}
 use Rattle.lapd_pair_laws.proofs.Runs.{climb_more, climb_to}
 
 -- ---- Each conjunct, with one more frame appended.
 
-pub stream_said : (speaking : Bool) (s : Sender) (received : List Receipt) (vr : ℕ) (rejecting : Bool) (u : Kind) (ks : List Kind) → message_of u ≡ []
+pub stream_sent : (speaking : Bool) (s : Sender) (received : List Receipt) (vr : ℕ) (rejecting : Bool) (u : Kind) (ks : List Kind) → message_of u ≡ []
     → IsStream speaking s received vr rejecting (messages ks) → IsStream speaking s received vr rejecting (messages (ks ++ u ∷ []))
-stream_said speaking s received vr rejecting u ks no_message w = subst (λ ms. IsStream speaking s received vr rejecting ms) (sym (messages_same u ks no_message)) w
+stream_sent speaking s received vr rejecting u ks no_message w = subst (λ ms. IsStream speaking s received vr rejecting ms) (sym (messages_same u ks no_message)) w
 
-pub acks_said : (r : Receiver) (speaking : Bool) (base va vs : ℕ) (u : Kind) (ks : List Kind) → speaking ≡ true → number_of u ≡ r.vr ∷ [] → IsGot base r.vr r.received
+pub acks_sent : (r : Receiver) (speaking : Bool) (base va vs : ℕ) (u : Kind) (ks : List Kind) → speaking ≡ true → number_of u ≡ r.vr ∷ [] → IsGot base r.vr r.received
     → AreAcknowledging speaking r base va vs (numbers ks) → AreAcknowledging speaking r base va vs (numbers (ks ++ u ∷ []))
-acks_said r speaking base va vs u ks speaks is got w =
+acks_sent r speaking base va vs u ks speaks is got w =
     let top = w.top speaks in
     let more : IsClimb va r.vr (numbers ks ++ r.vr ∷ []) = climb_more va r.vr (numbers ks) top.0 in
     subst (λ ns. AreAcknowledging speaking r base va vs ns) (sym (numbers_more u ks r.vr is)) (record {
@@ -55,37 +55,37 @@ no_finals base top [] none = tt
 no_finals base top (k ∷ ks) none = (not_final k base top ks (omega (arith, none)), no_finals base top ks (omega (arith, none)))
 
 -- the peer's polls, if this side sends no final
-none_said : (out : List Kind) (u : Kind) (ks : List Kind) → final_of u ≡ 0 → NoneAsked out ks → NoneAsked out (ks ++ u ∷ [])
-none_said out u ks no_final w = let more = tally_more final_of u ks in record { polls = w.polls; finals = omega (arith, w.finals, more, no_final) }
+none_sent : (out : List Kind) (u : Kind) (ks : List Kind) → final_of u ≡ 0 → NoneAsked out ks → NoneAsked out (ks ++ u ∷ [])
+none_sent out u ks no_final w = let more = tally_more final_of u ks in record { polls = w.polls; finals = omega (arith, w.finals, more, no_final) }
 
-one_said : (base : ℕ) (received : List Receipt) (out : List Kind) (u : Kind) (ks : List Kind) → final_of u ≡ 0 → rejection_of u ≡ [] → OneAsked base received out ks → OneAsked base received out (ks ++ u ∷ [])
-one_said base received out u ks no_final no_rejection w = let more = tally_more final_of u ks in record {
+one_sent : (base : ℕ) (received : List Receipt) (out : List Kind) (u : Kind) (ks : List Kind) → final_of u ≡ 0 → rejection_of u ≡ [] → OneAsked base received out ks → OneAsked base received out (ks ++ u ∷ [])
+one_sent base received out u ks no_final no_rejection w = let more = tally_more final_of u ks in record {
   one = omega (arith, w.one, more, no_final);
   behind = w.behind;
   alone = λ final. w.alone (omega (arith, final, more, no_final));
   names = finals_more base (high received) u ks no_rejection (not_final u base (high received) [] no_final) w.names;
 }
 
-pub asked_said : (state : State) (base : ℕ) (received : List Receipt) (out : List Kind) (u : Kind) (ks : List Kind) → final_of u ≡ 0 → rejection_of u ≡ [] → AreAsked state base received out ks → AreAsked state base received out (ks ++ u ∷ [])
-asked_said TeiAssigned base received out u ks no_final no_rejection w = tt
-asked_said AwaitingEstablishment base received out u ks no_final no_rejection w = none_said out u ks no_final w
-asked_said AwaitingRelease base received out u ks no_final no_rejection w = tt
-asked_said MultipleFrameEstablished base received out u ks no_final no_rejection w = none_said out u ks no_final w
-asked_said TimerRecovery base received out u ks no_final no_rejection w = one_said base received out u ks no_final no_rejection w
+pub asked_sent : (state : State) (base : ℕ) (received : List Receipt) (out : List Kind) (u : Kind) (ks : List Kind) → final_of u ≡ 0 → rejection_of u ≡ [] → AreAsked state base received out ks → AreAsked state base received out (ks ++ u ∷ [])
+asked_sent TeiAssigned base received out u ks no_final no_rejection w = tt
+asked_sent AwaitingEstablishment base received out u ks no_final no_rejection w = none_sent out u ks no_final w
+asked_sent AwaitingRelease base received out u ks no_final no_rejection w = tt
+asked_sent MultipleFrameEstablished base received out u ks no_final no_rejection w = none_sent out u ks no_final w
+asked_sent TimerRecovery base received out u ks no_final no_rejection w = one_sent base received out u ks no_final no_rejection w
 
-pub rejected_said : (state : State) (vs base : ℕ) (received : List Receipt) (waiting : Option Hearing) (u : Kind) (ks : List Kind) → rejection_of u ≡ [] → AreRejected state vs base received waiting (rejections ks) → AreRejected state vs base received waiting (rejections (ks ++ u ∷ []))
-rejected_said state vs base received waiting u ks no_rejection w = subst (λ ns. AreRejected state vs base received waiting ns) (sym (rejections_same u ks no_rejection)) w
+pub rejected_sent : (state : State) (vs base : ℕ) (received : List Receipt) (waiting : Option Reception) (u : Kind) (ks : List Kind) → rejection_of u ≡ [] → AreRejected state vs base received waiting (rejections ks) → AreRejected state vs base received waiting (rejections (ks ++ u ∷ []))
+rejected_sent state vs base received waiting u ks no_rejection w = subst (λ ns. AreRejected state vs base received waiting ns) (sym (rejections_same u ks no_rejection)) w
 
 -- this side's own polls, if it sends no poll
 pub behind_more : (u : Kind) (ks : List Kind) → message_of u ≡ [] → NoneBehindPoll ks → NoneBehindPoll (ks ++ u ∷ [])
 behind_more u [] no_message none = ((λ _. refl), tt)
 behind_more u (k ∷ ks) no_message none = ((λ poll. messages_same u ks no_message ∙ none.0 poll), behind_more u ks no_message none.1)
 
-none_heard : (u : Kind) (ks back : List Kind) → poll_of u ≡ 0 → NoneAsked ks back → NoneAsked (ks ++ u ∷ []) back
-none_heard u ks back no_poll w = let more = tally_more poll_of u ks in record { polls = omega (arith, w.polls, more, no_poll); finals = w.finals }
+none_received : (u : Kind) (ks back : List Kind) → poll_of u ≡ 0 → NoneAsked ks back → NoneAsked (ks ++ u ∷ []) back
+none_received u ks back no_poll w = let more = tally_more poll_of u ks in record { polls = omega (arith, w.polls, more, no_poll); finals = w.finals }
 
-one_heard : (base : ℕ) (received : List Receipt) (u : Kind) (ks back : List Kind) → poll_of u ≡ 0 → message_of u ≡ [] → OneAsked base received ks back → OneAsked base received (ks ++ u ∷ []) back
-one_heard base received u ks back no_poll no_message w = let more = tally_more poll_of u ks in record {
+one_received : (base : ℕ) (received : List Receipt) (u : Kind) (ks back : List Kind) → poll_of u ≡ 0 → message_of u ≡ [] → OneAsked base received ks back → OneAsked base received (ks ++ u ∷ []) back
+one_received base received u ks back no_poll no_message w = let more = tally_more poll_of u ks in record {
   one = omega (arith, w.one, more, no_poll);
   behind = behind_more u ks no_message w.behind;
   alone = λ final. messages_same u ks no_message ∙ w.alone final;
@@ -94,27 +94,27 @@ one_heard base received u ks back no_poll no_message w = let more = tally_more p
 
 asked_frames : (state : State) (base : ℕ) (received : List Receipt) (u : Kind) (ks back : List Kind) → poll_of u ≡ 0 → message_of u ≡ [] → AreAsked state base received ks back → AreAsked state base received (ks ++ u ∷ []) back
 asked_frames TeiAssigned base received u ks back no_poll no_message w = tt
-asked_frames AwaitingEstablishment base received u ks back no_poll no_message w = none_heard u ks back no_poll w
+asked_frames AwaitingEstablishment base received u ks back no_poll no_message w = none_received u ks back no_poll w
 asked_frames AwaitingRelease base received u ks back no_poll no_message w = tt
-asked_frames MultipleFrameEstablished base received u ks back no_poll no_message w = none_heard u ks back no_poll w
-asked_frames TimerRecovery base received u ks back no_poll no_message w = one_heard base received u ks back no_poll no_message w
+asked_frames MultipleFrameEstablished base received u ks back no_poll no_message w = none_received u ks back no_poll w
+asked_frames TimerRecovery base received u ks back no_poll no_message w = one_received base received u ks back no_poll no_message w
 
-pub asked_heard : (state : State) (base : ℕ) (received : List Receipt) (u : Kind) (there : Option Hearing) (back : List Kind) → poll_of u ≡ 0 → message_of u ≡ []
-    → AreAsked state base received (frames_heard there) back → AreAsked state base received (frames_heard (option_map (one_more u) there)) back
-asked_heard state base received u None back no_poll no_message w = w
-asked_heard state base received u (Some h) back no_poll no_message w = asked_frames state base received u h.frames back no_poll no_message w
+pub asked_received : (state : State) (base : ℕ) (received : List Receipt) (u : Kind) (there : Option Reception) (back : List Kind) → poll_of u ≡ 0 → message_of u ≡ []
+    → AreAsked state base received (frames_received there) back → AreAsked state base received (frames_received (option_map (one_more u) there)) back
+asked_received state base received u None back no_poll no_message w = w
+asked_received state base received u (Some h) back no_poll no_message w = asked_frames state base received u h.frames back no_poll no_message w
 
-pub awaiting_said : (nr : ℕ) (u : Kind) (there : Option Hearing) → message_of u ≡ [] → OnHearing (IsAwaiting nr) there → OnHearing (IsAwaiting nr) (option_map (one_more u) there)
-awaiting_said nr u None no_message w = tt
-awaiting_said nr u (Some h) no_message w = record {
+pub awaiting_sent : (nr : ℕ) (u : Kind) (there : Option Reception) → message_of u ≡ [] → OnReception (IsAwaiting nr) there → OnReception (IsAwaiting nr) (option_map (one_more u) there)
+awaiting_sent nr u None no_message w = tt
+awaiting_sent nr u (Some h) no_message w = record {
   rejecting = w.rejecting;
   at = w.at;
   above = subst (λ ms. Each (λ m. m.polled ≡ false → nr < m.number) ms) (sym (messages_same u h.frames no_message)) w.above;
 }
 
 -- SABME, DISC and their answers
-pub exchange_said : (most : ℕ) (u : Kind) (out back : List Kind) → most ≡ 0 → ask_of u ≡ 0 → foreign_of u ≡ 0 → IsExchange most out back → IsExchange most (out ++ u ∷ []) back
-exchange_said most u out back none no_ask known w =
+pub exchange_sent : (most : ℕ) (u : Kind) (out back : List Kind) → most ≡ 0 → ask_of u ≡ 0 → foreign_of u ≡ 0 → IsExchange most out back → IsExchange most (out ++ u ∷ []) back
+exchange_sent most u out back none no_ask known w =
     let asks = tally_more ask_of u out in let foreign = tally_more foreign_of u out in
     let asks_none : tally ask_of (out ++ u ∷ []) ≡ 0 = omega (arith, w.one, none, asks, no_ask) in record {
       one = omega (arith, w.one, asks, no_ask);
@@ -127,8 +127,8 @@ exchange_said most u out back none no_ask known w =
     no_asks [] no_ask = tt
     no_asks (k ∷ ks) no_ask = ((λ ask. absurd (omega (arith, ask, no_ask))), no_asks ks (omega (arith, no_ask)))
 
-pub exchange_heard : (most : ℕ) (u : Kind) (out back : List Kind) → answer_of u ≡ 0 → IsExchange most out back → IsExchange most out (back ++ u ∷ [])
-exchange_heard most u out back no_answer w = let answers = tally_more answer_of u back in record {
+pub exchange_received : (most : ℕ) (u : Kind) (out back : List Kind) → answer_of u ≡ 0 → IsExchange most out back → IsExchange most out (back ++ u ∷ [])
+exchange_received most u out back no_answer w = let answers = tally_more answer_of u back in record {
   one = omega (arith, w.one, answers, no_answer);
   behind = w.behind;
   before = λ answer. w.before (omega (arith, answer, answers, no_answer));
@@ -145,30 +145,30 @@ pub record IsSupervisory (u : Kind) : Type 0 where
   pub no_answer : answer_of u ≡ 0
   pub known : foreign_of u ≡ 0
 
-pub say : (x y : Party) (out back : List Kind) (u : Kind) → IsSupervisory u
-    → OnHearing (λ h. AreAcknowledging (is_7_or_8 x.state) x.takes y.sends.base h.va h.vs (numbers (h.frames ++ u ∷ []))) (hears y out)
-    → OnHearing (λ h. AreAsked y.state y.sends.base x.takes.received back (h.frames ++ u ∷ [])) (hears y out)
-    → OnHearing (λ h. AreRejected y.state y.sends.vs y.sends.base x.takes.received (Some (hearing_now x back)) (rejections (h.frames ++ u ∷ []))) (hears y out)
-    → AreAsked x.state x.sends.base y.takes.received (frames_heard (option_map (one_more u) (hears y out))) back
+pub sends_supervisory : (x y : Party) (out back : List Kind) (u : Kind) → IsSupervisory u
+    → OnReception (λ h. AreAcknowledging (is_7_or_8 x.state) x.takes y.sends.base h.va h.vs (numbers (h.frames ++ u ∷ []))) (receives y out)
+    → OnReception (λ h. AreAsked y.state y.sends.base x.takes.received back (h.frames ++ u ∷ [])) (receives y out)
+    → OnReception (λ h. AreRejected y.state y.sends.vs y.sends.base x.takes.received (Some (reception_now x back)) (rejections (h.frames ++ u ∷ []))) (receives y out)
+    → AreAsked x.state x.sends.base y.takes.received (frames_received (option_map (one_more u) (receives y out))) back
     → Mid x y out back → Mid x y (out ++ u ∷ []) back
-say x y out back u plain acks asked rejected polls m =
-    let here = Some (hearing_now x back) in
-    let Heard : Hearing → Type 0 = IsHeard x y here in
-    let A : Hearing → Type 0 = λ h. AreAcknowledging (is_7_or_8 x.state) x.takes y.sends.base h.va h.vs (numbers (h.frames ++ u ∷ [])) in
-    let B : Hearing → Type 0 = λ h. AreAsked y.state y.sends.base x.takes.received back (h.frames ++ u ∷ []) in
-    let C : Hearing → Type 0 = λ h. AreRejected y.state y.sends.vs y.sends.base x.takes.received here (rejections (h.frames ++ u ∷ [])) in
-    let AB : Hearing → Type 0 = λ h. A h × B h in
-    let ABC : Hearing → Type 0 = λ h. AB h × C h in
-    let facts : OnHearing ABC (hears y out) = on_both AB C ABC (hears y out) (λ h p q. (p, q)) (on_both A B AB (hears y out) (λ h p q. (p, q)) acks asked) rejected in
-    let heard : OnHearing (λ h. Heard (one_more u h)) (hears y out) = on_both ABC Heard (λ h. Heard (one_more u h)) (hears y out)
+sends_supervisory x y out back u plain acks asked rejected polls m =
+    let here = Some (reception_now x back) in
+    let Heard : Reception → Type 0 = IsReceivable x y here in
+    let A : Reception → Type 0 = λ h. AreAcknowledging (is_7_or_8 x.state) x.takes y.sends.base h.va h.vs (numbers (h.frames ++ u ∷ [])) in
+    let B : Reception → Type 0 = λ h. AreAsked y.state y.sends.base x.takes.received back (h.frames ++ u ∷ []) in
+    let C : Reception → Type 0 = λ h. AreRejected y.state y.sends.vs y.sends.base x.takes.received here (rejections (h.frames ++ u ∷ [])) in
+    let AB : Reception → Type 0 = λ h. A h × B h in
+    let ABC : Reception → Type 0 = λ h. AB h × C h in
+    let facts : OnReception ABC (receives y out) = on_both AB C ABC (receives y out) (λ h p q. (p, q)) (on_both A B AB (receives y out) (λ h p q. (p, q)) acks asked) rejected in
+    let heard : OnReception (λ h. Heard (one_more u h)) (receives y out) = on_both ABC Heard (λ h. Heard (one_more u h)) (receives y out)
     (λ h p i. record {
-      stream = stream_said (is_7_or_8 x.state) x.sends y.takes.received h.vr h.rejecting u h.frames plain.no_message i.stream;
+      stream = stream_sent (is_7_or_8 x.state) x.sends y.takes.received h.vr h.rejecting u h.frames plain.no_message i.stream;
       acks = p.0.0;
       asked = p.0.1;
       rejected = p.1;
     }) facts m.mine.heard in
-    let there = option_map (one_more u) (hears y out) in
-    let more : hears y (out ++ u ∷ []) ≡ there = hears_more y out u plain.no_acceptance in
+    let there = option_map (one_more u) (receives y out) in
+    let more : receives y (out ++ u ∷ []) ≡ there = receives_more y out u plain.no_acceptance in
     record {
       opened = m.opened;
       mine = subst (λ o. IsSpeaking x y (out ++ u ∷ []) back here o) (sym more) (record {
@@ -178,8 +178,8 @@ say x y out back u plain acks asked rejected polls m =
         lately = m.mine.lately;
         none_yet = m.mine.none_yet;
         below = m.mine.below;
-        heard = on_mapped Heard (one_more u) (hears y out) heard;
-        exchange = exchange_said (most_asks x.state) u out back (open_asks_none x.state m.opened) plain.no_ask plain.known m.mine.exchange;
+        heard = on_mapped Heard (one_more u) (receives y out) heard;
+        exchange = exchange_sent (most_asks x.state) u out back (open_asks_none x.state m.opened) plain.no_ask plain.known m.mine.exchange;
         histories = m.mine.histories;
       });
       its = subst (λ o. IsSpeaking y x back (out ++ u ∷ []) o here) (sym more) (record {
@@ -193,9 +193,9 @@ say x y out back u plain acks asked rejected polls m =
           stream = m.its.heard.stream;
           acks = m.its.heard.acks;
           asked = polls;
-          rejected = rejected_map x.state x.sends.vs x.sends.base y.takes.received there (hears y out) (rejections back) (λ nr. awaiting_said nr u (hears y out) plain.no_message) m.its.heard.rejected;
+          rejected = rejected_map x.state x.sends.vs x.sends.base y.takes.received there (receives y out) (rejections back) (λ nr. awaiting_sent nr u (receives y out) plain.no_message) m.its.heard.rejected;
         };
-        exchange = exchange_heard (most_asks y.state) u back out plain.no_answer m.its.exchange;
+        exchange = exchange_received (most_asks y.state) u back out plain.no_answer m.its.exchange;
         histories = m.its.histories;
       });
     }
@@ -205,20 +205,20 @@ say x y out back u plain acks asked rejected polls m =
 pub saying_status : (x y : Party) (out back : List Kind) → Mid x y out back → Mid x y (out ++ Status x.takes.vr ∷ []) back
 saying_status x y out back m =
     let u = Status x.takes.vr in
-    let Heard : Hearing → Type 0 = IsHeard x y (Some (hearing_now x back)) in
-    let Got : Hearing → Type 0 = λ h. IsGot y.sends.base x.takes.vr x.takes.received in
-    say x y out back u (record { no_acceptance = refl; no_message = refl; no_ask = refl; no_answer = refl; known = refl })
-    (on_both Heard Got _ (hears y out) (λ h i got. acks_said x.takes (is_7_or_8 x.state) y.sends.base h.va h.vs u h.frames m.opened refl got i.acks) m.mine.heard (got_where_heard m))
-    (on_map Heard _ (hears y out) (λ h i. asked_said y.state y.sends.base x.takes.received back u h.frames refl refl i.asked) m.mine.heard)
-    (on_map Heard _ (hears y out) (λ h i. rejected_said y.state y.sends.vs y.sends.base x.takes.received (Some (hearing_now x back)) u h.frames refl i.rejected) m.mine.heard)
-    (asked_heard x.state x.sends.base y.takes.received u (hears y out) back refl refl m.its.heard.asked) m
+    let Heard : Reception → Type 0 = IsReceivable x y (Some (reception_now x back)) in
+    let Got : Reception → Type 0 = λ h. IsGot y.sends.base x.takes.vr x.takes.received in
+    sends_supervisory x y out back u (record { no_acceptance = refl; no_message = refl; no_ask = refl; no_answer = refl; known = refl })
+    (on_both Heard Got _ (receives y out) (λ h i got. acks_sent x.takes (is_7_or_8 x.state) y.sends.base h.va h.vs u h.frames m.opened refl got i.acks) m.mine.heard (got_where_received m))
+    (on_map Heard _ (receives y out) (λ h i. asked_sent y.state y.sends.base x.takes.received back u h.frames refl refl i.asked) m.mine.heard)
+    (on_map Heard _ (receives y out) (λ h i. rejected_sent y.state y.sends.vs y.sends.base x.takes.received (Some (reception_now x back)) u h.frames refl i.rejected) m.mine.heard)
+    (asked_received x.state x.sends.base y.takes.received u (receives y out) back refl refl m.its.heard.asked) m
 
 pub saying_unit : (x y : Party) (out back : List Kind) → Mid x y out back → Mid x y (out ++ Unnumbered ∷ []) back
 saying_unit x y out back m =
     let u = Unnumbered in
-    let Heard : Hearing → Type 0 = IsHeard x y (Some (hearing_now x back)) in
-    say x y out back u (record { no_acceptance = refl; no_message = refl; no_ask = refl; no_answer = refl; known = refl })
-    (on_map Heard _ (hears y out) (λ h i. acks_silent x.takes (is_7_or_8 x.state) y.sends.base h.va h.vs u h.frames refl i.acks) m.mine.heard)
-    (on_map Heard _ (hears y out) (λ h i. asked_said y.state y.sends.base x.takes.received back u h.frames refl refl i.asked) m.mine.heard)
-    (on_map Heard _ (hears y out) (λ h i. rejected_said y.state y.sends.vs y.sends.base x.takes.received (Some (hearing_now x back)) u h.frames refl i.rejected) m.mine.heard)
-    (asked_heard x.state x.sends.base y.takes.received u (hears y out) back refl refl m.its.heard.asked) m
+    let Heard : Reception → Type 0 = IsReceivable x y (Some (reception_now x back)) in
+    sends_supervisory x y out back u (record { no_acceptance = refl; no_message = refl; no_ask = refl; no_answer = refl; known = refl })
+    (on_map Heard _ (receives y out) (λ h i. acks_silent x.takes (is_7_or_8 x.state) y.sends.base h.va h.vs u h.frames refl i.acks) m.mine.heard)
+    (on_map Heard _ (receives y out) (λ h i. asked_sent y.state y.sends.base x.takes.received back u h.frames refl refl i.asked) m.mine.heard)
+    (on_map Heard _ (receives y out) (λ h i. rejected_sent y.state y.sends.vs y.sends.base x.takes.received (Some (reception_now x back)) u h.frames refl i.rejected) m.mine.heard)
+    (asked_received x.state x.sends.base y.takes.received u (receives y out) back refl refl m.its.heard.asked) m

@@ -21,17 +21,17 @@ use Rattle.lapd_link_definition.specs.Input.{Input}
 use Rattle.lapd_link_definition.specs.Parameters.{Parameters}
 use Rattle.lapd_link_definition.specs.Sound.{IsSound}
 use Rattle.lapd_link_definition.specs.Table.{step}
-use Rattle.lapd_link_definition.specs.Tagging.{tag_input, tag_out, tag_step_state, tag_result, IsHeardNear}
+use Rattle.lapd_link_definition.specs.Tagging.{tag_input, tag_out, tag_step_state, tag_result, IsReceivedNear}
 use Rattle.lapd_link_definition.proofs.NearNumbers.{numbers_within_are_near}
 use Rattle.lapd_link_definition.proofs.StepOnTags.{step_on_tags}
-use Rattle.lapd_pair_laws.specs.Histories.{Occasion, Story, tell, told, message_frame, unit_frame}
-use Rattle.lapd_pair_laws.specs.Kept.{IsKeptWorld}
+use Rattle.lapd_pair_laws.specs.Histories.{Occasion, Story, after_output, after_outputs, message_frame, unit_frame}
+use Rattle.lapd_pair_laws.specs.Consistent.{IsConsistentWorld}
 use Rattle.lapd_pair_laws.specs.Line.{Flight, without_info, is_poll, is_final, first_poll, first_final}
-use Rattle.lapd_pair_laws.specs.Move.{Deed, Give, Establish, Release, Deliver, Lose, Expire200, Expire203, Busy, UnitData, Restart, Move, Refusal, NotRunning, View, Turn, story_after, view_after, stepped, hears, takes, delivers, loses, unless_under_way, expires_200, expires_203, restarts, busy_input, acts}
+use Rattle.lapd_pair_laws.specs.Move.{PairEvent, Give, Establish, Release, Deliver, Lose, Expire200, Expire203, Busy, UnitData, Restart, Move, Refusal, NotRunning, View, ViewStep, story_after, view_after, stepped, receives, takes, delivers, loses, unless_under_way, expires_200, expires_203, restarts, busy_input, acts}
 use Rattle.lapd_pair_laws.specs.Safe.{AreSafe}
-use Rattle.lapd_pair_laws.specs.Tagged.{tag_flight, tag_station, tag_world, tag_outcome, IsFirstNear, IsNearDeed, IsNearMove, AreNearMoves, IsFirstWithin, AreFirstWithin}
+use Rattle.lapd_pair_laws.specs.Tagged.{tag_flight, tag_station, tag_world, tag_outcome, IsFirstNear, IsNearEvent, IsNearMove, AreNearMoves, IsFirstWithin, AreFirstWithin}
 use Rattle.lapd_pair_laws.specs.World.{World, view_of, Happened, in_world, happens, world_after, run, outcomes, left, new_world}
-use Rattle.lapd_pair_laws.proofs.Keeping.{run_kept}
+use Rattle.lapd_pair_laws.proofs.Consistency.{run_consistent}
 
 -- ---- The line.
 
@@ -77,33 +77,33 @@ without_on_tags (suc at) (frame ∷ frames) = ap (λ rest. tag_flight frame ∷ 
 abbrev tag_story : Story → Story
 tag_story t = record { line = map tag_flight t.line; history = t.history }
 
-tell_on_tags : (o : Occasion) (out : Out) (t : Story) → tell o (tag_out out) (tag_story t) ≡ tag_story (tell o out t)
+after_output_on_tags : (o : Occasion) (out : Out) (t : Story) → after_output o (tag_out out) (tag_story t) ≡ tag_story (after_output o out t)
 unfolding tag_control
-tell_on_tags o (Send role control) t = rw (map-append tag_flight t.line (without_info role control ∷ [])) refl
-tell_on_tags o (SendMessage n control) t = rw (map-append tag_flight t.line (message_frame o control (t.history.passed + n) ∷ [])) refl
-tell_on_tags o SendUnit t = rw (map-append tag_flight t.line (unit_frame o.octets ∷ [])) refl
-tell_on_tags o (Acknowledged n) t = refl
-tell_on_tags o (Dropped n) t = refl
-tell_on_tags o Up t = refl
-tell_on_tags o UnitUp t = refl
-tell_on_tags o out t = refl
+after_output_on_tags o (Send role control) t = rw (map-append tag_flight t.line (without_info role control ∷ [])) refl
+after_output_on_tags o (SendMessage n control) t = rw (map-append tag_flight t.line (message_frame o control (t.history.passed + n) ∷ [])) refl
+after_output_on_tags o SendUnit t = rw (map-append tag_flight t.line (unit_frame o.octets ∷ [])) refl
+after_output_on_tags o (Acknowledged n) t = refl
+after_output_on_tags o (Dropped n) t = refl
+after_output_on_tags o Up t = refl
+after_output_on_tags o UnitUp t = refl
+after_output_on_tags o out t = refl
 
-told_on_tags : (o : Occasion) (outs : List Out) (t : Story) → told o (map tag_out outs) (tag_story t) ≡ tag_story (told o outs t)
-told_on_tags o [] t = refl
-told_on_tags o (out ∷ outs) t = ap (λ now. told o (map tag_out outs) now) (tell_on_tags o out t) ∙ told_on_tags o outs (tell o out t)
+after_outputs_on_tags : (o : Occasion) (outs : List Out) (t : Story) → after_outputs o (map tag_out outs) (tag_story t) ≡ tag_story (after_outputs o outs t)
+after_outputs_on_tags o [] t = refl
+after_outputs_on_tags o (out ∷ outs) t = ap (λ now. after_outputs o (map tag_out outs) now) (after_output_on_tags o out t) ∙ after_outputs_on_tags o outs (after_output o out t)
 
 -- ---- A step of a side.
 
 abbrev pub tag_view : View → View
 tag_view v = record { station = tag_station v.station; incoming = map tag_flight v.incoming; outgoing = map tag_flight v.outgoing }
 
-abbrev pub tag_acted : Result Turn Refusal → Result Turn Refusal
+abbrev pub tag_acted : Result ViewStep Refusal → Result ViewStep Refusal
 tag_acted (Ok acted) = Ok (record { view = tag_view acted.view; outs = map tag_out acted.outs })
 tag_acted (Err refusal) = Err refusal
 
 story_after_on_tags : (octets : List ℕ) (place : ℕ) (v : View) (s : StepState) → story_after octets place (tag_view v) (tag_step_state s) ≡ tag_story (story_after octets place v s)
 unfolding story_after tag_step_state
-story_after_on_tags octets place v s = told_on_tags _ s.outs _
+story_after_on_tags octets place v s = after_outputs_on_tags _ s.outs _
 
 view_after_on_tags : (octets : List ℕ) (place : ℕ) (v : View) (s : StepState) → view_after octets place (tag_view v) (tag_step_state s) ≡ tag_view (view_after octets place v s)
 unfolding view_after tag_step_state
@@ -117,20 +117,20 @@ stepped_on_tags octets place v (Err fault) = refl
 -- ---- The moves of a side.
 
 module _ (who : Side) (v : View) (small : v.station.end.parameters.k ≤ 127) (sound : IsSound Whole v.station.end) where
-  hears_on_tags : (frame : Flight) (rest : List Flight) → IsFirstNear (frame ∷ rest) v.station.end
-      → hears Tagged (tag_flight frame) (tag_view (record v { incoming = rest })) ≡ tag_acted (hears Whole frame (record v { incoming = rest }))
-  unfolding hears
-  hears_on_tags frame rest near =
+  receives_on_tags : (frame : Flight) (rest : List Flight) → IsFirstNear (frame ∷ rest) v.station.end
+      → receives Tagged (tag_flight frame) (tag_view (record v { incoming = rest })) ≡ tag_acted (receives Whole frame (record v { incoming = rest }))
+  unfolding receives
+  receives_on_tags frame rest near =
       let same = step_on_tags (input.Heard frame.control frame.role) v.station.end (record { window = small; sound = sound; heard = near }) in
       rw same (stepped_on_tags frame.info frame.place (record v { incoming = rest }) (step Whole (input.Heard frame.control frame.role) v.station.end))
 
   delivers_on_tags : (frames : List Flight) → IsFirstNear frames v.station.end → delivers Tagged (map tag_flight frames) (tag_view v) ≡ tag_acted (delivers Whole frames v)
   unfolding delivers
   delivers_on_tags [] near = refl
-  delivers_on_tags (frame ∷ rest) near = hears_on_tags frame rest near
+  delivers_on_tags (frame ∷ rest) near = receives_on_tags frame rest near
 
   -- a request or an expired timer
-  pub takes_on_tags : (what : Input) (octets : List ℕ) → IsHeardNear what v.station.end.window → takes Tagged (tag_input what) octets (tag_view v) ≡ tag_acted (takes Whole what octets v)
+  pub takes_on_tags : (what : Input) (octets : List ℕ) → IsReceivedNear what v.station.end.window → takes Tagged (tag_input what) octets (tag_view v) ≡ tag_acted (takes Whole what octets v)
   unfolding takes
   takes_on_tags what octets near =
       rw (step_on_tags what v.station.end (record { window = small; sound = sound; heard = λ _. near })) (stepped_on_tags octets 0 v (step Whole what v.station.end))
@@ -139,7 +139,7 @@ module _ (who : Side) (v : View) (small : v.station.end.parameters.k ≤ 127) (s
   busy_on_tags true = takes_on_tags input.BusyOn [] tt
   busy_on_tags false = takes_on_tags input.BusyOff [] tt
 
-  where_there : (there : Bool) (x y : Result Turn Refusal) → x ≡ tag_acted y → (other : Refusal) → (if there then x else Err other) ≡ tag_acted (if there then y else Err other)
+  where_there : (there : Bool) (x y : Result ViewStep Refusal) → x ≡ tag_acted y → (other : Refusal) → (if there then x else Err other) ≡ tag_acted (if there then y else Err other)
   where_there true x y same other = same
   where_there false x y same other = refl
 
@@ -147,7 +147,7 @@ module _ (who : Side) (v : View) (small : v.station.end.parameters.k ≤ 127) (s
   unfolding loses
   loses_on_tags at = rw (length-map v.incoming tag_flight, without_on_tags at v.incoming) (where_there (nat_lt at (length v.incoming)) _ _ refl _)
 
-  under_way_on_tags : (poll final : Option ℕ) (x y : Result Turn Refusal) → x ≡ tag_acted y → unless_under_way who poll final x ≡ tag_acted (unless_under_way who poll final y)
+  under_way_on_tags : (poll final : Option ℕ) (x y : Result ViewStep Refusal) → x ≡ tag_acted y → unless_under_way who poll final x ≡ tag_acted (unless_under_way who poll final y)
   under_way_on_tags (Some at) final x y same = refl
   under_way_on_tags None (Some at) x y same = refl
   under_way_on_tags None None x y same = same
@@ -165,7 +165,7 @@ module _ (who : Side) (v : View) (small : v.station.end.parameters.k ≤ 127) (s
   unfolding restarts
   restarts_on_tags = rw (initial_variables_on_tags) refl
 
-  pub acts_on_tags : (deed : Deed) → IsNearDeed deed v → acts Tagged who deed (tag_view v) ≡ tag_acted (acts Whole who deed v)
+  pub acts_on_tags : (event : PairEvent) → IsNearEvent event v → acts Tagged who event (tag_view v) ≡ tag_acted (acts Whole who event v)
   unfolding acts
   acts_on_tags (Give message) near = takes_on_tags (input.Give message) [] tt
   acts_on_tags Establish near = takes_on_tags input.Establish [] tt
@@ -184,24 +184,24 @@ pub view_of_on_tags : (who : Side) (w : World) → view_of who (tag_world w) ≡
 view_of_on_tags side.User w = refl
 view_of_on_tags side.Network w = refl
 
-pub in_world_on_tags : (who : Side) (w : World) (outcome : Result Turn Refusal) → in_world who (tag_world w) (tag_acted outcome) ≡ tag_outcome (in_world who w outcome)
+pub in_world_on_tags : (who : Side) (w : World) (outcome : Result ViewStep Refusal) → in_world who (tag_world w) (tag_acted outcome) ≡ tag_outcome (in_world who w outcome)
 in_world_on_tags side.User w (Ok acted) = refl
 in_world_on_tags side.Network w (Ok acted) = refl
 in_world_on_tags who w (Err refusal) = refl
 
-small_of : (who : Side) (w : World) → IsKeptWorld Whole w → (view_of who w).station.end.parameters.k ≤ 127
+small_of : (who : Side) (w : World) → IsConsistentWorld Whole w → (view_of who w).station.end.parameters.k ≤ 127
 small_of side.User w kept = kept.user.window
 small_of side.Network w kept = kept.network.window
 
-sound_of : (who : Side) (w : World) → IsKeptWorld Whole w → IsSound Whole (view_of who w).station.end
+sound_of : (who : Side) (w : World) → IsConsistentWorld Whole w → IsSound Whole (view_of who w).station.end
 sound_of side.User w kept = kept.user.sound
 sound_of side.Network w kept = kept.network.sound
 
-pub move_on_tags : (move : Move) (w : World) → IsKeptWorld Whole w → IsNearMove move w → happens Tagged move (tag_world w) ≡ tag_outcome (happens Whole move w)
+pub move_on_tags : (move : Move) (w : World) → IsConsistentWorld Whole w → IsNearMove move w → happens Tagged move (tag_world w) ≡ tag_outcome (happens Whole move w)
 unfolding happens
 move_on_tags move w kept near =
     let v = view_of move.side w in
-    rw (view_of_on_tags move.side w, acts_on_tags move.side v (small_of move.side w kept) (sound_of move.side w kept) move.deed near) (in_world_on_tags move.side w (acts Whole move.side move.deed v))
+    rw (view_of_on_tags move.side w, acts_on_tags move.side v (small_of move.side w kept) (sound_of move.side w kept) move.event near) (in_world_on_tags move.side w (acts Whole move.side move.event v))
 
 -- ---- A run of moves.
 
@@ -209,15 +209,15 @@ pub after_on_tags : (w : World) (outcome : Result Happened Refusal) → world_af
 after_on_tags w (Ok happened) = refl
 after_on_tags w (Err refusal) = refl
 
-pub run_on_tags : (moves : List Move) (w : World) → IsKeptWorld Whole w → AreNearMoves moves w → run Tagged moves (tag_world w) ≡ tag_world (run Whole moves w)
+pub run_on_tags : (moves : List Move) (w : World) → IsConsistentWorld Whole w → AreNearMoves moves w → run Tagged moves (tag_world w) ≡ tag_world (run Whole moves w)
 run_on_tags [] w kept near = refl
 run_on_tags (move ∷ moves) w kept near =
-    rw (move_on_tags move w kept near.0, after_on_tags w (happens Whole move w)) (run_on_tags moves (world_after w (happens Whole move w)) (run_kept Whole (move ∷ []) w kept) near.1)
+    rw (move_on_tags move w kept near.0, after_on_tags w (happens Whole move w)) (run_on_tags moves (world_after w (happens Whole move w)) (run_consistent Whole (move ∷ []) w kept) near.1)
 
-pub outcomes_on_tags : (moves : List Move) (w : World) → IsKeptWorld Whole w → AreNearMoves moves w → outcomes Tagged moves (tag_world w) ≡ map tag_outcome (outcomes Whole moves w)
+pub outcomes_on_tags : (moves : List Move) (w : World) → IsConsistentWorld Whole w → AreNearMoves moves w → outcomes Tagged moves (tag_world w) ≡ map tag_outcome (outcomes Whole moves w)
 outcomes_on_tags [] w kept near = refl
 outcomes_on_tags (move ∷ moves) w kept near =
-    rw (move_on_tags move w kept near.0, after_on_tags w (happens Whole move w), outcomes_on_tags moves (world_after w (happens Whole move w)) (run_kept Whole (move ∷ []) w kept) near.1) refl
+    rw (move_on_tags move w kept near.0, after_on_tags w (happens Whole move w), outcomes_on_tags moves (world_after w (happens Whole move w)) (run_consistent Whole (move ∷ []) w kept) near.1) refl
 
 -- ---- When moves are near.
 
@@ -225,16 +225,16 @@ pub first_near : (k : ℕ) (frames : List Flight) (e : End) → k ≤ 127 → Is
 first_near k [] e small sound within = tt
 first_near k (frame ∷ rest) e small sound within = λ is. numbers_within_are_near k frame.control e small sound is (within is)
 
-incoming_near : (who : Side) (w : World) → IsKeptWorld Whole w → AreFirstWithin w → IsFirstNear (view_of who w).incoming (view_of who w).station.end
+incoming_near : (who : Side) (w : World) → IsConsistentWorld Whole w → AreFirstWithin w → IsFirstNear (view_of who w).incoming (view_of who w).station.end
 incoming_near side.User w kept within = first_near w.network.end.parameters.k w.to_user w.user.end kept.network.window kept.user.sound within.to_user
 incoming_near side.Network w kept within = first_near w.user.end.parameters.k w.to_network w.network.end kept.user.window kept.network.sound within.to_network
 
-pub deed_near : (deed : Deed) (v : View) → IsFirstNear v.incoming v.station.end → IsNearDeed deed v
-deed_near Deliver v near = near
-deed_near deed v near = tt
+pub event_is_near : (event : PairEvent) (v : View) → IsFirstNear v.incoming v.station.end → IsNearEvent event v
+event_is_near Deliver v near = near
+event_is_near event v near = tt
 
-pub move_near : (move : Move) (w : World) → IsKeptWorld Whole w → AreFirstWithin w → IsNearMove move w
-move_near move w kept within = deed_near move.deed (view_of move.side w) (incoming_near move.side w kept within)
+pub move_near : (move : Move) (w : World) → IsConsistentWorld Whole w → AreFirstWithin w → IsNearMove move w
+move_near move w kept within = event_is_near move.event (view_of move.side w) (incoming_near move.side w kept within)
 
 -- all moves are near if a predicate holds at the start that implies nearness and that each move
 -- keeps

@@ -5,15 +5,15 @@ use Rattle.lapd_link_definition.specs.declared.state.State.TheVariants.{TeiAssig
 use Rattle.lapd_link_definition.specs.EndOfStep.{is_7_or_8}
 use Rattle.lapd_pair_laws.specs.Histories.{Receipt}
 use Rattle.lapd_pair_laws.specs.Kinds.{Message, Kind, Numbered, messages, numbers, rejections, bit, tally, poll_of, final_of}
-use Rattle.lapd_pair_laws.specs.Parties.{Receiver, Party, Hearing, hearing_now, hears, OnHearing}
-use Rattle.lapd_pair_laws.specs.Conjuncts.{HasPlace, IsGot, IsPlaced, IsRun, IsStream, AreAsked, IsSentBack, AtMostOne, AreRejected, IsHeard, high, latest, IsInStep}
-use Rattle.lapd_pair_laws.proofs.Hearings.{on_both, by_open}
+use Rattle.lapd_pair_laws.specs.Parties.{Receiver, Party, Reception, reception_now, receives, OnReception}
+use Rattle.lapd_pair_laws.specs.Conjuncts.{HasPlace, IsGot, IsPlaced, IsRun, IsStream, AreAsked, IsSentBack, AtMostOne, AreRejected, IsReceivable, high, latest, IsInStep}
+use Rattle.lapd_pair_laws.proofs.Receptions.{on_both, by_open}
 use Rattle.lapd_pair_laws.proofs.Lists.{nat_cases, each_map}
 use Rattle.lapd_pair_laws.proofs.MidSteps.{Mid, no_answer_out}
-use Rattle.lapd_pair_laws.proofs.Receipts.{high_more, era_more, place_stays, place_comes, place_either, row_more, given_more}
+use Rattle.lapd_pair_laws.proofs.Receipts.{high_more, era_more, place_stays, place_arrives, place_either, row_more, given_more}
 use Rattle.lapd_pair_laws.proofs.Runs.{climb_to, awaited_begins_run, run_rest, run_below, near_after}
 use Rattle.lapd_pair_laws.proofs.SupervisoryFrames.{no_finals}
-use Rattle.lapd_pair_laws.proofs.FrameInHand.{turned, message_left, left_of, messages_left}
+use Rattle.lapd_pair_laws.proofs.FrameOfStep.{turned, message_left, left_of, messages_left}
 
 -- ---- The message is processed, without other effects.
 
@@ -47,7 +47,7 @@ with_message_asked TimerRecovery base received after m nr ks back w t =
     no_final (suc n) same = let gone = w.alone (omega (arith, same)) in cc
 
 not_sent_back : (vs base : ℕ) (received : List Receipt) (x : Party) (m : Message) (nr : ℕ) (ks : List Kind) (n : ℕ) → m.number ≡ x.takes.vr → m.polled ≡ false
-    → IsSentBack vs base received (Some (hearing_now x (Numbered m nr ∷ ks))) n → ⊥
+    → IsSentBack vs base received (Some (reception_now x (Numbered m nr ∷ ks))) n → ⊥
 not_sent_back vs base received x m nr ks n is no_poll w = let above : n < m.number = w.waits.above.0 no_poll in let at : x.takes.vr ≡ n = w.waits.at in omega (arith, above, at, is)
 
 none_sent_back : (P Q : ℕ → Type 0) (ns : List ℕ) → ((n : ℕ) → P n → ⊥) → AtMostOne P ns → AtMostOne Q ns
@@ -62,18 +62,18 @@ unpolled m nr ks none = by_bit m.polled (omega (arith, none))
     by_bit true zero_ = absurd (omega (arith, zero_))
     by_bit false zero_ = refl
 
-with_message_rejected : (state : State) (vs base : ℕ) (received after : List Receipt) (x : Party) (m : Message) (nr : ℕ) (ks back : List Kind) (now : Option Hearing) (ns : List ℕ) → m.number ≡ x.takes.vr
-    → AreAsked state base received (Numbered m nr ∷ ks) back → AreRejected state vs base received (Some (hearing_now x (Numbered m nr ∷ ks))) ns → AreRejected state vs base after now ns
+with_message_rejected : (state : State) (vs base : ℕ) (received after : List Receipt) (x : Party) (m : Message) (nr : ℕ) (ks back : List Kind) (now : Option Reception) (ns : List ℕ) → m.number ≡ x.takes.vr
+    → AreAsked state base received (Numbered m nr ∷ ks) back → AreRejected state vs base received (Some (reception_now x (Numbered m nr ∷ ks))) ns → AreRejected state vs base after now ns
 with_message_rejected TeiAssigned vs base received after x m nr ks back now ns is asked w = tt
 with_message_rejected AwaitingEstablishment vs base received after x m nr ks back now ns is asked w = w
 with_message_rejected AwaitingRelease vs base received after x m nr ks back now ns is asked w = tt
 with_message_rejected MultipleFrameEstablished vs base received after x m nr ks back now ns is asked w =
-    none_sent_back (IsSentBack vs base received (Some (hearing_now x (Numbered m nr ∷ ks)))) (IsSentBack vs base after now) ns
+    none_sent_back (IsSentBack vs base received (Some (reception_now x (Numbered m nr ∷ ks)))) (IsSentBack vs base after now) ns
     (λ n. not_sent_back vs base received x m nr ks n is (unpolled m nr ks asked.polls)) w
 with_message_rejected TimerRecovery vs base received after x m nr ks back now ns is asked w = tt
 
-pub keeps_taking : (x y : Party) (out : List Kind) (m : Message) (nr : ℕ) (ks : List Kind) → m.number ≡ x.takes.vr → Mid x y out (Numbered m nr ∷ ks) → Mid (taking m x) y out (left_of m.polled nr ∷ ks)
-keeps_taking x y out m nr ks is w =
+pub preserves_taking : (x y : Party) (out : List Kind) (m : Message) (nr : ℕ) (ks : List Kind) → m.number ≡ x.takes.vr → Mid x y out (Numbered m nr ∷ ks) → Mid (taking m x) y out (left_of m.polled nr ∷ ks)
+preserves_taking x y out m nr ks is w =
     let back = Numbered m nr ∷ ks in
     let left = left_of m.polled nr ∷ ks in
     let t : Mid x y out left = discarding x y out m nr ks w in
@@ -88,11 +88,11 @@ keeps_taking x y out m nr ks is w =
     let less : x.takes.vr < y.sends.vs = subst (λ n. n < y.sends.vs) is (run_below x.takes.vr y.sends.vs m (messages ks) run) in
     let here : m.place ≡ y.sends.base + x.takes.vr = omega (arith, placed.place, is) in
     let high_ : high after ≡ m.place + 1 = high_more 0 x.takes.received r in
-    let waits : OnHearing (λ h. x.takes.vr + 1 ≤ h.vs) (hears y out) = by_open (λ h. x.takes.vr + 1 ≤ h.vs) y out (no_answer_out nr (numbers ks) refl w) (λ opened. omega (arith, less)) in
-    let Was : Hearing → Type 0 = IsHeard x y (Some (hearing_now x back)) in
-    let Left : Hearing → Type 0 = IsHeard x y (Some (hearing_now x left)) in
-    let Both : Hearing → Type 0 = λ h. Was h × Left h in
-    let both : OnHearing Both (hears y out) = on_both Was Left Both (hears y out) (λ h a b. (a, b)) w.mine.heard t.mine.heard in
+    let waits : OnReception (λ h. x.takes.vr + 1 ≤ h.vs) (receives y out) = by_open (λ h. x.takes.vr + 1 ≤ h.vs) y out (no_answer_out nr (numbers ks) refl w) (λ opened. omega (arith, less)) in
+    let Was : Reception → Type 0 = IsReceivable x y (Some (reception_now x back)) in
+    let Left : Reception → Type 0 = IsReceivable x y (Some (reception_now x left)) in
+    let Both : Reception → Type 0 = λ h. Was h × Left h in
+    let both : OnReception Both (receives y out) = on_both Was Left Both (receives y out) (λ h a b. (a, b)) w.mine.heard t.mine.heard in
     record {
       opened = w.opened;
       mine = record {
@@ -102,7 +102,7 @@ keeps_taking x y out m nr ks is w =
         lately = let era : latest after ≡ x.sends.era = era_more 0 x.takes.received r in omega (arith, era);
         none_yet = λ opened none. absurd (omega (arith, none));
         below = w.mine.below;
-        heard = on_both (λ h. x.takes.vr + 1 ≤ h.vs) Both (IsHeard z y (Some (hearing_now z left))) (hears y out) (λ h up i. record {
+        heard = on_both (λ h. x.takes.vr + 1 ≤ h.vs) Both (IsReceivable z y (Some (reception_now z left))) (receives y out) (λ h up i. record {
           stream = i.0.stream;
           acks = record {
             climb = i.0.acks.climb;
@@ -110,7 +110,7 @@ keeps_taking x y out m nr ks is w =
             top = λ opened. (climb_to h.va x.takes.vr (x.takes.vr + 1) (numbers h.frames) (omega arith) (i.0.acks.top opened).0, up);
           };
           asked = with_message_asked y.state y.sends.base x.takes.received after m nr ks h.frames i.0.asked i.1.asked;
-          rejected = with_message_rejected y.state y.sends.vs y.sends.base x.takes.received after x m nr ks h.frames (Some (hearing_now z left)) (rejections h.frames) is i.0.asked i.0.rejected;
+          rejected = with_message_rejected y.state y.sends.vs y.sends.base x.takes.received after x m nr ks h.frames (Some (reception_now z left)) (rejections h.frames) is i.0.asked i.0.rejected;
         }) waits both;
         exchange = t.mine.exchange;
         histories = w.mine.histories;
@@ -151,7 +151,7 @@ keeps_taking x y out m nr ks is w =
     got_more : (n : ℕ) → IsGot y.sends.base x.takes.vr x.takes.received → IsPlaced y.sends m → n < x.takes.vr + 1 → HasPlace (y.sends.base + n) (x.takes.received ++ receipt_of x.sends.era m ∷ [])
     got_more n got placed below = elim (nat_cases n x.takes.vr below) [
       | inl less ↦ place_stays (y.sends.base + n) x.takes.received (receipt_of x.sends.era m) (got n less)
-      | inr same ↦ let at : y.sends.base + n ≡ m.place = omega (arith, same, placed.place, is) in subst (λ p. HasPlace p (x.takes.received ++ receipt_of x.sends.era m ∷ [])) (sym at) (place_comes x.takes.received (receipt_of x.sends.era m))
+      | inr same ↦ let at : y.sends.base + n ≡ m.place = omega (arith, same, placed.place, is) in subst (λ p. HasPlace p (x.takes.received ++ receipt_of x.sends.era m ∷ [])) (sym at) (place_arrives x.takes.received (receipt_of x.sends.era m))
     ]
 
     next_place : x.sends.era ≡ latest x.takes.received → m.place ≡ high x.takes.received

@@ -12,7 +12,7 @@ use Rattle.lapd_link_definition.specs.declared.state.State.TheVariants.{TeiAssig
 use Rattle.lapd_pair_laws.specs.Line.{Flight, is_poll, is_final, first_poll, first_final}
 use Rattle.lapd_frame.specs.Control.{poll_final}
 use Rattle.lapd_pair_laws.specs.Kinds.{Kind, kind, kind_of, kinds, tally, ask_of, answer_of, poll_of, final_of}
-use Rattle.lapd_pair_laws.specs.Parties.{Party, Hearing, behind, behind_acceptance, hearing_now, hearing_to_come, heard_in, hears, frames_heard}
+use Rattle.lapd_pair_laws.specs.Parties.{Party, Reception, behind, behind_acceptance, reception_now, next_reception, received_in, receives, frames_received}
 use Rattle.lapd_pair_laws.specs.Conjuncts.{Each}
 
 -- ---- If no position is found, no frame passes the test.
@@ -113,15 +113,15 @@ none_answered fs none = both_none final_of answer_of is_final fs (λ x no_final.
 
 -- ---- If the line has no poll, no frame to be processed polls.
 
-pick_polls : (test : Bool) (l : List Kind) (o : Option (List Kind)) → tally poll_of l ≡ 0 → tally poll_of (frames_heard (option_map hearing_to_come o)) ≡ 0 → tally poll_of (frames_heard (option_map hearing_to_come (behind test l o))) ≡ 0
+pick_polls : (test : Bool) (l : List Kind) (o : Option (List Kind)) → tally poll_of l ≡ 0 → tally poll_of (frames_received (option_map next_reception o)) ≡ 0 → tally poll_of (frames_received (option_map next_reception (behind test l o))) ≡ 0
 pick_polls true l o here later = here
 pick_polls false l o here later = later
 
-behind_polls : (ks : List Kind) → tally poll_of ks ≡ 0 → tally poll_of (frames_heard (option_map hearing_to_come (behind_acceptance ks))) ≡ 0
+behind_polls : (ks : List Kind) → tally poll_of ks ≡ 0 → tally poll_of (frames_received (option_map next_reception (behind_acceptance ks))) ≡ 0
 behind_polls [] none = refl
 behind_polls (k ∷ ks) none = let rest : tally poll_of ks ≡ 0 = omega (arith, none) in pick_polls _ ks (behind_acceptance ks) rest (behind_polls ks rest)
 
-polls_in : (state : State) (leaving : Bool) (now : Hearing) (ks : List Kind) → tally poll_of now.frames ≡ 0 → tally poll_of ks ≡ 0 → tally poll_of (frames_heard (heard_in state leaving now ks)) ≡ 0
+polls_in : (state : State) (leaving : Bool) (now : Reception) (ks : List Kind) → tally poll_of now.frames ≡ 0 → tally poll_of ks ≡ 0 → tally poll_of (frames_received (received_in state leaving now ks)) ≡ 0
 polls_in TeiAssigned leaving now ks here none = refl
 polls_in AwaitingEstablishment true now ks here none = refl
 polls_in AwaitingEstablishment false now ks here none = behind_polls ks none
@@ -129,5 +129,5 @@ polls_in AwaitingRelease leaving now ks here none = refl
 polls_in MultipleFrameEstablished leaving now ks here none = here
 polls_in TimerRecovery leaving now ks here none = here
 
-pub heard_polls : (y : Party) (ks : List Kind) → tally poll_of ks ≡ 0 → tally poll_of (frames_heard (hears y ks)) ≡ 0
-heard_polls y ks none = polls_in y.state y.leaving (hearing_now y ks) ks none none
+pub received_polls : (y : Party) (ks : List Kind) → tally poll_of ks ≡ 0 → tally poll_of (frames_received (receives y ks)) ≡ 0
+received_polls y ks none = polls_in y.state y.leaving (reception_now y ks) ks none none

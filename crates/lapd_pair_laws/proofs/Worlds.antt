@@ -6,7 +6,7 @@ use Rattle.lapd_mod128.specs.Counting.{Whole}
 use Rattle.lapd_link_definition.specs.Parameters.{Parameters}
 use Rattle.lapd_link_definition.proofs.Soundness.{sound_new}
 use Rattle.lapd_pair_laws.specs.Histories.{Receipt}
-use Rattle.lapd_pair_laws.specs.Move.{Deed, Station, View, Turn, Refusal, acts}
+use Rattle.lapd_pair_laws.specs.Move.{PairEvent, Station, View, ViewStep, Refusal, acts}
 use Rattle.lapd_pair_laws.specs.Safe.{AreSafe, IsSafeFrom}
 use Rattle.lapd_pair_laws.specs.World.{World, swapped, new_station, new_world}
 use Rattle.lapd_pair_laws.proofs.Places as places
@@ -25,13 +25,13 @@ pub record Holds (v : View) (peer : Station) : Type 0 where
   pub both : Both (party base v.station) (party its_base peer) (kinds v.outgoing) (kinds v.incoming)
 
 -- the view after a move
-abbrev pub left_by : View → Result Turn Refusal → View
+abbrev pub left_by : View → Result ViewStep Refusal → View
 left_by v (Ok acted) = acted.view
 left_by v (Err refusal) = v
 
 -- a move keeps the invariant
-abbrev pub Keeps : Deed → Type 0
-Keeps deed = (v : View) (peer : Station) → v.station.end.parameters.k ≤ 127 → Holds v peer → Holds (left_by v (acts Whole side.User deed v)) peer
+abbrev pub Preserves : PairEvent → Type 0
+Preserves event = (v : View) (peer : Station) → v.station.end.parameters.k ≤ 127 → Holds v peer → Holds (left_by v (acts Whole side.User event v)) peer
 
 -- ---- The two sides exchanged.
 

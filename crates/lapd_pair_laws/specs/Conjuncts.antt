@@ -8,7 +8,7 @@ use Rattle.lapd_link_definition.specs.EndOfStep.{is_7_or_8}
 use Rattle.lapd_pair_laws.specs.Histories.{Receipt}
 use Rattle.lapd_pair_laws.specs.Safe.{IsAmong}
 use Rattle.lapd_pair_laws.specs.Kinds.{Message, Kind, Final, messages, numbers, rejections, tally, ask_of, answer_of, poll_of, final_of, foreign_of}
-use Rattle.lapd_pair_laws.specs.Parties.{Sender, Receiver, Party, Hearing, OnHearing, frames_heard}
+use Rattle.lapd_pair_laws.specs.Parties.{Sender, Receiver, Party, Reception, OnReception, frames_received}
 
 abbrev pub Each : {A : Type 0} → (A → Type 0) → List A → Type 0
 Each P [] = Unit {0}
@@ -82,14 +82,14 @@ pub record IsEmpty (s : Sender) : Type 0 where
   pub first : s.first ≡ length s.given
   pub next : s.next ≡ length s.given
 
-abbrev pub IsKept : State → Bool → Bool → Sender → Type 0
-IsKept TeiAssigned asked leaving s = IsEmpty s
-IsKept AwaitingEstablishment true leaving s = IsEmpty s
-IsKept AwaitingEstablishment false true s = IsEmpty s
-IsKept AwaitingEstablishment false false s = IsHolding s
-IsKept AwaitingRelease asked leaving s = IsEmpty s
-IsKept MultipleFrameEstablished asked leaving s = IsNumbering s
-IsKept TimerRecovery asked leaving s = IsNumbering s
+abbrev pub IsConsistentSender : State → Bool → Bool → Sender → Type 0
+IsConsistentSender TeiAssigned asked leaving s = IsEmpty s
+IsConsistentSender AwaitingEstablishment true leaving s = IsEmpty s
+IsConsistentSender AwaitingEstablishment false true s = IsEmpty s
+IsConsistentSender AwaitingEstablishment false false s = IsHolding s
+IsConsistentSender AwaitingRelease asked leaving s = IsEmpty s
+IsConsistentSender MultipleFrameEstablished asked leaving s = IsNumbering s
+IsConsistentSender TimerRecovery asked leaving s = IsNumbering s
 
 -- whether waiting messages were sent, or may have been sent, in the last establishment
 abbrev pub is_holding : State → Bool → Bool → Bool
@@ -211,23 +211,24 @@ AreAsked TimerRecovery base received out back = OneAsked base received out back
 
 -- the speaker rejects all numbers but this one, and every message it will process has a greater
 -- number
-pub record IsAwaiting (nr : ℕ) (h : Hearing) : Type 0 where
+pub record IsAwaiting (nr : ℕ) (h : Reception) : Type 0 where
   pub rejecting : h.rejecting ≡ true
   pub at : h.vr ≡ nr
   pub above : Each (λ m. m.polled ≡ false → nr < m.number) (messages h.frames)
 
-pub record IsSentBack (vs base : ℕ) (received : List Receipt) (waiting : Option Hearing) (nr : ℕ) :
+pub record IsSentBack (vs base : ℕ) (received : List Receipt) (waiting : Option Reception)
+    (nr : ℕ) :
     Type 0 where
   pub below : nr < vs
   pub names : high received ≤ base + nr
-  pub waits : OnHearing (IsAwaiting nr) waiting
+  pub waits : OnReception (IsAwaiting nr) waiting
 
 abbrev pub AtMostOne : (ℕ → Type 0) → List ℕ → Type 0
 AtMostOne P [] = Unit {0}
 AtMostOne P (n ∷ []) = P n
 AtMostOne P (n ∷ m ∷ ns) = ⊥
 
-abbrev pub AreRejected : State → ℕ → ℕ → List Receipt → Option Hearing → List ℕ → Type 0
+abbrev pub AreRejected : State → ℕ → ℕ → List Receipt → Option Reception → List ℕ → Type 0
 AreRejected TeiAssigned vs base received waiting ns = Unit {0}
 AreRejected AwaitingEstablishment vs base received waiting ns = ns ≡ []
 AreRejected AwaitingRelease vs base received waiting ns = Unit {0}
@@ -237,11 +238,11 @@ AreRejected TimerRecovery vs base received waiting ns = Unit {0}
 
 -- ---- All that y receives from x; `waiting` is what x receives from y.
 
-pub record IsHeard (x y : Party) (waiting : Option Hearing) (h : Hearing) : Type 0 where
+pub record IsReceivable (x y : Party) (waiting : Option Reception) (h : Reception) : Type 0 where
   pub stream : IsStream (is_7_or_8 x.state) x.sends y.takes.received h.vr h.rejecting
       (messages h.frames)
   pub acks : AreAcknowledging (is_7_or_8 x.state) x.takes y.sends.base h.va h.vs (numbers h.frames)
-  pub asked : AreAsked y.state y.sends.base x.takes.received (frames_heard waiting) h.frames
+  pub asked : AreAsked y.state y.sends.base x.takes.received (frames_received waiting) h.frames
   pub rejected : AreRejected y.state y.sends.vs y.sends.base x.takes.received waiting
       (rejections h.frames)
 

@@ -1,7 +1,7 @@
 -- The world in which a quiet line ends.
 use Rattle.std.specs.Prelude.{◌≡◌, ℕ, ◌<◌, ◌≤◌, true, false, None, length}
 use Rattle.lapd_mod128.specs.Counting.{Reading}
-use Rattle.lapd_pair_laws.specs.Kept.{is_one_of}
+use Rattle.lapd_pair_laws.specs.Consistent.{is_one_of}
 use Rattle.lapd_pair_laws.specs.Move.{Station}
 use Rattle.lapd_pair_laws.specs.Safe.{AreSafe}
 use Rattle.lapd_pair_laws.specs.World.{World, run, left}

@@ -9,7 +9,7 @@ use Rattle.lapd_mod128.specs.Counting.{Reading}
 use Rattle.lapd_link_definition.specs.declared.state.State.{State}
 use Rattle.lapd_link_definition.specs.declared.state.State.TheVariants.{TeiAssigned, AwaitingEstablishment, AwaitingRelease, MultipleFrameEstablished, TimerRecovery}
 use Rattle.lapd_link_definition.specs.Input.{Expiry}
-use Rattle.lapd_pair_laws.specs.Move.{Deed, Give, Establish, Deliver, Lose, Expire200, Expire203, Move, View, Turn, Refusal, takes, expires_200, acts}
+use Rattle.lapd_pair_laws.specs.Move.{PairEvent, Give, Establish, Deliver, Lose, Expire200, Expire203, Move, View, ViewStep, Refusal, takes, expires_200, acts}
 use Rattle.lapd_pair_laws.specs.Schedule.{of_user, of_network, establishing, Figures, receipt}
 use Rattle.lapd_pair_laws.specs.World.{World, Happened, view_of, in_world, world_after}
 use Rattle.lapd_pair_laws.specs.Kinds.{Kind, kinds, tally, ask_of, answer_of, poll_of, final_of}
@@ -30,18 +30,18 @@ abbrev pub awaited_in : View → ℕ
 awaited_in v = awaited v.station.end.state (kinds v.outgoing) (kinds v.incoming)
 
 -- an eager T200 expires if it runs and no awaited frame is in transit; otherwise as in `Move`
-unfoldable pub expires_eagerly : Reading → Side → View → Result Turn Refusal
+unfoldable pub expires_eagerly : Reading → Side → View → Result ViewStep Refusal
 expires_eagerly r side v = if v.station.end.t200 && (awaited_in v == 0)
     then takes r (Expiry T200) [] v else expires_200 r side v
 
 -- every other move is unchanged
-abbrev pub acts_eagerly : Reading → Side → Deed → View → Result Turn Refusal
+abbrev pub acts_eagerly : Reading → Side → PairEvent → View → Result ViewStep Refusal
 acts_eagerly r side Expire200 v = expires_eagerly r side v
-acts_eagerly r side deed v = acts r side deed v
+acts_eagerly r side event v = acts r side event v
 
 unfoldable pub happens_eagerly : Reading → Move → World → Result Happened Refusal
 happens_eagerly r move w = in_world move.side w
-    (acts_eagerly r move.side move.deed (view_of move.side w))
+    (acts_eagerly r move.side move.event (view_of move.side w))
 
 abbrev pub run_eagerly : Reading → List Move → World → World
 run_eagerly r [] w = w

@@ -23,6 +23,6 @@ AreFresh sender (frame ∷ rest) = IsFresh sender frame.role frame.control frame
     × AreFresh sender rest
 
 -- frames in transit to an end in state 7 or 8, in both directions
-pub record ComeFresh (w : World) : Type 0 where
+pub record AllAreFresh (w : World) : Type 0 where
   pub to_user : is_7_or_8 w.user.end.state ≡ true → AreFresh w.network w.to_user
   pub to_network : is_7_or_8 w.network.end.state ≡ true → AreFresh w.user w.to_network

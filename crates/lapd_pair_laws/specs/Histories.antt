@@ -65,8 +65,8 @@ with_dropped n h = record h {
 }
 
 -- of so many messages submitted, all that were neither acknowledged nor dropped are dropped
-abbrev pub with_rest_dropped : ℕ → History → History
-with_rest_dropped given h = with_dropped (given - h.passed) h
+abbrev pub with_others_dropped : ℕ → History → History
+with_others_dropped given h = with_dropped (given - h.passed) h
 
 -- a message is received
 abbrev pub with_receipt : Receipt → History → History
@@ -116,24 +116,25 @@ unit_frame octets = record { role = Command; control = Ui false; info = octets; 
 -- Records one output. It may send a frame, whose message is counted from the first waiting one;
 -- deliver a message or unit data to layer 3; or acknowledge or drop messages. No other output is
 -- recorded.
-abbrev pub tell : Occasion → Out → Story → Story
-tell o (Send role control) t = record t { line = sent_behind t.line (without_info role control) }
-tell o (SendMessage n control) t = record {
+abbrev pub after_output : Occasion → Out → Story → Story
+after_output o
+    (Send role control) t = record t { line = sent_behind t.line (without_info role control) }
+after_output o (SendMessage n control) t = record {
   line = sent_behind t.line
       (message_frame o control (t.history.passed + n));
   history = with_sending (t.history.passed + n) o.establishment t.history;
 }
-tell o SendUnit t = record t { line = sent_behind t.line (unit_frame o.octets) }
-tell o Up t = record t {
+after_output o SendUnit t = record t { line = sent_behind t.line (unit_frame o.octets) }
+after_output o Up t = record t {
   history = with_receipt
       (record { octets = o.octets; establishment = o.establishment; place = o.place }) t.history;
 }
-tell o UnitUp t = record t { history = with_unit o.octets t.history }
-tell o (Acknowledged n) t = record t { history = with_acked n t.history }
-tell o (Dropped n) t = record t { history = with_dropped n t.history }
-tell o out t = t
+after_output o UnitUp t = record t { history = with_unit o.octets t.history }
+after_output o (Acknowledged n) t = record t { history = with_acked n t.history }
+after_output o (Dropped n) t = record t { history = with_dropped n t.history }
+after_output o out t = t
 
 -- records all outputs, in order
-abbrev pub told : Occasion → List Out → Story → Story
-told o [] t = t
-told o (out ∷ outs) t = told o outs (tell o out t)
+abbrev pub after_outputs : Occasion → List Out → Story → Story
+after_outputs o [] t = t
+after_outputs o (out ∷ outs) t = after_outputs o outs (after_output o out t)

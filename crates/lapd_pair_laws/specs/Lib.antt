@@ -1,5 +1,5 @@
 pub mod Histories
-pub mod Kept
+pub mod Consistent
 pub mod Line
 pub mod Move
 pub mod Safe

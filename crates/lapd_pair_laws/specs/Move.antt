@@ -10,28 +10,28 @@ use Rattle.lapd_link_definition.specs.End.{End, StepState, new_end}
 use Rattle.lapd_link_definition.specs.Input as input
 use Rattle.lapd_link_definition.specs.Input.{Input}
 use Rattle.lapd_link_definition.specs.Table.{step}
-use Rattle.lapd_pair_laws.specs.Histories.{History, Story, with_rest_dropped, with_beginning, told}
+use Rattle.lapd_pair_laws.specs.Histories.{History, Story, with_others_dropped, with_beginning, after_outputs}
 use Rattle.lapd_pair_laws.specs.Line.{Flight, without_lost, first_poll, first_final}
 
 -- One thing that a side does or that happens to it. Its layer 3 submits a message, requests
 -- establishment or release, or sends unit data. The first frame in transit to it is delivered, or
 -- the frame at a position, from 0, is lost. One of its timers expires. Its own busy condition
 -- begins or ends. It restarts.
-pub data Deed : Type 0 where
-  Give : (message : List ℕ) → Deed
-  Establish : Deed
-  Release : Deed
-  Deliver : Deed
-  Lose : (at : ℕ) → Deed
-  Expire200 : Deed
-  Expire203 : Deed
-  Busy : (on : Bool) → Deed
-  UnitData : (octets : List ℕ) → Deed
-  Restart : Deed
+pub data PairEvent : Type 0 where
+  Give : (message : List ℕ) → PairEvent
+  Establish : PairEvent
+  Release : PairEvent
+  Deliver : PairEvent
+  Lose : (at : ℕ) → PairEvent
+  Expire200 : PairEvent
+  Expire203 : PairEvent
+  Busy : (on : Bool) → PairEvent
+  UnitData : (octets : List ℕ) → PairEvent
+  Restart : PairEvent
 
 pub record Move : Type 0 where
   pub side : Side
-  pub deed : Deed
+  pub event : PairEvent
 
 -- Why a move is not admitted. P1: there is no such frame in transit. P2: the timer does not run.
 -- P3: T200 may not expire yet, since a command with P=1 or its answer is in transit to that side,
@@ -54,7 +54,7 @@ pub record View : Type 0 where
   pub outgoing : List Flight
 
 -- the view after an admitted move of a side, and the outputs of that move
-pub record Turn : Type 0 where
+pub record ViewStep : Type 0 where
   pub view : View
   pub outs : List Out
 
@@ -63,7 +63,7 @@ pub record Turn : Type 0 where
 -- The line and the history after a step. `octets` and `place` are those of the frame just
 -- delivered; for a request `octets` are its unit data.
 unfoldable pub story_after : List ℕ → ℕ → View → StepState → Story
-story_after octets place v s = told
+story_after octets place v s = after_outputs
     (record {
       given = s.end.given;
       establishment = s.end.establishments;
@@ -87,45 +87,46 @@ view_after octets place v s = record {
 }
 
 -- an input that the state table refuses is not admitted
-abbrev pub stepped : List ℕ → ℕ → View → Result StepState LinkFault → Result Turn Refusal
+abbrev pub stepped : List ℕ → ℕ → View → Result StepState LinkFault → Result ViewStep Refusal
 stepped octets place v (Ok s) = Ok (record { view = view_after octets place v s; outs = s.outs })
 stepped octets place v (Err fault) = Err (Refused fault)
 
 -- one step on a frame that has just been delivered
-unfoldable pub hears : Reading → Flight → View → Result Turn Refusal
-hears r frame v = stepped frame.info frame.place v
+unfoldable pub receives : Reading → Flight → View → Result ViewStep Refusal
+receives r frame v = stepped frame.info frame.place v
     (step r (input.Heard frame.control frame.role) v.station.end)
 
 -- one step on a request or an expired timer
-unfoldable pub takes : Reading → Input → List ℕ → View → Result Turn Refusal
+unfoldable pub takes : Reading → Input → List ℕ → View → Result ViewStep Refusal
 takes r input octets v = stepped octets 0 v (step r input v.station.end)
 
 -- ---- Other effects of moves, and when they are admitted.
 
 -- the view becomes this one, without outputs
-abbrev pub quietly : View → Result Turn Refusal
+abbrev pub quietly : View → Result ViewStep Refusal
 quietly v = Ok (record { view = v; outs = [] })
 
 -- the first frame is removed from the line and processed
-unfoldable pub delivers : Reading → List Flight → View → Result Turn Refusal
+unfoldable pub delivers : Reading → List Flight → View → Result ViewStep Refusal
 delivers r [] v = Err NothingThere
-delivers r (frame ∷ rest) v = hears r frame (record v { incoming = rest })
+delivers r (frame ∷ rest) v = receives r frame (record v { incoming = rest })
 
 -- the frame at this position is removed from the line, unprocessed
-unfoldable pub loses : ℕ → View → Result Turn Refusal
+unfoldable pub loses : ℕ → View → Result ViewStep Refusal
 loses at v = if nat_lt at (length v.incoming)
     then quietly (record v { incoming = without_lost at v.incoming }) else Err NothingThere
 
 -- Admits the outcome unless a command with P=1 of this side is in transit to the other side, or a
 -- response with F=1 to this one. The arguments are the position of the first of each. A refusal
 -- names such a frame, the command first.
-abbrev pub unless_under_way : Side → Option ℕ → Option ℕ → Result Turn Refusal → Result Turn Refusal
+abbrev pub unless_under_way : Side → Option ℕ → Option ℕ → Result ViewStep Refusal
+    → Result ViewStep Refusal
 unless_under_way side (Some at) final outcome = Err (NotYet (other_side side) at)
 unless_under_way side None (Some at) outcome = Err (NotYet side at)
 unless_under_way side None None outcome = outcome
 
 -- T200 expires if it runs and no frame that it waits for is in transit
-unfoldable pub expires_200 : Reading → Side → View → Result Turn Refusal
+unfoldable pub expires_200 : Reading → Side → View → Result ViewStep Refusal
 expires_200 r side v =
     if v.station.end.t200
     then unless_under_way side (first_poll v.outgoing) (first_final v.incoming)
@@ -133,7 +134,7 @@ expires_200 r side v =
     else Err NotRunning
 
 -- T203 expires if it runs
-unfoldable pub expires_203 : Reading → View → Result Turn Refusal
+unfoldable pub expires_203 : Reading → View → Result ViewStep Refusal
 expires_203 r v = if v.station.end.t203 then takes r (input.Expiry T203) [] v else Err NotRunning
 
 -- The end after a restart: a new one in state 4, but the number of establishments stays, and the
@@ -151,7 +152,7 @@ unfoldable pub restarts : View → View
 restarts v = record {
   station = record {
     end = restarted v.station.end;
-    history = with_rest_dropped (length v.station.end.given) v.station.history;
+    history = with_others_dropped (length v.station.end.given) v.station.history;
   };
   incoming = [];
   outgoing = [];
@@ -163,7 +164,7 @@ busy_input true = input.BusyOn
 busy_input false = input.BusyOff
 
 -- the outcome of each move of a side
-unfoldable pub acts : Reading → Side → Deed → View → Result Turn Refusal
+unfoldable pub acts : Reading → Side → PairEvent → View → Result ViewStep Refusal
 acts r side (Give message) v = takes r (input.Give message) [] v
 acts r side Establish v = takes r input.Establish [] v
 acts r side Release v = takes r input.Release [] v

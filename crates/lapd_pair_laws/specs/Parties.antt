@@ -75,7 +75,7 @@ party base s = party_of base s.end s.history
 -- ---- The frames in transit that a side will process.
 
 -- the frames that a side will process with state variables that are known now, and these variables
-pub record Hearing : Type 0 where
+pub record Reception : Type 0 where
   pub vs : ℕ
   pub va : ℕ
   pub vr : ℕ
@@ -92,8 +92,8 @@ behind_acceptance [] = None
 behind_acceptance (k ∷ ks) = behind (is_acceptance k) ks (behind_acceptance ks)
 
 -- in states 7 and 8: all frames, with the present variables
-abbrev pub hearing_now : Party → List Kind → Hearing
-hearing_now y ks = record {
+abbrev pub reception_now : Party → List Kind → Reception
+reception_now y ks = record {
   vs = y.sends.vs;
   va = y.sends.va;
   vr = y.takes.vr;
@@ -102,28 +102,28 @@ hearing_now y ks = record {
 }
 
 -- in an establishment that is about to begin: all variables are 0
-abbrev pub hearing_to_come : List Kind → Hearing
-hearing_to_come ks = record { vs = 0; va = 0; vr = 0; rejecting = false; frames = ks }
+abbrev pub next_reception : List Kind → Reception
+next_reception ks = record { vs = 0; va = 0; vr = 0; rejecting = false; frames = ks }
 
 -- In states 7 and 8 a side will process all frames in transit to it. In state 5, if no release is
 -- pending, it will process those that follow the UA; otherwise none.
-abbrev pub heard_in : State → Bool → Hearing → List Kind → Option Hearing
-heard_in TeiAssigned leaving now ks = None
-heard_in AwaitingEstablishment true now ks = None
-heard_in AwaitingEstablishment false now ks = option_map hearing_to_come (behind_acceptance ks)
-heard_in AwaitingRelease leaving now ks = None
-heard_in MultipleFrameEstablished leaving now ks = Some now
-heard_in TimerRecovery leaving now ks = Some now
+abbrev pub received_in : State → Bool → Reception → List Kind → Option Reception
+received_in TeiAssigned leaving now ks = None
+received_in AwaitingEstablishment true now ks = None
+received_in AwaitingEstablishment false now ks = option_map next_reception (behind_acceptance ks)
+received_in AwaitingRelease leaving now ks = None
+received_in MultipleFrameEstablished leaving now ks = Some now
+received_in TimerRecovery leaving now ks = Some now
 
-abbrev pub hears : Party → List Kind → Option Hearing
-hears y ks = heard_in y.state y.leaving (hearing_now y ks) ks
+abbrev pub receives : Party → List Kind → Option Reception
+receives y ks = received_in y.state y.leaving (reception_now y ks) ks
 
 -- a fact of the frames that will be processed, if there are any
-abbrev pub OnHearing : (Hearing → Type 0) → Option Hearing → Type 0
-OnHearing P None = Unit {0}
-OnHearing P (Some h) = P h
+abbrev pub OnReception : (Reception → Type 0) → Option Reception → Type 0
+OnReception P None = Unit {0}
+OnReception P (Some h) = P h
 
 -- the frames that will be processed
-abbrev pub frames_heard : Option Hearing → List Kind
-frames_heard None = []
-frames_heard (Some h) = h.frames
+abbrev pub frames_received : Option Reception → List Kind
+frames_received None = []
+frames_received (Some h) = h.frames

@@ -6,7 +6,7 @@ use Rattle.lapd_frame.specs.declared.Side.TheVariants as side
 use Rattle.lapd_mod128.specs.Counting.{Whole}
 use Rattle.lapd_link_definition.specs.Input.{Expiry}
 use Rattle.lapd_pair_laws.specs.Line.{Flight, without_lost}
-use Rattle.lapd_pair_laws.specs.Move.{Move, View, Turn, Refusal, Give, Establish, Deliver, NothingThere, NotRunning, hears, takes, quietly, restarts}
+use Rattle.lapd_pair_laws.specs.Move.{Move, View, ViewStep, Refusal, Give, Establish, Deliver, NothingThere, NotRunning, receives, takes, quietly, restarts}
 use Rattle.lapd_pair_laws.specs.Schedule.{of_user, of_network, establishing}
 use Rattle.lapd_pair_laws.specs.World.{World, Happened, view_of, in_world, world_after, happens}
 
@@ -19,9 +19,10 @@ pub data Free : Type 0 where
   StartsAnew : (side : Side) → Free
   Overtakes : (side : Side) → (at : ℕ) → Free
 
-abbrev pub heard_at : Option Flight → ℕ → View → Result Turn Refusal
-heard_at None at v = Err NothingThere
-heard_at (Some frame) at v = hears Whole frame (record v { incoming = without_lost at v.incoming })
+abbrev pub received_at : Option Flight → ℕ → View → Result ViewStep Refusal
+received_at None at v = Err NothingThere
+received_at (Some frame) at v = receives Whole frame
+    (record v { incoming = without_lost at v.incoming })
 
 abbrev pub freely : Free → World → Result Happened Refusal
 freely (Admitted move) w = happens Whole move w
@@ -32,7 +33,7 @@ freely (StartsAnew s) w = in_world s w (quietly
       incoming = (view_of s w).incoming;
       outgoing = (view_of s w).outgoing;
     }))
-freely (Overtakes s at) w = in_world s w (heard_at
+freely (Overtakes s at) w = in_world s w (received_at
     (slice_get (view_of s w).incoming at) at (view_of s w))
 
 abbrev pub run_freely : List Free → World → World

@@ -6,14 +6,14 @@ use Rattle.lapd_link_definition.specs.declared.state.State.{State}
 use Rattle.lapd_link_definition.specs.declared.state.State.TheVariants.{TeiAssigned, MultipleFrameEstablished, TimerRecovery}
 use Rattle.lapd_link_definition.specs.Parameters.{Parameters}
 use Rattle.lapd_pair_laws.specs.Histories.{Receipt}
-use Rattle.lapd_pair_laws.specs.Move.{Deed, Move, Station, Give, Establish, Deliver, Lose, Expire200, Restart}
+use Rattle.lapd_pair_laws.specs.Move.{PairEvent, Move, Station, Give, Establish, Deliver, Lose, Expire200, Restart}
 use Rattle.lapd_pair_laws.specs.World.{World, new_world}
 
-abbrev pub of_user : Deed → Move
-of_user deed = record { side = side.User; deed = deed }
+abbrev pub of_user : PairEvent → Move
+of_user event = record { side = side.User; event = event }
 
-abbrev pub of_network : Deed → Move
-of_network deed = record { side = side.Network; deed = deed }
+abbrev pub of_network : PairEvent → Move
+of_network event = record { side = side.Network; event = event }
 
 -- a window of 2, N200 = 3, and room for four messages, on both sides
 abbrev pub parameters : Parameters

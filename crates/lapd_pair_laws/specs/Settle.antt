@@ -17,10 +17,10 @@ pub record IsQuiet (w : World) : Type 0 where
   pub to_network : w.to_network ≡ []
 
 abbrev pub tried : List Move
-tried = record { side = Network; deed = Deliver }
-    ∷ record { side = User; deed = Deliver }
-    ∷ record { side = User; deed = Expire200 }
-    ∷ record { side = Network; deed = Expire200 } ∷ []
+tried = record { side = Network; event = Deliver }
+    ∷ record { side = User; event = Deliver }
+    ∷ record { side = User; event = Expire200 }
+    ∷ record { side = Network; event = Expire200 } ∷ []
 
 abbrev pub first_admitted : Reading → List Move → World → Option Move
 first_admitted r [] w = None

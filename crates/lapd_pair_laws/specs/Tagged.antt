@@ -7,7 +7,7 @@ use Rattle.lapd_link_definition.specs.EndOfStep.{is_7_or_8}
 use Rattle.lapd_link_definition.specs.End.{End}
 use Rattle.lapd_link_definition.specs.Tagging.{tag_out, tag_end, HasNearNumbers, HasNumbersWithin}
 use Rattle.lapd_pair_laws.specs.Line.{Flight}
-use Rattle.lapd_pair_laws.specs.Move.{Deed, Deliver, Move, Refusal, Station, View}
+use Rattle.lapd_pair_laws.specs.Move.{PairEvent, Deliver, Move, Refusal, Station, View}
 use Rattle.lapd_pair_laws.specs.World.{World, view_of, Happened, happens, world_after}
 
 abbrev pub tag_flight : Flight → Flight
@@ -40,12 +40,12 @@ IsFirstNear [] e = Unit {0}
 IsFirstNear (frame ∷ rest) e = is_7_or_8 e.state ≡ true → HasNearNumbers frame.control e.window
 
 -- only delivery of a frame introduces numbers
-abbrev pub IsNearDeed : Deed → View → Type 0
-IsNearDeed Deliver v = IsFirstNear v.incoming v.station.end
-IsNearDeed deed v = Unit {0}
+abbrev pub IsNearEvent : PairEvent → View → Type 0
+IsNearEvent Deliver v = IsFirstNear v.incoming v.station.end
+IsNearEvent event v = Unit {0}
 
 abbrev pub IsNearMove : Move → World → Type 0
-IsNearMove move w = IsNearDeed move.deed (view_of move.side w)
+IsNearMove move w = IsNearEvent move.event (view_of move.side w)
 
 abbrev pub AreNearMoves : List Move → World → Type 0
 AreNearMoves [] w = Unit {0}

@@ -23,14 +23,14 @@ IsTimed e = IsTimedIn e.state e.t200 e.window.vs e.window.va e.window.peer_busy
 -- every message that may be sent has been sent, and no acknowledgement is pending
 pub record IsClosed (e : End) : Type 0 where
   pub sent : may_send_next Whole (begin e) ≡ false
-  pub told : is_7_or_8 e.state ≡ true → e.window.ack_pending ≡ false
+  pub acknowledged : is_7_or_8 e.state ≡ true → e.window.ack_pending ≡ false
 
 -- both, with a window of at least 1
-pub record IsRested (e : End) : Type 0 where
+pub record IsSettledEnd (e : End) : Type 0 where
   pub timed : IsTimed e
   pub closed : IsClosed e
   pub some : 1 ≤ e.parameters.k
 
-pub record AreRested (w : World) : Type 0 where
-  pub user : IsRested w.user.end
-  pub network : IsRested w.network.end
+pub record AreSettledEnds (w : World) : Type 0 where
+  pub user : IsSettledEnd w.user.end
+  pub network : IsSettledEnd w.network.end

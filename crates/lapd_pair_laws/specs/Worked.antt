@@ -13,7 +13,7 @@ use Rattle.lapd_pair_laws.specs.Settle.{next_move, settling, bound}
 -- The result of settling. `moves`: how many were made; `rest`: whether no move is possible; `left`:
 -- how many messages are left; `received`: how many the network received; `acked`: how many of the
 -- user's are acknowledged; then both states.
-pub record Outcome : Type 0 where
+pub record SettleOutcome : Type 0 where
   pub moves : ℕ
   pub rest : Bool
   pub left : ℕ
@@ -22,7 +22,7 @@ pub record Outcome : Type 0 where
   pub user : State
   pub network : State
 
-abbrev pub looked_at : Reading → ℕ → World → Outcome
+abbrev pub looked_at : Reading → ℕ → World → SettleOutcome
 looked_at r moves w = record {
   moves = moves;
   rest = is_none (next_move r w);
@@ -33,10 +33,10 @@ looked_at r moves w = record {
   network = w.network.end.state;
 }
 
-abbrev pub after_moves : Reading → List Move → World → Outcome
+abbrev pub after_moves : Reading → List Move → World → SettleOutcome
 after_moves r moves w = looked_at r (length moves) (run r moves w)
 
-abbrev pub outcome_of : Reading → World → Outcome
+abbrev pub outcome_of : Reading → World → SettleOutcome
 outcome_of r w = after_moves r (settling r (bound w) w) w
 
 -- both ends have the same parameters, with this window
@@ -60,7 +60,7 @@ three_lost = establishing
 abbrev pub busy : List Move
 busy = establishing ++ of_network (Busy true) ∷ of_user Deliver ∷ of_user (Give (8 ∷ 1 ∷ [])) ∷ []
 
-abbrev pub nothing_to_do : Outcome
+abbrev pub nothing_to_do : SettleOutcome
 nothing_to_do = record {
   moves = 0;
   rest = true;
@@ -71,7 +71,7 @@ nothing_to_do = record {
   network = TeiAssigned;
 }
 
-abbrev pub established : Outcome
+abbrev pub established : SettleOutcome
 established = record {
   moves = 3;
   rest = true;
@@ -82,7 +82,7 @@ established = record {
   network = MultipleFrameEstablished;
 }
 
-abbrev pub recovered : Outcome
+abbrev pub recovered : SettleOutcome
 recovered = record {
   moves = 9;
   rest = true;
@@ -94,7 +94,7 @@ recovered = record {
 }
 
 -- the user polls again and again, the network answers that it is busy, and the bound is reached
-abbrev pub held_up : Outcome
+abbrev pub held_up : SettleOutcome
 held_up = record {
   moves = 40;
   rest = false;

@@ -10,7 +10,7 @@ use Rattle.lapd_link_definition.specs.End.{new_end}
 use Rattle.lapd_link_definition.specs.Parameters.{Parameters}
 use Rattle.lapd_pair_laws.specs.Histories.{new_history}
 use Rattle.lapd_pair_laws.specs.Line.{Flight}
-use Rattle.lapd_pair_laws.specs.Move.{Move, Refusal, Station, View, Turn, acts}
+use Rattle.lapd_pair_laws.specs.Move.{Move, Refusal, Station, View, ViewStep, acts}
 
 pub record World : Type 0 where
   pub user : Station
@@ -68,13 +68,13 @@ pub record Happened : Type 0 where
   pub world : World
   pub outs : List Out
 
-abbrev pub in_world : Side → World → Result Turn Refusal → Result Happened Refusal
+abbrev pub in_world : Side → World → Result ViewStep Refusal → Result Happened Refusal
 in_world who w (Ok acted) = Ok (record { world = with_view who acted.view w; outs = acted.outs })
 in_world who w (Err refusal) = Err refusal
 
 -- makes one move, or refuses it
 unfoldable pub happens : Reading → Move → World → Result Happened Refusal
-happens r move w = in_world move.side w (acts r move.side move.deed (view_of move.side w))
+happens r move w = in_world move.side w (acts r move.side move.event (view_of move.side w))
 
 -- a move that is not admitted changes nothing
 abbrev pub world_after : World → Result Happened Refusal → World

@@ -5,8 +5,8 @@ ghost use Rattle.lapd_frame.specs.declared.Side.{Side};
 ghost use Rattle.lapd_frame.specs.declared.Side.TheVariants as side;
 ghost use Rattle.lapd_mod128.specs.Counting.{Reading, Whole, Tagged};
 ghost use Rattle.lapd_link_definition.specs.Parameters.{Parameters};
-ghost use Rattle.lapd_pair_laws.specs.Kept.{IsKeptWorld};
-ghost use Rattle.lapd_pair_laws.specs.Move.{Expire200, Move, View, Turn, NotYet};
+ghost use Rattle.lapd_pair_laws.specs.Consistent.{IsConsistentWorld};
+ghost use Rattle.lapd_pair_laws.specs.Move.{Expire200, Move, View, ViewStep, NotYet};
 ghost use Rattle.lapd_pair_laws.specs.Safe.{AreSafe};
 ghost use Rattle.lapd_pair_laws.specs.Schedule as worked;
 ghost use Rattle.lapd_pair_laws.specs.Schedule.{figures, of_user};
@@ -14,7 +14,7 @@ ghost use Rattle.lapd_pair_laws.specs.Tagged.{tag_world, tag_outcome, AreFirstWi
 ghost use Rattle.lapd_pair_laws.specs.World.{World, Happened, new_world, world_after, happens, run, outcomes};
 ghost use Rattle.lapd_pair_laws.specs.Eager.{awaited_in, expires_eagerly, happens_eagerly, run_eagerly, outcomes_eagerly, passed_over, second_enquiry, user_at_end, network_at_end};
 ghost use Rattle.lapd_pair_laws.specs.Exchanges.{AskOneAtATime};
-ghost use Rattle.lapd_pair_laws.specs.Fresh.{ComeFresh};
+ghost use Rattle.lapd_pair_laws.specs.Fresh.{AllAreFresh};
 ghost use Rattle.lapd_pair_laws.specs.Invariant.{IsInvariant};
 ghost use Rattle.lapd_pair_laws.specs.Premises.{run_freely, hasty, stale, overtaken};
 ghost use Rattle.lapd_pair_laws.specs.Reports.{ReportsExpected, AllReportsExpected, AreFirstDue};
@@ -38,7 +38,7 @@ pub fn every_run_is_safe()
 /// establishment. This holds on whole numbers and on tags, with windows of up to 127.
 pub fn no_old_message_arrives()
     ensures { (r : Reading) (user network : Parameters) → user.k ≤ 127 → network.k ≤ 127
-        → (moves : List Move) → ComeFresh (run r moves (new_world user network)) }
+        → (moves : List Move) → AllAreFresh (run r moves (new_world user network)) }
 {}
 
 /// A side has at most one SABME or DISC outstanding, so it never takes a response for the answer to
@@ -63,7 +63,7 @@ pub fn every_eager_run_is_safe()
     ensures due { (r : Reading) (user network : Parameters) → user.k ≤ 127 → network.k ≤ 127
         → (moves : List Move) → AreFirstDue r (run_eagerly r moves (new_world user network)) }
     ensures fresh { (r : Reading) (user network : Parameters) → user.k ≤ 127 → network.k ≤ 127
-        → (moves : List Move) → ComeFresh (run_eagerly r moves (new_world user network)) }
+        → (moves : List Move) → AllAreFresh (run_eagerly r moves (new_world user network)) }
 {}
 
 /// Every admitted move is an eager move with the same outcome. An eager T200 expires only if it
@@ -71,7 +71,7 @@ pub fn every_eager_run_is_safe()
 pub fn eager_moves_are_admitted()
     ensures same { (r : Reading) (move : Move) (w : World) (happened : Happened)
         → happens r move w ≡ Ok happened → happens_eagerly r move w ≡ Ok happened }
-    ensures only { (r : Reading) (side : Side) (v : View) (acted : Turn)
+    ensures only { (r : Reading) (side : Side) (v : View) (acted : ViewStep)
         → expires_eagerly r side v ≡ Ok acted → (v.station.end.t200 ≡ true) × (awaited_in v ≡ 0) }
 {}
 
@@ -104,7 +104,7 @@ pub fn every_run_is_the_same_on_tags()
 {}
 
 /// A new world satisfies the invariant, and each move and every run keep it.
-pub fn the_invariant_is_kept()
+pub fn the_invariant_is_preserved()
     ensures begins { (user network : Parameters) → user.k ≤ 127 → network.k ≤ 127
         → IsInvariant (new_world user network) }
     ensures stays { (move : Move) (w : World) → IsInvariant w
@@ -116,14 +116,14 @@ pub fn the_invariant_is_kept()
 /// The invariant implies what the laws above state. The histories are safe, a move reports only F,
 /// G, H and I, and no old message arrives. The first frame in transit to a side carries numbers
 /// near the side's own, so each of a list of moves has the same effect on tags as on whole numbers.
-pub fn the_invariant_tells()
+pub fn the_invariant_gives_safe()
     ensures safe { (w : World) → IsInvariant w → AreSafe w }
     ensures reports { (move : Move) (w : World) → IsInvariant w
         → ReportsExpected (happens Whole move w) }
     ensures due { (w : World) → IsInvariant w → AreFirstDue Whole w }
-    ensures fresh { (w : World) → IsInvariant w → ComeFresh w }
+    ensures fresh { (w : World) → IsInvariant w → AllAreFresh w }
     ensures within { (w : World) → IsInvariant w → AreFirstWithin w }
-    ensures near { (moves : List Move) (w : World) → IsInvariant w → IsKeptWorld Whole w
+    ensures near { (moves : List Move) (w : World) → IsInvariant w → IsConsistentWorld Whole w
         → AreNearMoves moves w }
 {}
 

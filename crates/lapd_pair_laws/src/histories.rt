@@ -14,10 +14,10 @@ ghost use Rattle.lapd_link_definition.specs.SentFrames.{AreShort};
 ghost use Rattle.lapd_link_definition.specs.Table.{step};
 ghost use Rattle.lapd_frame.specs.Frame.{n201};
 ghost use Rattle.lapd_link_definition.specs.Parameters.{Parameters};
-ghost use Rattle.lapd_pair_laws.specs.Histories.{Occasion, Story, unit_frame, tell};
-ghost use Rattle.lapd_pair_laws.specs.Kept.{AreSettled, IsKept, AreProper, IsKeptWorld, AreInOrder, is_heard};
+ghost use Rattle.lapd_pair_laws.specs.Histories.{Occasion, Story, unit_frame, after_output};
+ghost use Rattle.lapd_pair_laws.specs.Consistent.{AreSettled, IsConsistent, AreProper, IsConsistentWorld, AreInOrder, is_frame};
 ghost use Rattle.lapd_pair_laws.specs.Line.{without_info};
-ghost use Rattle.lapd_pair_laws.specs.Move.{Move, Station, Deed, Give, Release, Deliver, Lose, Expire200, Expire203, Busy, UnitData, NothingThere, NotRunning, NotYet, Refused};
+ghost use Rattle.lapd_pair_laws.specs.Move.{Move, Station, PairEvent, Give, Release, Deliver, Lose, Expire200, Expire203, Busy, UnitData, NothingThere, NotRunning, NotYet, Refused};
 ghost use Rattle.lapd_pair_laws.specs.Safe.{IsSafe, AreSafe};
 ghost use Rattle.lapd_pair_laws.specs.Schedule.{figures, of_user, of_network, start, establishing, losing, schedule, restarting, user_in_recovery, user_at_end, network_at_end, user_restarted, receipt, one_message, two_messages, three_messages, in_first, in_first_but};
 ghost use Rattle.lapd_pair_laws.specs.Tagged.{tag_world, tag_outcome, IsNearMove, AreFirstWithin, AreNearMoves};
@@ -82,8 +82,8 @@ pub fn refusals_are_computed()
         ≡ Err NothingThere }
     ensures nothing_to_lose { (r : Reading) → happens r (of_user (Lose 0)) start
         ≡ Err NothingThere }
-    ensures t200_stands { (r : Reading) → happens r (of_user Expire200) start ≡ Err NotRunning }
-    ensures t203_stands { (r : Reading) → happens r (of_user Expire203) start ≡ Err NotRunning }
+    ensures t200_is_stopped { (r : Reading) → happens r (of_user Expire200) start ≡ Err NotRunning }
+    ensures t203_is_stopped { (r : Reading) → happens r (of_user Expire203) start ≡ Err NotRunning }
     ensures enquiry_under_way { (r : Reading) → happens r (of_user Expire200)
         (run r (establishing ++ losing) start) ≡ Err (NotYet side.Network 0) }
     ensures enquiry_behind_message { (r : Reading)
@@ -100,9 +100,9 @@ pub fn refusals_are_computed()
 /// The two sides are alike: a move of the network equals the same move of the user with the sides
 /// exchanged before and after.
 pub fn sides_are_alike()
-    ensures { (r : Reading) (deed : Deed) (w : World)
-        → world_after w (happens r (of_network deed) w)
-        ≡ swapped (world_after (swapped w) (happens r (of_user deed) (swapped w))) }
+    ensures { (r : Reading) (event : PairEvent) (w : World)
+        → world_after w (happens r (of_network event) w)
+        ≡ swapped (world_after (swapped w) (happens r (of_user event) (swapped w))) }
 {}
 
 /// The histories of the worked schedule are safe, on whole numbers and on tags.
@@ -131,15 +131,16 @@ pub fn wrong_histories_are_not_safe()
     ensures altered { IsSafe one_message in_first [] (receipt 0 1 (2 ∷ []) ∷ []) → ⊥ }
 {}
 
-/// Every run keeps `IsKeptWorld`, on whole numbers and on tags. A new world with windows of up to
+/// Every run keeps `IsConsistentWorld`, on whole numbers and on tags. A new world with windows of up to
 /// 127 satisfies it, and each admitted move keeps it.
-pub fn worlds_are_kept()
+pub fn worlds_are_consistent()
     ensures begins { (r : Reading) (user network : Parameters) → user.k ≤ 127 → network.k ≤ 127
-        → IsKeptWorld r (new_world user network) }
-    ensures stays { (r : Reading) (move : Move) (w : World) (happened : Happened) → IsKeptWorld r w
-        → happens r move w ≡ Ok happened → IsKeptWorld r happened.world }
-    ensures runs { (r : Reading) (moves : List Move) (w : World) → IsKeptWorld r w
-        → IsKeptWorld r (run r moves w) }
+        → IsConsistentWorld r (new_world user network) }
+    ensures stays { (r : Reading) (move : Move) (w : World) (happened : Happened)
+        → IsConsistentWorld r w
+        → happens r move w ≡ Ok happened → IsConsistentWorld r happened.world }
+    ensures runs { (r : Reading) (moves : List Move) (w : World) → IsConsistentWorld r w
+        → IsConsistentWorld r (run r moves w) }
 {}
 
 /// The outputs of a step are in order: they lead from the side's history to its end after the step.
@@ -147,48 +148,50 @@ pub fn worlds_are_kept()
 /// frame.
 pub fn outputs_are_in_order()
     ensures order { (r : Reading) (input : Input) (station : Station) (s : StepState)
-        → IsKept r station → step r input station.end ≡ Ok s
+        → IsConsistent r station → step r input station.end ≡ Ok s
         → AreInOrder s.end station.history.passed s.outs }
     ensures up { (r : Reading) (input : Input) (e : End) (s : StepState) → step r input e ≡ Ok s
         → ups s.outs ≤ 1 }
     ensures unheard { (r : Reading) (input : Input) (e : End) (s : StepState)
-        → is_heard input ≡ false → step r input e ≡ Ok s → ups s.outs ≡ 0 }
+        → is_frame input ≡ false → step r input e ≡ Ok s → ups s.outs ≡ 0 }
 {}
 
 /// Recording one output in the history keeps what holds of a side. The remaining outputs are in
 /// order. The places acknowledged or dropped are those before the first waiting message. No
 /// establishment begins. No message is sent that was not submitted. Every frame on the line is a
 /// frame of the control table.
-pub fn outputs_are_told()
+pub fn outputs_are_recorded()
     ensures rest { (e : End) (o : Occasion) (out : Out) (outs : List Out) (t : Story)
         → AreInOrder e t.history.passed (out ∷ outs)
-        → AreInOrder e (tell o out t).history.passed outs }
+        → AreInOrder e (after_output o out t).history.passed outs }
     ensures settled { (o : Occasion) (out : Out) (t : Story) → AreSettled t.history
-        → AreSettled (tell o out t).history }
+        → AreSettled (after_output o out t).history }
     ensures begun { (o : Occasion) (out : Out) (t : Story)
-        → (tell o out t).history.begun ≡ t.history.begun }
+        → (after_output o out t).history.begun ≡ t.history.begun }
     ensures unsent { (e : End) (o : Occasion) (out : Out) (outs : List Out) (t : Story)
         → AreInOrder e t.history.passed (out ∷ outs)
         → ((place : ℕ) → length e.given ≤ place → t.history.sent_in place ≡ None) → (place : ℕ)
-        → length e.given ≤ place → (tell o out t).history.sent_in place ≡ None }
+        → length e.given ≤ place → (after_output o out t).history.sent_in place ≡ None }
     ensures proper { (e : End) (o : Occasion) (out : Out) (outs : List Out) (t : Story)
         → AreInOrder e t.history.passed (out ∷ outs) → AreShort o.given → length o.octets ≤ n201
-        → AreProper t.line → AreProper (tell o out t).line }
+        → AreProper t.line → AreProper (after_output o out t).line }
 {}
 
 /// A move has the same effect on tags as on whole numbers: the same refusal, or the same world and
-/// outputs with each number replaced by its tag. It needs a world that satisfies `IsKeptWorld`. A
+/// outputs with each number replaced by its tag. It needs a world that satisfies `IsConsistentWorld`. A
 /// frame delivered in states 7 and 8 must carry numbers near the end's own (Q.921 3.5.2, 5.9.5), as
 /// numbers within the window bounds are. The same holds for a run of such moves, in each outcome
 /// and in the final world.
 pub fn tags_move_as_whole_numbers()
-    ensures moves { (move : Move) (w : World) → IsKeptWorld Whole w → IsNearMove move w
+    ensures moves { (move : Move) (w : World) → IsConsistentWorld Whole w → IsNearMove move w
         → happens Tagged move (tag_world w) ≡ tag_outcome (happens Whole move w) }
-    ensures near { (move : Move) (w : World) → IsKeptWorld Whole w → AreFirstWithin w
+    ensures near { (move : Move) (w : World) → IsConsistentWorld Whole w → AreFirstWithin w
         → IsNearMove move w }
-    ensures runs { (moves : List Move) (w : World) → IsKeptWorld Whole w → AreNearMoves moves w
+    ensures runs { (moves : List Move) (w : World) → IsConsistentWorld Whole w
+        → AreNearMoves moves w
         → run Tagged moves (tag_world w) ≡ tag_world (run Whole moves w) }
-    ensures outcomes { (moves : List Move) (w : World) → IsKeptWorld Whole w → AreNearMoves moves w
+    ensures outcomes { (moves : List Move) (w : World) → IsConsistentWorld Whole w
+        → AreNearMoves moves w
         → outcomes Tagged moves (tag_world w) ≡ map tag_outcome (outcomes Whole moves w) }
 {}
 

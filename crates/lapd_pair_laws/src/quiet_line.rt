@@ -8,7 +8,7 @@ ghost use Rattle.lapd_pair_laws.specs.Move.{Move};
 ghost use Rattle.lapd_pair_laws.specs.World.{new_world, run};
 ghost use Rattle.lapd_pair_laws.specs.Drained.{IsDrained};
 ghost use Rattle.lapd_pair_laws.specs.Settle.{IsQuiet};
-ghost use Rattle.lapd_pair_laws.specs.Timed.{AreRested};
+ghost use Rattle.lapd_pair_laws.specs.Timed.{AreSettledEnds};
 ghost use Rattle.lapd_pair_laws.specs.Worked.{outcome_of, new_pair, sabme_lost, three_lost, busy, nothing_to_do, established, recovered, held_up};
 
 /// A line that is quiet after a run drains: its settling moves acknowledge each message that was
@@ -25,9 +25,9 @@ pub fn every_quiet_line_drains()
 /// Both ends are at rest between two steps, after every run (Q.921 5.6.1, 5.6.2, 5.6.5). In state
 /// 7, T200 runs if a message is outstanding or the end takes the peer to be busy. Every message
 /// that may be sent has been sent. In states 7 and 8 no acknowledgement is pending.
-pub fn ends_rest_between_moves()
+pub fn ends_settle_between_moves()
     ensures { (user network : Parameters) → 1 ≤ user.k → 1 ≤ network.k → (moves : List Move)
-        → AreRested (run Whole moves (new_world user network)) }
+        → AreSettledEnds (run Whole moves (new_world user network)) }
 {}
 
 /// Worked worlds settle as expected, on whole numbers and on tags: a new pair; a pair whose SABME

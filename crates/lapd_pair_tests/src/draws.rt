@@ -36,7 +36,7 @@ impl MoveDraws {
     /// Makes one random move.
     fn makes_one(&mut self, pair: &mut Pair, looks: bool) -> bool {
         match self.draw() {
-            Some(deed) => match pair.apply(&deed) {
+            Some(mv) => match pair.apply(&mv) {
                 Ok(_) => !looks || are_safe(pair),
                 Err(fault) => !fault.is_memory(),
             },
@@ -48,8 +48,8 @@ impl MoveDraws {
     /// allocated.
     pub(crate) fn gives(&mut self, pair: &mut Pair, side: Side) -> bool {
         match self.message(side, false) {
-            Some(deed) => {
-                let _ = moves(pair, &deed);
+            Some(mv) => {
+                let _ = moves(pair, &mv);
                 true
             }
             None => false,
@@ -102,6 +102,6 @@ impl MoveDraws {
 }
 
 /// Makes a move, and returns whether it was accepted.
-pub(crate) fn moves(pair: &mut Pair, deed: &Move) -> bool {
-    pair.apply(deed).is_ok()
+pub(crate) fn moves(pair: &mut Pair, mv: &Move) -> bool {
+    pair.apply(mv).is_ok()
 }

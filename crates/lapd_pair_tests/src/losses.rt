@@ -19,10 +19,10 @@ struct Lossy<'a> {
 
 impl Lossy<'_> {
     /// Makes a move, and loses every tenth frame that it puts on the line.
-    fn makes(&mut self, deed: &Move) -> bool {
-        let to = deed.side().other();
+    fn makes(&mut self, mv: &Move) -> bool {
+        let to = mv.side().other();
         let before = self.pair.line(to).len();
-        let is_made = self.pair.apply(deed).is_ok();
+        let is_made = self.pair.apply(mv).is_ok();
         self.lose_tenths(to, before);
         is_made
     }
@@ -40,7 +40,7 @@ impl Lossy<'_> {
 
     /// Makes the first possible move of these: deliver a frame to the network, deliver one to the
     /// user, T200 of the user expires, T200 of the network expires.
-    fn turn(&mut self) -> bool {
+    fn settle_once(&mut self) -> bool {
         self.makes(&Move::Deliver(Side::Network))
             || self.makes(&Move::Deliver(Side::User))
             || self.makes(&Move::Expire200(Side::User))
@@ -50,24 +50,26 @@ impl Lossy<'_> {
     /// The user submits a message.
     fn gives(&mut self, draws: &mut MoveDraws) -> bool {
         match draws.message(Side::User, false) {
-            Some(deed) => self.makes(&deed),
+            Some(mv) => self.makes(&mv),
             None => false,
         }
     }
 
     /// The user establishes the link and submits all messages; then moves are made until none is
     /// possible. Returns whether all messages were accepted and the moves ended.
-    fn plays(&mut self, alloc: Global) -> bool {
+    fn passes(&mut self, alloc: Global) -> bool {
         let mut draws = MoveDraws::new(alloc);
-        let mut are_taken = self.makes(&Move::Establish(Side::User)) && self.turn() && self.turn();
+        let mut are_taken = self.makes(&Move::Establish(Side::User))
+            && self.settle_once()
+            && self.settle_once();
         for _ in 0..300u32 {
             are_taken = are_taken && self.gives(&mut draws);
         }
-        let mut goes_on = true;
+        let mut continues = true;
         for _ in 0..10_000u32 {
-            goes_on = goes_on && self.turn();
+            continues = continues && self.settle_once();
         }
-        are_taken && !goes_on
+        are_taken && !continues
     }
 }
 
@@ -79,7 +81,7 @@ pub(crate) fn lose_tenths(alloc: Global, pair: &mut Pair, text: &mut Text) {
         frames: 0,
         lost: 0,
     };
-    let ends = line.plays(alloc) && line.lost == line.frames / 10;
+    let ends = line.passes(alloc) && line.lost == line.frames / 10;
     text.mark(" at rest", ends);
     text.shown(", got ", &pair.received(Side::Network).len());
     text.shown(", acked ", &pair.acknowledged(Side::User));

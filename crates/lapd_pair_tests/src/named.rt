@@ -12,8 +12,8 @@ pub(crate) fn split<'a>(text: &'a str, mark: &str) -> (&'a str, &'a str) {
 /// The move that these words name: a side, what it does, and the argument. `None` also if the
 /// allocation of its octets fails.
 pub(crate) fn move_of(alloc: Global, words: &str) -> Option<Move> {
-    let (name, deed) = split(words, " ");
-    let (word, behind) = split(deed, " ");
+    let (name, mv) = split(words, " ");
+    let (word, behind) = split(mv, " ");
     let side = if name == "user" {
         Side::User
     } else {
@@ -28,7 +28,7 @@ pub(crate) fn move_of(alloc: Global, words: &str) -> Option<Move> {
             Some(octets) => Some(Move::Unit(side, octets)),
             None => None,
         },
-        _ => plain_move(side, deed),
+        _ => plain_move(side, mv),
     }
 }
 
@@ -43,8 +43,8 @@ fn octets_of(alloc: Global, text: &str) -> Option<Vec<u8>> {
 }
 
 /// The move of this side that these words name, if it carries no octets.
-fn plain_move(side: Side, deed: &str) -> Option<Move> {
-    match deed {
+fn plain_move(side: Side, mv: &str) -> Option<Move> {
+    match mv {
         "establish" => Some(Move::Establish(side)),
         "release" => Some(Move::Release(side)),
         "deliver" => Some(Move::Deliver(side)),

@@ -55,12 +55,12 @@ pub(crate) fn lead(rt: &HostRuntime, rows: &'static str) -> Result<(), Fail> {
     for line in rows.lines() {
         all_hold = all_hold && scene.holds(line);
     }
-    scene.tell(rt, all_hold)
+    scene.report(rt, all_hold)
 }
 
 impl Scene {
     /// Prints the step whose allocation failed, and fails if a step has the wrong result.
-    fn tell(&self, rt: &HostRuntime, all_hold: bool) -> Result<(), Fail> {
+    fn report(&self, rt: &HostRuntime, all_hold: bool) -> Result<(), Fail> {
         if !self.refused.is_empty() {
             println!(rt; "memory is refused: {}", self.refused)?;
         }
@@ -69,8 +69,8 @@ impl Scene {
         } else {
             let row = self.row;
             let line = self.line;
-            let came = self.text.as_str();
-            Err(Fail::new(format_args!("{row}: {line}, and not{came}")))
+            let printed = self.text.as_str();
+            Err(Fail::new(format_args!("{row}: {line}, and not{printed}")))
         }
     }
 
@@ -161,7 +161,7 @@ fn run(alloc: Global, pair: &mut Pair, words: &str, text: &mut Text) {
     let mut are_put = true;
     for words in words.split(", ") {
         are_put = match move_of(alloc, words) {
-            Some(deed) => all.push(deed).is_ok() && are_put,
+            Some(mv) => all.push(mv).is_ok() && are_put,
             None => words == "run" && are_put,
         };
     }
@@ -173,16 +173,16 @@ fn run(alloc: Global, pair: &mut Pair, words: &str, text: &mut Text) {
 
 fn make_named(alloc: Global, pair: &mut Pair, words: &str, wanted: &str, text: &mut Text) {
     match move_of(alloc, words) {
-        Some(deed) => make_move(pair, &deed, wanted, text),
+        Some(mv) => make_move(pair, &mv, wanted, text),
         None => text.put(NO_MEMORY),
     }
 }
 
 /// Makes a move, and writes its result.
-fn make_move(pair: &mut Pair, deed: &Move, wanted: &str, text: &mut Text) {
-    let to = deed.side().other();
+fn make_move(pair: &mut Pair, mv: &Move, wanted: &str, text: &mut Text) {
+    let to = mv.side().other();
     let before = pair.line(to).len();
-    match pair.apply(deed) {
+    match pair.apply(mv) {
         Ok(outs) => {
             let sent = pair.line(to).get(before..).unwrap_or(&[]);
             text.mark(" nothing", sent.is_empty());

@@ -108,7 +108,7 @@ impl IQueue {
     pub fn put(&mut self, message: Vec<u8>) -> Result<(), Vec<u8>>
         ensures full { is_err result ≡ (length self.old.messages == self.old.room) }
         ensures ok { OnOk result (self.new ≡ with_message message.items self.old) }
-        ensures handed_back { IfErr result (λ back. back ≡ message) }
+        ensures returned { IfErr result (λ back. back ≡ message) }
         ensures unchanged { OnErr result (self.new ≡ self.old) }
     {
         self.messages.try_push_back(message)

@@ -9,7 +9,7 @@ use Rattle.lapd_sides_links.specs.declared.side_fault.SideKind.{SideKind}
 use Rattle.lapd_sides_links.specs.Effects.{Effects}
 use Rattle.lapd_sides_links.specs.Expiries.{IsDue, IsNextDeadline}
 use Rattle.lapd_sides_links.specs.Links.{Reaction, Served}
-use Rattle.lapd_sides.specs.Calls.{HasDone, HasGranted, HasExpired, Expiry, Hears, LacksMemory}
+use Rattle.lapd_sides.specs.Calls.{HasDone, HasGranted, HasExpired, Expiry, Receives, LacksMemory}
 use Rattle.lapd_sides.specs.Shows.{Step}
 
 -- an executed request has the same result
@@ -17,7 +17,7 @@ pub granted_as : {C S : Type 0} {Show : C → Config → S → Type 0} (code : C
 granted_as {S = S} {Show = Show} code config acts a b same h = subst (λ (o : Result (Reaction S) SideKind). HasGranted Show code config acts o) (sym same) h
 
 -- an allocation failed
-pub lacks : {C S E : Type 0} {Show : C → Config → S → Type 0} (result : Result (Unit {0}) E) (old after : C) (acts : Effects) (tei : S → Option ℕ) (step : Step S) → IsErr result → LacksMemory Show old after acts tei → Hears Show result old after acts tei step
+pub lacks : {C S E : Type 0} {Show : C → Config → S → Type 0} (result : Result (Unit {0}) E) (old after : C) (acts : Effects) (tei : S → Option ℕ) (step : Step S) → IsErr result → LacksMemory Show old after acts tei → Receives Show result old after acts tei step
 lacks (Ok u) old after acts tei step is h = absurd (cc)
 lacks (Err e) old after acts tei step is h = h
 

@@ -27,10 +27,10 @@ use Rattle.lapd_sides_links.specs.Effects.{Effects, no_effects}
 use Rattle.lapd_sides_links.specs.Links.{Links, Reaction, is_served}
 use Rattle.lapd_sides.specs.Management.{carries_message, links_with, manages, one_more}
 use Rattle.lapd_sides_links.specs.Links.{Served}
-use Rattle.lapd_sides.specs.Network.{Network, link_of_network, unit_requested, unit_to_group, assigner_acts, among_links, or_discarded, or_unmoved, message_heard, frame_heard, fault_heard, given_for_message, given_for_frame}
+use Rattle.lapd_sides.specs.Network.{Network, link_of_network, unit_requested, unit_to_group, assigner_acts, among_links, or_discarded, or_unmoved, message_received, frame_received, fault_received, given_for_message, given_for_frame}
 use Rattle.lapd_sides_links.specs.Shown.{ShowLinks, HaveActed}
 use Rattle.lapd_sides.specs.Shows.{ShowServed, HaveServed}
-use Rattle.lapd_sides.specs.ShowsNetwork.{ShowNetwork, HasDone, HasGranted, Hears, Answers}
+use Rattle.lapd_sides.specs.ShowsNetwork.{ShowNetwork, HasDone, HasGranted, NetworkReceives, Answers}
 
 -- ---- TEI management.
 
@@ -58,8 +58,8 @@ granted code config s before acts outcome configured assigner counted timers emp
       done = record { shown = record { configured = configured; served = record { links = done.shown; timers = timers }; assigner = assigner; discarded = counted }; given = done.given };
     }
 
-pub kept : (code : NetSide) (config : Config) (s : Network) → code.config ≡ config → code.assigner ≡ s.assigner → code.discarded ≡ s.discarded → code.served.timers ≡ s.served.timers → ShowLinks side.Network code.served.links s.served.links → ShowNetwork code config s
-kept code config s configured assigner counted timers shown = record { configured = configured; served = record { links = shown; timers = timers }; assigner = assigner; discarded = counted }
+pub pending : (code : NetSide) (config : Config) (s : Network) → code.config ≡ config → code.assigner ≡ s.assigner → code.discarded ≡ s.discarded → code.served.timers ≡ s.served.timers → ShowLinks side.Network code.served.links s.served.links → ShowNetwork code config s
+pending code config s configured assigner counted timers shown = record { configured = configured; served = record { links = shown; timers = timers }; assigner = assigner; discarded = counted }
 
 -- a link takes its step
 pub done_as : (after : Network → Result (Reaction Network) SideKind → Reaction Network) (code : NetSide) (config : Config) (s : Network) (acts : Effects) (outcome : Result (Reaction Network) SideKind)
@@ -73,7 +73,7 @@ pub done_or_unmoved : (result : Result (Unit {0}) SideKind) (code : NetSide) (co
     → HasDone code config acts (or_unmoved s (among_links s outcome))
 done_or_unmoved (Ok u) code config s before acts outcome configured assigner counted timers empty ok err shown nothing = done_as or_unmoved code config s acts (among_links s outcome) (λ a. refl) (granted code config s before acts outcome configured assigner counted timers empty ok)
 done_or_unmoved (Err k) code config s before acts outcome configured assigner counted timers empty ok err shown nothing =
-    subst (λ (o : Result (Reaction Links) SideKind). HasDone code config acts (or_unmoved s (among_links s o))) (sym err) (record { shown = kept code config s configured assigner counted timers shown; given = nothing ∙ empty })
+    subst (λ (o : Result (Reaction Links) SideKind). HasDone code config acts (or_unmoved s (among_links s o))) (sym err) (record { shown = pending code config s configured assigner counted timers shown; given = nothing ∙ empty })
 
 -- the side with its links after a step
 abbrev pub relinked : NetSide → LinkSet → NetSide
@@ -90,8 +90,8 @@ link_answers (Ok u) code links before acts message does empty ok err back same n
     granted (relinked code links) config s before acts _ shown.configured shown.assigner shown.discarded shown.served.timers empty (ok side.Network s.served.links shown.served.links)
 link_answers (Err fault) code links before acts message does empty ok err back same nothing = record {
   kind = λ config s shown. ap (among_links s) (err side.Network s.served.links shown.served.links);
-  handed_back = back;
-  unchanged = λ config s shown. kept (relinked code links) config s shown.configured shown.assigner shown.discarded shown.served.timers (same side.Network s.served.links shown.served.links);
+  returned = back;
+  unchanged = λ config s shown. pending (relinked code links) config s shown.configured shown.assigner shown.discarded shown.served.timers (same side.Network s.served.links shown.served.links);
   nothing = nothing ∙ empty;
 }
 
@@ -104,25 +104,25 @@ discarded_so code config s before acts outcome kind configured assigner counted 
     (record { shown = record { configured = configured; served = record { links = shown; timers = timers }; assigner = assigner; discarded = counted }; given = nothing ∙ empty })
 
 -- a frame is a TEI message
-pub heard_as_message : {E : Type 0} (result : Result (Unit {0}) E) (old after : NetSide) (acts : Effects) (now : ℕ) (frame : Fields) (test : Bool) (found : Result TeiMessage TeiFault) → test ≡ carries_message frame → test ≡ true → found ≡ message_at frame.info
-    → Hears result old after acts (λ s. given_for_message s.assigner found) (λ config. message_heard config now found) → Hears result old after acts (λ s. given_for_frame s.assigner (Ok frame)) (λ config. frame_heard config now frame)
-heard_as_message result old after acts now frame test found is holds read h =
-    subst (λ (b : Bool). Hears result old after acts (λ s. if b then given_for_message s.assigner (message_at frame.info) else None) (λ config s. if b then message_heard config now (message_at frame.info) s else or_discarded s (link_of_network now (id_of_address frame.address) (Heard frame.control frame.address.role) frame.info s))) (sym holds ∙ is)
-    (subst (λ (r : Result TeiMessage TeiFault). Hears result old after acts (λ s. given_for_message s.assigner r) (λ config. message_heard config now r)) read h)
+pub received_as_message : {E : Type 0} (result : Result (Unit {0}) E) (old after : NetSide) (acts : Effects) (now : ℕ) (frame : Fields) (test : Bool) (found : Result TeiMessage TeiFault) → test ≡ carries_message frame → test ≡ true → found ≡ message_at frame.info
+    → NetworkReceives result old after acts (λ s. given_for_message s.assigner found) (λ config. message_received config now found) → NetworkReceives result old after acts (λ s. given_for_frame s.assigner (Ok frame)) (λ config. frame_received config now frame)
+received_as_message result old after acts now frame test found is holds read h =
+    subst (λ (b : Bool). NetworkReceives result old after acts (λ s. if b then given_for_message s.assigner (message_at frame.info) else None) (λ config s. if b then message_received config now (message_at frame.info) s else or_discarded s (link_of_network now (id_of_address frame.address) (Heard frame.control frame.address.role) frame.info s))) (sym holds ∙ is)
+    (subst (λ (r : Result TeiMessage TeiFault). NetworkReceives result old after acts (λ s. given_for_message s.assigner r) (λ config. message_received config now r)) read h)
 
 -- a frame that is not a TEI message is for the link that it is addressed to
-pub heard_by_link : (after : NetSide) (config : Config) (now : ℕ) (frame : Fields) (s : Network) (test : Bool) (address : Address) (id : LinkId) (octets : List ℕ) (acts : Effects) → test ≡ carries_message frame → test ≡ false
-    → address ≡ frame.address → id ≡ id_of_address address → octets ≡ frame.info → HasDone after config acts (or_discarded s (link_of_network now id (Heard frame.control frame.address.role) octets s)) → HasDone after config acts (frame_heard config now frame s)
-heard_by_link after config now frame s test address id octets acts is fails of named same h =
-    subst (λ (b : Bool). HasDone after config acts (if b then message_heard config now (message_at frame.info) s else or_discarded s (link_of_network now (id_of_address frame.address) (Heard frame.control frame.address.role) frame.info s))) (sym fails ∙ is)
+pub received_by_link : (after : NetSide) (config : Config) (now : ℕ) (frame : Fields) (s : Network) (test : Bool) (address : Address) (id : LinkId) (octets : List ℕ) (acts : Effects) → test ≡ carries_message frame → test ≡ false
+    → address ≡ frame.address → id ≡ id_of_address address → octets ≡ frame.info → HasDone after config acts (or_discarded s (link_of_network now id (Heard frame.control frame.address.role) octets s)) → HasDone after config acts (frame_received config now frame s)
+received_by_link after config now frame s test address id octets acts is fails of named same h =
+    subst (λ (b : Bool). HasDone after config acts (if b then message_received config now (message_at frame.info) s else or_discarded s (link_of_network now (id_of_address frame.address) (Heard frame.control frame.address.role) frame.info s))) (sym fails ∙ is)
     (subst (λ (o : List ℕ). HasDone after config acts (or_discarded s (link_of_network now (id_of_address frame.address) (Heard frame.control frame.address.role) o s))) same
     (subst (λ (i : LinkId). HasDone after config acts (or_discarded s (link_of_network now i (Heard frame.control frame.address.role) octets s))) (named ∙ ap (λ (a : Address). id_of_address a) of) h))
 
 -- and so is a fault with an address
 pub faulty : (after : NetSide) (config : Config) (acts : Effects) (now : ℕ) (kind : FaultKind) (found : Option Address) (address : Address) (id : LinkId) (s : Network) → found ≡ Some address → id ≡ id_of_address address
-    → HasDone after config acts (or_discarded s (link_of_network now id (Faulty kind) [] s)) → HasDone after config acts (fault_heard now kind found s)
+    → HasDone after config acts (or_discarded s (link_of_network now id (Faulty kind) [] s)) → HasDone after config acts (fault_received now kind found s)
 faulty after config acts now kind found address id s is named h =
-    subst (λ (f : Option Address). HasDone after config acts (fault_heard now kind f s)) (sym is)
+    subst (λ (f : Option Address). HasDone after config acts (fault_received now kind f s)) (sym is)
     (subst (λ (i : LinkId). HasDone after config acts (or_discarded s (link_of_network now i (Faulty kind) [] s))) named h)
 
 -- unit data that is not for all terminals is for a link

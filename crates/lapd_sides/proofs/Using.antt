@@ -13,7 +13,7 @@ use Rattle.lapd_frame.specs.declared.Address.{Address}
 use Rattle.lapd_frame.specs.declared.fault_kind.FaultKind.{FaultKind}
 use Rattle.lapd_frame.specs.Frame.{Fields}
 use Rattle.lapd_link_definition.specs.Input.{Input, Faulty, Heard}
-use Rattle.lapd_timers.specs.Due.{Timers, at_rest}
+use Rattle.lapd_timers.specs.Due.{Timers, all_stopped}
 use Rattle.lapd_tei.specs.declared.out.TeiOut.{TeiOut}
 use Rattle.lapd_tei.specs.declared.phase.Phase.{Phase}
 use Rattle.lapd_tei.specs.declared.phase.Phase.TheVariants.{Unassigned, Awaiting, Assigned}
@@ -39,12 +39,12 @@ use Rattle.lapd_sides_links.specs.declared.side_fault.SideKind.TheVariants.{NoLi
 use Rattle.lapd_sides_links.specs.Effects.{Effects, no_effects, and_then}
 use Rattle.lapd_sides_links.specs.Links.{Links, Reaction, is_served, in_links, link_acts, of_sapi, no_links, with_tei}
 use Rattle.lapd_sides.specs.Management.{carries_message, links_with, manages, one_more}
-use Rattle.lapd_sides.specs.User.{User, KeptEstablishments, nothing_kept, among_links, or_discarded, or_unmoved, next, link_of_user, with_tei_or, establishes, establishes_kept, terminal_acts, assigned, kept_after, fault_heard, for_layer_3, data_heard, message_heard, frame_heard, got_for_message, got_for_frame, unit_from_group, user_requested, wants, keeps, is_kept, forgets, sends_message, next_reference, advanced, drawn, links_of_fixed}
+use Rattle.lapd_sides.specs.User.{User, PendingEstablishments, nothing_pending, among_links, or_discarded, or_unmoved, next, link_of_user, with_tei_or, establishes, establishes_pending, terminal_acts, assigned, pending_after, fault_received, for_layer_3, data_received, message_received, frame_received, got_for_message, got_for_frame, unit_from_group, user_requested, wants, with_pending, is_pending, forgets, sends_message, next_reference, advanced, drawn, links_of_fixed}
 use Rattle.lapd_sides.specs.Requests.{message_of}
 use Rattle.lapd_sides_links.specs.Shown.{ShowLinks, HaveActed}
-use Rattle.lapd_sides.specs.Shows.{ShowServed, HaveServed, Outcome}
+use Rattle.lapd_sides.specs.Shows.{ShowServed, HaveServed, RequestOutcome}
 use Rattle.lapd_sides.proofs.Calling.{granted_as}
-use Rattle.lapd_sides.specs.ShowsUser.{ShowUser, ShowReferences, HasDone, HasFollowed, HasGranted, Hears, Answers, admitted}
+use Rattle.lapd_sides.specs.ShowsUser.{ShowUser, ShowReferences, HasDone, HasFollowed, HasGranted, UserReceives, Answers, admitted}
 
 -- the side with its links after a step
 abbrev pub relinked : UserSide → LinkSet → UserSide
@@ -54,7 +54,7 @@ relinked code links = record code { served = record code.served { links = links 
 
 pub reshown : (code : UserSide) (links : LinkSet) (config : Config) (s : User) (shown : Links) → ShowUser code config s → ShowLinks side.User links shown
     → ShowUser (relinked code links) config (record s { served = record { links = shown; timers = s.served.timers } })
-reshown code links config s shown h l = record { configured = h.configured; served = record { links = l; timers = h.served.timers }; terminal = h.terminal; kept = h.kept; random = h.random; discarded = h.discarded }
+reshown code links config s shown h l = record { configured = h.configured; served = record { links = l; timers = h.served.timers }; terminal = h.terminal; pending = h.pending; random = h.random; discarded = h.discarded }
 
 granted : (code : UserSide) (links : LinkSet) (config : Config) (s : User) (before acts : Effects) (outcome : Result (Reaction Links) SideKind) → ShowUser code config s
     → before ≡ no_effects → HaveActed side.User links before acts outcome → HasGranted (relinked code links) config acts (among_links s outcome)
@@ -71,8 +71,8 @@ pub link_refused : (s : User) (now : ℕ) (id : LinkId) (input : Input) (octets 
 unfolding link_of_user
 link_refused s now id input octets kind h = ap (among_links s) h
 
-pub links_kept : (code : UserSide) (links : LinkSet) (config : Config) (s : User) → ShowUser code config s → ShowLinks side.User links s.served.links → ShowUser (relinked code links) config s
-links_kept code links config s shown l = reshown code links config s s.served.links shown l
+pub links_shown : (code : UserSide) (links : LinkSet) (config : Config) (s : User) → ShowUser code config s → ShowLinks side.User links s.served.links → ShowUser (relinked code links) config s
+links_shown code links config s shown l = reshown code links config s s.served.links shown l
 
 -- the side returns the result of a call of its link set
 pub link_answers : (result : Result (Unit {0}) SideFault) (code : UserSide) (links : LinkSet) (before acts : Effects) (message : Option (Vec ℕ Global)) (does : Side → Links → Result (Reaction Links) SideKind) → before ≡ no_effects
@@ -84,14 +84,14 @@ pub link_answers : (result : Result (Unit {0}) SideFault) (code : UserSide) (lin
 link_answers (Ok u) code links before acts message does empty ok err back same nothing = λ config s shown. granted code links config s before acts _ shown empty (ok side.User s.served.links shown.served.links)
 link_answers (Err fault) code links before acts message does empty ok err back same nothing = record {
   kind = λ config s shown. ap (among_links s) (err side.User s.served.links shown.served.links);
-  handed_back = back;
-  unchanged = λ config s shown. links_kept code links config s shown (same side.User s.served.links shown.served.links);
+  returned = back;
+  unchanged = λ config s shown. links_shown code links config s shown (same side.User s.served.links shown.served.links);
   nothing = nothing ∙ empty;
 }
 
 -- effects are appended in any grouping
-in_turn : (before e f : Effects) → and_then (and_then before e) f ≡ and_then before (and_then e f)
-in_turn before e f = rw (append_assoc before.frames e.frames f.frames, append_assoc before.primitives e.primitives f.primitives) refl
+in_order : (before e f : Effects) → and_then (and_then before e) f ≡ and_then before (and_then e f)
+in_order before e f = rw (append_assoc before.frames e.frames f.frames, append_assoc before.primitives e.primitives f.primitives) refl
 
 -- appending no effects changes nothing
 behind : (e : Effects) → e ≡ and_then e no_effects
@@ -113,11 +113,11 @@ pub step_follows : (result : Result (Unit {0}) SideKind) (code : UserSide) (link
 step_follows (Ok u) code links config s before acts does shown ok err same nothing = granted_follows code links config s before acts (does side.User s.served.links) shown (ok side.User s.served.links shown.served.links)
 step_follows (Err k) code links config s before acts does shown ok err same nothing =
     subst (λ (o : Result (Reaction Links) SideKind). HasFollowed (relinked code links) config before acts (or_unmoved s (among_links s o))) (sym (err side.User s.served.links shown.served.links))
-    (record { shown = links_kept code links config s shown (same side.User s.served.links shown.served.links); given = nothing ∙ behind before })
+    (record { shown = links_shown code links config s shown (same side.User s.served.links shown.served.links); given = nothing ∙ behind before })
 
 -- a link processes a frame
-pub heard_so : (code : UserSide) (config : Config) (s : User) (acts : Effects) (outcome : Result (Reaction User) SideKind) → HasGranted code config acts outcome → HasDone code config acts (or_discarded s outcome)
-heard_so code config s acts outcome h = subst (λ (o : Result (Reaction User) SideKind). HasDone code config acts (or_discarded s o)) (sym h.is) h.done
+pub received_so : (code : UserSide) (config : Config) (s : User) (acts : Effects) (outcome : Result (Reaction User) SideKind) → HasGranted code config acts outcome → HasDone code config acts (or_discarded s outcome)
+received_so code config s acts outcome h = subst (λ (o : Result (Reaction User) SideKind). HasDone code config acts (or_discarded s o)) (sym h.is) h.done
 
 -- or the frame is discarded, and counted
 pub discarded_so : (code : UserSide) (links : LinkSet) (count : ℕ) (config : Config) (s : User) (before acts : Effects) (outcome : Result (Reaction Links) SideKind) (kind : SideKind) → ShowUser code config s → before ≡ no_effects
@@ -128,7 +128,7 @@ discarded_so code links count config s before acts outcome kind shown empty err 
         configured = shown.configured;
         served = record { links = l; timers = shown.served.timers };
         terminal = shown.terminal;
-        kept = shown.kept;
+        pending = shown.pending;
         random = shown.random;
         discarded = counted ∙ ap (λ (n : ℕ). one_more n) shown.discarded;
       };
@@ -172,10 +172,10 @@ is_none code config s found now sapi input octets otherwise shown of is =
     no_own_link s.terminal now sapi input octets otherwise s (ap tei_of (sym shown.terminal) ∙ sym of ∙ is)
 
 -- the answer to a request with the same result
-pub answers_as : (result : Result (Unit {0}) SideFault) (old after : UserSide) (acts : Effects) (message : Option (Vec ℕ Global)) (a b : Outcome User) → ((config : Config) (s : User) → ShowUser old config s → b config s ≡ a config s)
+pub answers_as : (result : Result (Unit {0}) SideFault) (old after : UserSide) (acts : Effects) (message : Option (Vec ℕ Global)) (a b : RequestOutcome User) → ((config : Config) (s : User) → ShowUser old config s → b config s ≡ a config s)
     → Answers result old after acts message a → Answers result old after acts message b
 answers_as (Ok u) old after acts message a b same h = λ config s shown. granted_as after config acts (a config s) (b config s) (same config s shown) (h config s shown)
-answers_as (Err fault) old after acts message a b same h = record { kind = λ config s shown. same config s shown ∙ h.kind config s shown; handed_back = h.handed_back; unchanged = h.unchanged; nothing = h.nothing }
+answers_as (Err fault) old after acts message a b same h = record { kind = λ config s shown. same config s shown ∙ h.kind config s shown; returned = h.returned; unchanged = h.unchanged; nothing = h.nothing }
 
 -- ---- One step after another.
 
@@ -183,42 +183,42 @@ pub follows_next : (first second : UserSide) (config : Config) (before mid after
     → HasFollowed second config before after (next a does)
 follows_next first second config before mid after a does h k = record {
   shown = k.shown;
-  given = k.given ∙ ap (λ (e : Effects). and_then e (does a.after).effects) h.given ∙ in_turn before a.effects (does a.after).effects;
+  given = k.given ∙ ap (λ (e : Effects). and_then e (does a.after).effects) h.given ∙ in_order before a.effects (does a.after).effects;
 }
 
-pub both_establish : (code first second : UserSide) (kept : KeptEstablishments) (config : Config) (s : User) (before mid after : Effects) (call packet : Bool) (one other : LinkId) (now own : ℕ) → kept ≡ nothing_kept
-    → call ≡ code.kept.call → packet ≡ code.kept.packet → one ≡ of_sapi sapi.Call own → other ≡ of_sapi sapi.Packet own
-    → ((k : Config) (t : User) → ShowUser (record code { kept = kept }) k t → HasFollowed first k before mid (establishes call now one t))
+pub both_establish : (code first second : UserSide) (pending : PendingEstablishments) (config : Config) (s : User) (before mid after : Effects) (call packet : Bool) (one other : LinkId) (now own : ℕ) → pending ≡ nothing_pending
+    → call ≡ code.pending.call → packet ≡ code.pending.packet → one ≡ of_sapi sapi.Call own → other ≡ of_sapi sapi.Packet own
+    → ((k : Config) (t : User) → ShowUser (record code { pending = pending }) k t → HasFollowed first k before mid (establishes call now one t))
     → ((k : Config) (t : User) → ShowUser first k t → HasFollowed second k mid after (establishes packet now other t))
-    → ShowUser code config s → HasFollowed second config before after (establishes_kept now own s)
-both_establish code first second kept config s before mid after call packet one other now own nothing is_call is_packet is_one is_other does other_does shown =
-    let t : User = record s { kept = nothing_kept } in
-    let a : Reaction User = establishes s.kept.call now (of_sapi sapi.Call own) t in
+    → ShowUser code config s → HasFollowed second config before after (establishes_pending now own s)
+both_establish code first second pending config s before mid after call packet one other now own nothing is_call is_packet is_one is_other does other_does shown =
+    let t : User = record s { pending = nothing_pending } in
+    let a : Reaction User = establishes s.pending.call now (of_sapi sapi.Call own) t in
     let done : HasFollowed first config before mid a =
-    subst (λ (b : Bool). HasFollowed first config before mid (establishes b now (of_sapi sapi.Call own) t)) (is_call ∙ ap (λ (k : KeptEstablishments). k.call) shown.kept)
+    subst (λ (b : Bool). HasFollowed first config before mid (establishes b now (of_sapi sapi.Call own) t)) (is_call ∙ ap (λ (k : PendingEstablishments). k.call) shown.pending)
     (subst (λ (i : LinkId). HasFollowed first config before mid (establishes call now i t)) is_one
-    (does config t (record { configured = shown.configured; served = shown.served; terminal = shown.terminal; kept = nothing; random = shown.random; discarded = shown.discarded }))) in
-    follows_next first second config before mid after a (establishes s.kept.packet now (of_sapi sapi.Packet own)) done
-    (subst (λ (b : Bool). HasFollowed second config mid after (establishes b now (of_sapi sapi.Packet own) a.after)) (is_packet ∙ ap (λ (k : KeptEstablishments). k.packet) shown.kept)
+    (does config t (record { configured = shown.configured; served = shown.served; terminal = shown.terminal; pending = nothing; random = shown.random; discarded = shown.discarded }))) in
+    follows_next first second config before mid after a (establishes s.pending.packet now (of_sapi sapi.Packet own)) done
+    (subst (λ (b : Bool). HasFollowed second config mid after (establishes b now (of_sapi sapi.Packet own) a.after)) (is_packet ∙ ap (λ (k : PendingEstablishments). k.packet) shown.pending)
     (subst (λ (i : LinkId). HasFollowed second config mid after (establishes packet now i a.after)) is_other (other_does config a.after done.shown)))
 
 -- the first of these outputs that settles the kept establishments
-at_item : (now i : ℕ) (outs : List TeiOut) (item out : TeiOut) (s : User) → i < length outs → item ≡ get_or outs i item → item ≡ out → kept_after now (drop i outs) s ≡ kept_after now outs s → kept_after now outs s ≡ kept_after now (out ∷ drop (suc i) outs) s
-at_item now i outs item out s below is_item is same = sym same ∙ ap (λ (l : List TeiOut). kept_after now l s) (drop-cons outs i item below ∙ ap (λ (o : TeiOut). o ∷ drop (suc i) outs) (sym is_item ∙ is))
+at_item : (now i : ℕ) (outs : List TeiOut) (item out : TeiOut) (s : User) → i < length outs → item ≡ get_or outs i item → item ≡ out → pending_after now (drop i outs) s ≡ pending_after now outs s → pending_after now outs s ≡ pending_after now (out ∷ drop (suc i) outs) s
+at_item now i outs item out s below is_item is same = sym same ∙ ap (λ (l : List TeiOut). pending_after now l s) (drop-cons outs i item below ∙ ap (λ (o : TeiOut). o ∷ drop (suc i) outs) (sym is_item ∙ is))
 
-pub settles : (code after : UserSide) (config : Config) (now i : ℕ) (outs : List TeiOut) (item out : TeiOut) (s : User) (before last : Effects) (a : Reaction User) → i < length outs → item ≡ get_or outs i item → item ≡ out → kept_after now (drop i outs) s ≡ kept_after now outs s
-    → kept_after now (out ∷ drop (suc i) outs) s ≡ a → HasFollowed after config before last a → HasFollowed after config before last (kept_after now outs s)
+pub settles : (code after : UserSide) (config : Config) (now i : ℕ) (outs : List TeiOut) (item out : TeiOut) (s : User) (before last : Effects) (a : Reaction User) → i < length outs → item ≡ get_or outs i item → item ≡ out → pending_after now (drop i outs) s ≡ pending_after now outs s
+    → pending_after now (out ∷ drop (suc i) outs) s ≡ a → HasFollowed after config before last a → HasFollowed after config before last (pending_after now outs s)
 settles code after config now i outs item out s before last a below is_item is same means h = subst (λ (x : Reaction User). HasFollowed after config before last x) (sym (at_item now i outs item out s below is_item is same ∙ means)) h
 
 -- ---- TEI management.
 
 -- the outputs of the terminal have been carried out, then the kept establishments have been settled
 pub carried : (code after : UserSide) (config : Config) (now : ℕ) (s : User) (step : TerminalStep) (outs : List TeiOut) (sent : Bool) (acts last : Effects) → step.outs ≡ outs → sent ≡ sends_message outs
-    → code.config ≡ config → code.discarded ≡ s.discarded → code.terminal ≡ step.now → code.kept ≡ s.kept → ShowReferences code.references (if sent then advanced (pcg32 s.random) else s.random)
+    → code.config ≡ config → code.discarded ≡ s.discarded → code.terminal ≡ step.now → code.pending ≡ s.pending → ShowReferences code.references (if sent then advanced (pcg32 s.random) else s.random)
     → HaveServed side.User code.served acts (manages side.User config now outs s.served)
-    → ((k : Config) (t : User) → ShowUser code k t → HasFollowed after k acts last (kept_after now outs t))
+    → ((k : Config) (t : User) → ShowUser code k t → HasFollowed after k acts last (pending_after now outs t))
     → HasDone after config last (assigned config now step s)
-carried code after config now s step outs sent acts last same is_sent configured counted terminal kept random served rest =
+carried code after config now s step outs sent acts last same is_sent configured counted terminal pending random served rest =
     let a : Reaction User = record {
       after = record s { served = (manages side.User config now step.outs s.served).after; terminal = step.now; random = drawn step.outs s.random };
       effects = (manages side.User config now step.outs s.served).effects;
@@ -228,12 +228,12 @@ carried code after config now s step outs sent acts last same is_sent configured
       configured = configured;
       served = managed.shown;
       terminal = terminal;
-      kept = kept;
+      pending = pending;
       random = subst (λ (b : Bool). ShowReferences code.references (if b then advanced (pcg32 s.random) else s.random)) (is_sent ∙ ap sends_message (sym same)) random;
       discarded = counted;
     } in
-    let k : HasFollowed after config acts last (kept_after now step.outs a.after) = subst (λ (o : List TeiOut). HasFollowed after config acts last (kept_after now o a.after)) (sym same) (rest config a.after shown) in
-    record { shown = k.shown; given = k.given ∙ ap (λ (e : Effects). and_then e (kept_after now step.outs a.after).effects) managed.given }
+    let k : HasFollowed after config acts last (pending_after now step.outs a.after) = subst (λ (o : List TeiOut). HasFollowed after config acts last (pending_after now o a.after)) (sym same) (rest config a.after shown) in
+    record { shown = k.shown; given = k.given ∙ ap (λ (e : Effects). and_then e (pending_after now step.outs a.after).effects) managed.given }
 
 -- the links before these outputs are carried out
 pub served_before : (code : UserSide) (config : Config) (s : User) (step : TerminalStep) (outs : List TeiOut) → step.outs ≡ outs → ShowUser code config (admitted config step s)
@@ -247,7 +247,7 @@ handled code config s event phase shown is none = record {
   configured = shown.configured;
   served = subst (λ (t : Option ℕ). ShowServed side.User code.served (record s.served { links = links_with config t s.served.links })) (sym none) shown.served;
   terminal = is ∙ ap (λ (p : Phase). (terminal_step p event).now) shown.terminal;
-  kept = shown.kept;
+  pending = shown.pending;
   random = shown.random;
   discarded = shown.discarded;
 }
@@ -282,31 +282,31 @@ t202_gets_none ri (Assigned by tei) = refl
 
 -- ---- A new side.
 
-pub without_fixed : (served after : LinksAndTimer) (config : Config) (fixed : Option ℕ) → fixed ≡ None → after ≡ served → ShowServed side.User served (record { links = no_links; timers = at_rest config.durations })
-    → ShowServed side.User after (record { links = links_of_fixed config fixed; timers = at_rest config.durations })
+pub without_fixed : (served after : LinksAndTimer) (config : Config) (fixed : Option ℕ) → fixed ≡ None → after ≡ served → ShowServed side.User served (record { links = no_links; timers = all_stopped config.durations })
+    → ShowServed side.User after (record { links = links_of_fixed config fixed; timers = all_stopped config.durations })
 without_fixed served after config fixed none same shown = rw (same, none) shown
 
 pub with_fixed : (served after : LinksAndTimer) (links : LinkSet) (config : Config) (fixed : Option ℕ) (tei : ℕ) → fixed ≡ Some tei → after ≡ record { links = links; timers = served.timers }
-    → ShowServed side.User served (record { links = no_links; timers = at_rest config.durations }) → ShowLinks side.User links (with_tei config tei no_links)
-    → ShowServed side.User after (record { links = links_of_fixed config fixed; timers = at_rest config.durations })
+    → ShowServed side.User served (record { links = no_links; timers = all_stopped config.durations }) → ShowLinks side.User links (with_tei config tei no_links)
+    → ShowServed side.User after (record { links = links_of_fixed config fixed; timers = all_stopped config.durations })
 with_fixed served after links config fixed tei some same shown added = rw (same, some) (record { links = added; timers = shown.timers })
 
 -- ---- A fault.
 
 pub faulty : (after : UserSide) (config : Config) (acts : Effects) (now : ℕ) (kind : FaultKind) (found : Option Address) (address : Address) (id : LinkId) (s : User) → found ≡ Some address → id ≡ id_of_address address
-    → HasDone after config acts (or_discarded s (link_of_user now id (Faulty kind) [] s)) → HasDone after config acts (fault_heard now kind found s)
+    → HasDone after config acts (or_discarded s (link_of_user now id (Faulty kind) [] s)) → HasDone after config acts (fault_received now kind found s)
 faulty after config acts now kind found address id s is named h =
-    subst (λ (f : Option Address). HasDone after config acts (fault_heard now kind f s)) (sym is)
+    subst (λ (f : Option Address). HasDone after config acts (fault_received now kind f s)) (sym is)
     (subst (λ (i : LinkId). HasDone after config acts (or_discarded s (link_of_user now i (Faulty kind) [] s))) named h)
 
 -- ---- A frame.
 
 -- a frame is a TEI message
-pub heard_as_message : {E : Type 0} (result : Result (Unit {0}) E) (old after : UserSide) (acts : Effects) (now : ℕ) (frame : Fields) (test : Bool) (found : Result TeiMessage TeiFault) → test ≡ carries_message frame → test ≡ true → found ≡ message_at frame.info
-    → Hears result old after acts (λ s. got_for_message s found) (λ config. message_heard config now found) → Hears result old after acts (λ s. got_for_frame s (Ok frame)) (λ config. frame_heard config now frame)
-heard_as_message result old after acts now frame test found is holds read h =
-    subst (λ (b : Bool). Hears result old after acts (λ s. if b then got_for_message s (message_at frame.info) else None) (λ config s. if b then message_heard config now (message_at frame.info) s else data_heard config now frame s)) (sym holds ∙ is)
-    (subst (λ (r : Result TeiMessage TeiFault). Hears result old after acts (λ s. got_for_message s r) (λ config. message_heard config now r)) read h)
+pub received_as_message : {E : Type 0} (result : Result (Unit {0}) E) (old after : UserSide) (acts : Effects) (now : ℕ) (frame : Fields) (test : Bool) (found : Result TeiMessage TeiFault) → test ≡ carries_message frame → test ≡ true → found ≡ message_at frame.info
+    → UserReceives result old after acts (λ s. got_for_message s found) (λ config. message_received config now found) → UserReceives result old after acts (λ s. got_for_frame s (Ok frame)) (λ config. frame_received config now frame)
+received_as_message result old after acts now frame test found is holds read h =
+    subst (λ (b : Bool). UserReceives result old after acts (λ s. if b then got_for_message s (message_at frame.info) else None) (λ config s. if b then message_received config now (message_at frame.info) s else data_received config now frame s)) (sym holds ∙ is)
+    (subst (λ (r : Result TeiMessage TeiFault). UserReceives result old after acts (λ s. got_for_message s r) (λ config. message_received config now r)) read h)
 
 -- ---- A frame that is not a TEI message.
 
@@ -316,24 +316,24 @@ pub record IsTested (code : UserSide) (frame : Fields) (test : Bool) (answer : B
   pub answered : test ≡ answer
 
 data_as : (code : UserSide) (config : Config) (now : ℕ) (frame : Fields) (s : User) (test answer : Bool) → ShowUser code config s → IsTested code frame test answer
-    → data_heard config now frame s ≡ (if answer then unit_from_group frame.address.sapi frame.info s else or_discarded s (link_of_user now (of_sapi frame.address.sapi frame.address.tei) (Heard frame.control frame.address.role) frame.info s))
+    → data_received config now frame s ≡ (if answer then unit_from_group frame.address.sapi frame.info s else or_discarded s (link_of_user now (of_sapi frame.address.sapi frame.address.tei) (Heard frame.control frame.address.role) frame.info s))
 data_as code config now frame s test answer shown t =
     ap (λ (b : Bool). if b then unit_from_group frame.address.sapi frame.info s else or_discarded s (link_of_user now (of_sapi frame.address.sapi frame.address.tei) (Heard frame.control frame.address.role) frame.info s))
     (ap (λ (k : Config). for_layer_3 k frame) (sym shown.configured) ∙ sym t.is ∙ t.answered)
 
 -- the unit data is reported
-pub unit_told : (code : UserSide) (config : Config) (now : ℕ) (frame : Fields) (s : User) (test : Bool) (address : Address) (octets : List ℕ) (acts : Effects) → IsTested code frame test true → address ≡ frame.address → octets ≡ frame.info
-    → acts ≡ record no_effects { primitives = Of (of_sapi address.sapi group_tei) (what.UnitUp octets) ∷ [] } → ShowUser code config s → HasDone code config acts (data_heard config now frame s)
-unit_told code config now frame s test address octets acts t is_address is_octets told shown =
+pub unit_delivered : (code : UserSide) (config : Config) (now : ℕ) (frame : Fields) (s : User) (test : Bool) (address : Address) (octets : List ℕ) (acts : Effects) → IsTested code frame test true → address ≡ frame.address → octets ≡ frame.info
+    → acts ≡ record no_effects { primitives = Of (of_sapi address.sapi group_tei) (what.UnitUp octets) ∷ [] } → ShowUser code config s → HasDone code config acts (data_received config now frame s)
+unit_delivered code config now frame s test address octets acts t is_address is_octets delivered shown =
     subst (λ (a : Reaction User). HasDone code config acts a) (sym (data_as code config now frame s test true shown t)) (record {
       shown = shown;
-      given = told ∙ ap (λ (a : Address). record no_effects { primitives = Of (of_sapi a.sapi group_tei) (what.UnitUp octets) ∷ [] }) is_address
+      given = delivered ∙ ap (λ (a : Address). record no_effects { primitives = Of (of_sapi a.sapi group_tei) (what.UnitUp octets) ∷ [] }) is_address
           ∙ ap (λ (o : List ℕ). record no_effects { primitives = Of (of_sapi frame.address.sapi group_tei) (what.UnitUp o) ∷ [] }) is_octets;
     })
 
 -- or a link processes the frame
 pub data_for_link : (code after : UserSide) (config : Config) (now : ℕ) (frame : Fields) (s : User) (test : Bool) (id : LinkId) (octets : List ℕ) (acts : Effects) → IsTested code frame test false → id ≡ of_sapi frame.address.sapi frame.address.tei → octets ≡ frame.info
-    → ShowUser code config s → HasDone after config acts (or_discarded s (link_of_user now id (Heard frame.control frame.address.role) octets s)) → HasDone after config acts (data_heard config now frame s)
+    → ShowUser code config s → HasDone after config acts (or_discarded s (link_of_user now id (Heard frame.control frame.address.role) octets s)) → HasDone after config acts (data_received config now frame s)
 data_for_link code after config now frame s test id octets acts t named is_octets shown h =
     subst (λ (a : Reaction User). HasDone after config acts a) (sym (data_as code config now frame s test false shown t))
     (subst (λ (o : List ℕ). HasDone after config acts (or_discarded s (link_of_user now (of_sapi frame.address.sapi frame.address.tei) (Heard frame.control frame.address.role) o s))) is_octets
@@ -343,15 +343,15 @@ data_for_link code after config now frame s test id octets acts t named is_octet
 
 pub reshown_after : (code : UserSide) (links : LinkSet) (timers : Timers) (config : Config) (s : User) (own : Timers) → ShowUser code config s → timers ≡ own → ShowLinks side.User links s.served.links
     → ShowUser (record code { served = record { links = links; timers = timers } }) config (record s { served = record { links = s.served.links; timers = own } })
-reshown_after code links timers config s own shown is l = record { configured = shown.configured; served = record { links = l; timers = is }; terminal = shown.terminal; kept = shown.kept; random = shown.random; discarded = shown.discarded }
+reshown_after code links timers config s own shown is l = record { configured = shown.configured; served = record { links = l; timers = is }; terminal = shown.terminal; pending = shown.pending; random = shown.random; discarded = shown.discarded }
 
 -- ---- An establishment without a TEI.
 
 pub wanted : (code after : UserSide) (config : Config) (now : ℕ) (sapi : Sapi) (s : User) (acts : Effects) (test : Bool) → test ≡ is_served code.config sapi → test ≡ true → ShowUser code config s
-    → HasDone after config acts (terminal_acts config now event.Want (record s { kept = keeps sapi true s.kept })) → HasGranted after config acts (wants config now sapi s)
+    → HasDone after config acts (terminal_acts config now event.Want (record s { pending = with_pending sapi true s.pending })) → HasGranted after config acts (wants config now sapi s)
 wanted code after config now sapi s acts test is holds shown done = record {
-  acted = terminal_acts config now event.Want (record s { kept = keeps sapi true s.kept });
-  is = ap (λ (b : Bool). if b then Ok (terminal_acts config now event.Want (record s { kept = keeps sapi true s.kept })) else Err NoLink) (ap (λ (k : Config). is_served k sapi) (sym shown.configured) ∙ sym is ∙ holds);
+  acted = terminal_acts config now event.Want (record s { pending = with_pending sapi true s.pending });
+  is = ap (λ (b : Bool). if b then Ok (terminal_acts config now event.Want (record s { pending = with_pending sapi true s.pending })) else Err NoLink) (ap (λ (k : Config). is_served k sapi) (sym shown.configured) ∙ sym is ∙ holds);
   done = done;
 }
 
@@ -363,14 +363,14 @@ answers_for result old after acts now r q is h = subst (λ (x : Request). Answer
 
 -- ---- An establishment is forgotten.
 
-pub forgotten : (code : UserSide) (kept : KeptEstablishments) (config : Config) (sapi : Sapi) (s : User) (acts : Effects) (test : Bool) → test ≡ is_kept sapi code.kept → test ≡ true → kept ≡ keeps sapi false code.kept
-    → acts ≡ record no_effects { primitives = Of (of_sapi sapi group_tei) what.ReleaseConfirm ∷ [] } → ShowUser code config s → HasGranted (record code { kept = kept }) config acts (forgets sapi s)
-forgotten code kept config sapi s acts test is holds forgot told shown = record {
-  acted = record { after = record s { kept = keeps sapi false s.kept }; effects = record no_effects { primitives = Of (of_sapi sapi group_tei) what.ReleaseConfirm ∷ [] } };
-  is = ap (λ (b : Bool). if b then Ok (record { after = record s { kept = keeps sapi false s.kept }; effects = record no_effects { primitives = Of (of_sapi sapi group_tei) what.ReleaseConfirm ∷ [] } }) else Err NoLink)
-      (ap (λ (k : KeptEstablishments). is_kept sapi k) (sym shown.kept) ∙ sym is ∙ holds);
+pub forgotten : (code : UserSide) (pending : PendingEstablishments) (config : Config) (sapi : Sapi) (s : User) (acts : Effects) (test : Bool) → test ≡ is_pending sapi code.pending → test ≡ true → pending ≡ with_pending sapi false code.pending
+    → acts ≡ record no_effects { primitives = Of (of_sapi sapi group_tei) what.ReleaseConfirm ∷ [] } → ShowUser code config s → HasGranted (record code { pending = pending }) config acts (forgets sapi s)
+forgotten code pending config sapi s acts test is holds forgot delivered shown = record {
+  acted = record { after = record s { pending = with_pending sapi false s.pending }; effects = record no_effects { primitives = Of (of_sapi sapi group_tei) what.ReleaseConfirm ∷ [] } };
+  is = ap (λ (b : Bool). if b then Ok (record { after = record s { pending = with_pending sapi false s.pending }; effects = record no_effects { primitives = Of (of_sapi sapi group_tei) what.ReleaseConfirm ∷ [] } }) else Err NoLink)
+      (ap (λ (k : PendingEstablishments). is_pending sapi k) (sym shown.pending) ∙ sym is ∙ holds);
   done = record {
-    shown = record { configured = shown.configured; served = shown.served; terminal = shown.terminal; kept = forgot ∙ ap (λ (k : KeptEstablishments). keeps sapi false k) shown.kept; random = shown.random; discarded = shown.discarded };
-    given = told;
+    shown = record { configured = shown.configured; served = shown.served; terminal = shown.terminal; pending = forgot ∙ ap (λ (k : PendingEstablishments). with_pending sapi false k) shown.pending; random = shown.random; discarded = shown.discarded };
+    given = delivered;
   };
 }

@@ -12,7 +12,7 @@ use Rattle.lapd_sides_links.specs.declared.side_fault.SideKind.{SideKind}
 use Rattle.lapd_sides_links.specs.Effects.{Effects, and_then, no_effects}
 use Rattle.lapd_sides_links.specs.Expiries.{IsDue}
 use Rattle.lapd_sides_links.specs.Links.{Reaction, Served}
-use Rattle.lapd_sides.specs.Shows.{Step, Outcome}
+use Rattle.lapd_sides.specs.Shows.{Step, RequestOutcome}
 
 -- ---- The result of a call.
 
@@ -55,13 +55,13 @@ abbrev pub EachShown : {C S : Type 0} → (C → Config → S → Type 0) → C 
 EachShown {C} {S} Show code IsSo = (config : Config) (s : S) → Show code config s → IsSo s
 
 -- the call represents what it represented before
-abbrev pub ShowsAsBefore : {C S : Type 0} → (C → Config → S → Type 0) → C → C → Type 0
-ShowsAsBefore {C} {S} Show old new =
+abbrev pub ShowsSideAsBefore : {C S : Type 0} → (C → Config → S → Type 0) → C → C → Type 0
+ShowsSideAsBefore {C} {S} Show old new =
     (config : Config) (s : S) → Show old config s → Show new config s
 
 -- the call takes this step
-abbrev pub Does : {C S : Type 0} → (C → Config → S → Type 0) → C → C → Effects → Step S → Type 0
-Does {C} {S} Show old new acts step =
+abbrev pub SideDoes : {C S : Type 0} → (C → Config → S → Type 0) → C → C → Effects → Step S → Type 0
+SideDoes {C} {S} Show old new acts step =
     (config : Config) (s : S) → Show old config s → HasDone Show new config acts (step config s)
 
 -- the call takes this step after others, whose effects are in `before`
@@ -76,40 +76,41 @@ Follows {C} {S} Show old new before after step =
 pub record LacksMemory {C S : Type 0} (Show : C → Config → S → Type 0) (old new : C)
     (acts : Effects) (tei : S → Option ℕ) : Type 0 where
   pub only : EachShown Show old (λ s. IsSome (tei s))
-  pub unchanged : ShowsAsBefore Show old new
+  pub unchanged : ShowsSideAsBefore Show old new
   pub nothing : acts ≡ no_effects
 
 -- the call processes received octets: it takes this step, or an allocation fails
-abbrev pub Hears : {C S E : Type 0} → (C → Config → S → Type 0) → Result ⊤ E → C → C → Effects
+abbrev pub Receives : {C S E : Type 0} → (C → Config → S → Type 0) → Result ⊤ E → C → C → Effects
     → (S → Option ℕ) → Step S → Type 0
-Hears Show (Ok done) old new acts tei step = Does Show old new acts step
-Hears Show (Err fault) old new acts tei step = LacksMemory Show old new acts tei
+Receives Show (Ok done) old new acts tei step = SideDoes Show old new acts step
+Receives Show (Err fault) old new acts tei step = LacksMemory Show old new acts tei
 
 -- the call executes a request
-abbrev pub Grants : {C S : Type 0} → (C → Config → S → Type 0) → C → C → Effects → Outcome S
+abbrev pub Grants : {C S : Type 0} → (C → Config → S → Type 0) → C → C → Effects → RequestOutcome S
     → Type 0
 Grants {C} {S} Show old new acts outcome =
     (config : Config) (s : S) → Show old config s
     → HasGranted Show new config acts (outcome config s)
 
 -- the call refuses a request, for this reason
-abbrev pub RefusesAs : {C S : Type 0} → (C → Config → S → Type 0) → C → SideKind → Outcome S
+abbrev pub SideRefusesAs : {C S : Type 0} → (C → Config → S → Type 0) → C → SideKind
+    → RequestOutcome S
     → Type 0
-RefusesAs {C} {S} Show old kind outcome =
+SideRefusesAs {C} {S} Show old kind outcome =
     (config : Config) (s : S) → Show old config s → outcome config s ≡ Err kind
 
 -- the call refuses and returns the message: the side is unchanged and `acts` is empty
 pub record Refuses {C S : Type 0} (Show : C → Config → S → Type 0) (old new : C)
-    (acts : Effects) (message : Option (Vec ℕ Global)) (outcome : Outcome S)
+    (acts : Effects) (message : Option (Vec ℕ Global)) (outcome : RequestOutcome S)
     (fault : SideFault) : Type 0 where
-  pub kind : RefusesAs Show old fault.kind outcome
-  pub handed_back : fault.message ≡ message
-  pub unchanged : ShowsAsBefore Show old new
+  pub kind : SideRefusesAs Show old fault.kind outcome
+  pub returned : fault.message ≡ message
+  pub unchanged : ShowsSideAsBefore Show old new
   pub nothing : acts ≡ no_effects
 
 -- the call answers a request: it executes or refuses it
 abbrev pub Answers : {C S : Type 0} → (C → Config → S → Type 0) → Result ⊤ SideFault → C → C
-    → Effects → Option (Vec ℕ Global) → Outcome S → Type 0
+    → Effects → Option (Vec ℕ Global) → RequestOutcome S → Type 0
 Answers Show (Ok done) old new acts message outcome = Grants Show old new acts outcome
 Answers Show (Err fault) old new acts message outcome =
     Refuses Show old new acts message outcome fault
@@ -122,8 +123,8 @@ Expires {C} {S} Show served expires old new acts now =
     → HasExpired Show served expires new config acts now s
 
 -- nothing is due, and the side represents what it represented before
-abbrev pub Rests : {C S : Type 0} → (C → Config → S → Type 0) → (S → Served) → C → C → ℕ
+abbrev pub SideStaysIdle : {C S : Type 0} → (C → Config → S → Type 0) → (S → Served) → C → C → ℕ
     → Type 0
-Rests {C} {S} Show served old new now =
+SideStaysIdle {C} {S} Show served old new now =
     (config : Config) (s : S) → Show old config s
     → IsDue now (served s) None × Show new config s

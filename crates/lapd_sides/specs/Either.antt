@@ -27,9 +27,10 @@ side_of (either.User s) = side.User
 
 -- processes received octets, or an allocation fails
 abbrev pub Takes : List ℕ → ℕ → Result ⊤ SideFault → EitherSide → EitherSide → Effects → Type 0
-Takes octets now result (either.Network old) (either.Network new) acts = network.Hears result
+Takes octets now result (either.Network old)
+    (either.Network new) acts = network.NetworkReceives result
     old new acts (λ s. given_for s.assigner octets) (λ config. network_takes config octets now)
-Takes octets now result (either.User old) (either.User new) acts = user.Hears result
+Takes octets now result (either.User old) (either.User new) acts = user.UserReceives result
     old new acts (λ s. got_for s octets) (λ config. user_takes config octets now)
 Takes octets now result old new acts = ⊥
 
@@ -48,10 +49,10 @@ Expires now (either.User old) (either.User new) acts = user.Expires old new acts
 Expires now old new acts = ⊥
 
 -- nothing is due, and the side represents what it represented before
-abbrev pub Rests : ℕ → EitherSide → EitherSide → Type 0
-Rests now (either.Network old) (either.Network new) = network.Rests old new now
-Rests now (either.User old) (either.User new) = user.Rests old new now
-Rests now old new = ⊥
+abbrev pub StaysIdle : ℕ → EitherSide → EitherSide → Type 0
+StaysIdle now (either.Network old) (either.Network new) = network.NetworkStaysIdle old new now
+StaysIdle now (either.User old) (either.User new) = user.UserStaysIdle old new now
+StaysIdle now old new = ⊥
 
 -- ---- Queries.
 

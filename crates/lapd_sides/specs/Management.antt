@@ -14,7 +14,7 @@ use Rattle.lapd_tei.specs.Message.{group_tei}
 use Rattle.lapd_sides_links.specs.declared.config.Config.{Config}
 use Rattle.lapd_sides_links.specs.declared.primitive.Primitive.{Primitive}
 use Rattle.lapd_sides_links.specs.Effects.{Effects, effects_of_management, managed}
-use Rattle.lapd_sides_links.specs.Links.{Served, Links, Reaction, with_tei, without_tei, told_of_tei}
+use Rattle.lapd_sides_links.specs.Links.{Served, Links, Reaction, with_tei, without_tei, primitive_of_tei}
 
 abbrev pub is_ui : Control → Bool
 is_ui (Ui p) = true
@@ -45,9 +45,9 @@ links_without None links = links
 links_without (Some tei) links = without_tei tei links
 
 -- the releases of removed links that are reported to layer 3
-abbrev pub told_without : Option ℕ → Links → List Primitive
-told_without None links = []
-told_without (Some tei) links = told_of_tei tei links
+abbrev pub removal_primitives : Option ℕ → Links → List Primitive
+removal_primitives None links = []
+removal_primitives (Some tei) links = primitive_of_tei tei links
 
 -- The outcome of TEI management is reported first, then the releases of the links.
 abbrev pub with_removals : List Primitive → Effects → Effects
@@ -61,7 +61,7 @@ manages side config now outs s = record {
     timers = managed now outs s.timers;
   };
   effects = with_removals
-      (told_without (tei_freed outs) (links_with config (tei_given outs) s.links))
+      (removal_primitives (tei_freed outs) (links_with config (tei_given outs) s.links))
       (effects_of_management side outs);
 }
 

@@ -2,7 +2,7 @@
 -- request.
 use Rattle.std.specs.Prelude.{ℕ, ◌==◌, ◌&&◌, nat_lt, if◌then◌else◌, false, List, [], ◌∷◌, length, Option, Some, None, Result, Ok, Err}
 use Rattle.lapd_timers.specs.declared.timer.Timer.{Timer}
-use Rattle.lapd_timers.specs.Due.{at_rest}
+use Rattle.lapd_timers.specs.Due.{all_stopped}
 use Rattle.lapd_frame.specs.declared.Role.TheVariants.{Command}
 use Rattle.lapd_frame.specs.declared.Sapi.{Sapi}
 use Rattle.lapd_frame.specs.declared.Side.TheVariants as side
@@ -44,7 +44,7 @@ abbrev pub new_network : Config → List ℕ → Network
 new_network config known = record {
   served = record {
     links = links_of_held config (known_held known).held;
-    timers = at_rest config.durations;
+    timers = all_stopped config.durations;
   };
   assigner = known_held known;
   discarded = 0;
@@ -73,9 +73,9 @@ unfoldable pub assigner_acts : Config → ℕ → AssignerEvent → Network → 
 assigner_acts config now event s = assigned config now (assigner_step s.assigner event) s
 
 -- octets that do not form a TEI message are ignored
-abbrev pub message_heard : Config → ℕ → Result TeiMessage TeiFault → Network → Reaction Network
-message_heard config now (Ok message) s = assigner_acts config now (event.Heard message) s
-message_heard config now (Err fault) s = unmoved s
+abbrev pub message_received : Config → ℕ → Result TeiMessage TeiFault → Network → Reaction Network
+message_received config now (Ok message) s = assigner_acts config now (event.Heard message) s
+message_received config now (Err fault) s = unmoved s
 
 -- ---- A link.
 
@@ -108,24 +108,24 @@ or_unmoved s (Err kind) = unmoved s
 -- ---- Octets from the line.
 
 -- a frame: a TEI message, or a frame for the link that it is addressed to
-abbrev pub frame_heard : Config → ℕ → Fields → Network → Reaction Network
-frame_heard config now frame s =
-    if carries_message frame then message_heard config now (message_at frame.info) s
+abbrev pub frame_received : Config → ℕ → Fields → Network → Reaction Network
+frame_received config now frame s =
+    if carries_message frame then message_received config now (message_at frame.info) s
     else or_discarded s (link_of_network now (id_of_address frame.address)
     (Heard frame.control frame.address.role) frame.info s)
 
 -- a fault of a frame for a link (F4 to F7), or of octets for none (F1 to F3)
-abbrev pub fault_heard : ℕ → FaultKind → Option Address → Network → Reaction Network
-fault_heard now kind None s = discards s
-fault_heard now kind (Some address) s =
+abbrev pub fault_received : ℕ → FaultKind → Option Address → Network → Reaction Network
+fault_received now kind None s = discards s
+fault_received now kind (Some address) s =
     or_discarded s (link_of_network now (id_of_address address) (Faulty kind) [] s)
 
-abbrev pub heard : Config → ℕ → Result Fields FrameFault → Network → Reaction Network
-heard config now (Ok frame) s = frame_heard config now frame s
-heard config now (Err fault) s = fault_heard now fault.kind fault.address s
+abbrev pub received : Config → ℕ → Result Fields FrameFault → Network → Reaction Network
+received config now (Ok frame) s = frame_received config now frame s
+received config now (Err fault) s = fault_received now fault.kind fault.address s
 
 unfoldable pub network_takes : Config → List ℕ → ℕ → Network → Reaction Network
-network_takes config octets now s = heard config now (frame_at side.User octets) s
+network_takes config octets now s = received config now (frame_at side.User octets) s
 
 -- The TEI that is assigned because of these octets, if any: its links are added, which is the only
 -- allocation.

@@ -1,7 +1,7 @@
 -- How code represents the common part of both sides, and how its steps are specified.
 use Rattle.std.specs.Prelude.{◌≡◌, ℕ, List, Option, Some, None, option_map, Result}
 use Rattle.lapd_frame.specs.declared.Side.{Side}
-use Rattle.lapd_link.specs.Link.{LinkStandsFor}
+use Rattle.lapd_link.specs.Link.{LinkRepresents}
 use Rattle.lapd_link.specs.declared.link.Link.{Link}
 use Rattle.lapd_link_definition.specs.End.{End}
 use Rattle.lapd_table.specs.declared.link_id.LinkId.{LinkId}
@@ -39,8 +39,8 @@ abbrev pub Step : Type 0 → Type 0
 Step S = Config → S → Reaction S
 
 -- a step for a request, which may be refused
-abbrev pub Outcome : Type 0 → Type 0
-Outcome S = Config → S → Result (Reaction S) SideKind
+abbrev pub RequestOutcome : Type 0 → Type 0
+RequestOutcome S = Config → S → Result (Reaction S) SideKind
 
 -- they change in this way
 abbrev pub Become : LinksAndTimer → LinksAndTimer → (Served → Served) → Type 0
@@ -62,7 +62,7 @@ CarryOut side old new acts now outs =
 -- a link represents an end, or neither exists
 abbrev pub IsThere : Option Link → Option End → Type 0
 IsThere None None = Unit {0}
-IsThere (Some link) (Some e) = LinkStandsFor link e
+IsThere (Some link) (Some e) = LinkRepresents link e
 IsThere link e = ⊥
 
 -- a table has the links, of this side

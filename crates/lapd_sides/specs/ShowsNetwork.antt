@@ -10,7 +10,7 @@ use Rattle.lapd_sides_links.specs.Links.{Reaction, Served}
 use Rattle.lapd_sides.specs.declared.net_side.NetSide.{NetSide}
 use Rattle.lapd_sides.specs.Calls as calls
 use Rattle.lapd_sides.specs.Network.{Network, network_expires}
-use Rattle.lapd_sides.specs.Shows.{ShowServed, Step, Outcome}
+use Rattle.lapd_sides.specs.Shows.{ShowServed, Step, RequestOutcome}
 
 -- its configuration, links, assigner, and number of discarded frames
 pub record ShowNetwork (code : NetSide) (config : Config) (s : Network) : Type 0 where
@@ -39,31 +39,31 @@ HasExpired = calls.HasExpired ShowNetwork served_of network_expires
 abbrev pub EachShown : NetSide → (Network → Type 0) → Type 0
 EachShown = calls.EachShown ShowNetwork
 
-abbrev pub ShowsAsBefore : NetSide → NetSide → Type 0
-ShowsAsBefore = calls.ShowsAsBefore ShowNetwork
+abbrev pub ShowsNetworkAsBefore : NetSide → NetSide → Type 0
+ShowsNetworkAsBefore = calls.ShowsSideAsBefore ShowNetwork
 
-abbrev pub Does : NetSide → NetSide → Effects → Step Network → Type 0
-Does = calls.Does ShowNetwork
+abbrev pub NetworkDoes : NetSide → NetSide → Effects → Step Network → Type 0
+NetworkDoes = calls.SideDoes ShowNetwork
 
 abbrev pub LacksMemory : NetSide → NetSide → Effects → (Network → Option ℕ) → Type 0
 LacksMemory = calls.LacksMemory ShowNetwork
 
-abbrev pub Hears : {E : Type 0} → Result ⊤ E → NetSide → NetSide → Effects
+abbrev pub NetworkReceives : {E : Type 0} → Result ⊤ E → NetSide → NetSide → Effects
     → (Network → Option ℕ) → Step Network → Type 0
-Hears result = calls.Hears ShowNetwork result
+NetworkReceives result = calls.Receives ShowNetwork result
 
-abbrev pub Grants : NetSide → NetSide → Effects → Outcome Network → Type 0
+abbrev pub Grants : NetSide → NetSide → Effects → RequestOutcome Network → Type 0
 Grants = calls.Grants ShowNetwork
 
-abbrev pub RefusesAs : NetSide → SideKind → Outcome Network → Type 0
-RefusesAs = calls.RefusesAs ShowNetwork
+abbrev pub NetworkRefusesAs : NetSide → SideKind → RequestOutcome Network → Type 0
+NetworkRefusesAs = calls.SideRefusesAs ShowNetwork
 
 abbrev pub Answers : Result ⊤ SideFault → NetSide → NetSide → Effects → Option (Vec ℕ Global)
-    → Outcome Network → Type 0
+    → RequestOutcome Network → Type 0
 Answers result = calls.Answers ShowNetwork result
 
 abbrev pub Expires : NetSide → NetSide → Effects → ℕ → Type 0
 Expires = calls.Expires ShowNetwork served_of network_expires
 
-abbrev pub Rests : NetSide → NetSide → ℕ → Type 0
-Rests = calls.Rests ShowNetwork served_of
+abbrev pub NetworkStaysIdle : NetSide → NetSide → ℕ → Type 0
+NetworkStaysIdle = calls.SideStaysIdle ShowNetwork served_of

@@ -17,7 +17,7 @@ use Rattle.lapd_sides_links.specs.Links.{Reaction, Served}
 use Rattle.lapd_sides.specs.Calls as calls
 use Rattle.lapd_sides.specs.Management.{links_with}
 use Rattle.lapd_sides.specs.User.{User, next_reference, advanced, assigned, user_expires}
-use Rattle.lapd_sides.specs.Shows.{ShowServed, Step, Outcome}
+use Rattle.lapd_sides.specs.Shows.{ShowServed, Step, RequestOutcome}
 
 -- The next reference has been drawn from the generator, and the rest of the generator follows it.
 pub record ShowReferences (code : References) (random : Lcg) : Type 0 where
@@ -30,7 +30,7 @@ pub record ShowUser (code : UserSide) (config : Config) (s : User) : Type 0 wher
   pub configured : code.config ≡ config
   pub served : ShowServed side.User code.served s.served
   pub terminal : code.terminal ≡ s.terminal
-  pub kept : code.kept ≡ s.kept
+  pub pending : code.pending ≡ s.pending
   pub random : ShowReferences code.references s.random
   pub discarded : code.discarded ≡ s.discarded
 
@@ -57,11 +57,11 @@ HasExpired = calls.HasExpired ShowUser served_of user_expires
 abbrev pub EachShown : UserSide → (User → Type 0) → Type 0
 EachShown = calls.EachShown ShowUser
 
-abbrev pub ShowsAsBefore : UserSide → UserSide → Type 0
-ShowsAsBefore = calls.ShowsAsBefore ShowUser
+abbrev pub ShowsUserAsBefore : UserSide → UserSide → Type 0
+ShowsUserAsBefore = calls.ShowsSideAsBefore ShowUser
 
-abbrev pub Does : UserSide → UserSide → Effects → Step User → Type 0
-Does = calls.Does ShowUser
+abbrev pub UserDoes : UserSide → UserSide → Effects → Step User → Type 0
+UserDoes = calls.SideDoes ShowUser
 
 abbrev pub Follows : UserSide → UserSide → Effects → Effects → Step User → Type 0
 Follows = calls.Follows ShowUser
@@ -83,22 +83,22 @@ CarriesOut old new acts now outs =
 abbrev pub LacksMemory : UserSide → UserSide → Effects → (User → Option ℕ) → Type 0
 LacksMemory = calls.LacksMemory ShowUser
 
-abbrev pub Hears : {E : Type 0} → Result ⊤ E → UserSide → UserSide → Effects
+abbrev pub UserReceives : {E : Type 0} → Result ⊤ E → UserSide → UserSide → Effects
     → (User → Option ℕ) → Step User → Type 0
-Hears result = calls.Hears ShowUser result
+UserReceives result = calls.Receives ShowUser result
 
-abbrev pub Grants : UserSide → UserSide → Effects → Outcome User → Type 0
+abbrev pub Grants : UserSide → UserSide → Effects → RequestOutcome User → Type 0
 Grants = calls.Grants ShowUser
 
-abbrev pub RefusesAs : UserSide → SideKind → Outcome User → Type 0
-RefusesAs = calls.RefusesAs ShowUser
+abbrev pub UserRefusesAs : UserSide → SideKind → RequestOutcome User → Type 0
+UserRefusesAs = calls.SideRefusesAs ShowUser
 
 abbrev pub Answers : Result ⊤ SideFault → UserSide → UserSide → Effects → Option (Vec ℕ Global)
-    → Outcome User → Type 0
+    → RequestOutcome User → Type 0
 Answers result = calls.Answers ShowUser result
 
 abbrev pub Expires : UserSide → UserSide → Effects → ℕ → Type 0
 Expires = calls.Expires ShowUser served_of user_expires
 
-abbrev pub Rests : UserSide → UserSide → ℕ → Type 0
-Rests = calls.Rests ShowUser served_of
+abbrev pub UserStaysIdle : UserSide → UserSide → ℕ → Type 0
+UserStaysIdle = calls.SideStaysIdle ShowUser served_of

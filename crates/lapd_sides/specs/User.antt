@@ -5,7 +5,7 @@ use Rattle.rand_pcg.specs.Lcg.{Lcg}
 use Rattle.rand_core.specs.Pcg32Seed.{pcg32_seed}
 use Rattle.rand_pcg.specs.Pcg.{pcg32, pcg32_of_seed}
 use Rattle.lapd_timers.specs.declared.timer.Timer.{Timer}
-use Rattle.lapd_timers.specs.Due.{at_rest}
+use Rattle.lapd_timers.specs.Due.{all_stopped}
 use Rattle.lapd_frame.specs.declared.Sapi.{Sapi}
 use Rattle.lapd_frame.specs.declared.Sapi.TheVariants as sapi
 use Rattle.lapd_frame.specs.declared.Side.TheVariants as side
@@ -43,7 +43,7 @@ use Rattle.lapd_sides.specs.Management.{carries_message, is_unit_to_group, manag
 use Rattle.lapd_sides_links.specs.Links.{Served}
 
 -- The SAPIs for which an establishment is kept until the terminal has a TEI.
-pub record KeptEstablishments : Type 0 where
+pub record PendingEstablishments : Type 0 where
   pub call : Bool
   pub packet : Bool
 
@@ -51,12 +51,12 @@ pub record KeptEstablishments : Type 0 where
 pub record User : Type 0 where
   pub served : Served
   pub terminal : Phase
-  pub kept : KeptEstablishments
+  pub pending : PendingEstablishments
   pub random : Lcg
   pub discarded : ℕ
 
-abbrev pub nothing_kept : KeptEstablishments
-nothing_kept = record { call = false; packet = false }
+abbrev pub nothing_pending : PendingEstablishments
+nothing_pending = record { call = false; packet = false }
 
 -- a new user side: with the links of a fixed TEI, or with none
 abbrev pub links_of_fixed : Config → Option ℕ → Links
@@ -65,9 +65,9 @@ links_of_fixed config (Some tei) = with_tei config tei no_links
 
 abbrev pub new_user : Config → Option ℕ → Lcg → User
 new_user config fixed random = record {
-  served = record { links = links_of_fixed config fixed; timers = at_rest config.durations };
+  served = record { links = links_of_fixed config fixed; timers = all_stopped config.durations };
   terminal = new_terminal fixed;
-  kept = nothing_kept;
+  pending = nothing_pending;
   random = random;
   discarded = 0;
 }
@@ -145,35 +145,36 @@ establishes true now id s = or_unmoved s (link_of_user now id Establish [] s)
 establishes false now id s = unmoved s
 
 -- With a TEI, the kept establishments are executed, SAPI 0 first; then none is kept.
-abbrev pub establishes_kept : ℕ → ℕ → User → Reaction User
-establishes_kept now own s =
-    next (establishes s.kept.call now (of_sapi sapi.Call own) (record s { kept = nothing_kept }))
-    (establishes s.kept.packet now (of_sapi sapi.Packet own))
+abbrev pub establishes_pending : ℕ → ℕ → User → Reaction User
+establishes_pending now own s =
+    next (establishes s.pending.call now (of_sapi sapi.Call own)
+    (record s { pending = nothing_pending }))
+    (establishes s.pending.packet now (of_sapi sapi.Packet own))
 
 -- a primitive of a SAPI without a TEI names the group TEI
-abbrev pub told_of_group : Sapi → What → List Primitive
-told_of_group sapi w = Of (of_sapi sapi group_tei) w ∷ []
+abbrev pub primitive_of_group : Sapi → What → List Primitive
+primitive_of_group sapi w = Of (of_sapi sapi group_tei) w ∷ []
 
 -- the same, if its establishment was kept
-abbrev pub told_of_sapi : Bool → Sapi → What → List Primitive
-told_of_sapi true sapi w = told_of_group sapi w
-told_of_sapi false sapi w = []
+abbrev pub primitive_of_sapi : Bool → Sapi → What → List Primitive
+primitive_of_sapi true sapi w = primitive_of_group sapi w
+primitive_of_sapi false sapi w = []
 
 -- If no TEI was obtained, each kept establishment is released.
-abbrev pub gives_up_kept : User → Reaction User
-gives_up_kept s = record {
-  after = record s { kept = nothing_kept };
+abbrev pub gives_up_pending : User → Reaction User
+gives_up_pending s = record {
+  after = record s { pending = nothing_pending };
   effects = record no_effects {
-    primitives = told_of_sapi s.kept.call sapi.Call what.Released
-        ++ told_of_sapi s.kept.packet sapi.Packet what.Released;
+    primitives = primitive_of_sapi s.pending.call sapi.Call what.Released
+        ++ primitive_of_sapi s.pending.packet sapi.Packet what.Released;
   };
 }
 
-abbrev pub kept_after : ℕ → List TeiOut → User → Reaction User
-kept_after now [] s = unmoved s
-kept_after now (tei.Got own ∷ outs) s = establishes_kept now own s
-kept_after now (tei.Failed ∷ outs) s = gives_up_kept s
-kept_after now (output ∷ outs) s = kept_after now outs s
+abbrev pub pending_after : ℕ → List TeiOut → User → Reaction User
+pending_after now [] s = unmoved s
+pending_after now (tei.Got own ∷ outs) s = establishes_pending now own s
+pending_after now (tei.Failed ∷ outs) s = gives_up_pending s
+pending_after now (output ∷ outs) s = pending_after now outs s
 
 abbrev pub assigned : Config → ℕ → TerminalStep → User → Reaction User
 assigned config now step s =
@@ -185,16 +186,16 @@ assigned config now step s =
       };
       effects = (manages side.User config now step.outs s.served).effects;
     })
-    (kept_after now step.outs)
+    (pending_after now step.outs)
 
 -- an event of the terminal, with the reference that it sends, if any
 unfoldable pub terminal_acts : Config → ℕ → (ℕ → TerminalEvent) → User → Reaction User
 terminal_acts config now event s =
     assigned config now (terminal_step s.terminal (event (next_reference s.random))) s
 
-abbrev pub message_heard : Config → ℕ → Result TeiMessage TeiFault → User → Reaction User
-message_heard config now (Ok message) s = terminal_acts config now (event.Heard message) s
-message_heard config now (Err fault) s = unmoved s
+abbrev pub message_received : Config → ℕ → Result TeiMessage TeiFault → User → Reaction User
+message_received config now (Ok message) s = terminal_acts config now (event.Heard message) s
+message_received config now (Err fault) s = unmoved s
 
 -- ---- Octets from the line.
 
@@ -202,7 +203,7 @@ message_heard config now (Err fault) s = unmoved s
 abbrev pub unit_from_group : Sapi → List ℕ → User → Reaction User
 unit_from_group sapi octets s = record {
   after = s;
-  effects = record no_effects { primitives = told_of_group sapi (what.UnitUp octets) };
+  effects = record no_effects { primitives = primitive_of_group sapi (what.UnitUp octets) };
 }
 
 -- a frame that is not a TEI message: unit data to all terminals, or a frame for the link that it is
@@ -210,28 +211,28 @@ unit_from_group sapi octets s = record {
 abbrev pub for_layer_3 : Config → Fields → Bool
 for_layer_3 config frame = is_served config frame.address.sapi && is_unit_to_group frame
 
-abbrev pub data_heard : Config → ℕ → Fields → User → Reaction User
-data_heard config now frame s =
+abbrev pub data_received : Config → ℕ → Fields → User → Reaction User
+data_received config now frame s =
     if for_layer_3 config frame then unit_from_group frame.address.sapi frame.info s
     else or_discarded s (link_of_user now (of_sapi frame.address.sapi frame.address.tei)
     (Heard frame.control frame.address.role) frame.info s)
 
-abbrev pub frame_heard : Config → ℕ → Fields → User → Reaction User
-frame_heard config now frame s =
-    if carries_message frame then message_heard config now (message_at frame.info) s
-    else data_heard config now frame s
+abbrev pub frame_received : Config → ℕ → Fields → User → Reaction User
+frame_received config now frame s =
+    if carries_message frame then message_received config now (message_at frame.info) s
+    else data_received config now frame s
 
-abbrev pub fault_heard : ℕ → FaultKind → Option Address → User → Reaction User
-fault_heard now kind None s = discards s
-fault_heard now kind (Some address) s =
+abbrev pub fault_received : ℕ → FaultKind → Option Address → User → Reaction User
+fault_received now kind None s = discards s
+fault_received now kind (Some address) s =
     or_discarded s (link_of_user now (of_sapi address.sapi address.tei) (Faulty kind) [] s)
 
-abbrev pub heard : Config → ℕ → Result Fields FrameFault → User → Reaction User
-heard config now (Ok frame) s = frame_heard config now frame s
-heard config now (Err fault) s = fault_heard now fault.kind fault.address s
+abbrev pub received : Config → ℕ → Result Fields FrameFault → User → Reaction User
+received config now (Ok frame) s = frame_received config now frame s
+received config now (Err fault) s = fault_received now fault.kind fault.address s
 
 unfoldable pub user_takes : Config → List ℕ → ℕ → User → Reaction User
-user_takes config octets now s = heard config now (frame_at side.Network octets) s
+user_takes config octets now s = received config now (frame_at side.Network octets) s
 
 -- The TEI that is obtained because of these octets, if any: its links are added, which is the only
 -- allocation.
@@ -270,30 +271,31 @@ with_tei_or now (Assigned by own) sapi input octets otherwise s =
 with_tei_or now Unassigned sapi input octets otherwise s = otherwise
 with_tei_or now (Awaiting purpose count ri) sapi input octets otherwise s = otherwise
 
-abbrev pub is_kept : Sapi → KeptEstablishments → Bool
-is_kept sapi.Call kept = kept.call
-is_kept sapi.Packet kept = kept.packet
-is_kept sapi.Management kept = false
+abbrev pub is_pending : Sapi → PendingEstablishments → Bool
+is_pending sapi.Call pending = pending.call
+is_pending sapi.Packet pending = pending.packet
+is_pending sapi.Management pending = false
 
-abbrev pub keeps : Sapi → Bool → KeptEstablishments → KeptEstablishments
-keeps sapi.Call on kept = record kept { call = on }
-keeps sapi.Packet on kept = record kept { packet = on }
-keeps sapi.Management on kept = kept
+abbrev pub with_pending : Sapi → Bool → PendingEstablishments → PendingEstablishments
+with_pending sapi.Call on pending = record pending { call = on }
+with_pending sapi.Packet on pending = record pending { packet = on }
+with_pending sapi.Management on pending = pending
 
 -- Without a TEI, an establishment is kept, and a TEI is requested (5.3.2).
 abbrev pub wants : Config → ℕ → Sapi → User → Result (Reaction User) SideKind
 wants config now sapi s =
     if is_served config sapi
-    then Ok (terminal_acts config now event.Want (record s { kept = keeps sapi true s.kept }))
+    then Ok (terminal_acts config now event.Want
+    (record s { pending = with_pending sapi true s.pending }))
     else Err NoLink
 
 -- A release forgets it, and the terminal continues to request.
 abbrev pub forgets : Sapi → User → Result (Reaction User) SideKind
 forgets sapi s =
-    if is_kept sapi s.kept
+    if is_pending sapi s.pending
     then Ok (record {
-      after = record s { kept = keeps sapi false s.kept };
-      effects = record no_effects { primitives = told_of_group sapi what.ReleaseConfirm };
+      after = record s { pending = with_pending sapi false s.pending };
+      effects = record no_effects { primitives = primitive_of_group sapi what.ReleaseConfirm };
     })
     else Err NoLink
 

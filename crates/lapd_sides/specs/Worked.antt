@@ -25,17 +25,17 @@ use Rattle.lapd_sides.specs.User.{User, next_reference, advanced, user_takes, us
 
 -- octets from the line, the expiry of a timer, or a request; at a time in milliseconds
 pub data Happening : Type 0 where
-  Comes : (octets : List ℕ) → (now : ℕ) → Happening
+  Arrives : (octets : List ℕ) → (now : ℕ) → Happening
   Expires : (timer : Timer) → (of : Option LinkId) → (now : ℕ) → Happening
   Asked : (request : Request) → (now : ℕ) → Happening
 
 abbrev pub network_does : Config → Happening → Network → Result (Reaction Network) SideKind
-network_does config (Comes octets now) s = Ok (network_takes config octets now s)
+network_does config (Arrives octets now) s = Ok (network_takes config octets now s)
 network_does config (Expires timer of now) s = Ok (network_expires config now timer of s)
 network_does config (Asked request now) s = network_requested config request now s
 
 abbrev pub user_does : Config → Happening → User → Result (Reaction User) SideKind
-user_does config (Comes octets now) s = Ok (user_takes config octets now s)
+user_does config (Arrives octets now) s = Ok (user_takes config octets now s)
 user_does config (Expires timer of now) s = Ok (user_expires config now timer of s)
 user_does config (Asked request now) s = user_requested config request now s
 
@@ -95,17 +95,17 @@ call_control_alone = record both_sapis { sapi16 = false }
 -- links
 abbrev pub tei_and_disc : List Happening
 tei_and_disc =
-    Comes (0xFC ∷ 0xFF ∷ 0x03 ∷ 0x0F ∷ 0x12 ∷ 0x34 ∷ 0x01 ∷ 0xFF ∷ []) 0
-    ∷ Comes (0x00 ∷ 0x81 ∷ 0x53 ∷ []) 0
-    ∷ Comes (0x40 ∷ 0x81 ∷ 0x53 ∷ []) 0
-    ∷ Comes (0x00 ∷ 0x83 ∷ 0x53 ∷ []) 0 ∷ []
+    Arrives (0xFC ∷ 0xFF ∷ 0x03 ∷ 0x0F ∷ 0x12 ∷ 0x34 ∷ 0x01 ∷ 0xFF ∷ []) 0
+    ∷ Arrives (0x00 ∷ 0x81 ∷ 0x53 ∷ []) 0
+    ∷ Arrives (0x40 ∷ 0x81 ∷ 0x53 ∷ []) 0
+    ∷ Arrives (0x00 ∷ 0x83 ∷ 0x53 ∷ []) 0 ∷ []
 
 -- both links are established, and the link of SAPI 16 is released
 abbrev pub both_established : List Happening
-both_established = Comes (0x00 ∷ 0x81 ∷ 0x7F ∷ []) 0 ∷ Comes (0x40 ∷ 0x81 ∷ 0x7F ∷ []) 0 ∷ []
+both_established = Arrives (0x00 ∷ 0x81 ∷ 0x7F ∷ []) 0 ∷ Arrives (0x40 ∷ 0x81 ∷ 0x7F ∷ []) 0 ∷ []
 
 abbrev pub one_released : List Happening
-one_released = Comes (0x40 ∷ 0x81 ∷ 0x53 ∷ []) 500 ∷ []
+one_released = Arrives (0x40 ∷ 0x81 ∷ 0x53 ∷ []) 500 ∷ []
 
 -- a check that no terminal responds to
 abbrev pub vain_check : List Happening
@@ -114,11 +114,11 @@ vain_check = Asked (request.Check 64) 600 ∷ Expires T201 None 1600 ∷ Expires
 -- octets that do not form a frame for an existing link, four times, and then a SABME
 abbrev pub four_and_sabme : List Happening
 four_and_sabme =
-    Comes (0x00 ∷ []) 0
-    ∷ Comes (0x01 ∷ 0x81 ∷ 0x73 ∷ []) 0
-    ∷ Comes (0x04 ∷ 0x81 ∷ 0x7F ∷ []) 0
-    ∷ Comes (0x00 ∷ 0x83 ∷ 0x7F ∷ []) 0
-    ∷ Comes (0x00 ∷ 0x81 ∷ 0x7F ∷ []) 0 ∷ []
+    Arrives (0x00 ∷ []) 0
+    ∷ Arrives (0x01 ∷ 0x81 ∷ 0x73 ∷ []) 0
+    ∷ Arrives (0x04 ∷ 0x81 ∷ 0x7F ∷ []) 0
+    ∷ Arrives (0x00 ∷ 0x83 ∷ 0x7F ∷ []) 0
+    ∷ Arrives (0x00 ∷ 0x81 ∷ 0x7F ∷ []) 0 ∷ []
 
 -- ---- The user side.
 
@@ -146,4 +146,4 @@ vain_want =
 abbrev pub want_and_tei : List Happening
 want_and_tei =
     Asked (request.Establish (of_sapi Call 0)) 0
-    ∷ Comes (0xFE ∷ 0xFF ∷ 0x03 ∷ 0x0F ∷ 0x00 ∷ 0x00 ∷ 0x02 ∷ 0x81 ∷ []) 100 ∷ []
+    ∷ Arrives (0xFE ∷ 0xFF ∷ 0x03 ∷ 0x0F ∷ 0x00 ∷ 0x00 ∷ 0x02 ∷ 0x81 ∷ []) 100 ∷ []

@@ -20,7 +20,7 @@ pub enum EitherSide {
 }
 
 impl EitherSide {
-    ghost use Rattle.lapd_sides.specs.Either.{side_of, Takes, Answers, Expires, Rests, HasNextDeadline, HasTable, HasTimers, HasDiscarded};
+    ghost use Rattle.lapd_sides.specs.Either.{side_of, Takes, Answers, Expires, StaysIdle, HasNextDeadline, HasTable, HasTimers, HasDiscarded};
 
     /// Whether this is the network side or the user side.
     pub fn side(&self) -> Side
@@ -39,7 +39,7 @@ impl EitherSide {
     /// B3 if the links of a TEI cannot be allocated. The side is unchanged and `acts` is empty.
     pub fn take(&mut self, bytes: &[u8], now: u64, acts: &mut Acts) -> Result<(), SideFault>
         ensures side { side_of self.new ≡ side_of self.old }
-        ensures heard { Takes bytes.now now result self.old self.new acts.new }
+        ensures received { Takes bytes.now now result self.old self.new acts.new }
         ensures err { IfErr result (λ fault. fault ≡ without_message SideKind.Memory) }
     {
         match self {
@@ -54,7 +54,7 @@ impl EitherSide {
     pub fn tick(&mut self, now: u64, acts: &mut Acts) -> bool
         ensures side { side_of self.new ≡ side_of self.old }
         ensures due { result ≡ true → Expires now self.old self.new acts.new }
-        ensures none { result ≡ false → Rests now self.old self.new }
+        ensures none { result ≡ false → StaysIdle now self.old self.new }
         ensures nothing { result ≡ false → acts.new ≡ no_effects }
     {
         match self {

@@ -104,7 +104,7 @@ pub fn vain_requests_are_released()
 
 /// The terminal obtains TEI 64 by its first reference: the kept establishment is executed, T202 is
 /// stopped, and T200 of the new link runs.
-pub fn kept_establishments_are_done()
+pub fn pending_establishments_are_done()
     ensures gives { user_gives call_control_alone want_and_tei
         (new_user call_control_alone None random)
         ≡ Ok (record { frames = asking 0 ∷ []; primitives = [] })

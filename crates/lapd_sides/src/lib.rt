@@ -45,10 +45,10 @@
 #![tactic(auto)]
 
 mod either_side;
-mod kept_establishments;
 mod laws;
 mod links_and_timer;
 mod net_side;
+mod pending_establishments;
 mod references;
 mod request;
 mod user_side;
@@ -61,7 +61,7 @@ pub use lapd_sides_links::{
 pub use lapd_tei::{Assigner, Terminal};
 pub use laws::{
     assignments_make_links, discarded_frames_are_counted, freed_teis_lose_their_links,
-    kept_establishments_are_done, releases_leave_other_links, vain_requests_are_released,
+    pending_establishments_are_done, releases_leave_other_links, vain_requests_are_released,
 };
 pub use net_side::NetSide;
 pub use request::Request;

@@ -2,7 +2,7 @@
 
 ghost use Rattle.std.specs.Prelude.{◌≡◌, ◌≤◌, ◌<◌, ◌+◌, ◌++◌, length, Some, None, OnOk, OnErr, IfOk, IfSome, IsSome};
 ghost use Rattle.std.specs.List.{All, filter_map};
-ghost use Rattle.lapd_timers.specs.Due.{at_rest};
+ghost use Rattle.lapd_timers.specs.Due.{all_stopped};
 ghost use Rattle.lapd_tei.specs.Out.{IsInRange, tei_given, tei_freed};
 ghost use Rattle.lapd_sides_links.specs.declared.acts.TheConstants.{MOST_FRAMES, MOST_PRIMITIVES};
 ghost use Rattle.lapd_sides_links.specs.Effects.{managed, message_sent, outcome_of, no_effects};
@@ -36,7 +36,7 @@ impl LinksAndTimer {
     /// `AllocError` if an allocation failed.
     pub fn new(alloc: Global, side: Side, durations: Durations) -> Result<LinksAndTimer, AllocError>
         ensures { IfOk result (λ s. ShowServed side s
-            (record { links = no_links; timers = at_rest durations })) }
+            (record { links = no_links; timers = all_stopped durations })) }
     {
         Ok(LinksAndTimer {
             links: LinkSet::new(alloc, side)?,
@@ -78,7 +78,7 @@ impl LinksAndTimer {
         ensures most_primitives { length acts.new.primitives ≤ MOST_TEI_OUTPUTS + 2 }
     {
         put_messages(side, outs, acts);
-        tell_outcomes(outs, acts);
+        deliver_outcomes(outs, acts);
         time_management(&mut self.timers, outs, now);
         if let Some(tei) = freed(outs) {
             self.links.remove_tei(tei, acts);
@@ -163,7 +163,7 @@ fn put_messages(side: Side, outs: &[TeiOut], acts: &mut Acts)
 }
 
 /// Appends the outcomes among these outputs.
-fn tell_outcomes(outs: &[TeiOut], acts: &mut Acts)
+fn deliver_outcomes(outs: &[TeiOut], acts: &mut Acts)
     requires room { length acts.old.primitives + length outs.now ≤ MOST_PRIMITIVES }
     ensures primitives { acts.new.primitives
         ≡ acts.old.primitives ++ filter_map outcome_of outs.now }
@@ -172,7 +172,7 @@ fn tell_outcomes(outs: &[TeiOut], acts: &mut Acts)
 {
     for out in outs {
         if let Some(outcome) = outcome_of(out) {
-            acts.tell(outcome);
+            acts.deliver(outcome);
         }
     }
 }

@@ -12,7 +12,7 @@ ghost use Rattle.lapd_sides_links.specs.Expiries.{IsNextDeadline, of_served};
 ghost use Rattle.lapd_sides.specs.Requests.{message_of, without_message};
 ghost use Rattle.lapd_sides.specs.Shows.{ShowEnds};
 ghost use Rattle.lapd_sides_links.specs.Links.{IsOfLink};
-ghost use Rattle.lapd_sides.specs.Network.{Network, new_network, network_takes, network_expires, network_requested, assigner_acts, link_of_network, or_discarded, frame_heard, fault_heard, unit_requested, unit_to_group, given_for, given_for_frame, given_for_message};
+ghost use Rattle.lapd_sides.specs.Network.{Network, new_network, network_takes, network_expires, network_requested, assigner_acts, link_of_network, or_discarded, frame_received, fault_received, unit_requested, unit_to_group, given_for, given_for_frame, given_for_message};
 
 use crate::links_and_timer::{LinksAndTimer, carries_message, one_more, without_message};
 use crate::{Acts, Config, Request, RunningTimer, SideFault, SideKind};
@@ -42,7 +42,7 @@ pub struct NetSide {
 }
 
 impl NetSide {
-    ghost use Rattle.lapd_sides.specs.ShowsNetwork.{ShowNetwork, EachShown, Does, Hears, Answers, Expires, Rests};
+    ghost use Rattle.lapd_sides.specs.ShowsNetwork.{ShowNetwork, EachShown, NetworkDoes, NetworkReceives, Answers, Expires, NetworkStaysIdle};
 
     /// Creates a network side that holds these TEIs, each 0 to 126. Their links exist, in state 4.
     ///
@@ -74,43 +74,43 @@ impl NetSide {
     ///
     /// B3 if that allocation failed. The side is unchanged and `acts` is empty.
     pub fn take(&mut self, bytes: &[u8], now: u64, acts: &mut Acts) -> Result<(), SideFault>
-        ensures heard { Hears result self.old self.new acts.new
+        ensures received { NetworkReceives result self.old self.new acts.new
             (λ s. given_for s.assigner bytes.now) (λ config. network_takes config bytes.now now) }
         ensures err { IfErr result (λ fault. fault ≡ without_message SideKind.Memory) }
     {
         acts.clear();
-        match self.hear_octets(bytes, now, acts) {
+        match self.receive_octets(bytes, now, acts) {
             Ok(()) => Ok(()),
             Err(AllocError) => Err(without_message(SideKind::Memory)),
         }
     }
 
     /// Processes octets of the user side: a frame, or a fault.
-    fn hear_octets(&mut self, bytes: &[u8], now: u64, acts: &mut Acts) -> Result<(), AllocError>
+    fn receive_octets(&mut self, bytes: &[u8], now: u64, acts: &mut Acts) -> Result<(), AllocError>
         requires empty { acts.old ≡ no_effects }
-        ensures { Hears result self.old self.new acts.new
+        ensures { NetworkReceives result self.old self.new acts.new
             (λ s. given_for s.assigner bytes.now) (λ config. network_takes config bytes.now now) }
     {
         match read(bytes, Side::User) {
-            Ok(frame) => self.hear(&frame, now, acts),
+            Ok(frame) => self.receive(&frame, now, acts),
             Err(fault) => {
-                self.hear_fault(&fault, now, acts);
+                self.receive_fault(&fault, now, acts);
                 Ok(())
             }
         }
     }
 
     /// Processes a frame: a TEI message, or a frame for the link that it is addressed to.
-    fn hear(&mut self, frame: &Frame<'_>, now: u64, acts: &mut Acts) -> Result<(), AllocError>
+    fn receive(&mut self, frame: &Frame<'_>, now: u64, acts: &mut Acts) -> Result<(), AllocError>
         requires fits { length frame.now.info ≤ N201 }
         requires empty { acts.old ≡ no_effects }
-        ensures { Hears result self.old self.new acts.new
+        ensures { NetworkReceives result self.old self.new acts.new
             (λ s. given_for_frame s.assigner (Ok frame.now))
-            (λ config. frame_heard config now frame.now) }
+            (λ config. frame_received config now frame.now) }
     {
         if carries_message(frame) {
             match TeiMessage::read(frame.info()) {
-                Ok(message) => self.hear_message(message, now, acts),
+                Ok(message) => self.receive_message(message, now, acts),
                 Err(_) => Ok(()),
             }
         } else {
@@ -121,11 +121,11 @@ impl NetSide {
     }
 
     /// Processes a fault: of a frame for a link, or of octets for none, which are discarded.
-    fn hear_fault(&mut self, fault: &FrameFault, now: u64, acts: &mut Acts)
+    fn receive_fault(&mut self, fault: &FrameFault, now: u64, acts: &mut Acts)
         requires empty { acts.old ≡ no_effects }
         requires of_link { IfSome fault.now.address (λ address. is_for_link fault.now.kind ≡ true) }
-        ensures { Does self.old self.new acts.new
-            (λ _. fault_heard now fault.now.kind fault.now.address) }
+        ensures { NetworkDoes self.old self.new acts.new
+            (λ _. fault_received now fault.now.kind fault.now.address) }
     {
         match fault.address {
             Some(address) => {
@@ -138,14 +138,14 @@ impl NetSide {
 
     /// Passes a TEI message to the assigner. The links of a TEI that it assigns are added before
     /// anything else is changed.
-    fn hear_message(
+    fn receive_message(
         &mut self,
         message: TeiMessage,
         now: u64,
         acts: &mut Acts,
     ) -> Result<(), AllocError>
         requires empty { acts.old ≡ no_effects }
-        ensures { Hears result self.old self.new acts.new
+        ensures { NetworkReceives result self.old self.new acts.new
             (λ s. given_for_message s.assigner (Ok message))
             (λ config. assigner_acts config now (AssignerEvent.Heard message)) }
     {
@@ -163,7 +163,8 @@ impl NetSide {
     fn manage(&mut self, event: AssignerEvent, now: u64, acts: &mut Acts)
         requires empty { acts.old ≡ no_effects }
         requires gives_none { (a : AssignerState) → tei_given (assigner_step a event).outs ≡ None }
-        ensures { Does self.old self.new acts.new (λ config. assigner_acts config now event) }
+        ensures { NetworkDoes self.old self.new acts.new
+            (λ config. assigner_acts config now event) }
     {
         let outs = self.assigner.handle(event);
         self.served
@@ -175,7 +176,7 @@ impl NetSide {
         requires empty { acts.old ≡ no_effects }
         requires for_link { IsFor id event }
         requires fits { length octets.now ≤ N201 }
-        ensures { Does self.old self.new acts.new
+        ensures { NetworkDoes self.old self.new acts.new
             (λ _ s. or_discarded s (link_of_network now id (input_of event.entry) octets.now s)) }
     {
         match self.served.links.act(&id, event, octets, now, acts) {
@@ -189,7 +190,7 @@ impl NetSide {
     /// arrived by then. Does not allocate.
     pub fn tick(&mut self, now: u64, acts: &mut Acts) -> bool
         ensures due { result ≡ true → Expires self.old self.new acts.new now }
-        ensures none { result ≡ false → Rests self.old self.new now }
+        ensures none { result ≡ false → NetworkStaysIdle self.old self.new now }
         ensures nothing { result ≡ false → acts.new ≡ no_effects }
     {
         acts.clear();
@@ -220,7 +221,7 @@ impl NetSide {
     fn expire(&mut self, id: LinkId, timer: Timer, now: u64, acts: &mut Acts)
         requires empty { acts.old ≡ no_effects }
         requires of_link { IsOfLink timer }
-        ensures { Does self.old self.new acts.new
+        ensures { NetworkDoes self.old self.new acts.new
             (λ config. network_expires config now timer (Some id)) }
     {
         let _ = self.served.links.expire(&id, timer, now, acts);
@@ -255,7 +256,7 @@ impl NetSide {
 }
 
 impl NetSide {
-    ghost use Rattle.lapd_sides.specs.ShowsNetwork.{EachShown, ShowsAsBefore, Grants, RefusesAs, Answers};
+    ghost use Rattle.lapd_sides.specs.ShowsNetwork.{EachShown, ShowsNetworkAsBefore, Grants, NetworkRefusesAs, Answers};
 
     /// Passes an event to the link with this id.
     fn act(&mut self, id: LinkId, event: Event, now: u64, acts: &mut Acts) -> Result<(), SideFault>
@@ -299,9 +300,9 @@ impl NetSide {
         requires empty { acts.old ≡ no_effects }
         ensures ok { OnOk result (Grants self.old self.new acts.new
             (λ config. unit_requested config now id octets.now)) }
-        ensures err { IfErr result (λ kind. RefusesAs self.old kind
+        ensures err { IfErr result (λ kind. NetworkRefusesAs self.old kind
             (λ config. unit_requested config now id octets.now)) }
-        ensures unchanged { OnErr result (ShowsAsBefore self.old self.new) }
+        ensures unchanged { OnErr result (ShowsNetworkAsBefore self.old self.new) }
         ensures nothing { OnErr result (acts.new ≡ no_effects) }
     {
         if self.config.serves_group(&id) {

@@ -17,12 +17,12 @@ ghost use Rattle.lapd_sides_links.specs.Links.{IsOfLink, of_sapi};
 ghost use Rattle.lapd_sides_links.specs.Rooms.{HasRoomFor, AddsAtMost};
 ghost use Rattle.lapd_sides.specs.Requests.{message_of, without_message};
 ghost use Rattle.lapd_sides.specs.Shows.{ShowEnds};
-ghost use Rattle.lapd_sides.specs.User.{User, seeded, sends_message, new_user, user_takes, user_expires, user_requested, terminal_acts, assigned, kept_after, establishes_kept, establishes, gives_up_kept, told_of_group, told_of_sapi, link_of_user, or_discarded, frame_heard, data_heard, for_layer_3, fault_heard, got_for, got_for_frame, got_for_message, wants, forgets, with_tei_or};
+ghost use Rattle.lapd_sides.specs.User.{User, seeded, sends_message, new_user, user_takes, user_expires, user_requested, terminal_acts, assigned, pending_after, establishes_pending, establishes, gives_up_pending, primitive_of_group, primitive_of_sapi, link_of_user, or_discarded, frame_received, data_received, for_layer_3, fault_received, got_for, got_for_frame, got_for_message, wants, forgets, with_tei_or};
 
-use crate::kept_establishments::KeptEstablishments;
 use crate::links_and_timer::{
     LinksAndTimer, MOST_TEI_OUTPUTS, carries_message, is_unit_to_group, one_more, without_message,
 };
+use crate::pending_establishments::PendingEstablishments;
 use crate::references::References;
 use crate::{Acts, Config, Octets, Primitive, Request, RunningTimer, SideFault, SideKind, What};
 use lapd_frame::{FaultKind, Frame, FrameFault, N201, Sapi, Side, Tei, read};
@@ -44,14 +44,14 @@ pub struct UserSide {
     config: Config,
     served: LinksAndTimer,
     terminal: Terminal,
-    kept: KeptEstablishments,
+    pending: PendingEstablishments,
     references: References,
     /// The number of discarded frames, up to `u64::MAX`.
     discarded: u64,
 }
 
 impl UserSide {
-    ghost use Rattle.lapd_sides.specs.ShowsUser.{ShowUser, EachShown, Does, Hears, Answers, Expires, Rests};
+    ghost use Rattle.lapd_sides.specs.ShowsUser.{ShowUser, EachShown, UserDoes, UserReceives, Answers, Expires, UserStaysIdle};
 
     /// Creates a user side. With a fixed TEI, 0 to 126, its links exist, in state 4; without one it
     /// has no links yet.
@@ -73,7 +73,7 @@ impl UserSide {
             config,
             served,
             terminal: Terminal::new(fixed),
-            kept: KeptEstablishments::nothing(),
+            pending: PendingEstablishments::nothing(),
             references: References::new(config.seed),
             discarded: 0,
         })
@@ -89,60 +89,61 @@ impl UserSide {
     ///
     /// B3 if that allocation failed. The side is unchanged and `acts` is empty.
     pub fn take(&mut self, bytes: &[u8], now: u64, acts: &mut Acts) -> Result<(), SideFault>
-        ensures heard { Hears result self.old self.new acts.new
+        ensures received { UserReceives result self.old self.new acts.new
             (λ s. got_for s bytes.now) (λ config. user_takes config bytes.now now) }
         ensures err { IfErr result (λ fault. fault ≡ without_message SideKind.Memory) }
     {
         acts.clear();
-        match self.hear_octets(bytes, now, acts) {
+        match self.receive_octets(bytes, now, acts) {
             Ok(()) => Ok(()),
             Err(AllocError) => Err(without_message(SideKind::Memory)),
         }
     }
 
     /// Processes octets of the network side: a frame, or a fault.
-    fn hear_octets(&mut self, bytes: &[u8], now: u64, acts: &mut Acts) -> Result<(), AllocError>
+    fn receive_octets(&mut self, bytes: &[u8], now: u64, acts: &mut Acts) -> Result<(), AllocError>
         requires empty { acts.old ≡ no_effects }
-        ensures { Hears result self.old self.new acts.new
+        ensures { UserReceives result self.old self.new acts.new
             (λ s. got_for s bytes.now) (λ config. user_takes config bytes.now now) }
     {
         match read(bytes, Side::Network) {
-            Ok(frame) => self.hear(&frame, now, acts),
+            Ok(frame) => self.receive(&frame, now, acts),
             Err(fault) => {
-                self.hear_fault(&fault, now, acts);
+                self.receive_fault(&fault, now, acts);
                 Ok(())
             }
         }
     }
 
     /// Processes a frame, which may be a TEI message.
-    fn hear(&mut self, frame: &Frame<'_>, now: u64, acts: &mut Acts) -> Result<(), AllocError>
+    fn receive(&mut self, frame: &Frame<'_>, now: u64, acts: &mut Acts) -> Result<(), AllocError>
         requires empty { acts.old ≡ no_effects }
         requires fits { length frame.now.info ≤ N201 }
-        ensures { Hears result self.old self.new acts.new
-            (λ s. got_for_frame s (Ok frame.now)) (λ config. frame_heard config now frame.now) }
+        ensures { UserReceives result self.old self.new acts.new
+            (λ s. got_for_frame s (Ok frame.now)) (λ config. frame_received config now frame.now) }
     {
         if carries_message(frame) {
             match TeiMessage::read(frame.info()) {
-                Ok(message) => self.hear_message(message, now, acts),
+                Ok(message) => self.receive_message(message, now, acts),
                 Err(_) => Ok(()),
             }
         } else {
-            self.hear_data(frame, now, acts);
+            self.receive_data(frame, now, acts);
             Ok(())
         }
     }
 
     /// Processes a frame that is not a TEI message: unit data to all terminals, or a frame for the
     /// link that it is addressed to.
-    fn hear_data(&mut self, frame: &Frame<'_>, now: u64, acts: &mut Acts)
+    fn receive_data(&mut self, frame: &Frame<'_>, now: u64, acts: &mut Acts)
         requires empty { acts.old ≡ no_effects }
         requires fits { length frame.now.info ≤ N201 }
-        ensures { Does self.old self.new acts.new (λ config. data_heard config now frame.now) }
+        ensures { UserDoes self.old self.new acts.new
+            (λ config. data_received config now frame.now) }
     {
         let address = frame.address();
         if is_for_layer_3(&self.config, frame) {
-            tell_unit(address.sapi, frame.info(), acts);
+            deliver_unit(address.sapi, frame.info(), acts);
         } else {
             let id = LinkId::of_address(&address);
             self.act_or_discard(id, Event::Heard(frame), frame.info(), now, acts);
@@ -150,11 +151,11 @@ impl UserSide {
     }
 
     /// Processes a fault: of a frame for a link, or of octets for none, which are discarded.
-    fn hear_fault(&mut self, fault: &FrameFault, now: u64, acts: &mut Acts)
+    fn receive_fault(&mut self, fault: &FrameFault, now: u64, acts: &mut Acts)
         requires empty { acts.old ≡ no_effects }
         requires of_link { IfSome fault.now.address (λ address. is_for_link fault.now.kind ≡ true) }
-        ensures { Does self.old self.new acts.new
-            (λ _. fault_heard now fault.now.kind fault.now.address) }
+        ensures { UserDoes self.old self.new acts.new
+            (λ _. fault_received now fault.now.kind fault.now.address) }
     {
         match fault.address {
             Some(address) => {
@@ -167,14 +168,14 @@ impl UserSide {
 
     /// Passes a TEI message to the terminal. The links of a TEI that it obtains are added before
     /// anything else is changed.
-    fn hear_message(
+    fn receive_message(
         &mut self,
         message: TeiMessage,
         now: u64,
         acts: &mut Acts,
     ) -> Result<(), AllocError>
         requires empty { acts.old ≡ no_effects }
-        ensures { Hears result self.old self.new acts.new
+        ensures { UserReceives result self.old self.new acts.new
             (λ s. got_for_message s (Ok message))
             (λ config. terminal_acts config now (TerminalEvent.Heard message)) }
     {
@@ -193,7 +194,7 @@ impl UserSide {
         requires empty { acts.old ≡ no_effects }
         requires for_link { IsFor id event }
         requires fits { length octets.now ≤ N201 }
-        ensures { Does self.old self.new acts.new
+        ensures { UserDoes self.old self.new acts.new
             (λ _ s. or_discarded s (link_of_user now id (input_of event.entry) octets.now s)) }
     {
         match self.served.links.act(&id, event, octets, now, acts) {
@@ -207,7 +208,7 @@ impl UserSide {
     /// arrived by then. Does not allocate.
     pub fn tick(&mut self, now: u64, acts: &mut Acts) -> bool
         ensures due { result ≡ true → Expires self.old self.new acts.new now }
-        ensures none { result ≡ false → Rests self.old self.new now }
+        ensures none { result ≡ false → UserStaysIdle self.old self.new now }
         ensures nothing { result ≡ false → acts.new ≡ no_effects }
     {
         acts.clear();
@@ -238,7 +239,7 @@ impl UserSide {
     fn expire(&mut self, id: LinkId, timer: Timer, now: u64, acts: &mut Acts)
         requires empty { acts.old ≡ no_effects }
         requires of_link { IsOfLink timer }
-        ensures { Does self.old self.new acts.new
+        ensures { UserDoes self.old self.new acts.new
             (λ config. user_expires config now timer (Some id)) }
     {
         let _ = self.served.links.expire(&id, timer, now, acts);
@@ -333,7 +334,7 @@ impl UserSide {
         if !self.config.serves(sapi) {
             return Err(without_message(SideKind::NoLink));
         }
-        self.kept.set(sapi, true);
+        self.pending.set(sapi, true);
         let event = TerminalEvent::Want(self.references.next());
         self.manage(event, now, acts);
         Ok(())
@@ -356,11 +357,11 @@ impl UserSide {
         requires empty { acts.old ≡ no_effects }
         ensures { Answers result self.old self.new acts.new None (λ _. forgets sapi) }
     {
-        if !self.kept.has(sapi) {
+        if !self.pending.has(sapi) {
             return Err(without_message(SideKind::NoLink));
         }
-        self.kept.set(sapi, false);
-        tell_sapi(sapi, What::ReleaseConfirm, acts);
+        self.pending.set(sapi, false);
+        deliver_for_sapi(sapi, What::ReleaseConfirm, acts);
         Ok(())
     }
 
@@ -444,12 +445,12 @@ impl UserSide {
 
 /// TEI management.
 impl UserSide {
-    ghost use Rattle.lapd_sides.specs.ShowsUser.{Does, Follows, CarriesOut};
+    ghost use Rattle.lapd_sides.specs.ShowsUser.{UserDoes, Follows, CarriesOut};
 
     /// Requests a TEI.
     fn ask(&mut self, now: u64, acts: &mut Acts)
         requires { acts.old ≡ no_effects }
-        ensures { Does self.old self.new acts.new
+        ensures { UserDoes self.old self.new acts.new
             (λ config. terminal_acts config now TerminalEvent.Ask) }
     {
         let event = TerminalEvent::Ask(self.references.next());
@@ -459,7 +460,7 @@ impl UserSide {
     /// Stops T202, which has expired, and processes its expiry.
     fn ask_again(&mut self, now: u64, acts: &mut Acts)
         requires { acts.old ≡ no_effects }
-        ensures { Does self.old self.new acts.new
+        ensures { UserDoes self.old self.new acts.new
             (λ config. terminal_acts config now TerminalEvent.T202) }
     {
         let event = TerminalEvent::T202(self.references.next());
@@ -470,7 +471,7 @@ impl UserSide {
     fn manage(&mut self, event: TerminalEvent, now: u64, acts: &mut Acts)
         requires empty { acts.old ≡ no_effects }
         requires gets_none { (phase : Phase) → tei_given (terminal_step phase event).outs ≡ None }
-        ensures { Does self.old self.new acts.new
+        ensures { UserDoes self.old self.new acts.new
             (λ config s. assigned config now (terminal_step s.terminal event) s) }
     {
         let outs = self.terminal.handle(event);
@@ -487,58 +488,64 @@ impl UserSide {
     {
         self.references.advance_if(sends_message(outs));
         self.served.carry_out(Side::User, outs, now, acts);
-        self.settle_kept(outs, now, acts);
+        self.settle_pending(outs, now, acts);
     }
 
     /// Settles the kept establishments after these outputs: executes them if a TEI was obtained,
     /// and releases them if none was.
-    fn settle_kept(&mut self, outs: &[TeiOut], now: u64, acts: &mut Acts)
+    fn settle_pending(&mut self, outs: &[TeiOut], now: u64, acts: &mut Acts)
         requires frame_room { length acts.old.frames ≤ MOST_TEI_OUTPUTS + 2 }
         requires primitive_room { length acts.old.primitives ≤ MOST_TEI_OUTPUTS + 2 }
-        ensures { Follows self.old self.new acts.old acts.new (λ _. kept_after now outs.now) }
+        ensures { Follows self.old self.new acts.old acts.new (λ _. pending_after now outs.now) }
     {
         for out in outs {
             match out {
-                TeiOut::Got(tei) => return self.establish_kept(*tei, now, acts),
-                TeiOut::Failed => return self.give_up_kept(acts),
+                TeiOut::Got(tei) => return self.establish_pending(*tei, now, acts),
+                TeiOut::Failed => return self.give_up_pending(acts),
                 _ => {}
             }
         }
     }
 
     /// Executes the kept establishments with this new TEI, SAPI 0 first.
-    fn establish_kept(&mut self, tei: Tei, now: u64, acts: &mut Acts)
+    fn establish_pending(&mut self, tei: Tei, now: u64, acts: &mut Acts)
         requires frame_room { length acts.old.frames ≤ MOST_TEI_OUTPUTS + 2 }
         requires primitive_room { length acts.old.primitives ≤ MOST_TEI_OUTPUTS + 2 }
-        ensures { Follows self.old self.new acts.old acts.new (λ _. establishes_kept now tei) }
+        ensures { Follows self.old self.new acts.old acts.new (λ _. establishes_pending now tei) }
     {
-        let kept = self.kept;
-        self.kept = KeptEstablishments::nothing();
-        self.establish_if(kept.has(Sapi::Call), name(Sapi::Call, tei), now, acts);
-        self.establish_if(kept.has(Sapi::Packet), name(Sapi::Packet, tei), now, acts);
+        let pending = self.pending;
+        self.pending = PendingEstablishments::nothing();
+        self.establish_if(pending.has(Sapi::Call), name(Sapi::Call, tei), now, acts);
+        self.establish_if(
+            pending.has(Sapi::Packet),
+            name(Sapi::Packet, tei),
+            now,
+            acts,
+        );
     }
 
     /// Establishes the link with this id if its establishment was kept. The results are appended to
     /// `acts`.
-    fn establish_if(&mut self, kept: bool, id: LinkId, now: u64, acts: &mut Acts)
+    fn establish_if(&mut self, pending: bool, id: LinkId, now: u64, acts: &mut Acts)
         requires room { HasRoomFor Establish acts.old }
-        ensures done { Follows self.old self.new acts.old acts.new (λ _. establishes kept now id) }
+        ensures done { Follows self.old self.new acts.old acts.new
+            (λ _. establishes pending now id) }
         ensures most { AddsAtMost Establish acts.old acts.new }
     {
-        if kept {
+        if pending {
             let _ = self.served.links.act(&id, Event::Establish, &[], now, acts);
         }
     }
 
     /// Releases the kept establishments, SAPI 0 first, because the terminal obtained no TEI.
-    fn give_up_kept(&mut self, acts: &mut Acts)
+    fn give_up_pending(&mut self, acts: &mut Acts)
         requires { length acts.old.primitives ≤ MOST_TEI_OUTPUTS + 2 }
-        ensures { Follows self.old self.new acts.old acts.new (λ _. gives_up_kept) }
+        ensures { Follows self.old self.new acts.old acts.new (λ _. gives_up_pending) }
     {
-        let kept = self.kept;
-        self.kept = KeptEstablishments::nothing();
-        release_if(kept.has(Sapi::Call), Sapi::Call, acts);
-        release_if(kept.has(Sapi::Packet), Sapi::Packet, acts);
+        let pending = self.pending;
+        self.pending = PendingEstablishments::nothing();
+        release_if(pending.has(Sapi::Call), Sapi::Call, acts);
+        release_if(pending.has(Sapi::Packet), Sapi::Packet, acts);
     }
 }
 
@@ -562,36 +569,36 @@ fn sends_message(outs: &[TeiOut]) -> bool
 }
 
 /// Reports unit data to all terminals, of this SAPI, to layer 3 (Q.921 5.2).
-fn tell_unit(sapi: Sapi, octets: &[u8], acts: &mut Acts)
+fn deliver_unit(sapi: Sapi, octets: &[u8], acts: &mut Acts)
     requires empty { acts.old ≡ no_effects }
     requires fits { length octets.now ≤ N201 }
     ensures { acts.new ≡ record no_effects {
-      primitives = told_of_group sapi (What.UnitUp octets.now);
+      primitives = primitive_of_group sapi (What.UnitUp octets.now);
     } }
 {
-    tell_sapi(sapi, What::UnitUp(Octets::new(octets)), acts);
+    deliver_for_sapi(sapi, What::UnitUp(Octets::new(octets)), acts);
 }
 
 /// Reports to layer 3 that a SAPI without a TEI is released, if its establishment was kept.
-fn release_if(kept: bool, sapi: Sapi, acts: &mut Acts)
+fn release_if(pending: bool, sapi: Sapi, acts: &mut Acts)
     requires { length acts.old.primitives < MOST_PRIMITIVES }
     ensures { acts.new ≡ record acts.old {
-      primitives = acts.old.primitives ++ told_of_sapi kept sapi What.Released;
+      primitives = acts.old.primitives ++ primitive_of_sapi pending sapi What.Released;
     } }
 {
-    if kept {
-        tell_sapi(sapi, What::Released, acts);
+    if pending {
+        deliver_for_sapi(sapi, What::Released, acts);
     }
 }
 
 /// Reports a primitive of a SAPI without a TEI to layer 3; it names the group TEI.
-fn tell_sapi(sapi: Sapi, what: What, acts: &mut Acts)
+fn deliver_for_sapi(sapi: Sapi, what: What, acts: &mut Acts)
     requires { length acts.old.primitives < MOST_PRIMITIVES }
     ensures { acts.new ≡ record acts.old {
-      primitives = acts.old.primitives ++ told_of_group sapi what;
+      primitives = acts.old.primitives ++ primitive_of_group sapi what;
     } }
 {
-    acts.tell(Primitive::Of(name(sapi, Tei::group()), what));
+    acts.deliver(Primitive::Of(name(sapi, Tei::group()), what));
 }
 
 /// The id of a link.

@@ -14,12 +14,12 @@ use Rattle.lapd_sides_links.specs.Links.{Linked, is_served, is_link_of, with_tei
 use Rattle.lapd_sides.specs.Network.{new_network}
 use Rattle.lapd_sides.specs.User.{new_user}
 use Rattle.lapd_sides_laws.specs.Interface.{Configs, Interface, Move, fresh_link, by_user, by_network, side_does, happens, new_interface, run}
-use Rattle.lapd_sides_laws.specs.Premises.{tells_removal, IsMoveGivingTeiOnce, IsMoveLeavingTeiTaken, GiveTeiOnce, LeaveTeiTaken, KeepPremisesAsMade}
-use Rattle.lapd_sides_laws.specs.SideView.{Deed, does}
+use Rattle.lapd_sides_laws.specs.Premises.{is_removal, IsMoveGivingTeiOnce, IsMoveLeavingTeiTaken, GiveTeiOnce, LeaveTeiTaken, SatisfyPremisesAsMade}
+use Rattle.lapd_sides_laws.specs.SideView.{SideEvent, does}
 use Rattle.lapd_sides_laws.specs.Projects.{IsSafeAt}
-use Rattle.lapd_sides_laws.proofs.NetworkOwn.{AreHeld, network_keeps}
+use Rattle.lapd_sides_laws.proofs.NetworkOwn.{AreHeld, network_preserves}
 use Rattle.lapd_sides_laws.proofs.OwnTeis.{both_of}
-use Rattle.lapd_sides_laws.proofs.UserOwn.{AreOwn, user_keeps}
+use Rattle.lapd_sides_laws.proofs.UserOwn.{AreOwn, user_preserves}
 use Rattle.lapd_sides_laws.proofs.Timed.{new_is_timed}
 use Rattle.lapd_sides_laws.proofs.Whole.{IsNew, link_safe_as}
 
@@ -44,32 +44,32 @@ new_are_held config known = λ k there.
 
 -- ---- Runs.
 
-either_way : (there removed : Bool) (told : Bool) → (there ≡ true → told ≡ false) → (removed ≡ true → told ≡ false) → (there || removed) ≡ true → told ≡ false
-either_way true removed told f g h = f refl
-either_way false removed told f g h = g h
+either_way : (there removed : Bool) (delivered : Bool) → (there ≡ true → delivered ≡ false) → (removed ≡ true → delivered ≡ false) → (there || removed) ≡ true → delivered ≡ false
+either_way true removed delivered f g h = f refl
+either_way false removed delivered f g h = g h
 
 module _ (c : Configs) (id : LinkId) where
-  move_once : (who : Side) (deed : Deed) (i : Interface) → AreOwn i.user → AreHeld i.network → IsMoveLeavingTeiTaken c id who deed i → IsMoveGivingTeiOnce c id who deed i
-  move_once side.User deed i own held taken = λ h.
-      either_way (is_some (i.user.served.links id)) (list_any (tells_removal id.tei) i.told_to_user) _ ((user_keeps c.user (by_user i) deed own).quiet id) taken h
-  move_once side.Network deed i own held taken = λ h.
-      either_way (is_some (i.network.served.links id)) (list_any (tells_removal id.tei) i.told_to_network) _ ((network_keeps c.network (by_network i) deed held).quiet id) taken h
+  move_once : (who : Side) (event : SideEvent) (i : Interface) → AreOwn i.user → AreHeld i.network → IsMoveLeavingTeiTaken c id who event i → IsMoveGivingTeiOnce c id who event i
+  move_once side.User event i own held taken = λ h.
+      either_way (is_some (i.user.served.links id)) (list_any (is_removal id.tei) i.delivered_to_user) _ ((user_preserves c.user (by_user i) event own).quiet id) taken h
+  move_once side.Network event i own held taken = λ h.
+      either_way (is_some (i.network.served.links id)) (list_any (is_removal id.tei) i.delivered_to_network) _ ((network_preserves c.network (by_network i) event held).quiet id) taken h
 
-  keeps_own : (who : Side) (deed : Deed) (i : Interface) → AreOwn i.user → AreOwn (side_does c who deed i).user
+  preserves_own : (who : Side) (event : SideEvent) (i : Interface) → AreOwn i.user → AreOwn (side_does c who event i).user
   unfolding does
-  keeps_own side.User deed i own = (user_keeps c.user (by_user i) deed own).after
-  keeps_own side.Network deed i own = own
+  preserves_own side.User event i own = (user_preserves c.user (by_user i) event own).after
+  preserves_own side.Network event i own = own
 
-  keeps_held : (who : Side) (deed : Deed) (i : Interface) → AreHeld i.network → AreHeld (side_does c who deed i).network
+  preserves_held : (who : Side) (event : SideEvent) (i : Interface) → AreHeld i.network → AreHeld (side_does c who event i).network
   unfolding does
-  keeps_held side.User deed i held = held
-  keeps_held side.Network deed i held = (network_keeps c.network (by_network i) deed held).after
+  preserves_held side.User event i held = held
+  preserves_held side.Network event i held = (network_preserves c.network (by_network i) event held).after
 
   pub given_once : (moves : List Move) (i : Interface) → AreOwn i.user → AreHeld i.network → LeaveTeiTaken c id moves i → GiveTeiOnce c id moves i
   given_once [] i own held taken = tt
   given_once (move ∷ moves) i own held taken = (
-    move_once move.side move.deed i own held taken.0,
-    given_once moves (happens c move i) (keeps_own move.side move.deed i own) (keeps_held move.side move.deed i held) taken.1,
+    move_once move.side move.event i own held taken.0,
+    given_once moves (happens c move i) (preserves_own move.side move.event i own) (preserves_held move.side move.event i held) taken.1,
   )
 
 -- ---- Each link.
@@ -88,7 +88,7 @@ unfolding links_below
 new_of_network config id known = new_by config id _ (is_served config id.sapi && is_held_below (known_held known).held 127 id.tei) refl
 
 pub made_link_safe : (c : Configs) (id : LinkId) (fixed : Option ℕ) (known : List ℕ) (random : Lcg) → id.tei < 127 → (parameters_for c.user id.sapi).k ≤ 127 → (parameters_for c.network id.sapi).k ≤ 127
-    → (moves : List Move) → KeepPremisesAsMade c id moves (new_interface (new_user c.user fixed random) (new_network c.network known))
+    → (moves : List Move) → SatisfyPremisesAsMade c id moves (new_interface (new_user c.user fixed random) (new_network c.network known))
     → IsSafeAt c id (run c moves (new_interface (new_user c.user fixed random) (new_network c.network known)))
 made_link_safe c id fixed known random low few_u few_n moves premises =
     let i = new_interface (new_user c.user fixed random) (new_network c.network known) in

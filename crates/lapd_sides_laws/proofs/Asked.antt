@@ -14,54 +14,54 @@ use Rattle.lapd_table.specs.LinkId.{id_eq}
 use Rattle.lapd_table.proofs.Ids.{same_id_eq}
 use Rattle.lapd_sides_links.specs.Links.{Links, Linked, Reaction, in_links, link_acts}
 use Rattle.lapd_sides_laws.specs.Owed.{IsRequest, IsNoRequest}
-use Rattle.lapd_sides_laws.specs.Told.{given_to}
+use Rattle.lapd_sides_laws.specs.Primitives.{given_to}
 use Rattle.lapd_sides_laws.proofs.LinkParts.{other_acts, own_granted, absent_refuses}
 
 -- ---- Each request of a link, as a move in the world.
 
 -- a request of layer 3, with its unit data, as a move
-pub record IsWish (side : Side) (input : Input) (octets : List ℕ) : Type 0 where
-  pub deed : world.Deed
-  pub is_deed : (v : View) → acts Tagged side deed v ≡ takes Tagged input octets v
+pub record IsMoveRequest (side : Side) (input : Input) (octets : List ℕ) : Type 0 where
+  pub event : world.PairEvent
+  pub is_event : (v : View) → acts Tagged side event v ≡ takes Tagged input octets v
   pub no_expiry : (timer : Timer) → input ≡ Expiry timer → ⊥
 
-pub establish_wish : (side : Side) → IsWish side input.Establish []
+pub establish_request : (side : Side) → IsMoveRequest side input.Establish []
 unfolding acts
-establish_wish side = record { deed = world.Establish; is_deed = λ v. refl; no_expiry = λ timer e. cc }
+establish_request side = record { event = world.Establish; is_event = λ v. refl; no_expiry = λ timer e. cc }
 
-pub release_wish : (side : Side) → IsWish side input.Release []
+pub release_request : (side : Side) → IsMoveRequest side input.Release []
 unfolding acts
-release_wish side = record { deed = world.Release; is_deed = λ v. refl; no_expiry = λ timer e. cc }
+release_request side = record { event = world.Release; is_event = λ v. refl; no_expiry = λ timer e. cc }
 
-pub busy_wish : (side : Side) → IsWish side input.BusyOn []
+pub busy_request : (side : Side) → IsMoveRequest side input.BusyOn []
 unfolding acts
-busy_wish side = record { deed = world.Busy true; is_deed = λ v. refl; no_expiry = λ timer e. cc }
+busy_request side = record { event = world.Busy true; is_event = λ v. refl; no_expiry = λ timer e. cc }
 
-pub free_wish : (side : Side) → IsWish side input.BusyOff []
+pub free_request : (side : Side) → IsMoveRequest side input.BusyOff []
 unfolding acts
-free_wish side = record { deed = world.Busy false; is_deed = λ v. refl; no_expiry = λ timer e. cc }
+free_request side = record { event = world.Busy false; is_event = λ v. refl; no_expiry = λ timer e. cc }
 
-pub give_wish : (side : Side) (message : List ℕ) → IsWish side (input.Give message) []
+pub give_request : (side : Side) (message : List ℕ) → IsMoveRequest side (input.Give message) []
 unfolding acts
-give_wish side message = record { deed = world.Give message; is_deed = λ v. refl; no_expiry = λ timer e. cc }
+give_request side message = record { event = world.Give message; is_event = λ v. refl; no_expiry = λ timer e. cc }
 
-pub unit_wish : (side : Side) (octets : List ℕ) → IsWish side (input.UnitData (length octets)) octets
+pub unit_request : (side : Side) (octets : List ℕ) → IsMoveRequest side (input.UnitData (length octets)) octets
 unfolding acts
-unit_wish side octets = record { deed = world.UnitData octets; is_deed = λ v. refl; no_expiry = λ timer e. cc }
+unit_request side octets = record { event = world.UnitData octets; is_event = λ v. refl; no_expiry = λ timer e. cc }
 
 -- ---- A request that is accepted among links.
 
-module _ (side : Side) (id : LinkId) (fresh : Linked) (removed : Bool) (links : Links) (now : ℕ) (other : LinkId) (input : Input) (octets : List ℕ) (a : Reaction Links) (given : List (LinkId × List ℕ)) (wish : IsWish side input octets) where
+module _ (side : Side) (id : LinkId) (fresh : Linked) (removed : Bool) (links : Links) (now : ℕ) (other : LinkId) (input : Input) (octets : List ℕ) (a : Reaction Links) (given : List (LinkId × List ℕ)) (line_request : IsMoveRequest side input octets) where
   abbrev Granted : Type 0
   Granted = IsNoRequest side id now fresh removed links a.after a.effects given ⊎ IsRequest side id now links a.after a.effects given
 
   own_by : (o : Option Linked) → links id ≡ o → given_to id given ≡ messages_of input → in_links id (link_acts side id now input octets) links ≡ Ok a → Granted
   own_by (Some l) was given_is own = inr (record {
-    deed = wish.deed;
+    event = line_request.event;
     input = input;
     octets = octets;
-    is_deed = wish.is_deed;
-    no_expiry = wish.no_expiry;
+    is_event = line_request.is_event;
+    no_expiry = line_request.no_expiry;
     is_step = (own_granted side id links now input octets l a was own).is_step;
     given_is = given_is;
   })

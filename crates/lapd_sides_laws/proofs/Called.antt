@@ -19,10 +19,10 @@ use Rattle.lapd_sides.specs.Network.{Network, given_for, network_takes, network_
 use Rattle.lapd_sides.specs.ShowsNetwork as net
 use Rattle.lapd_sides.specs.ShowsUser as usr
 use Rattle.lapd_sides.specs.User.{User, got_for, user_takes, user_requested}
-use Rattle.lapd_sides.specs.Calls.{HasDone, HasExpired, Hears, Answers}
+use Rattle.lapd_sides.specs.Calls.{HasDone, HasExpired, Receives, Answers}
 use Rattle.lapd_sides_laws.specs.Calls.{Puts, SideDoes, NetworkDoes, UserDoes, take_of}
 use Rattle.lapd_sides_laws.specs.Interface.{user_behaviour, network_behaviour}
-use Rattle.lapd_sides_laws.specs.SideView.{Behaviour, SideView, Deed, Take, Lose, Expire, Ask, unmoved, takes_first, runs_on, may_expire, or_unmoved, reaction, does}
+use Rattle.lapd_sides_laws.specs.SideView.{Behaviour, SideView, SideEvent, Take, Lose, Expire, Ask, unmoved, takes_first, runs_on, may_expire, or_unmoved, reaction, does}
 
 -- ---- A timer that is due may expire.
 
@@ -48,11 +48,11 @@ due_may_expire now s e due = let r : Runs (of_served s) e = due.0.runs in runs_b
 
 -- ---- The frames and primitives that an event adds.
 
-puts_so : (S : Type 0) (w : Behaviour S) (acts : Effects) (deed : Deed) (v : SideView S) → acts ≡ (reaction w deed v).effects → Puts w acts deed v
+puts_so : (S : Type 0) (w : Behaviour S) (acts : Effects) (event : SideEvent) (v : SideView S) → acts ≡ (reaction w event v).effects → Puts w acts event v
 unfolding does
-puts_so S w acts deed v is = record {
+puts_so S w acts event v is = record {
   sent = ap (λ (e : Effects). v.outgoing ++ e.frames) (sym is);
-  told = ap (λ (e : Effects). v.told ++ e.primitives) (sym is);
+  delivered = ap (λ (e : Effects). v.delivered ++ e.primitives) (sym is);
 }
 
 -- the effect of an expiry if the timer may expire
@@ -62,16 +62,16 @@ expiry_is S w e now v may = ap (λ (b : Bool). if b then w.expires now e.timer e
 -- ---- The effect of a call.
 
 -- the side after the call is the one after the event, with the same frames and primitives
-done : {C S : Type 0} (Show : C → Config → S → Type 0) (w : Config → Behaviour S) (code : C) (config : Config) (acts : Effects) (deed : Deed) (v : SideView S) (a : Reaction S)
-    → reaction (w config) deed v ≡ a → HasDone Show code config acts a → SideDoes Show w code config acts deed v
+done : {C S : Type 0} (Show : C → Config → S → Type 0) (w : Config → Behaviour S) (code : C) (config : Config) (acts : Effects) (event : SideEvent) (v : SideView S) (a : Reaction S)
+    → reaction (w config) event v ≡ a → HasDone Show code config acts a → SideDoes Show w code config acts event v
 unfolding does
-done {S = S} Show w code config acts deed v a is h = record {
+done {S = S} Show w code config acts event v a is h = record {
   shown = subst (λ (x : Reaction S). Show code config x.after) (sym is) h.shown;
-  puts = puts_so S (w config) acts deed v (h.given ∙ ap (λ (x : Reaction S). x.effects) (sym is));
+  puts = puts_so S (w config) acts event v (h.given ∙ ap (λ (x : Reaction S). x.effects) (sym is));
 }
 
 takes : {C S : Type 0} (Show : C → Config → S → Type 0) (w : Config → Behaviour S) (old new : C) (acts : Effects) (result : Result ⊤ SideFault) (octets : List ℕ) (rest : List (List ℕ)) (now : ℕ) (tei : S → Option ℕ)
-    → Hears Show result old new acts tei (λ config. (w config).takes octets now) → (config : Config) (v : SideView S) → Show old config v.now → v.incoming ≡ octets ∷ rest → SideDoes Show w new config acts (take_of result now) v
+    → Receives Show result old new acts tei (λ config. (w config).takes octets now) → (config : Config) (v : SideView S) → Show old config v.now → v.incoming ≡ octets ∷ rest → SideDoes Show w new config acts (take_of result now) v
 takes Show w old new acts (Ok u) octets rest now tei h config v shown are =
     done Show w new config acts (Take now) v ((w config).takes octets now v.now) (ap (λ line. takes_first (w config) now line v.now) are) (h config v.now shown)
 takes Show w old new acts (Err fault) octets rest now tei h config v shown are =
@@ -96,7 +96,7 @@ requests Show w old new acts (Err fault) message request now h config v shown =
 
 -- ---- A network side.
 
-pub net_takes : (old new : NetSide) (acts : Effects) (result : Result ⊤ SideFault) (octets : List ℕ) (rest : List (List ℕ)) (now : ℕ) → net.Hears result old new acts (λ s. given_for s.assigner octets) (λ config. network_takes config octets now)
+pub net_takes : (old new : NetSide) (acts : Effects) (result : Result ⊤ SideFault) (octets : List ℕ) (rest : List (List ℕ)) (now : ℕ) → net.NetworkReceives result old new acts (λ s. given_for s.assigner octets) (λ config. network_takes config octets now)
     → (config : Config) (v : SideView Network) → net.ShowNetwork old config v.now → v.incoming ≡ octets ∷ rest → NetworkDoes new config acts (take_of result now) v
 net_takes old new acts result octets rest now h = takes net.ShowNetwork network_behaviour old new acts result octets rest now (λ s. given_for s.assigner octets) h
 
@@ -111,7 +111,7 @@ net_requests old new acts result message request now h = requests net.ShowNetwor
 
 -- ---- A user side.
 
-pub usr_takes : (old new : UserSide) (acts : Effects) (result : Result ⊤ SideFault) (octets : List ℕ) (rest : List (List ℕ)) (now : ℕ) → usr.Hears result old new acts (λ s. got_for s octets) (λ config. user_takes config octets now)
+pub usr_takes : (old new : UserSide) (acts : Effects) (result : Result ⊤ SideFault) (octets : List ℕ) (rest : List (List ℕ)) (now : ℕ) → usr.UserReceives result old new acts (λ s. got_for s octets) (λ config. user_takes config octets now)
     → (config : Config) (v : SideView User) → usr.ShowUser old config v.now → v.incoming ≡ octets ∷ rest → UserDoes new config acts (take_of result now) v
 usr_takes old new acts result octets rest now h = takes usr.ShowUser user_behaviour old new acts result octets rest now (λ s. got_for s octets) h
 

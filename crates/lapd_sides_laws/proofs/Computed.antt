@@ -16,16 +16,16 @@ use Rattle.lapd_link_definition.specs.TimerRecovery.{i_frame_nr_in_recovery, pol
 use Rattle.lapd_pair_laws.specs.Safe.{IsAmong}
 use Rattle.lapd_pair_laws.specs.Schedule.{one_message, two_messages}
 use Rattle.lapd_sides_links.specs.declared.primitive.What.TheVariants as what
-use Rattle.lapd_sides_links.specs.Links.{links_below, link_acts, link_expires, in_links, with_tei, without_tei, told_of_tei}
+use Rattle.lapd_sides_links.specs.Links.{links_below, link_acts, link_expires, in_links, with_tei, without_tei, primitive_of_tei}
 use Rattle.lapd_sides.specs.Management.{manages}
 use Rattle.lapd_sides.specs.Network.{assigner_acts, link_of_network, network_takes, network_expires, network_requested}
 use Rattle.lapd_sides.specs.User.{link_of_user, terminal_acts, user_takes, user_expires, user_requested}
 use Rattle.lapd_sides_laws.specs.Interface.{run}
-use Rattle.lapd_sides_laws.specs.Premises.{AreTimely, GiveTeiOnce, KeepPremises}
+use Rattle.lapd_sides_laws.specs.Premises.{AreTimely, GiveTeiOnce, SatisfyPremises}
 use Rattle.lapd_sides_laws.specs.Projects.{IsRight}
 use Rattle.lapd_sides_laws.specs.Schedule.{configs, call, packet, at_first, unassigned, IsMessage, both_links, assigned, removed, hasty, regained, with_old_frames, answered_before}
 use Rattle.lapd_sides_laws.specs.SideView.{does}
-use Rattle.lapd_sides_laws.specs.Told.{told_of, given_to, known_of, IsReceived}
+use Rattle.lapd_sides_laws.specs.Primitives.{link_primitives, given_to, known_of, IsReceived}
 use Rattle.lapd_sides_laws.proofs.Whole.{received_as}
 
 -- ---- A message of given octets.
@@ -46,15 +46,15 @@ with_both P a b each v w is_a is_b = with_octets (λ u. P u w) a (λ u x. with_o
 -- ---- Both links.
 
 pub record BothLinks (message answer : Vec ℕ Global) : Type 0 where
-  pub call_premises : KeepPremises configs call (both_links message answer) at_first
-  pub packet_premises : KeepPremises configs packet (both_links message answer) at_first
-  pub call_to_user : told_of call (run configs (both_links message answer) at_first).told_to_user ≡ what.Confirmed ∷ what.Acknowledged 1 ∷ []
-  pub call_to_network : told_of call (run configs (both_links message answer) at_first).told_to_network ≡ what.Established ∷ what.Up (1 ∷ []) ∷ []
-  pub packet_to_user : told_of packet (run configs (both_links message answer) at_first).told_to_user ≡ what.Confirmed ∷ what.Up (2 ∷ []) ∷ []
-  pub packet_to_network : told_of packet (run configs (both_links message answer) at_first).told_to_network ≡ what.Established ∷ what.Acknowledged 1 ∷ []
+  pub call_premises : SatisfyPremises configs call (both_links message answer) at_first
+  pub packet_premises : SatisfyPremises configs packet (both_links message answer) at_first
+  pub call_to_user : link_primitives call (run configs (both_links message answer) at_first).delivered_to_user ≡ what.Confirmed ∷ what.Acknowledged 1 ∷ []
+  pub call_to_network : link_primitives call (run configs (both_links message answer) at_first).delivered_to_network ≡ what.Established ∷ what.Up (1 ∷ []) ∷ []
+  pub packet_to_user : link_primitives packet (run configs (both_links message answer) at_first).delivered_to_user ≡ what.Confirmed ∷ what.Up (2 ∷ []) ∷ []
+  pub packet_to_network : link_primitives packet (run configs (both_links message answer) at_first).delivered_to_network ≡ what.Established ∷ what.Acknowledged 1 ∷ []
 
 both_links_hold : (v w : Vec ℕ Global) (x : Fits v (1 ∷ [])) (y : Fits w (2 ∷ [])) → BothLinks (holding v (1 ∷ []) x) (holding w (2 ∷ []) y)
-unfolding link_acts link_expires in_links with_tei without_tei told_of_tei manages assigner_acts link_of_network network_takes network_expires network_requested begin put state_to rc_to increment_rc layer3_initiated_to release_pending_to start stop expired clear_exception_conditions zero_state_variables set_peer_busy set_own_busy enquiry_response transmit_enquiry queue_up discard_i_queue acknowledge invoke_retransmission i_frame_ns discard_unacknowledged transmit_i_frame ensure_t200 transmit_rr establish_data_link reestablish_data_link end_establishment tei_assigned confirm_or_indicate ua_final awaiting_establishment_t200 awaiting_establishment confirm_release awaiting_release_t200 awaiting_release acknowledge_with_timers nr_error_recovery i_frame_nr i_frame_nr_in_recovery poll_or_final poll rr_nr rej_nr rnr_nr rr_nr_in_recovery rnr_nr_in_recovery timer_recovery_t200 busy_on busy_off in_7_and_8 established_t200 multiple_frame_established timer_recovery by_state report_fault row send_all acknowledge_pending end_step step initial_variables without_exceptions with_zero_counters status_frame acknowledgement without_ack_pending poll_response is_accepted is_rejected after_i_frame i_frame_response is_valid_nr with_va acknowledged_count acknowledges_all with_vs may_send next_i_frame after_sending with_own_busy with_peer_busy after steps lies_within link_of_user terminal_acts user_takes user_expires user_requested links_below does
+unfolding link_acts link_expires in_links with_tei without_tei primitive_of_tei manages assigner_acts link_of_network network_takes network_expires network_requested begin put state_to rc_to increment_rc layer3_initiated_to release_pending_to start stop expired clear_exception_conditions zero_state_variables set_peer_busy set_own_busy enquiry_response transmit_enquiry queue_up discard_i_queue acknowledge invoke_retransmission i_frame_ns discard_unacknowledged transmit_i_frame ensure_t200 transmit_rr establish_data_link reestablish_data_link end_establishment tei_assigned confirm_or_indicate ua_final awaiting_establishment_t200 awaiting_establishment confirm_release awaiting_release_t200 awaiting_release acknowledge_with_timers nr_error_recovery i_frame_nr i_frame_nr_in_recovery poll_or_final poll rr_nr rej_nr rnr_nr rr_nr_in_recovery rnr_nr_in_recovery timer_recovery_t200 busy_on busy_off in_7_and_8 established_t200 multiple_frame_established timer_recovery by_state report_fault row send_all acknowledge_pending end_step step initial_variables without_exceptions with_zero_counters status_frame acknowledgement without_ack_pending poll_response is_accepted is_rejected after_i_frame i_frame_response is_valid_nr with_va acknowledged_count acknowledges_all with_vs may_send next_i_frame after_sending with_own_busy with_peer_busy after steps lies_within link_of_user terminal_acts user_takes user_expires user_requested links_below does
 both_links_hold v w x y = record {
   call_premises = ((tt, (tt, (tt, (tt, (tt, (λ t o. (refl, refl), (tt, (tt, (tt, (tt, (tt, (tt, (tt, (λ t o. (refl, refl), (tt, (tt, (tt, (tt, tt)))))))))))))))))), (λ there. refl, (λ there. refl, (λ there. refl, (λ there. refl, (λ there. refl, (λ there. refl, (λ there. refl, (λ there. refl, (λ there. refl, (λ there. refl, (λ there. refl, (λ there. refl, (λ there. refl, (λ there. refl, (λ there. refl, (λ there. refl, (λ there. refl, (λ there. refl, tt)))))))))))))))))));
   packet_premises = ((tt, (tt, (tt, (tt, (tt, (λ t o. (refl, refl), (tt, (tt, (tt, (tt, (tt, (tt, (tt, (λ t o. (refl, refl), (tt, (tt, (tt, (tt, tt)))))))))))))))))), (λ there. refl, (λ there. refl, (λ there. refl, (λ there. refl, (λ there. refl, (λ there. refl, (λ there. refl, (λ there. refl, (λ there. refl, (λ there. refl, (λ there. refl, (λ there. refl, (λ there. refl, (λ there. refl, (λ there. refl, (λ there. refl, (λ there. refl, (λ there. refl, tt)))))))))))))))))));
@@ -70,12 +70,12 @@ both_links_so = with_both BothLinks (1 ∷ []) (2 ∷ []) both_links_hold
 -- ---- A TEI is assigned.
 
 pub record Assigned (message : Vec ℕ Global) : Type 0 where
-  pub premises : KeepPremises configs call (assigned message) unassigned
-  pub to_user : told_of call (run configs (assigned message) unassigned).told_to_user ≡ what.Confirmed ∷ what.Acknowledged 1 ∷ []
-  pub to_network : told_of call (run configs (assigned message) unassigned).told_to_network ≡ what.Established ∷ what.Up (1 ∷ []) ∷ []
+  pub premises : SatisfyPremises configs call (assigned message) unassigned
+  pub to_user : link_primitives call (run configs (assigned message) unassigned).delivered_to_user ≡ what.Confirmed ∷ what.Acknowledged 1 ∷ []
+  pub to_network : link_primitives call (run configs (assigned message) unassigned).delivered_to_network ≡ what.Established ∷ what.Up (1 ∷ []) ∷ []
 
 assigned_holds : (v : Vec ℕ Global) (x : Fits v (1 ∷ [])) → Assigned (holding v (1 ∷ []) x)
-unfolding link_acts link_expires in_links with_tei without_tei told_of_tei manages assigner_acts link_of_network network_takes network_expires network_requested begin put state_to rc_to increment_rc layer3_initiated_to release_pending_to start stop expired clear_exception_conditions zero_state_variables set_peer_busy set_own_busy enquiry_response transmit_enquiry queue_up discard_i_queue acknowledge invoke_retransmission i_frame_ns discard_unacknowledged transmit_i_frame ensure_t200 transmit_rr establish_data_link reestablish_data_link end_establishment tei_assigned confirm_or_indicate ua_final awaiting_establishment_t200 awaiting_establishment confirm_release awaiting_release_t200 awaiting_release acknowledge_with_timers nr_error_recovery i_frame_nr i_frame_nr_in_recovery poll_or_final poll rr_nr rej_nr rnr_nr rr_nr_in_recovery rnr_nr_in_recovery timer_recovery_t200 busy_on busy_off in_7_and_8 established_t200 multiple_frame_established timer_recovery by_state report_fault row send_all acknowledge_pending end_step step initial_variables without_exceptions with_zero_counters status_frame acknowledgement without_ack_pending poll_response is_accepted is_rejected after_i_frame i_frame_response is_valid_nr with_va acknowledged_count acknowledges_all with_vs may_send next_i_frame after_sending with_own_busy with_peer_busy after steps lies_within link_of_user terminal_acts user_takes user_expires user_requested links_below does
+unfolding link_acts link_expires in_links with_tei without_tei primitive_of_tei manages assigner_acts link_of_network network_takes network_expires network_requested begin put state_to rc_to increment_rc layer3_initiated_to release_pending_to start stop expired clear_exception_conditions zero_state_variables set_peer_busy set_own_busy enquiry_response transmit_enquiry queue_up discard_i_queue acknowledge invoke_retransmission i_frame_ns discard_unacknowledged transmit_i_frame ensure_t200 transmit_rr establish_data_link reestablish_data_link end_establishment tei_assigned confirm_or_indicate ua_final awaiting_establishment_t200 awaiting_establishment confirm_release awaiting_release_t200 awaiting_release acknowledge_with_timers nr_error_recovery i_frame_nr i_frame_nr_in_recovery poll_or_final poll rr_nr rej_nr rnr_nr rr_nr_in_recovery rnr_nr_in_recovery timer_recovery_t200 busy_on busy_off in_7_and_8 established_t200 multiple_frame_established timer_recovery by_state report_fault row send_all acknowledge_pending end_step step initial_variables without_exceptions with_zero_counters status_frame acknowledgement without_ack_pending poll_response is_accepted is_rejected after_i_frame i_frame_response is_valid_nr with_va acknowledged_count acknowledges_all with_vs may_send next_i_frame after_sending with_own_busy with_peer_busy after steps lies_within link_of_user terminal_acts user_takes user_expires user_requested links_below does
 assigned_holds v x = record {
   premises = ((tt, (tt, (tt, (tt, (tt, (tt, (tt, (tt, tt)))))))), (λ there. refl, (λ there. (let never : false ≡ true = there in cc), (λ there. (let never : false ≡ true = there in cc), (λ there. refl, (λ there. refl, (λ there. refl, (λ there. refl, (λ there. refl, tt)))))))));
   to_user = refl;
@@ -88,11 +88,11 @@ assigned_so = with_octets Assigned (1 ∷ []) assigned_holds
 -- ---- A TEI is removed.
 
 pub record Removed (first : Vec ℕ Global) : Type 0 where
-  pub premises : KeepPremises configs call (removed first) at_first
-  pub to_user : told_of call (run configs (removed first) at_first).told_to_user ≡ what.Confirmed ∷ what.Released ∷ []
+  pub premises : SatisfyPremises configs call (removed first) at_first
+  pub to_user : link_primitives call (run configs (removed first) at_first).delivered_to_user ≡ what.Confirmed ∷ what.Released ∷ []
 
 removed_holds : (v : Vec ℕ Global) (x : Fits v (1 ∷ [])) → Removed (holding v (1 ∷ []) x)
-unfolding link_acts link_expires in_links with_tei without_tei told_of_tei manages assigner_acts link_of_network network_takes network_expires network_requested begin put state_to rc_to increment_rc layer3_initiated_to release_pending_to start stop expired clear_exception_conditions zero_state_variables set_peer_busy set_own_busy enquiry_response transmit_enquiry queue_up discard_i_queue acknowledge invoke_retransmission i_frame_ns discard_unacknowledged transmit_i_frame ensure_t200 transmit_rr establish_data_link reestablish_data_link end_establishment tei_assigned confirm_or_indicate ua_final awaiting_establishment_t200 awaiting_establishment confirm_release awaiting_release_t200 awaiting_release acknowledge_with_timers nr_error_recovery i_frame_nr i_frame_nr_in_recovery poll_or_final poll rr_nr rej_nr rnr_nr rr_nr_in_recovery rnr_nr_in_recovery timer_recovery_t200 busy_on busy_off in_7_and_8 established_t200 multiple_frame_established timer_recovery by_state report_fault row send_all acknowledge_pending end_step step initial_variables without_exceptions with_zero_counters status_frame acknowledgement without_ack_pending poll_response is_accepted is_rejected after_i_frame i_frame_response is_valid_nr with_va acknowledged_count acknowledges_all with_vs may_send next_i_frame after_sending with_own_busy with_peer_busy after steps lies_within link_of_user terminal_acts user_takes user_expires user_requested links_below does
+unfolding link_acts link_expires in_links with_tei without_tei primitive_of_tei manages assigner_acts link_of_network network_takes network_expires network_requested begin put state_to rc_to increment_rc layer3_initiated_to release_pending_to start stop expired clear_exception_conditions zero_state_variables set_peer_busy set_own_busy enquiry_response transmit_enquiry queue_up discard_i_queue acknowledge invoke_retransmission i_frame_ns discard_unacknowledged transmit_i_frame ensure_t200 transmit_rr establish_data_link reestablish_data_link end_establishment tei_assigned confirm_or_indicate ua_final awaiting_establishment_t200 awaiting_establishment confirm_release awaiting_release_t200 awaiting_release acknowledge_with_timers nr_error_recovery i_frame_nr i_frame_nr_in_recovery poll_or_final poll rr_nr rej_nr rnr_nr rr_nr_in_recovery rnr_nr_in_recovery timer_recovery_t200 busy_on busy_off in_7_and_8 established_t200 multiple_frame_established timer_recovery by_state report_fault row send_all acknowledge_pending end_step step initial_variables without_exceptions with_zero_counters status_frame acknowledgement without_ack_pending poll_response is_accepted is_rejected after_i_frame i_frame_response is_valid_nr with_va acknowledged_count acknowledges_all with_vs may_send next_i_frame after_sending with_own_busy with_peer_busy after steps lies_within link_of_user terminal_acts user_takes user_expires user_requested links_below does
 removed_holds v x = record {
   premises = ((tt, (tt, (tt, (tt, (tt, (tt, (tt, (λ t o. (refl, refl), (tt, (tt, (tt, (λ t o. (refl, refl), (tt, (tt, tt)))))))))))))), (λ there. refl, (λ there. refl, (λ there. refl, (λ there. refl, (λ there. refl, (λ there. refl, (λ there. refl, (λ there. refl, (λ there. refl, (λ there. refl, (λ there. refl, (λ there. refl, (λ there. refl, (λ there. refl, tt)))))))))))))));
   to_user = refl;
@@ -131,13 +131,13 @@ differ same = omega (arith, same_octet 1 2 same)
 
 pub record Hasty (first second : Vec ℕ Global) : Type 0 where
   pub tei : GiveTeiOnce configs call (hasty first second) at_first
-  pub packet_premises : KeepPremises configs packet (hasty first second) at_first
+  pub packet_premises : SatisfyPremises configs packet (hasty first second) at_first
   pub given : given_to call (run configs (hasty first second) at_first).given_to_network ≡ two_messages
-  pub acked : (known_of call (run configs (hasty first second) at_first).told_to_network).acked ≡ 1 ∷ []
-  pub received : (known_of call (run configs (hasty first second) at_first).told_to_user).received ≡ one_message
+  pub acked : (known_of call (run configs (hasty first second) at_first).delivered_to_network).acked ≡ 1 ∷ []
+  pub received : (known_of call (run configs (hasty first second) at_first).delivered_to_user).received ≡ one_message
 
 hasty_holds : (v w : Vec ℕ Global) (x : Fits v (1 ∷ [])) (y : Fits w (2 ∷ [])) → Hasty (holding v (1 ∷ []) x) (holding w (2 ∷ []) y)
-unfolding link_acts link_expires in_links with_tei without_tei told_of_tei manages assigner_acts link_of_network network_takes network_expires network_requested begin put state_to rc_to increment_rc layer3_initiated_to release_pending_to start stop expired clear_exception_conditions zero_state_variables set_peer_busy set_own_busy enquiry_response transmit_enquiry queue_up discard_i_queue acknowledge invoke_retransmission i_frame_ns discard_unacknowledged transmit_i_frame ensure_t200 transmit_rr establish_data_link reestablish_data_link end_establishment tei_assigned confirm_or_indicate ua_final awaiting_establishment_t200 awaiting_establishment confirm_release awaiting_release_t200 awaiting_release acknowledge_with_timers nr_error_recovery i_frame_nr i_frame_nr_in_recovery poll_or_final poll rr_nr rej_nr rnr_nr rr_nr_in_recovery rnr_nr_in_recovery timer_recovery_t200 busy_on busy_off in_7_and_8 established_t200 multiple_frame_established timer_recovery by_state report_fault row send_all acknowledge_pending end_step step initial_variables without_exceptions with_zero_counters status_frame acknowledgement without_ack_pending poll_response is_accepted is_rejected after_i_frame i_frame_response is_valid_nr with_va acknowledged_count acknowledges_all with_vs may_send next_i_frame after_sending with_own_busy with_peer_busy after steps lies_within link_of_user terminal_acts user_takes user_expires user_requested links_below does
+unfolding link_acts link_expires in_links with_tei without_tei primitive_of_tei manages assigner_acts link_of_network network_takes network_expires network_requested begin put state_to rc_to increment_rc layer3_initiated_to release_pending_to start stop expired clear_exception_conditions zero_state_variables set_peer_busy set_own_busy enquiry_response transmit_enquiry queue_up discard_i_queue acknowledge invoke_retransmission i_frame_ns discard_unacknowledged transmit_i_frame ensure_t200 transmit_rr establish_data_link reestablish_data_link end_establishment tei_assigned confirm_or_indicate ua_final awaiting_establishment_t200 awaiting_establishment confirm_release awaiting_release_t200 awaiting_release acknowledge_with_timers nr_error_recovery i_frame_nr i_frame_nr_in_recovery poll_or_final poll rr_nr rej_nr rnr_nr rr_nr_in_recovery rnr_nr_in_recovery timer_recovery_t200 busy_on busy_off in_7_and_8 established_t200 multiple_frame_established timer_recovery by_state report_fault row send_all acknowledge_pending end_step step initial_variables without_exceptions with_zero_counters status_frame acknowledgement without_ack_pending poll_response is_accepted is_rejected after_i_frame i_frame_response is_valid_nr with_va acknowledged_count acknowledges_all with_vs may_send next_i_frame after_sending with_own_busy with_peer_busy after steps lies_within link_of_user terminal_acts user_takes user_expires user_requested links_below does
 hasty_holds v w x y = record {
   tei = (λ there. refl, (λ there. refl, (λ there. refl, (λ there. refl, (λ there. refl, (λ there. refl, (λ there. refl, (λ there. refl, (λ there. refl, tt)))))))));
   packet_premises = ((tt, (tt, (tt, (λ t o. (refl, refl), (tt, (tt, (tt, (tt, (tt, tt))))))))), (λ there. refl, (λ there. refl, (λ there. refl, (λ there. refl, (λ there. refl, (λ there. refl, (λ there. refl, (λ there. refl, (λ there. refl, tt))))))))));
@@ -160,11 +160,11 @@ hasty_is_not_right first second one two right =
 pub record Regained (first second : Vec ℕ Global) : Type 0 where
   pub timely : AreTimely configs call (regained first second) at_first
   pub given : given_to call (run configs (regained first second) at_first).given_to_user ≡ two_messages
-  pub acked : (known_of call (run configs (regained first second) at_first).told_to_user).acked ≡ 0 ∷ []
-  pub received : (known_of call (run configs (regained first second) at_first).told_to_network).received ≡ (2 ∷ []) ∷ []
+  pub acked : (known_of call (run configs (regained first second) at_first).delivered_to_user).acked ≡ 0 ∷ []
+  pub received : (known_of call (run configs (regained first second) at_first).delivered_to_network).received ≡ (2 ∷ []) ∷ []
 
 regained_holds : (v w : Vec ℕ Global) (x : Fits v (1 ∷ [])) (y : Fits w (2 ∷ [])) → Regained (holding v (1 ∷ []) x) (holding w (2 ∷ []) y)
-unfolding link_acts link_expires in_links with_tei without_tei told_of_tei manages assigner_acts link_of_network network_takes network_expires network_requested begin put state_to rc_to increment_rc layer3_initiated_to release_pending_to start stop expired clear_exception_conditions zero_state_variables set_peer_busy set_own_busy enquiry_response transmit_enquiry queue_up discard_i_queue acknowledge invoke_retransmission i_frame_ns discard_unacknowledged transmit_i_frame ensure_t200 transmit_rr establish_data_link reestablish_data_link end_establishment tei_assigned confirm_or_indicate ua_final awaiting_establishment_t200 awaiting_establishment confirm_release awaiting_release_t200 awaiting_release acknowledge_with_timers nr_error_recovery i_frame_nr i_frame_nr_in_recovery poll_or_final poll rr_nr rej_nr rnr_nr rr_nr_in_recovery rnr_nr_in_recovery timer_recovery_t200 busy_on busy_off in_7_and_8 established_t200 multiple_frame_established timer_recovery by_state report_fault row send_all acknowledge_pending end_step step initial_variables without_exceptions with_zero_counters status_frame acknowledgement without_ack_pending poll_response is_accepted is_rejected after_i_frame i_frame_response is_valid_nr with_va acknowledged_count acknowledges_all with_vs may_send next_i_frame after_sending with_own_busy with_peer_busy after steps lies_within link_of_user terminal_acts user_takes user_expires user_requested links_below does
+unfolding link_acts link_expires in_links with_tei without_tei primitive_of_tei manages assigner_acts link_of_network network_takes network_expires network_requested begin put state_to rc_to increment_rc layer3_initiated_to release_pending_to start stop expired clear_exception_conditions zero_state_variables set_peer_busy set_own_busy enquiry_response transmit_enquiry queue_up discard_i_queue acknowledge invoke_retransmission i_frame_ns discard_unacknowledged transmit_i_frame ensure_t200 transmit_rr establish_data_link reestablish_data_link end_establishment tei_assigned confirm_or_indicate ua_final awaiting_establishment_t200 awaiting_establishment confirm_release awaiting_release_t200 awaiting_release acknowledge_with_timers nr_error_recovery i_frame_nr i_frame_nr_in_recovery poll_or_final poll rr_nr rej_nr rnr_nr rr_nr_in_recovery rnr_nr_in_recovery timer_recovery_t200 busy_on busy_off in_7_and_8 established_t200 multiple_frame_established timer_recovery by_state report_fault row send_all acknowledge_pending end_step step initial_variables without_exceptions with_zero_counters status_frame acknowledgement without_ack_pending poll_response is_accepted is_rejected after_i_frame i_frame_response is_valid_nr with_va acknowledged_count acknowledges_all with_vs may_send next_i_frame after_sending with_own_busy with_peer_busy after steps lies_within link_of_user terminal_acts user_takes user_expires user_requested links_below does
 regained_holds v w x y = record {
   timely = (tt, (tt, (tt, (tt, (tt, (tt, (tt, (λ t o. (refl, refl), (tt, (tt, (tt, (λ t o. (refl, refl), (tt, (tt, (tt, (tt, (tt, (tt, (tt, (tt, (tt, (tt, (tt, tt)))))))))))))))))))))));
   given = refl;
@@ -184,13 +184,13 @@ regained_is_not_right first second one two right =
 -- ---- The premise on the line.
 
 pub record AnsweredBefore (message : Vec ℕ Global) : Type 0 where
-  pub premises : KeepPremises configs call (answered_before message) with_old_frames
+  pub premises : SatisfyPremises configs call (answered_before message) with_old_frames
   pub given : given_to call (run configs (answered_before message) with_old_frames).given_to_user ≡ one_message
-  pub acked : (known_of call (run configs (answered_before message) with_old_frames).told_to_user).acked ≡ 0 ∷ []
-  pub received : (known_of call (run configs (answered_before message) with_old_frames).told_to_network).received ≡ []
+  pub acked : (known_of call (run configs (answered_before message) with_old_frames).delivered_to_user).acked ≡ 0 ∷ []
+  pub received : (known_of call (run configs (answered_before message) with_old_frames).delivered_to_network).received ≡ []
 
 answered_before_holds : (v : Vec ℕ Global) (x : Fits v (1 ∷ [])) → AnsweredBefore (holding v (1 ∷ []) x)
-unfolding link_acts link_expires in_links with_tei without_tei told_of_tei manages assigner_acts link_of_network network_takes network_expires network_requested begin put state_to rc_to increment_rc layer3_initiated_to release_pending_to start stop expired clear_exception_conditions zero_state_variables set_peer_busy set_own_busy enquiry_response transmit_enquiry queue_up discard_i_queue acknowledge invoke_retransmission i_frame_ns discard_unacknowledged transmit_i_frame ensure_t200 transmit_rr establish_data_link reestablish_data_link end_establishment tei_assigned confirm_or_indicate ua_final awaiting_establishment_t200 awaiting_establishment confirm_release awaiting_release_t200 awaiting_release acknowledge_with_timers nr_error_recovery i_frame_nr i_frame_nr_in_recovery poll_or_final poll rr_nr rej_nr rnr_nr rr_nr_in_recovery rnr_nr_in_recovery timer_recovery_t200 busy_on busy_off in_7_and_8 established_t200 multiple_frame_established timer_recovery by_state report_fault row send_all acknowledge_pending end_step step initial_variables without_exceptions with_zero_counters status_frame acknowledgement without_ack_pending poll_response is_accepted is_rejected after_i_frame i_frame_response is_valid_nr with_va acknowledged_count acknowledges_all with_vs may_send next_i_frame after_sending with_own_busy with_peer_busy after steps lies_within link_of_user terminal_acts user_takes user_expires user_requested links_below does
+unfolding link_acts link_expires in_links with_tei without_tei primitive_of_tei manages assigner_acts link_of_network network_takes network_expires network_requested begin put state_to rc_to increment_rc layer3_initiated_to release_pending_to start stop expired clear_exception_conditions zero_state_variables set_peer_busy set_own_busy enquiry_response transmit_enquiry queue_up discard_i_queue acknowledge invoke_retransmission i_frame_ns discard_unacknowledged transmit_i_frame ensure_t200 transmit_rr establish_data_link reestablish_data_link end_establishment tei_assigned confirm_or_indicate ua_final awaiting_establishment_t200 awaiting_establishment confirm_release awaiting_release_t200 awaiting_release acknowledge_with_timers nr_error_recovery i_frame_nr i_frame_nr_in_recovery poll_or_final poll rr_nr rej_nr rnr_nr rr_nr_in_recovery rnr_nr_in_recovery timer_recovery_t200 busy_on busy_off in_7_and_8 established_t200 multiple_frame_established timer_recovery by_state report_fault row send_all acknowledge_pending end_step step initial_variables without_exceptions with_zero_counters status_frame acknowledgement without_ack_pending poll_response is_accepted is_rejected after_i_frame i_frame_response is_valid_nr with_va acknowledged_count acknowledges_all with_vs may_send next_i_frame after_sending with_own_busy with_peer_busy after steps lies_within link_of_user terminal_acts user_takes user_expires user_requested links_below does
 answered_before_holds v x = record {
   premises = ((tt, (tt, (tt, (tt, tt)))), (λ there. refl, (λ there. refl, (λ there. refl, (λ there. refl, tt)))));
   given = refl;

@@ -21,7 +21,7 @@ use Rattle.lapd_field.specs.Address.{command_bit}
 use Rattle.lapd_field.specs.Control.{IsControl, control_octets, bit}
 use Rattle.lapd_frame.specs.Frame.{Fields, spelling, content_fault, frame_of}
 use Rattle.lapd_frame.specs.Reading.{frame_at, fault_for_link}
-use Rattle.lapd_frame.proofs.FrameAt.{parts_again, spelling_found}
+use Rattle.lapd_frame.proofs.FrameAt.{parts_again, frame_spelled}
 use Rattle.lapd_mod128.specs.Counting.{Tagged}
 use Rattle.lapd_supervision.specs.StateVariables.{AreTags, initial_variables}
 use Rattle.lapd_link_definition.specs.declared.event.LinkFault.{LinkFault}
@@ -29,7 +29,7 @@ use Rattle.lapd_link_definition.specs.declared.out.Out.{Out}
 use Rattle.lapd_link_definition.specs.declared.out.Out.TheVariants.{Send, SendMessage, SendUnit, Up, UnitUp, Established, Confirmed, Released, ReleaseConfirm, Acknowledged, Dropped, Start, Stop, Report}
 use Rattle.lapd_link_definition.specs.End.{End, StepState, runs}
 use Rattle.lapd_link_definition.specs.Input.{Input, Expiry}
-use Rattle.lapd_link_definition.specs.Numbers.{HearsNumbers, AreNumbered}
+use Rattle.lapd_link_definition.specs.Numbers.{CarriesNumbers, AreNumbered}
 use Rattle.lapd_link_definition.specs.Parameters.{Parameters}
 use Rattle.lapd_link_definition.specs.RunningTimers.{AreTimersOf, HasTimersOfState, is_same_timer, runs_after, runs_after_out, runs_before, TimersFollow}
 use Rattle.lapd_link_definition.specs.Table.{step}
@@ -122,18 +122,18 @@ never_202 (Expiry T202) e = refl
 never_202 (Expiry T203) e = refl
 never_202 input e = refl
 
-as_end_says : (timer : Timer) (input : Input) (e : End) (s : StepState) → TimersFollow input e s → runs_after timer s.outs (runs_before timer input e) ≡ runs timer s.end
-as_end_says T200 input e s f = sym f.t200_follows
-as_end_says T201 input e s f = f.t201_stays (runs_before T201 input e) ∙ never_201 input e
-as_end_says T202 input e s f = f.t202_stays (runs_before T202 input e) ∙ never_202 input e
-as_end_says T203 input e s f = sym f.t203_follows
+as_end_requires : (timer : Timer) (input : Input) (e : End) (s : StepState) → TimersFollow input e s → runs_after timer s.outs (runs_before timer input e) ≡ runs timer s.end
+as_end_requires T200 input e s f = sym f.t200_follows
+as_end_requires T201 input e s f = f.t201_stays (runs_before T201 input e) ∙ never_201 input e
+as_end_requires T202 input e s f = f.t202_stays (runs_before T202 input e) ∙ never_202 input e
+as_end_requires T203 input e s f = sym f.t203_follows
 
-stepped : (now : ℕ) (input : Input) (e : End) (t : Timers) (s : StepState) → HasTimersOfState e → AreTags e.window → HearsNumbers Tagged input → RunsAsBefore input e t → step Tagged input e ≡ Ok s
+stepped : (now : ℕ) (input : Input) (e : End) (t : Timers) (s : StepState) → HasTimersOfState e → AreTags e.window → CarriesNumbers Tagged input → RunsAsBefore input e t → step Tagged input e ≡ Ok s
     → HasExactTimers (record { end = s.end; timers = timed now s.outs t })
 stepped now input e t s of_state numbers heard before done =
     let follows = timers_follow Tagged input e s of_state done in
     record {
-      exact = λ timer. runs_by_outs timer now s.outs t ∙ ap (runs_after timer s.outs) (before timer) ∙ as_end_says timer input e s follows;
+      exact = λ timer. runs_by_outs timer now s.outs t ∙ ap (runs_after timer s.outs) (before timer) ∙ as_end_requires timer input e s follows;
       of_state = timers_stay Tagged input e s numbers heard of_state done;
       numbers = numbers_stay Tagged input e s numbers heard done;
     }
@@ -197,7 +197,7 @@ behind_address from f h =
     All-tail IsOctet (f.address.tei * 2 + 1) rest (All-tail IsOctet (sapi_value f.address.sapi * 4 + command_bit from f.address.role * 2) ((f.address.tei * 2 + 1) ∷ rest) h)
 
 read_from_octets : (from : Side) (octets : List ℕ) (r : Result Fields FrameFault) → frame_at from octets ≡ r → AreOctets octets → IsNumberedFrame r
-read_from_octets from octets (Ok f) found h = in_octets f.control f.info (behind_address from f (subst AreOctets (spelling_found from octets f found) h))
+read_from_octets from octets (Ok f) found h = in_octets f.control f.info (behind_address from f (subst AreOctets (frame_spelled from octets f found) h))
 read_from_octets from octets (Err fault) found h = tt
 
 pub octets_carry_tags : (from : Side) (octets : List ℕ) → AreOctets octets → CarriesTags from octets
@@ -269,7 +269,7 @@ abbrev IsExactStep : Side → Result (Reaction Linked) LinkFault → Type 0
 IsExactStep side r = IfOk r (λ a. IsExactLink side a.after a.effects)
 
 module _ (side : Side) (id : LinkId) where
-  acted_is_exact : (now : ℕ) (input : Input) (octets : List ℕ) (e : End) (t : Timers) (r : Result StepState LinkFault) → HasTimersOfState e → AreTags e.window → HearsNumbers Tagged input → RunsAsBefore input e t → step Tagged input e ≡ r
+  acted_is_exact : (now : ℕ) (input : Input) (octets : List ℕ) (e : End) (t : Timers) (r : Result StepState LinkFault) → HasTimersOfState e → AreTags e.window → CarriesNumbers Tagged input → RunsAsBefore input e t → step Tagged input e ≡ r
       → IsExactStep side (acted side id now octets t r)
   acted_is_exact now input octets e t (Err fault) of_state numbers heard before done = tt
   acted_is_exact now input octets e t (Ok s) of_state numbers heard before done = record {
@@ -285,7 +285,7 @@ module _ (side : Side) (id : LinkId) where
   there links None act all one each = tt
   there links (Some l) act all one each = placed links (act l) all (each l (one l refl))
 
-  pub acts_exactly : (now : ℕ) (input : Input) (octets : List ℕ) (links : Links) → IsNoExpiry input → HearsNumbers Tagged input → HaveExactTimers links → IsExactAmong side (in_links id (link_acts side id now input octets) links)
+  pub acts_exactly : (now : ℕ) (input : Input) (octets : List ℕ) (links : Links) → IsNoExpiry input → CarriesNumbers Tagged input → HaveExactTimers links → IsExactAmong side (in_links id (link_acts side id now input octets) links)
   unfolding in_links link_acts
   acts_exactly now input octets links plain heard all =
       there links (links id) (λ (l : Linked). acted side id now octets l.timers (step Tagged input l.end)) all (all id)

@@ -15,7 +15,7 @@ use Rattle.lapd_field.specs.Control.{IsControl}
 use Rattle.lapd_link_definition.specs.declared.event.LinkFault.TheVariants.{TooLong}
 use Rattle.lapd_link_definition.specs.Input as input
 use Rattle.lapd_link_definition.specs.Input.{Input, Heard, Faulty, UnitData}
-use Rattle.lapd_link_definition.specs.Numbers.{HearsNumbers}
+use Rattle.lapd_link_definition.specs.Numbers.{CarriesNumbers}
 use Rattle.lapd_mod128.specs.Counting.{Tagged}
 use Rattle.lapd_tei.specs.declared.message.TeiMessage.{TeiMessage}
 use Rattle.lapd_tei.specs.declared.fault.TeiFault.{TeiFault}
@@ -33,7 +33,7 @@ use Rattle.lapd_sides_links.specs.Links.{Links, Reaction, is_served, in_links, l
 use Rattle.lapd_sides.specs.declared.request.Request.{Request}
 use Rattle.lapd_sides.specs.declared.request.Request.TheVariants as request
 use Rattle.lapd_sides.specs.Management.{carries_message}
-use Rattle.lapd_sides.specs.Network.{Network, new_network, unmoved, discards, assigner_acts, message_heard, among_links, link_of_network, or_discarded, or_unmoved, fault_heard, heard, network_takes, network_expires, group_frame, unit_to_group, network_requested}
+use Rattle.lapd_sides.specs.Network.{Network, new_network, unmoved, discards, assigner_acts, message_received, among_links, link_of_network, or_discarded, or_unmoved, fault_received, received, network_takes, network_expires, group_frame, unit_to_group, network_requested}
 use Rattle.lapd_sides_laws.specs.ExactTimers.{HaveExactTimers}
 use Rattle.lapd_sides_laws.proofs.ExactLinks.{if_either, IsNoExpiry, CarriesTags, spelled_carries_tags, IsExact, IsExactAmong, quietly, acts_exactly, expires_exactly, fresh_or, no_link_is_exact, manages_exactly}
 
@@ -43,8 +43,8 @@ AreExact s = HaveExactTimers s.served.links
 abbrev pub Keeps : Reaction Network → Type 0
 Keeps a = IsExact side.Network a.after.served.links a.effects
 
-abbrev pub KeepsIfOk : Result (Reaction Network) SideKind → Type 0
-KeepsIfOk r = IfOk r Keeps
+abbrev pub PreservesIfOk : Result (Reaction Network) SideKind → Type 0
+PreservesIfOk r = IfOk r Keeps
 
 nothing : (s : Network) → AreExact s → Keeps (unmoved s)
 nothing s all = quietly side.Network s.served.links no_effects refl all
@@ -54,19 +54,19 @@ discarding s all = quietly side.Network s.served.links no_effects refl all
 
 -- ---- A link.
 
-among : (s : Network) (r : Result (Reaction Links) SideKind) → IsExactAmong side.Network r → KeepsIfOk (among_links s r)
+among : (s : Network) (r : Result (Reaction Links) SideKind) → IsExactAmong side.Network r → PreservesIfOk (among_links s r)
 among s (Ok a) h = h
 among s (Err kind) h = tt
 
-linked : (now : ℕ) (id : LinkId) (input : Input) (octets : List ℕ) (s : Network) → IsNoExpiry input → HearsNumbers Tagged input → AreExact s → KeepsIfOk (link_of_network now id input octets s)
+linked : (now : ℕ) (id : LinkId) (input : Input) (octets : List ℕ) (s : Network) → IsNoExpiry input → CarriesNumbers Tagged input → AreExact s → PreservesIfOk (link_of_network now id input octets s)
 unfolding link_of_network
 linked now id input octets s plain numbers all = among s (in_links id (link_acts side.Network id now input octets) s.served.links) (acts_exactly side.Network id now input octets s.served.links plain numbers all)
 
-otherwise_discarded : (s : Network) (r : Result (Reaction Network) SideKind) → AreExact s → KeepsIfOk r → Keeps (or_discarded s r)
+otherwise_discarded : (s : Network) (r : Result (Reaction Network) SideKind) → AreExact s → PreservesIfOk r → Keeps (or_discarded s r)
 otherwise_discarded s (Ok a) all h = h
 otherwise_discarded s (Err kind) all h = discarding s all
 
-otherwise_unmoved : (s : Network) (r : Result (Reaction Network) SideKind) → AreExact s → KeepsIfOk r → Keeps (or_unmoved s r)
+otherwise_unmoved : (s : Network) (r : Result (Reaction Network) SideKind) → AreExact s → PreservesIfOk r → Keeps (or_unmoved s r)
 otherwise_unmoved s (Ok a) all h = h
 otherwise_unmoved s (Err kind) all h = nothing s all
 
@@ -79,27 +79,27 @@ module _ (config : Config) (now : ℕ) where
       let managed = manages_exactly side.Network config now (assigner_step s.assigner event).outs s.served all in
       record { timers = managed.timers; frames = managed.frames }
 
-  message : (r : Result TeiMessage TeiFault) (s : Network) → AreExact s → Keeps (message_heard config now r s)
+  message : (r : Result TeiMessage TeiFault) (s : Network) → AreExact s → Keeps (message_received config now r s)
   message (Ok m) s all = assigning (event.Heard m) s all
   message (Err fault) s all = nothing s all
 
   -- ---- Octets arrive.
 
-  faulty : (kind : FaultKind) (address : Option Address) (s : Network) → AreExact s → Keeps (fault_heard now kind address s)
+  faulty : (kind : FaultKind) (address : Option Address) (s : Network) → AreExact s → Keeps (fault_received now kind address s)
   faulty kind None s all = discarding s all
   faulty kind (Some address) s all = otherwise_discarded s (link_of_network now (id_of_address address) (Faulty kind) [] s) all (linked now (id_of_address address) (Faulty kind) [] s tt tt all)
 
-  hearing : (r : Result Fields FrameFault) (s : Network) → IfOk r (λ f. IsControl f.control) → AreExact s → Keeps (heard config now r s)
-  hearing (Ok frame) s tags all =
+  reception_is_exact : (r : Result Fields FrameFault) (s : Network) → IfOk r (λ f. IsControl f.control) → AreExact s → Keeps (received config now r s)
+  reception_is_exact (Ok frame) s tags all =
       let input = Heard frame.control frame.address.role in
       let does = link_of_network now (id_of_address frame.address) input frame.info s in
-      if_either Keeps (carries_message frame) (message_heard config now (message_at frame.info) s) (or_discarded s does) (message (message_at frame.info) s all)
+      if_either Keeps (carries_message frame) (message_received config now (message_at frame.info) s) (or_discarded s does) (message (message_at frame.info) s all)
       (otherwise_discarded s does all (linked now (id_of_address frame.address) input frame.info s tt tags all))
-  hearing (Err fault) s tags all = faulty fault.kind fault.address s all
+  reception_is_exact (Err fault) s tags all = faulty fault.kind fault.address s all
 
   pub network_taking : (octets : List ℕ) (s : Network) → CarriesTags side.User octets → AreExact s → Keeps (network_takes config octets now s)
   unfolding network_takes
-  network_taking octets s tags all = hearing (frame_at side.User octets) s tags all
+  network_taking octets s tags all = reception_is_exact (frame_at side.User octets) s tags all
 
   -- ---- A timer expires.
 
@@ -112,18 +112,18 @@ module _ (config : Config) (now : ℕ) where
 
   -- ---- Requests.
 
-  to_group : (sapi : Sapi) (octets : List ℕ) (s : Network) → AreExact s → KeepsIfOk (unit_to_group sapi octets s)
-  to_group sapi octets s all = if_either KeepsIfOk (nat_lt n201 (length octets)) (Err (Link TooLong)) _ tt (record {
+  to_group : (sapi : Sapi) (octets : List ℕ) (s : Network) → AreExact s → PreservesIfOk (unit_to_group sapi octets s)
+  to_group sapi octets s all = if_either PreservesIfOk (nat_lt n201 (length octets)) (Err (Link TooLong)) _ tt (record {
     timers = all;
     frames = All-cons (CarriesTags side.Network) _ [] (spelled_carries_tags side.Network (group_frame sapi octets) tt) (All-nil (CarriesTags side.Network));
   })
 
-  pub network_asked : (asked : Request) (s : Network) → AreExact s → KeepsIfOk (network_requested config asked now s)
+  pub network_asked : (asked : Request) (s : Network) → AreExact s → PreservesIfOk (network_requested config asked now s)
   unfolding network_requested
   network_asked (request.Establish id) s all = linked now id input.Establish [] s tt tt all
   network_asked (request.Release id) s all = linked now id input.Release [] s tt tt all
   network_asked (request.Unit id octets) s all =
-      if_either KeepsIfOk (is_served config id.sapi && (id.tei == group_tei)) (unit_to_group id.sapi octets.items s) (link_of_network now id (UnitData (length octets.items)) octets.items s)
+      if_either PreservesIfOk (is_served config id.sapi && (id.tei == group_tei)) (unit_to_group id.sapi octets.items s) (link_of_network now id (UnitData (length octets.items)) octets.items s)
       (to_group id.sapi octets.items s all) (linked now id (UnitData (length octets.items)) octets.items s tt tt all)
   network_asked (request.Give id message) s all = linked now id (input.Give message.items) [] s tt tt all
   network_asked (request.Busy id true) s all = linked now id input.BusyOn [] s tt tt all

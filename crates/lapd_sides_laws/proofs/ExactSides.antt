@@ -17,9 +17,9 @@ use Rattle.lapd_sides_links.specs.Links.{Reaction}
 use Rattle.lapd_sides.specs.declared.request.Request.{Request}
 use Rattle.lapd_sides.specs.Network.{Network, new_network}
 use Rattle.lapd_sides.specs.User.{User, new_user}
-use Rattle.lapd_sides_laws.specs.ExactTimers.{HaveExactTimers, BothHaveExactTimers, AreOctets, Turn, BringsOctets, turned, turned_by_all, new_view}
+use Rattle.lapd_sides_laws.specs.ExactTimers.{HaveExactTimers, BothHaveExactTimers, AreOctets, SideStep, BringsOctets, stepped, stepped_by_all, new_view}
 use Rattle.lapd_sides_laws.specs.Interface.{Configs, Interface, Move, user_behaviour, network_behaviour, new_interface, by_user, by_network, side_does, happens, run}
-use Rattle.lapd_sides_laws.specs.SideView.{Behaviour, SideView, Deed, Take, Lose, Expire, Ask, unmoved, takes_first, may_expire, or_unmoved, reaction, left, does}
+use Rattle.lapd_sides_laws.specs.SideView.{Behaviour, SideView, SideEvent, Take, Lose, Expire, Ask, unmoved, takes_first, may_expire, or_unmoved, reaction, left, does}
 use Rattle.lapd_sides_laws.proofs.ExactLinks.{if_either, CarriesTags, octets_carry_tags, IsExact, quietly}
 use Rattle.lapd_sides_laws.proofs.ExactNetwork.{network_taking, network_expiring, network_asked, new_network_exact}
 use Rattle.lapd_sides_laws.proofs.ExactUser.{user_taking, user_expiring, user_asked, new_user_exact}
@@ -36,7 +36,7 @@ all_but_one P [] (suc at) h = h
 all_but_one P (x ∷ xs) zero h = All-tail P x xs h
 all_but_one P (x ∷ xs) (suc at) h = All-cons P x (remove xs at) (All-head P x xs h) (all_but_one P xs at (All-tail P x xs h))
 
-all_left : (P : List ℕ → Type 0) (deed : Deed) (line : List (List ℕ)) → All P line → All P (left deed line)
+all_left : (P : List ℕ → Type 0) (event : SideEvent) (line : List (List ℕ)) → All P line → All P (left event line)
 all_left P (Take now) line h = All-drop P 1 line h
 all_left P (Lose at) line h = all_but_one P line at h
 all_left P (Expire timer of now) line h = h
@@ -50,7 +50,7 @@ module _ (S : Type 0) (w : Behaviour S) (side : Side) where
   Keeps a = IsExact side (w.served a.after).links a.effects
 
   -- a side keeps its timers exact, whatever it does
-  pub record KeepsExact : Type 0 where
+  pub record PreservesExact : Type 0 where
     pub takes : (now : ℕ) (octets : List ℕ) (s : S) → CarriesTags (other_side side) octets → AreExact s → Keeps (w.takes octets now s)
     pub expires : (now : ℕ) (timer : Timer) (of : Option LinkId) (s : S) → AreExact s → Keeps (w.expires now timer of s)
     pub requested : (now : ℕ) (request : Request) (s : S) → AreExact s → IfOk (w.requested request now s) Keeps
@@ -64,7 +64,7 @@ module _ (S : Type 0) (w : Behaviour S) (side : Side) where
   nothing : (s : S) → AreExact s → Keeps (unmoved s)
   nothing s all = quietly side (w.served s).links no_effects refl all
 
-  module _ (ways : KeepsExact) where
+  module _ (ways : PreservesExact) where
     first_taken : (now : ℕ) (line : List (List ℕ)) (s : S) → All (CarriesTags (other_side side)) line → AreExact s → Keeps (takes_first w now line s)
     first_taken now [] s tags all = nothing s all
     first_taken now (octets ∷ rest) s tags all = ways.takes now octets s (All-head (CarriesTags (other_side side)) octets rest tags) all
@@ -73,56 +73,56 @@ module _ (S : Type 0) (w : Behaviour S) (side : Side) where
     otherwise_unmoved s (Ok a) all h = h
     otherwise_unmoved s (Err kind) all h = nothing s all
 
-    reacts : (deed : Deed) (v : SideView S) → All (CarriesTags (other_side side)) v.incoming → AreExact v.now → Keeps (reaction w deed v)
+    reacts : (event : SideEvent) (v : SideView S) → All (CarriesTags (other_side side)) v.incoming → AreExact v.now → Keeps (reaction w event v)
     reacts (Take now) v tags all = first_taken now v.incoming v.now tags all
     reacts (Lose at) v tags all = nothing v.now all
     reacts (Expire timer of now) v tags all = if_either Keeps (may_expire timer of (w.served v.now)) (w.expires now timer of v.now) (unmoved v.now) (ways.expires now timer of v.now all) (nothing v.now all)
     reacts (Ask request now) v tags all = otherwise_unmoved v.now (w.requested request now v.now) all (ways.requested now request v.now all)
 
-    pub deed_keeps : (deed : Deed) (v : SideView S) → IsExactView v → IsExactView (does w deed v)
+    pub event_preserves : (event : SideEvent) (v : SideView S) → IsExactView v → IsExactView (does w event v)
     unfolding does
-    deed_keeps deed v h =
-        let after = reacts deed v h.incoming h.timers in
+    event_preserves event v h =
+        let after = reacts event v h.incoming h.timers in
         record {
           timers = after.timers;
-          incoming = all_left (CarriesTags (other_side side)) deed v.incoming h.incoming;
-          outgoing = All-append (CarriesTags side) v.outgoing (reaction w deed v).effects.frames h.outgoing after.frames;
+          incoming = all_left (CarriesTags (other_side side)) event v.incoming h.incoming;
+          outgoing = All-append (CarriesTags side) v.outgoing (reaction w event v).effects.frames h.outgoing after.frames;
         }
 
     -- one event alone, if only octets are in transit to the side
-    pub deed_exact : (deed : Deed) (v : SideView S) → All AreOctets v.incoming → AreExact v.now → AreExact (does w deed v).now
+    pub event_exact : (event : SideEvent) (v : SideView S) → All AreOctets v.incoming → AreExact v.now → AreExact (does w event v).now
     unfolding does
-    deed_exact deed v octets all = (reacts deed v (all_carry_tags (other_side side) v.incoming octets) all).timers
+    event_exact event v octets all = (reacts event v (all_carry_tags (other_side side) v.incoming octets) all).timers
 
     -- ---- Every run of one side.
 
-    turn_keeps : (turn : Turn) (v : SideView S) → BringsOctets turn → IsExactView v → IsExactView (turned w turn v)
-    turn_keeps turn v octets h = deed_keeps turn.deed (record v { incoming = v.incoming ++ turn.comes }) (record {
+    step_preserves : (side_step : SideStep) (v : SideView S) → BringsOctets side_step → IsExactView v → IsExactView (stepped w side_step v)
+    step_preserves side_step v octets h = event_preserves side_step.event (record v { incoming = v.incoming ++ side_step.comes }) (record {
       timers = h.timers;
-      incoming = All-append (CarriesTags (other_side side)) v.incoming turn.comes h.incoming (all_carry_tags (other_side side) turn.comes octets);
+      incoming = All-append (CarriesTags (other_side side)) v.incoming side_step.comes h.incoming (all_carry_tags (other_side side) side_step.comes octets);
       outgoing = h.outgoing;
     })
 
-    turns_keep : (turns : List Turn) (v : SideView S) → All BringsOctets turns → IsExactView v → IsExactView (turned_by_all w turns v)
-    turns_keep [] v octets h = h
-    turns_keep (turn ∷ turns) v octets h = turns_keep turns (turned w turn v) (All-tail BringsOctets turn turns octets) (turn_keeps turn v (All-head BringsOctets turn turns octets) h)
+    steps_preserve : (side_steps : List SideStep) (v : SideView S) → All BringsOctets side_steps → IsExactView v → IsExactView (stepped_by_all w side_steps v)
+    steps_preserve [] v octets h = h
+    steps_preserve (side_step ∷ side_steps) v octets h = steps_preserve side_steps (stepped w side_step v) (All-tail BringsOctets side_step side_steps octets) (step_preserves side_step v (All-head BringsOctets side_step side_steps octets) h)
 
-    pub turns_exact : (turns : List Turn) (s : S) → All BringsOctets turns → AreExact s → AreExact (turned_by_all w turns (new_view s)).now
-    turns_exact turns s octets all = (turns_keep turns (new_view s) octets (record { timers = all; incoming = All-nil (CarriesTags (other_side side)); outgoing = All-nil (CarriesTags side) })).timers
+    pub steps_exact : (side_steps : List SideStep) (s : S) → All BringsOctets side_steps → AreExact s → AreExact (stepped_by_all w side_steps (new_view s)).now
+    steps_exact side_steps s octets all = (steps_preserve side_steps (new_view s) octets (record { timers = all; incoming = All-nil (CarriesTags (other_side side)); outgoing = All-nil (CarriesTags side) })).timers
 
 -- ---- Both sides.
 
-pub of_network : (config : Config) → KeepsExact Network (network_behaviour config) side.Network
+pub of_network : (config : Config) → PreservesExact Network (network_behaviour config) side.Network
 of_network config = record { takes = network_taking config; expires = network_expiring config; requested = network_asked config }
 
-pub of_user : (config : Config) → KeepsExact User (user_behaviour config) side.User
+pub of_user : (config : Config) → PreservesExact User (user_behaviour config) side.User
 of_user config = record { takes = user_taking config; expires = user_expiring config; requested = user_asked config }
 
-pub network_turns_exact : (config : Config) (known : List ℕ) (turns : List Turn) → All BringsOctets turns → HaveExactTimers (turned_by_all (network_behaviour config) turns (new_view (new_network config known))).now.served.links
-network_turns_exact config known turns octets = turns_exact Network (network_behaviour config) side.Network (of_network config) turns (new_network config known) octets (new_network_exact config known)
+pub network_steps_exact : (config : Config) (known : List ℕ) (side_steps : List SideStep) → All BringsOctets side_steps → HaveExactTimers (stepped_by_all (network_behaviour config) side_steps (new_view (new_network config known))).now.served.links
+network_steps_exact config known side_steps octets = steps_exact Network (network_behaviour config) side.Network (of_network config) side_steps (new_network config known) octets (new_network_exact config known)
 
-pub user_turns_exact : (config : Config) (fixed : Option ℕ) (random : Lcg) (turns : List Turn) → All BringsOctets turns → HaveExactTimers (turned_by_all (user_behaviour config) turns (new_view (new_user config fixed random))).now.served.links
-user_turns_exact config fixed random turns octets = turns_exact User (user_behaviour config) side.User (of_user config) turns (new_user config fixed random) octets (new_user_exact config fixed random)
+pub user_steps_exact : (config : Config) (fixed : Option ℕ) (random : Lcg) (side_steps : List SideStep) → All BringsOctets side_steps → HaveExactTimers (stepped_by_all (user_behaviour config) side_steps (new_view (new_user config fixed random))).now.served.links
+user_steps_exact config fixed random side_steps octets = steps_exact User (user_behaviour config) side.User (of_user config) side_steps (new_user config fixed random) octets (new_user_exact config fixed random)
 
 -- ---- Every run of an interface.
 
@@ -131,17 +131,17 @@ module _ (c : Configs) where
     pub user : IsExactView User (user_behaviour c.user) side.User (by_user i)
     pub network : IsExactView Network (network_behaviour c.network) side.Network (by_network i)
 
-  move_keeps : (who : Side) (deed : Deed) (i : Interface) → IsExactInterface i → IsExactInterface (side_does c who deed i)
-  move_keeps side.User deed i h =
-      let after = deed_keeps User (user_behaviour c.user) side.User (of_user c.user) deed (by_user i) h.user in
+  move_preserves : (who : Side) (event : SideEvent) (i : Interface) → IsExactInterface i → IsExactInterface (side_does c who event i)
+  move_preserves side.User event i h =
+      let after = event_preserves User (user_behaviour c.user) side.User (of_user c.user) event (by_user i) h.user in
       record { user = after; network = record { timers = h.network.timers; incoming = after.outgoing; outgoing = after.incoming } }
-  move_keeps side.Network deed i h =
-      let after = deed_keeps Network (network_behaviour c.network) side.Network (of_network c.network) deed (by_network i) h.network in
+  move_preserves side.Network event i h =
+      let after = event_preserves Network (network_behaviour c.network) side.Network (of_network c.network) event (by_network i) h.network in
       record { user = record { timers = h.user.timers; incoming = after.outgoing; outgoing = after.incoming }; network = after }
 
-  run_keeps : (moves : List Move) (i : Interface) → IsExactInterface i → IsExactInterface (run c moves i)
-  run_keeps [] i h = h
-  run_keeps (move ∷ moves) i h = run_keeps moves (happens c move i) (move_keeps move.side move.deed i h)
+  run_preserves : (moves : List Move) (i : Interface) → IsExactInterface i → IsExactInterface (run c moves i)
+  run_preserves [] i h = h
+  run_preserves (move ∷ moves) i h = run_preserves moves (happens c move i) (move_preserves move.side move.event i h)
 
   made_is_exact : (fixed : Option ℕ) (random : Lcg) (known : List ℕ) → IsExactInterface (new_interface (new_user c.user fixed random) (new_network c.network known))
   made_is_exact fixed random known = record {
@@ -152,5 +152,5 @@ module _ (c : Configs) where
   pub run_is_exact : (fixed : Option ℕ) (random : Lcg) (known : List ℕ) (moves : List Move)
       → BothHaveExactTimers (run c moves (new_interface (new_user c.user fixed random) (new_network c.network known)))
   run_is_exact fixed random known moves =
-      let h = run_keeps moves (new_interface (new_user c.user fixed random) (new_network c.network known)) (made_is_exact fixed random known) in
+      let h = run_preserves moves (new_interface (new_user c.user fixed random) (new_network c.network known)) (made_is_exact fixed random known) in
       (h.user.timers, h.network.timers)

@@ -17,7 +17,7 @@ use Rattle.lapd_field.specs.Control.{IsControl}
 use Rattle.lapd_link_definition.specs.declared.event.LinkFault.TheVariants.{NotEstablished}
 use Rattle.lapd_link_definition.specs.Input as input
 use Rattle.lapd_link_definition.specs.Input.{Input, Heard, Faulty, UnitData}
-use Rattle.lapd_link_definition.specs.Numbers.{HearsNumbers}
+use Rattle.lapd_link_definition.specs.Numbers.{CarriesNumbers}
 use Rattle.lapd_mod128.specs.Counting.{Tagged}
 use Rattle.lapd_tei.specs.declared.message.TeiMessage.{TeiMessage}
 use Rattle.lapd_tei.specs.declared.fault.TeiFault.{TeiFault}
@@ -38,7 +38,7 @@ use Rattle.lapd_sides_links.specs.Links.{Links, Reaction, of_sapi, is_served, in
 use Rattle.lapd_sides.specs.declared.request.Request.{Request}
 use Rattle.lapd_sides.specs.declared.request.Request.TheVariants as request
 use Rattle.lapd_sides.specs.Management.{carries_message, manages}
-use Rattle.lapd_sides.specs.User.{User, new_user, nothing_kept, unmoved, discards, next, next_reference, drawn, among_links, link_of_user, or_discarded, or_unmoved, establishes, establishes_kept, gives_up_kept, kept_after, assigned, terminal_acts, message_heard, unit_from_group, for_layer_3, data_heard, fault_heard, heard, user_takes, user_expires, with_tei_or, is_kept, keeps, wants, forgets, user_requested}
+use Rattle.lapd_sides.specs.User.{User, new_user, nothing_pending, unmoved, discards, next, next_reference, drawn, among_links, link_of_user, or_discarded, or_unmoved, establishes, establishes_pending, gives_up_pending, pending_after, assigned, terminal_acts, message_received, unit_from_group, for_layer_3, data_received, fault_received, received, user_takes, user_expires, with_tei_or, is_pending, with_pending, wants, forgets, user_requested}
 use Rattle.lapd_sides_laws.specs.ExactTimers.{HaveExactTimers}
 use Rattle.lapd_sides_laws.proofs.ExactLinks.{if_either, IsNoExpiry, CarriesTags, IsExact, IsExactAmong, quietly, acts_exactly, expires_exactly, no_link_is_exact, with_tei_exact, manages_exactly}
 
@@ -48,8 +48,8 @@ AreExact s = HaveExactTimers s.served.links
 abbrev pub Keeps : Reaction User → Type 0
 Keeps a = IsExact side.User a.after.served.links a.effects
 
-abbrev pub KeepsIfOk : Result (Reaction User) SideKind → Type 0
-KeepsIfOk r = IfOk r Keeps
+abbrev pub PreservesIfOk : Result (Reaction User) SideKind → Type 0
+PreservesIfOk r = IfOk r Keeps
 
 nothing : (s : User) → AreExact s → Keeps (unmoved s)
 nothing s all = quietly side.User s.served.links no_effects refl all
@@ -58,26 +58,26 @@ discarding : (s : User) → AreExact s → Keeps (discards s)
 discarding s all = quietly side.User s.served.links no_effects refl all
 
 -- one step after another
-then_keeps : (a : Reaction User) (does : User → Reaction User) → Keeps a → ((s : User) → AreExact s → Keeps (does s)) → Keeps (next a does)
-then_keeps a does first each =
+then_preserves : (a : Reaction User) (does : User → Reaction User) → Keeps a → ((s : User) → AreExact s → Keeps (does s)) → Keeps (next a does)
+then_preserves a does first each =
     let second = each a.after first.timers in
     record { timers = second.timers; frames = All-append (CarriesTags side.User) a.effects.frames (does a.after).effects.frames first.frames second.frames }
 
 -- ---- A link.
 
-among : (s : User) (r : Result (Reaction Links) SideKind) → IsExactAmong side.User r → KeepsIfOk (among_links s r)
+among : (s : User) (r : Result (Reaction Links) SideKind) → IsExactAmong side.User r → PreservesIfOk (among_links s r)
 among s (Ok a) h = h
 among s (Err kind) h = tt
 
-linked : (now : ℕ) (id : LinkId) (input : Input) (octets : List ℕ) (s : User) → IsNoExpiry input → HearsNumbers Tagged input → AreExact s → KeepsIfOk (link_of_user now id input octets s)
+linked : (now : ℕ) (id : LinkId) (input : Input) (octets : List ℕ) (s : User) → IsNoExpiry input → CarriesNumbers Tagged input → AreExact s → PreservesIfOk (link_of_user now id input octets s)
 unfolding link_of_user
 linked now id input octets s plain numbers all = among s (in_links id (link_acts side.User id now input octets) s.served.links) (acts_exactly side.User id now input octets s.served.links plain numbers all)
 
-otherwise_discarded : (s : User) (r : Result (Reaction User) SideKind) → AreExact s → KeepsIfOk r → Keeps (or_discarded s r)
+otherwise_discarded : (s : User) (r : Result (Reaction User) SideKind) → AreExact s → PreservesIfOk r → Keeps (or_discarded s r)
 otherwise_discarded s (Ok a) all h = h
 otherwise_discarded s (Err kind) all h = discarding s all
 
-otherwise_unmoved : (s : User) (r : Result (Reaction User) SideKind) → AreExact s → KeepsIfOk r → Keeps (or_unmoved s r)
+otherwise_unmoved : (s : User) (r : Result (Reaction User) SideKind) → AreExact s → PreservesIfOk r → Keeps (or_unmoved s r)
 otherwise_unmoved s (Ok a) all h = h
 otherwise_unmoved s (Err kind) all h = nothing s all
 
@@ -88,17 +88,17 @@ module _ (now : ℕ) where
   establishing true id s all = otherwise_unmoved s (link_of_user now id input.Establish [] s) all (linked now id input.Establish [] s tt tt all)
   establishing false id s all = nothing s all
 
-  establishing_kept : (own : ℕ) (s : User) → AreExact s → Keeps (establishes_kept now own s)
-  establishing_kept own s all =
-      then_keeps (establishes s.kept.call now (of_sapi sapi.Call own) (record s { kept = nothing_kept })) (establishes s.kept.packet now (of_sapi sapi.Packet own))
-      (establishing s.kept.call (of_sapi sapi.Call own) (record s { kept = nothing_kept }) all) (establishing s.kept.packet (of_sapi sapi.Packet own))
+  establishing_pending : (own : ℕ) (s : User) → AreExact s → Keeps (establishes_pending now own s)
+  establishing_pending own s all =
+      then_preserves (establishes s.pending.call now (of_sapi sapi.Call own) (record s { pending = nothing_pending })) (establishes s.pending.packet now (of_sapi sapi.Packet own))
+      (establishing s.pending.call (of_sapi sapi.Call own) (record s { pending = nothing_pending }) all) (establishing s.pending.packet (of_sapi sapi.Packet own))
 
-  giving_up : (s : User) → AreExact s → Keeps (gives_up_kept s)
-  giving_up s all = quietly side.User s.served.links (gives_up_kept s).effects refl all
+  giving_up : (s : User) → AreExact s → Keeps (gives_up_pending s)
+  giving_up s all = quietly side.User s.served.links (gives_up_pending s).effects refl all
 
-  keeping : (outs : List TeiOut) (s : User) → AreExact s → Keeps (kept_after now outs s)
+  keeping : (outs : List TeiOut) (s : User) → AreExact s → Keeps (pending_after now outs s)
   keeping [] s all = nothing s all
-  keeping (outcome.Got own ∷ outs) s all = establishing_kept own s all
+  keeping (outcome.Got own ∷ outs) s all = establishing_pending own s all
   keeping (outcome.Failed ∷ outs) s all = giving_up s all
   keeping (outcome.Given t ∷ outs) s all = keeping outs s all
   keeping (outcome.Free t ∷ outs) s all = keeping outs s all
@@ -116,21 +116,21 @@ module _ (config : Config) (now : ℕ) where
   assigning step s all =
       let managed = manages side.User config now step.outs s.served in
       let exact = manages_exactly side.User config now step.outs s.served all in
-      then_keeps (record { after = record s { served = managed.after; terminal = step.now; random = drawn step.outs s.random }; effects = managed.effects }) (kept_after now step.outs)
+      then_preserves (record { after = record s { served = managed.after; terminal = step.now; random = drawn step.outs s.random }; effects = managed.effects }) (pending_after now step.outs)
       (record { timers = exact.timers; frames = exact.frames }) (keeping now step.outs)
 
   acting : (event : ℕ → TerminalEvent) (s : User) → AreExact s → Keeps (terminal_acts config now event s)
   unfolding terminal_acts
   acting event s all = assigning (terminal_step s.terminal (event (next_reference s.random))) s all
 
-  message : (r : Result TeiMessage TeiFault) (s : User) → AreExact s → Keeps (message_heard config now r s)
+  message : (r : Result TeiMessage TeiFault) (s : User) → AreExact s → Keeps (message_received config now r s)
   message (Ok m) s all = acting (event.Heard m) s all
   message (Err fault) s all = nothing s all
 
   -- ---- Octets arrive.
 
-  data_hearing : (frame : Fields) (s : User) → IsControl frame.control → AreExact s → Keeps (data_heard config now frame s)
-  data_hearing frame s tags all =
+  data_is_exact : (frame : Fields) (s : User) → IsControl frame.control → AreExact s → Keeps (data_received config now frame s)
+  data_is_exact frame s tags all =
       let id = of_sapi frame.address.sapi frame.address.tei in
       let input = Heard frame.control frame.address.role in
       let does = link_of_user now id input frame.info s in
@@ -138,20 +138,20 @@ module _ (config : Config) (now : ℕ) where
       (quietly side.User s.served.links (unit_from_group frame.address.sapi frame.info s).effects refl all)
       (otherwise_discarded s does all (linked now id input frame.info s tt tags all))
 
-  faulty : (kind : FaultKind) (address : Option Address) (s : User) → AreExact s → Keeps (fault_heard now kind address s)
+  faulty : (kind : FaultKind) (address : Option Address) (s : User) → AreExact s → Keeps (fault_received now kind address s)
   faulty kind None s all = discarding s all
   faulty kind (Some address) s all =
       let id = of_sapi address.sapi address.tei in
       otherwise_discarded s (link_of_user now id (Faulty kind) [] s) all (linked now id (Faulty kind) [] s tt tt all)
 
-  hearing : (r : Result Fields FrameFault) (s : User) → IfOk r (λ f. IsControl f.control) → AreExact s → Keeps (heard config now r s)
-  hearing (Ok frame) s tags all =
-      if_either Keeps (carries_message frame) (message_heard config now (message_at frame.info) s) (data_heard config now frame s) (message (message_at frame.info) s all) (data_hearing frame s tags all)
-  hearing (Err fault) s tags all = faulty fault.kind fault.address s all
+  reception_is_exact : (r : Result Fields FrameFault) (s : User) → IfOk r (λ f. IsControl f.control) → AreExact s → Keeps (received config now r s)
+  reception_is_exact (Ok frame) s tags all =
+      if_either Keeps (carries_message frame) (message_received config now (message_at frame.info) s) (data_received config now frame s) (message (message_at frame.info) s all) (data_is_exact frame s tags all)
+  reception_is_exact (Err fault) s tags all = faulty fault.kind fault.address s all
 
   pub user_taking : (octets : List ℕ) (s : User) → CarriesTags side.Network octets → AreExact s → Keeps (user_takes config octets now s)
   unfolding user_takes
-  user_taking octets s tags all = hearing (frame_at side.Network octets) s tags all
+  user_taking octets s tags all = reception_is_exact (frame_at side.Network octets) s tags all
 
   -- ---- A timer expires.
 
@@ -164,19 +164,19 @@ module _ (config : Config) (now : ℕ) where
 
   -- ---- Requests.
 
-  with_own : (terminal : Phase) (at : Sapi) (input : Input) (octets : List ℕ) (otherwise : Result (Reaction User) SideKind) (s : User) → IsNoExpiry input → HearsNumbers Tagged input → AreExact s → KeepsIfOk otherwise
-      → KeepsIfOk (with_tei_or now terminal at input octets otherwise s)
+  with_own : (terminal : Phase) (at : Sapi) (input : Input) (octets : List ℕ) (otherwise : Result (Reaction User) SideKind) (s : User) → IsNoExpiry input → CarriesNumbers Tagged input → AreExact s → PreservesIfOk otherwise
+      → PreservesIfOk (with_tei_or now terminal at input octets otherwise s)
   with_own (Assigned by own) at input octets otherwise s plain numbers all h = linked now (of_sapi at own) input octets s plain numbers all
   with_own Unassigned at input octets otherwise s plain numbers all h = h
   with_own (Awaiting purpose count ri) at input octets otherwise s plain numbers all h = h
 
-  wanting : (at : Sapi) (s : User) → AreExact s → KeepsIfOk (wants config now at s)
-  wanting at s all = if_either KeepsIfOk (is_served config at) (Ok (terminal_acts config now event.Want (record s { kept = keeps at true s.kept }))) (Err NoLink) (acting event.Want (record s { kept = keeps at true s.kept }) all) tt
+  wanting : (at : Sapi) (s : User) → AreExact s → PreservesIfOk (wants config now at s)
+  wanting at s all = if_either PreservesIfOk (is_served config at) (Ok (terminal_acts config now event.Want (record s { pending = with_pending at true s.pending }))) (Err NoLink) (acting event.Want (record s { pending = with_pending at true s.pending }) all) tt
 
-  forgetting : (at : Sapi) (s : User) → AreExact s → KeepsIfOk (forgets at s)
-  forgetting at s all = if_either KeepsIfOk (is_kept at s.kept) _ (Err NoLink) (quietly side.User s.served.links _ refl all) tt
+  forgetting : (at : Sapi) (s : User) → AreExact s → PreservesIfOk (forgets at s)
+  forgetting at s all = if_either PreservesIfOk (is_pending at s.pending) _ (Err NoLink) (quietly side.User s.served.links _ refl all) tt
 
-  pub user_asked : (asked : Request) (s : User) → AreExact s → KeepsIfOk (user_requested config asked now s)
+  pub user_asked : (asked : Request) (s : User) → AreExact s → PreservesIfOk (user_requested config asked now s)
   unfolding user_requested
   user_asked (request.Establish id) s all = with_own s.terminal id.sapi input.Establish [] (wants config now id.sapi s) s tt tt all (wanting id.sapi s all)
   user_asked (request.Release id) s all = with_own s.terminal id.sapi input.Release [] (forgets id.sapi s) s tt tt all (forgetting id.sapi s all)

@@ -17,19 +17,19 @@ use Rattle.lapd_tei.specs.declared.check.Responses.{Responses}
 use Rattle.lapd_tei.specs.declared.check.Responses.TheVariants as responses
 use Rattle.lapd_tei.specs.declared.assigner.AssignerEvent.{AssignerEvent}
 use Rattle.lapd_tei.specs.declared.assigner.AssignerEvent.TheVariants as event
-use Rattle.lapd_tei.specs.Assigner.{AssignerState, AssignerStep, is_held, least_free, stays, serves, begins_check, counts_response, round_ends, timer_ends, assigner_hears, assigner_step, one_more}
+use Rattle.lapd_tei.specs.Assigner.{AssignerState, AssignerStep, is_held, least_free, stays, serves, begins_check, counts_response, round_ends, timer_ends, assigner_receives, assigner_step, one_more}
 use Rattle.lapd_tei.specs.Message.{group_tei}
 use Rattle.lapd_tei.specs.Out.{tei_given, tei_freed}
-use Rattle.lapd_tei.proofs.AssignerKeeps.{IsFree, free_from}
+use Rattle.lapd_tei.proofs.AssignerPreserves.{IsFree, free_from}
 use Rattle.lapd_sides_links.specs.Effects.{outcome_of}
-use Rattle.lapd_sides_laws.specs.Premises.{tells_assignment}
+use Rattle.lapd_sides_laws.specs.Premises.{is_assignment}
 use Rattle.lapd_sides_laws.proofs.Managed.{freed_here, some_same}
 
 -- a step of the assigner: it assigns only TEIs that were free, and held TEIs stay held or are freed
 pub record GivesFree (held : List Bool) (done : AssignerStep) : Type 0 where
   pub given : (t : ℕ) → tei_given done.outs ≡ Some t → is_held done.now.held t ≡ true
   pub stays_held : (n : ℕ) → is_held held n ≡ true → (freed_here n (tei_freed done.outs) ≡ true) ⊎ (is_held done.now.held n ≡ true)
-  pub free : (n : ℕ) → list_any (tells_assignment n) (filter_map outcome_of done.outs) ≡ true → is_held held n ≡ false
+  pub free : (n : ℕ) → list_any (is_assignment n) (filter_map outcome_of done.outs) ≡ true → is_held held n ≡ false
 
 first_is : (t n : ℕ) → ((t == n) || false) ≡ true → t ≡ n
 first_is t n h = by_test (t == n) refl h
@@ -47,19 +47,19 @@ held_too held t n true within is h = let same : t ≡ n = grind (arith, nat_test
 held_too held t n false within is h = get_or-set_other held t n true false (λ same. (let no : (t == n) ≡ true = grind (arith, nat_tests, same) in cc)) ∙ h
 
 none_changes : (a : AssignerState) (c : Option Check) → GivesFree a.held (record { now = record { held = a.held; check = c }; outs = [] })
-none_changes a c = record { given = λ t is. cc; stays_held = λ n h. inr h; free = λ n told. cc }
+none_changes a c = record { given = λ t is. cc; stays_held = λ n h. inr h; free = λ n delivered. cc }
 
 asks : (a : AssignerState) (c : Option Check) (m : TeiMessage) → GivesFree a.held (record { now = record { held = a.held; check = c }; outs = out.Send m ∷ out.Start T201 ∷ [] })
-asks a c m = record { given = λ t is. cc; stays_held = λ n h. inr h; free = λ n told. cc }
+asks a c m = record { given = λ t is. cc; stays_held = λ n h. inr h; free = λ n delivered. cc }
 
 serving : (a : AssignerState) (ri : ℕ) (free : Option ℕ) → least_free a.held ≡ free → GivesFree a.held (serves ri free a)
-serving a ri None is = record { given = λ t given. cc; stays_held = λ n h. inr h; free = λ n told. cc }
+serving a ri None is = record { given = λ t given. cc; stays_held = λ n h. inr h; free = λ n delivered. cc }
 serving a ri (Some tei) is =
     let found : IsFree a.held 64 tei = free_from a.held 64 (drop 64 a.held) tei refl is in
     record {
       given = λ t given. subst (λ (m : ℕ). is_held (set a.held tei true) m ≡ true) (some_same tei t given) (get_or-set_same a.held tei true false found.within);
       stays_held = λ n h. inr (held_too a.held tei n (tei == n) found.within refl h);
-      free = λ n told. subst (λ (m : ℕ). is_held a.held m ≡ false) (first_is tei n told) found.free;
+      free = λ n delivered. subst (λ (m : ℕ). is_held a.held m ≡ false) (first_is tei n delivered) found.free;
     }
 
 checks : (a : AssignerState) (tei : ℕ) (check : Option Check) (low : Bool) → nat_lt tei group_tei ≡ low → check ≡ a.check → GivesFree a.held (begins_check tei check a)
@@ -75,19 +75,19 @@ counting a tei (Some check) = by_test (tei == check.tei)
     by_test true = none_changes a _
     by_test false = none_changes a a.check
 
-frees : (a : AssignerState) (tei : ℕ) (outs : List TeiOut) → ((t : ℕ) → tei_given outs ≡ Some t → ⊥) → tei_freed outs ≡ Some tei → ((n : ℕ) → list_any (tells_assignment n) (filter_map outcome_of outs) ≡ false)
+frees : (a : AssignerState) (tei : ℕ) (outs : List TeiOut) → ((t : ℕ) → tei_given outs ≡ Some t → ⊥) → tei_freed outs ≡ Some tei → ((n : ℕ) → list_any (is_assignment n) (filter_map outcome_of outs) ≡ false)
     → GivesFree a.held (record { now = record { held = set a.held tei false; check = None }; outs = outs })
 frees a tei outs no_given freed quiet = record {
   given = λ t is. absurd (no_given t is);
   stays_held = λ n h. subst (λ (f : Option ℕ). (freed_here n f ≡ true) ⊎ (is_held (set a.held tei false) n ≡ true)) (sym freed) (unheld a.held tei n (tei == n) refl h);
-  free = λ n told. (let no : true ≡ false = sym told ∙ quiet n in cc);
+  free = λ n delivered. (let no : true ≡ false = sym delivered ∙ quiet n in cc);
 }
 
 ending : (a : AssignerState) (tei : ℕ) (nth : Round) (count : Responses) → GivesFree a.held (round_ends tei nth count a)
 ending a tei round.First responses.Nobody = asks a _ _
 ending a tei round.Second responses.Nobody = frees a tei (out.Free tei ∷ []) (λ t is. cc) refl (λ n. refl)
-ending a tei round.First responses.One = record { given = λ t is. cc; stays_held = λ n h. inr h; free = λ n told. cc }
-ending a tei round.Second responses.One = record { given = λ t is. cc; stays_held = λ n h. inr h; free = λ n told. cc }
+ending a tei round.First responses.One = record { given = λ t is. cc; stays_held = λ n h. inr h; free = λ n delivered. cc }
+ending a tei round.Second responses.One = record { given = λ t is. cc; stays_held = λ n h. inr h; free = λ n delivered. cc }
 ending a tei round.First responses.Several = frees a tei _ (λ t is. cc) refl (λ n. refl)
 ending a tei round.Second responses.Several = frees a tei _ (λ t is. cc) refl (λ n. refl)
 
@@ -95,16 +95,16 @@ timing : (a : AssignerState) (check : Option Check) → GivesFree a.held (timer_
 timing a None = none_changes a a.check
 timing a (Some check) = ending a check.tei check.round check.responses
 
-hearing : (a : AssignerState) (k : TeiKind) (ri ai : ℕ) → GivesFree a.held (assigner_hears k ri ai a)
-hearing a kind.Request ri ai = serving a ri (least_free a.held) refl
-hearing a kind.CheckResponse ri ai = counting a ai a.check
-hearing a kind.Verify ri ai = checks a ai a.check (nat_lt ai group_tei) refl refl
-hearing a kind.Assigned ri ai = none_changes a a.check
-hearing a kind.Denied ri ai = none_changes a a.check
-hearing a kind.CheckRequest ri ai = none_changes a a.check
-hearing a kind.Remove ri ai = none_changes a a.check
+reception_is_exact : (a : AssignerState) (k : TeiKind) (ri ai : ℕ) → GivesFree a.held (assigner_receives k ri ai a)
+reception_is_exact a kind.Request ri ai = serving a ri (least_free a.held) refl
+reception_is_exact a kind.CheckResponse ri ai = counting a ai a.check
+reception_is_exact a kind.Verify ri ai = checks a ai a.check (nat_lt ai group_tei) refl refl
+reception_is_exact a kind.Assigned ri ai = none_changes a a.check
+reception_is_exact a kind.Denied ri ai = none_changes a a.check
+reception_is_exact a kind.CheckRequest ri ai = none_changes a a.check
+reception_is_exact a kind.Remove ri ai = none_changes a a.check
 
 pub gives_free : (a : AssignerState) (e : AssignerEvent) → GivesFree a.held (assigner_step a e)
-gives_free a (event.Heard m) = hearing a m.kind m.ri m.ai
+gives_free a (event.Heard m) = reception_is_exact a m.kind m.ri m.ai
 gives_free a (event.Check tei) = checks a tei a.check (nat_lt tei group_tei) refl refl
 gives_free a event.T201 = timing a a.check

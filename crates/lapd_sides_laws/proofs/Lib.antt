@@ -5,7 +5,7 @@ pub mod Users
 pub mod Timed
 pub mod Frames
 pub mod Lines
-pub mod Deeds
+pub mod SideEvents
 pub mod Asked
 pub mod Whole
 pub mod Called

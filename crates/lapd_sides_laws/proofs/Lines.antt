@@ -9,7 +9,7 @@ use Rattle.lapd_frame.specs.declared.frame_fault.FrameFault.{FrameFault}
 use Rattle.lapd_frame.specs.Frame.{Fields}
 use Rattle.lapd_frame.specs.Reading.{frame_at}
 use Rattle.lapd_frame.proofs.FrameAt.{frame_again}
-use Rattle.lapd_pair_laws.specs.Kept.{AreProper}
+use Rattle.lapd_pair_laws.specs.Consistent.{AreProper}
 use Rattle.lapd_pair_laws.specs.Line.{Flight, is_poll, is_final, first_poll, first_final}
 use Rattle.lapd_table.specs.declared.link_id.LinkId.{LinkId}
 use Rattle.lapd_sides_laws.specs.Addressed.{is_for, those_for, reads_as_poll, reads_as_final, is_poll_for, is_final_for, parts_of, spelled, all_spelled}

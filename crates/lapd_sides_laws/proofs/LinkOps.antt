@@ -18,15 +18,15 @@ use Rattle.lapd_sides_links.specs.declared.primitive.What.{What}
 use Rattle.lapd_sides_links.specs.declared.side_fault.SideKind.{SideKind}
 use Rattle.lapd_sides_links.specs.Effects.{what_of, timed, stopped, effects_of_link}
 use Rattle.lapd_sides_links.specs.Links.{Links, Linked, Reaction, acted, link_acts, link_expires, in_place, where_there, in_links, with_link}
-use Rattle.lapd_sides_laws.specs.Premises.{tells_assignment}
+use Rattle.lapd_sides_laws.specs.Premises.{is_assignment}
 
 pub record IsLinkOp (before : Links) (a : Reaction Links) : Type 0 where
-  pub kept : (k : LinkId) → is_some (a.after k) ≡ true → is_some (before k) ≡ true
-  pub quiet : (tei : ℕ) → list_any (tells_assignment tei) a.effects.primitives ≡ false
+  pub adds_none : (k : LinkId) → is_some (a.after k) ≡ true → is_some (before k) ≡ true
+  pub quiet : (tei : ℕ) → list_any (is_assignment tei) a.effects.primitives ≡ false
 
-pub whats_are_quiet : (tei : ℕ) (id : LinkId) (whats : List What) → list_any (tells_assignment tei) (map (Of id) whats) ≡ false
-whats_are_quiet tei id [] = refl
-whats_are_quiet tei id (w ∷ ws) = whats_are_quiet tei id ws
+pub link_primitives_are_quiet : (tei : ℕ) (id : LinkId) (reports_of_link : List What) → list_any (is_assignment tei) (map (Of id) reports_of_link) ≡ false
+link_primitives_are_quiet tei id [] = refl
+link_primitives_are_quiet tei id (w ∷ ws) = link_primitives_are_quiet tei id ws
 
 pub none_of_both : {X : Type 0} (test : X → Bool) (xs ys : List X) → list_any test xs ≡ false → list_any test ys ≡ false → list_any test (xs ++ ys) ≡ false
 none_of_both test [] ys hx hy = hy
@@ -37,9 +37,9 @@ none_of_both test (x ∷ xs) ys hx hy = by_first (test x) (list_any test xs) (li
     by_first false b c h f = f h
 
 module _ (side : Side) (other : LinkId) (links : Links) (now : ℕ) (octets : List ℕ) where
-  kept_by : (k : LinkId) (x l : Linked) (test : Bool) → links other ≡ Some l → id_eq k other ≡ test → is_some (if test then Some x else links k) ≡ true → is_some (links k) ≡ true
-  kept_by k x l true there is h = ap is_some (ap links (same_id_eq k other is) ∙ there)
-  kept_by k x l false there is h = h
+  held_by : (k : LinkId) (x l : Linked) (test : Bool) → links other ≡ Some l → id_eq k other ≡ test → is_some (if test then Some x else links k) ≡ true → is_some (links k) ≡ true
+  held_by k x l true there is h = ap is_some (ap links (same_id_eq k other is) ∙ there)
+  held_by k x l false there is h = h
 
   abbrev Gives : Result (Reaction Links) SideKind → Reaction Links → Type 0
   Gives r a = r ≡ Ok a
@@ -53,8 +53,8 @@ module _ (side : Side) (other : LinkId) (links : Links) (now : ℕ) (octets : Li
       let x : Linked = record { end = s.end; timers = timed now s.outs timers } in
       subst (IsLinkOp links) (same_op (record { after = with_link other (Some x) links; effects = effects_of_link side other s.end octets s.outs }) a is)
       (record {
-        kept = λ k h. kept_by k x l (id_eq k other) there refl h;
-        quiet = λ tei. whats_are_quiet tei other (filter_map (what_of octets) s.outs);
+        adds_none = λ k h. held_by k x l (id_eq k other) there refl h;
+        quiet = λ tei. link_primitives_are_quiet tei other (filter_map (what_of octets) s.outs);
       })
 
   op_there : (input : Input) (change : Timers → Timers) (o : Option Linked) (a : Reaction Links) → links other ≡ o

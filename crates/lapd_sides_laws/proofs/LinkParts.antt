@@ -27,7 +27,7 @@ use Rattle.lapd_link_definition.specs.Table.{step}
 use Rattle.lapd_link.specs.SentFrame.{link_parts}
 use Rattle.lapd_table.specs.declared.link_id.LinkId.{LinkId}
 use Rattle.lapd_table.specs.LinkId.{id_eq, id_of_address, setup_for}
-use Rattle.lapd_table.specs.Octets.{heard_by}
+use Rattle.lapd_table.specs.Octets.{event_by}
 use Rattle.lapd_table.proofs.Ids.{id_eq_self, same_id_eq}
 use Rattle.lapd_sides_links.specs.declared.primitive.Primitive.TheVariants.{Of}
 use Rattle.lapd_sides_links.specs.declared.primitive.What.{What}
@@ -37,8 +37,8 @@ use Rattle.lapd_sides_links.specs.Effects.{Effects, no_effects, sent_by, what_of
 use Rattle.lapd_sides_links.specs.Links.{Links, Linked, Reaction, acted, link_acts, link_expires, in_place, where_there, in_links, with_link}
 use Rattle.lapd_sides_laws.specs.Addressed.{is_named, is_for, those_for}
 use Rattle.lapd_sides_laws.specs.Owed.{PassesBy, IsStep, AreSilent, IsRemoval}
-use Rattle.lapd_sides_laws.specs.Premises.{tells_removal}
-use Rattle.lapd_sides_laws.specs.Told.{what_for, told_of, Known, learns, learns_all, AreExpectedWhats}
+use Rattle.lapd_sides_laws.specs.Premises.{is_removal}
+use Rattle.lapd_sides_laws.specs.Primitives.{what_for, link_primitives, Known, learns, learns_all, AreExpectedOfLink}
 
 -- ---- Lists whose elements all pass a test, or all fail it.
 
@@ -62,7 +62,7 @@ none_pass p h (x ∷ xs) each = none_pass_by p h x xs (h x) refl (each x) (none_
 
 -- ---- Frames sent for a link.
 
-named_by : (id : LinkId) (a : Address) (r : Result Fields FaultKind) → IfOk r (λ f. f.address ≡ a) → is_named id (heard_by (fault_for_link a r)) ≡ id_eq id (id_of_address a)
+named_by : (id : LinkId) (a : Address) (r : Result Fields FaultKind) → IfOk r (λ f. f.address ≡ a) → is_named id (event_by (fault_for_link a r)) ≡ id_eq id (id_of_address a)
 named_by id a (Ok f) same = ap (λ (b : Address). id_eq id (id_of_address b)) same
 named_by id a (Err kind) same = refl
 
@@ -73,7 +73,7 @@ with_address a control info (Some fault) = tt
 -- spelled octets belong to the link in their address, whether or not they form a valid frame
 pub spelled_is_for : (side : Side) (id : LinkId) (f : Fields) → is_for side id (spelling side f) ≡ id_eq id (id_of_address f.address)
 spelled_is_for side id f =
-    ap (λ (r : Result Fields FrameFault). is_named id (heard_by r)) (parts_again side f)
+    ap (λ (r : Result Fields FrameFault). is_named id (event_by r)) (parts_again side f)
     ∙ named_by id f.address (frame_of f.address f.control f.info (content_fault f.address.role f.control (length f.info))) (with_address f.address f.control f.info (content_fault f.address.role f.control (length f.info)))
 
 module _ (side : Side) (id other : LinkId) where
@@ -102,13 +102,13 @@ module _ (side : Side) (id other : LinkId) where
 
   -- ---- The primitives for a link.
 
-  told_own : (whats : List What) → id_eq id other ≡ true → told_of id (map (Of other) whats) ≡ whats
-  told_own [] is = refl
-  told_own (w ∷ ws) is = rw is (ap (λ l. w ∷ l) (told_own ws is))
+  delivered_own : (reports_of_link : List What) → id_eq id other ≡ true → link_primitives id (map (Of other) reports_of_link) ≡ reports_of_link
+  delivered_own [] is = refl
+  delivered_own (w ∷ ws) is = rw is (ap (λ l. w ∷ l) (delivered_own ws is))
 
-  told_other : (whats : List What) → id_eq id other ≡ false → told_of id (map (Of other) whats) ≡ []
-  told_other [] is = refl
-  told_other (w ∷ ws) is = rw is (told_other ws is)
+  delivered_other : (reports_of_link : List What) → id_eq id other ≡ false → link_primitives id (map (Of other) reports_of_link) ≡ []
+  delivered_other [] is = refl
+  delivered_other (w ∷ ws) is = rw is (delivered_other ws is)
 
   pub own_frames : (e : End) (octets : List ℕ) (outs : List Out) → id_eq id other ≡ true → those_for side id (effects_of_link side other e octets outs).frames ≡ filter_map (sent_by (setup_for side other) e octets) outs
   own_frames e octets outs is = all_pass (is_for side id) (sent_by (setup_for side other) e octets) outs (λ out. named_so true is _ (sent_is_named e octets out))
@@ -134,7 +134,7 @@ module _ (side : Side) (id other : LinkId) where
       (record {
         links = ap (λ (t : Bool). if t then Some l else links id) apart;
         frames = other_frames s.end octets s.outs apart;
-        told = told_other (filter_map (what_of octets) s.outs) apart;
+        delivered = delivered_other (filter_map (what_of octets) s.outs) apart;
       })
 
   there_other : (links : Links) (now : ℕ) (input : Input) (octets : List ℕ) (change : Timers → Timers) (l : Option Linked) (a : Reaction Links) → id_eq id other ≡ false
@@ -168,7 +168,7 @@ module _ (side : Side) (id : LinkId) (links : Links) (now : ℕ) (input : Input)
     is = done;
     links = ap (λ (t : Bool). if t then Some (record { end = s.end; timers = timed now s.outs (change l.timers) }) else links id) (id_eq_self id);
     frames = own_frames side id id s.end octets s.outs (id_eq_self id);
-    told = told_own side id id (filter_map (what_of octets) s.outs) (id_eq_self id);
+    delivered = delivered_own side id id (filter_map (what_of octets) s.outs) (id_eq_self id);
   }
 
   pub own_outcome : where_there id links (links id) (λ (m : Linked). acted side id now octets (change m.timers) (step Tagged input m.end)) ≡ Ok own_reaction
@@ -217,13 +217,13 @@ own_granted side id links now input octets l a was is = by_result side id links 
 -- ---- No step, and one step after another.
 
 pub passes_by_nothing : (side : Side) (id : LinkId) (links : Links) → PassesBy side id links links no_effects
-passes_by_nothing side id links = record { links = refl; frames = refl; told = refl }
+passes_by_nothing side id links = record { links = refl; frames = refl; delivered = refl }
 
 pub passes_by_both : (side : Side) (id : LinkId) (first second third : Links) (a b : Effects) → PassesBy side id first second a → PassesBy side id second third b → PassesBy side id first third (and_then a b)
 passes_by_both side id first second third a b ha hb = record {
   links = hb.links ∙ ha.links;
   frames = filter-append (is_for side id) a.frames b.frames ∙ rw (ha.frames, hb.frames) refl;
-  told = filter_map-append (what_for id) a.primitives b.primitives ∙ rw (ha.told, hb.told) refl;
+  delivered = filter_map-append (what_for id) a.primitives b.primitives ∙ rw (ha.delivered, hb.delivered) refl;
 }
 
 pub pass_then_step : (side : Side) (id : LinkId) (at : ℕ) (input : Input) (octets : List ℕ) (change : Timers → Timers) (first second third : Links) (a b : Effects)
@@ -235,7 +235,7 @@ pass_then_step side id at input octets change first second third a b p x = recor
   is = x.is;
   links = x.links;
   frames = filter-append (is_for side id) a.frames b.frames ∙ ap (λ l. l ++ those_for side id b.frames) p.frames ∙ x.frames;
-  told = filter_map-append (what_for id) a.primitives b.primitives ∙ ap (λ l. l ++ told_of id b.primitives) p.told ∙ x.told;
+  delivered = filter_map-append (what_for id) a.primitives b.primitives ∙ ap (λ l. l ++ link_primitives id b.primitives) p.delivered ∙ x.delivered;
 }
 
 pub step_then_pass : (side : Side) (id : LinkId) (at : ℕ) (input : Input) (octets : List ℕ) (change : Timers → Timers) (first second third : Links) (a b : Effects)
@@ -247,7 +247,7 @@ step_then_pass side id at input octets change first second third a b x p = recor
   is = x.is;
   links = p.links ∙ x.links;
   frames = filter-append (is_for side id) a.frames b.frames ∙ ap (λ l. those_for side id a.frames ++ l) p.frames ∙ append-nil (those_for side id a.frames) ∙ x.frames;
-  told = filter_map-append (what_for id) a.primitives b.primitives ∙ ap (λ l. told_of id a.primitives ++ l) p.told ∙ append-nil (told_of id a.primitives) ∙ x.told;
+  delivered = filter_map-append (what_for id) a.primitives b.primitives ∙ ap (λ l. link_primitives id a.primitives ++ l) p.delivered ∙ append-nil (link_primitives id a.primitives) ∙ x.delivered;
 }
 
 -- ---- A link that does not exist.
@@ -294,7 +294,7 @@ pub learns_both : (xs ys : List What) (k : Known) → learns_all (xs ++ ys) k �
 learns_both [] ys k = refl
 learns_both (x ∷ xs) ys k = learns_both xs ys (learns x k)
 
-pub expected_both : (xs ys : List What) → AreExpectedWhats xs → AreExpectedWhats ys → AreExpectedWhats (xs ++ ys)
+pub expected_both : (xs ys : List What) → AreExpectedOfLink xs → AreExpectedOfLink ys → AreExpectedOfLink (xs ++ ys)
 expected_both [] ys hx hy = hy
 expected_both (x ∷ xs) ys hx hy = (hx.0, expected_both xs ys hx.1 hy)
 
@@ -306,8 +306,8 @@ silent_both xs ys hx hy = record {
 
 pub removal_then_pass : (side : Side) (id : LinkId) (second third : Links) (a b : Effects) → IsRemoval side id second a → PassesBy side id second third b → IsRemoval side id third (and_then a b)
 removal_then_pass side id second third a b r p = record {
-  gone = p.links ∙ r.gone;
+  now_absent = p.links ∙ r.now_absent;
   frames = filter-append (is_for side id) a.frames b.frames ∙ ap (λ l. those_for side id a.frames ++ l) p.frames ∙ append-nil (those_for side id a.frames) ∙ r.frames;
-  told = subst AreSilent (sym (filter_map-append (what_for id) a.primitives b.primitives ∙ ap (λ l. told_of id a.primitives ++ l) p.told ∙ append-nil (told_of id a.primitives))) r.told;
-  tells = any_more (tells_removal id.tei) a.primitives b.primitives r.tells;
+  delivered = subst AreSilent (sym (filter_map-append (what_for id) a.primitives b.primitives ∙ ap (λ l. link_primitives id a.primitives ++ l) p.delivered ∙ append-nil (link_primitives id a.primitives))) r.delivered;
+  tells = any_more (is_removal id.tei) a.primitives b.primitives r.tells;
 }

@@ -20,12 +20,12 @@ use Rattle.lapd_sides_links.specs.declared.primitive.Primitive.{Primitive}
 use Rattle.lapd_sides_links.specs.declared.primitive.What.{What}
 use Rattle.lapd_sides_links.specs.declared.primitive.What.TheVariants as what
 use Rattle.lapd_sides_links.specs.Effects.{message_sent, outcome_of}
-use Rattle.lapd_sides_links.specs.Links.{Links, Linked, Served, of_sapi, is_served, new_linked, parameters_for, with_tei, without_tei, release_at_removal, primitives_of, told_at_removal, told_of_tei, Reaction, with_link, is_link_of}
-use Rattle.lapd_sides.specs.Management.{links_with, links_without, told_without, manages}
+use Rattle.lapd_sides_links.specs.Links.{Links, Linked, Served, of_sapi, is_served, new_linked, parameters_for, with_tei, without_tei, release_at_removal, primitives_of, primitives_at_removal, primitive_of_tei, Reaction, with_link, is_link_of}
+use Rattle.lapd_sides.specs.Management.{links_with, links_without, removal_primitives, manages}
 use Rattle.lapd_sides_laws.specs.Owed.{PassesBy, IsRemoval, AreSilent}
 use Rattle.lapd_sides_laws.specs.Addressed.{is_for}
-use Rattle.lapd_sides_laws.specs.Told.{what_for, told_of}
-use Rattle.lapd_sides_laws.specs.Premises.{tells_removal, tells_assignment, IsGivenOnce}
+use Rattle.lapd_sides_laws.specs.Primitives.{what_for, link_primitives}
+use Rattle.lapd_sides_laws.specs.Premises.{is_removal, is_assignment, IsGivenOnce}
 use Rattle.lapd_sides_laws.specs.Interface.{fresh_link}
 use Rattle.lapd_sides_laws.proofs.LinkParts.{none_pass, spelled_is_for, now_there, any_more, silent_both}
 
@@ -65,7 +65,7 @@ not_of_group sapi id low = and_not _ (id.tei == 127) (grind (arith, nat_tests))
 pub some_same : (x y : ℕ) → Some x ≡ Some y → x ≡ y
 some_same x y h = cc
 
-given_is_other : (tei : ℕ) (outs : List TeiOut) → list_any (tells_assignment tei) (filter_map outcome_of outs) ≡ false → (t : ℕ) → tei_given outs ≡ Some t → (t == tei) ≡ false
+given_is_other : (tei : ℕ) (outs : List TeiOut) → list_any (is_assignment tei) (filter_map outcome_of outs) ≡ false → (t : ℕ) → tei_given outs ≡ Some t → (t == tei) ≡ false
 given_is_other tei [] h t is = cc
 given_is_other tei (outcome.Given u ∷ outs) h t is = subst (λ (x : ℕ). (x == tei) ≡ false) (some_same u t is) (neither (u == tei) _ h).0
 given_is_other tei (outcome.Got u ∷ outs) h t is = subst (λ (x : ℕ). (x == tei) ≡ false) (some_same u t is) (neither (u == tei) _ h).0
@@ -91,18 +91,18 @@ or_so : (a b : Bool) → a ≡ true → (a || b) ≡ true
 or_so true b h = refl
 or_so false b h = cc
 
-freed_is_told : (tei : ℕ) (outs : List TeiOut) → freed_here tei (tei_freed outs) ≡ true → list_any (tells_removal tei) (filter_map outcome_of outs) ≡ true
-freed_is_told tei [] h = cc
-freed_is_told tei (outcome.Given u ∷ outs) h = freed_is_told tei outs h
-freed_is_told tei (outcome.Got u ∷ outs) h = freed_is_told tei outs h
-freed_is_told tei (outcome.Free u ∷ outs) h = or_so (u == tei) _ h
-freed_is_told tei (outcome.Doubled u ∷ outs) h = or_so (u == tei) _ h
-freed_is_told tei (outcome.Gone u ∷ outs) h = or_so (u == tei) _ h
-freed_is_told tei (outcome.InUse u ∷ outs) h = freed_is_told tei outs h
-freed_is_told tei (outcome.Failed ∷ outs) h = freed_is_told tei outs h
-freed_is_told tei (outcome.Send message ∷ outs) h = freed_is_told tei outs h
-freed_is_told tei (outcome.Start timer ∷ outs) h = freed_is_told tei outs h
-freed_is_told tei (outcome.Stop timer ∷ outs) h = freed_is_told tei outs h
+freed_is_reported : (tei : ℕ) (outs : List TeiOut) → freed_here tei (tei_freed outs) ≡ true → list_any (is_removal tei) (filter_map outcome_of outs) ≡ true
+freed_is_reported tei [] h = cc
+freed_is_reported tei (outcome.Given u ∷ outs) h = freed_is_reported tei outs h
+freed_is_reported tei (outcome.Got u ∷ outs) h = freed_is_reported tei outs h
+freed_is_reported tei (outcome.Free u ∷ outs) h = or_so (u == tei) _ h
+freed_is_reported tei (outcome.Doubled u ∷ outs) h = or_so (u == tei) _ h
+freed_is_reported tei (outcome.Gone u ∷ outs) h = or_so (u == tei) _ h
+freed_is_reported tei (outcome.InUse u ∷ outs) h = freed_is_reported tei outs h
+freed_is_reported tei (outcome.Failed ∷ outs) h = freed_is_reported tei outs h
+freed_is_reported tei (outcome.Send message ∷ outs) h = freed_is_reported tei outs h
+freed_is_reported tei (outcome.Start timer ∷ outs) h = freed_is_reported tei outs h
+freed_is_reported tei (outcome.Stop timer ∷ outs) h = freed_is_reported tei outs h
 
 -- ---- Links of another TEI join and are removed.
 
@@ -128,20 +128,20 @@ without_other id None links other = refl
 without_other id (Some t) links other = let apart : (id.tei == t) ≡ false = (let h = other t refl in grind (arith, nat_tests)) in ap (λ (b : Bool). if b then None else links id) apart
 
 -- the primitives for removed links
-removal_other : (id at : LinkId) (w : Option What) → id_eq id at ≡ false → told_of id (primitives_of at w) ≡ []
+removal_other : (id at : LinkId) (w : Option What) → id_eq id at ≡ false → link_primitives id (primitives_of at w) ≡ []
 removal_other id at None apart = refl
 removal_other id at (Some w) apart = rw apart refl
 
-told_at_other : (id at : LinkId) (l : Option Linked) → id_eq id at ≡ false → told_of id (told_at_removal at l) ≡ []
-told_at_other id at None apart = refl
-told_at_other id at (Some l) apart = removal_other id at (release_at_removal l.end.state l.end.release_pending) apart
+removal_at_other : (id at : LinkId) (l : Option Linked) → id_eq id at ≡ false → link_primitives id (primitives_at_removal at l) ≡ []
+removal_at_other id at None apart = refl
+removal_at_other id at (Some l) apart = removal_other id at (release_at_removal l.end.state l.end.release_pending) apart
 
-told_without_other : (id : LinkId) (freed : Option ℕ) (links : Links) → ((t : ℕ) → freed ≡ Some t → (t == id.tei) ≡ false) → told_of id (told_without freed links) ≡ []
-unfolding told_of_tei
-told_without_other id None links other = refl
-told_without_other id (Some t) links other =
-    filter_map-append (what_for id) (told_at_removal (of_sapi Call t) (links (of_sapi Call t))) (told_at_removal (of_sapi Packet t) (links (of_sapi Packet t)))
-    ∙ rw (told_at_other id (of_sapi Call t) (links (of_sapi Call t)) (other_tei Call t id (other t refl)), told_at_other id (of_sapi Packet t) (links (of_sapi Packet t)) (other_tei Packet t id (other t refl))) refl
+removal_of_other : (id : LinkId) (freed : Option ℕ) (links : Links) → ((t : ℕ) → freed ≡ Some t → (t == id.tei) ≡ false) → link_primitives id (removal_primitives freed links) ≡ []
+unfolding primitive_of_tei
+removal_of_other id None links other = refl
+removal_of_other id (Some t) links other =
+    filter_map-append (what_for id) (primitives_at_removal (of_sapi Call t) (links (of_sapi Call t))) (primitives_at_removal (of_sapi Packet t) (links (of_sapi Packet t)))
+    ∙ rw (removal_at_other id (of_sapi Call t) (links (of_sapi Call t)) (other_tei Call t id (other t refl)), removal_at_other id (of_sapi Packet t) (links (of_sapi Packet t)) (other_tei Packet t id (other t refl))) refl
 
 -- ---- Messages and outcomes.
 
@@ -157,7 +157,7 @@ message_is_other side id (outcome.Free t) low = tt
 message_is_other side id (outcome.InUse t) low = tt
 message_is_other side id (outcome.Doubled t) low = tt
 
-outcomes_are_other : (id : LinkId) (outs : List TeiOut) → told_of id (filter_map outcome_of outs) ≡ []
+outcomes_are_other : (id : LinkId) (outs : List TeiOut) → link_primitives id (filter_map outcome_of outs) ≡ []
 outcomes_are_other id [] = refl
 outcomes_are_other id (outcome.Send message ∷ outs) = outcomes_are_other id outs
 outcomes_are_other id (outcome.Start timer ∷ outs) = outcomes_are_other id outs
@@ -172,12 +172,12 @@ outcomes_are_other id (outcome.Doubled t ∷ outs) = outcomes_are_other id outs
 
 -- ---- The primitives for removed links.
 
-abbrev IsQuietWhat : What → Type 0
-IsQuietWhat what.Released = Unit {0}
-IsQuietWhat what.ReleaseConfirm = Unit {0}
-IsQuietWhat other = ⊥
+abbrev IsQuietOfLink : What → Type 0
+IsQuietOfLink what.Released = Unit {0}
+IsQuietOfLink what.ReleaseConfirm = Unit {0}
+IsQuietOfLink other = ⊥
 
-quiet_removal : (state : State) (pending : Bool) → IfSome (release_at_removal state pending) IsQuietWhat
+quiet_removal : (state : State) (pending : Bool) → IfSome (release_at_removal state pending) IsQuietOfLink
 quiet_removal state.TeiAssigned pending = tt
 quiet_removal state.AwaitingEstablishment true = tt
 quiet_removal state.AwaitingEstablishment false = tt
@@ -189,7 +189,7 @@ nothing_silent : AreSilent []
 nothing_silent = record { teaches = λ k. refl; expected = tt }
 
 -- one primitive, of this link or of another
-quiet_by : (w : What) (test : Bool) → IsQuietWhat w → AreSilent (cons_option (if test then Some w else None) [])
+quiet_by : (w : What) (test : Bool) → IsQuietOfLink w → AreSilent (cons_option (if test then Some w else None) [])
 quiet_by what.Released true h = record { teaches = λ k. refl; expected = (tt, tt) }
 quiet_by what.ReleaseConfirm true h = record { teaches = λ k. refl; expected = (tt, tt) }
 quiet_by (what.Up octets) true h = absurd h
@@ -201,20 +201,20 @@ quiet_by (what.Dropped n) true h = absurd h
 quiet_by (what.Report letter) true h = absurd h
 quiet_by w false h = nothing_silent
 
-quiet_primitives : (id at : LinkId) (w : Option What) → IfSome w IsQuietWhat → AreSilent (told_of id (primitives_of at w))
+quiet_primitives : (id at : LinkId) (w : Option What) → IfSome w IsQuietOfLink → AreSilent (link_primitives id (primitives_of at w))
 quiet_primitives id at None h = nothing_silent
 quiet_primitives id at (Some w) h = quiet_by w (id_eq id at) h
 
-quiet_at : (id at : LinkId) (l : Option Linked) → AreSilent (told_of id (told_at_removal at l))
+quiet_at : (id at : LinkId) (l : Option Linked) → AreSilent (link_primitives id (primitives_at_removal at l))
 quiet_at id at None = nothing_silent
 quiet_at id at (Some l) = quiet_primitives id at (release_at_removal l.end.state l.end.release_pending) (quiet_removal l.end.state l.end.release_pending)
 
-quiet_without : (id : LinkId) (freed : Option ℕ) (links : Links) → AreSilent (told_of id (told_without freed links))
-unfolding told_of_tei
+quiet_without : (id : LinkId) (freed : Option ℕ) (links : Links) → AreSilent (link_primitives id (removal_primitives freed links))
+unfolding primitive_of_tei
 quiet_without id None links = nothing_silent
 quiet_without id (Some t) links =
-    subst AreSilent (sym (filter_map-append (what_for id) (told_at_removal (of_sapi Call t) (links (of_sapi Call t))) (told_at_removal (of_sapi Packet t) (links (of_sapi Packet t)))))
-    (silent_both (told_of id (told_at_removal (of_sapi Call t) (links (of_sapi Call t)))) (told_of id (told_at_removal (of_sapi Packet t) (links (of_sapi Packet t))))
+    subst AreSilent (sym (filter_map-append (what_for id) (primitives_at_removal (of_sapi Call t) (links (of_sapi Call t))) (primitives_at_removal (of_sapi Packet t) (links (of_sapi Packet t)))))
+    (silent_both (link_primitives id (primitives_at_removal (of_sapi Call t) (links (of_sapi Call t)))) (link_primitives id (primitives_at_removal (of_sapi Packet t) (links (of_sapi Packet t))))
     (quiet_at id (of_sapi Call t) (links (of_sapi Call t))) (quiet_at id (of_sapi Packet t) (links (of_sapi Packet t))))
 
 pub without_this : (id : LinkId) (freed : Option ℕ) (links : Links) → freed_here id.tei freed ≡ true → links_without freed links id ≡ None
@@ -232,9 +232,9 @@ module _ (side : Side) (config : Config) (now : ℕ) (outs : List TeiOut) (s : S
   PassesFrom before = PassesBy side id before Managed.after.links Managed.effects
 
   -- the step delivers the primitives for TEIs first
-  outcomes_tell : (tells : Primitive → Bool) → list_any tells Managed.effects.primitives ≡ false → list_any tells (filter_map outcome_of outs) ≡ false
+  outcomes_are_of : (tells : Primitive → Bool) → list_any tells Managed.effects.primitives ≡ false → list_any tells (filter_map outcome_of outs) ≡ false
   unfolding manages
-  outcomes_tell tells none = any_first tells (filter_map outcome_of outs) (told_without (tei_freed outs) (links_with config (tei_given outs) s.links)) none
+  outcomes_are_of tells none = any_first tells (filter_map outcome_of outs) (removal_primitives (tei_freed outs) (links_with config (tei_given outs) s.links)) none
 
   -- if a link's TEI is not removed, no frame and no primitive of the step is for the link
   by_links : (before : Links) → freed_here id.tei (tei_freed outs) ≡ false → links_with config (tei_given outs) s.links id ≡ before id → PassesFrom before
@@ -244,51 +244,51 @@ module _ (side : Side) (config : Config) (now : ℕ) (outs : List TeiOut) (s : S
       record {
         links = without_other id (tei_freed outs) (links_with config (tei_given outs) s.links) freed ∙ links;
         frames = none_pass (is_for side id) (message_sent side) outs (λ out. message_is_other side id out low);
-        told = filter_map-append (what_for id) (filter_map outcome_of outs) (told_without (tei_freed outs) (links_with config (tei_given outs) s.links))
-            ∙ rw (outcomes_are_other id outs, told_without_other id (tei_freed outs) (links_with config (tei_given outs) s.links) freed) refl;
+        delivered = filter_map-append (what_for id) (filter_map outcome_of outs) (removal_primitives (tei_freed outs) (links_with config (tei_given outs) s.links))
+            ∙ rw (outcomes_are_other id outs, removal_of_other id (tei_freed outs) (links_with config (tei_given outs) s.links) freed) refl;
       }
 
   removes : freed_here id.tei (tei_freed outs) ≡ true → IsRemoval side id Managed.after.links Managed.effects
   unfolding manages
   removes freed =
-      let more = told_without (tei_freed outs) (links_with config (tei_given outs) s.links) in
-      let all : told_of id (filter_map outcome_of outs ++ more) ≡ told_of id more =
-      filter_map-append (what_for id) (filter_map outcome_of outs) more ∙ ap (λ l. l ++ told_of id more) (outcomes_are_other id outs) in
+      let more = removal_primitives (tei_freed outs) (links_with config (tei_given outs) s.links) in
+      let all : link_primitives id (filter_map outcome_of outs ++ more) ≡ link_primitives id more =
+      filter_map-append (what_for id) (filter_map outcome_of outs) more ∙ ap (λ l. l ++ link_primitives id more) (outcomes_are_other id outs) in
       record {
-        gone = without_this id (tei_freed outs) (links_with config (tei_given outs) s.links) freed;
+        now_absent = without_this id (tei_freed outs) (links_with config (tei_given outs) s.links) freed;
         frames = none_pass (is_for side id) (message_sent side) outs (λ out. message_is_other side id out low);
-        told = subst AreSilent (sym all) (quiet_without id (tei_freed outs) (links_with config (tei_given outs) s.links));
-        tells = any_more (tells_removal id.tei) (filter_map outcome_of outs) more (freed_is_told id.tei outs freed);
+        delivered = subst AreSilent (sym all) (quiet_without id (tei_freed outs) (links_with config (tei_given outs) s.links));
+        tells = any_more (is_removal id.tei) (filter_map outcome_of outs) more (freed_is_reported id.tei outs freed);
       }
 
   -- if no primitive reports an assignment, no outcome is one
-  pub outcomes_spare : list_any (tells_assignment id.tei) Managed.effects.primitives ≡ false → list_any (tells_assignment id.tei) (filter_map outcome_of outs) ≡ false
-  outcomes_spare none = outcomes_tell (tells_assignment id.tei) none
+  pub outcomes_spare : list_any (is_assignment id.tei) Managed.effects.primitives ≡ false → list_any (is_assignment id.tei) (filter_map outcome_of outs) ≡ false
+  outcomes_spare none = outcomes_are_of (is_assignment id.tei) none
 
-  passes_by : freed_here id.tei (tei_freed outs) ≡ false → list_any (tells_assignment id.tei) Managed.effects.primitives ≡ false → PassesFrom s.links
+  passes_by : freed_here id.tei (tei_freed outs) ≡ false → list_any (is_assignment id.tei) Managed.effects.primitives ≡ false → PassesFrom s.links
   passes_by not_freed not_given =
       by_links s.links not_freed (with_other config id (tei_given outs) s.links (given_is_other id.tei outs (outcomes_spare not_given)))
 
   -- the link joins, if its TEI was not removed before
-  pub record ItComes (removed : Bool) : Type 0 where
+  pub record IsAdded (removed : Bool) : Type 0 where
     pub absent : s.links id ≡ None
     pub not_removed : removed ≡ false
     pub passes : PassesFrom (with_link id (Some (fresh_link config id)) s.links)
 
-  abbrev pub ManagedGoes : Bool → Type 0
-  ManagedGoes removed = PassesFrom s.links ⊎ (ItComes removed ⊎ IsRemoval side id Managed.after.links Managed.effects)
+  abbrev pub IsUnmovedByManagement : Bool → Type 0
+  IsUnmovedByManagement removed = PassesFrom s.links ⊎ (IsAdded removed ⊎ IsRemoval side id Managed.after.links Managed.effects)
 
-  absent : (removed : Bool) → freed_here id.tei (tei_freed outs) ≡ false → s.links id ≡ None → IsGivenOnce id s.links removed Managed.effects → ManagedGoes removed
+  absent : (removed : Bool) → freed_here id.tei (tei_freed outs) ≡ false → s.links id ≡ None → IsGivenOnce id s.links removed Managed.effects → IsUnmovedByManagement removed
   absent true not_freed none once = inl (passes_by not_freed (once (ap (λ (o : Option Linked). is_some o || true) none)))
   absent false not_freed none once = elim (with_given config id (tei_given outs) s.links none) [
     | inl stays ↦ inl (by_links s.links not_freed (stays ∙ sym none))
     | inr comes ↦ inr (inl (record { absent = none; not_removed = refl; passes = by_links (with_link id (Some (fresh_link config id)) s.links) not_freed (comes ∙ sym (now_there id (fresh_link config id) s.links)) }))
   ]
 
-  by_cases : (removed freed : Bool) (o : Option Linked) → freed_here id.tei (tei_freed outs) ≡ freed → s.links id ≡ o → IsGivenOnce id s.links removed Managed.effects → ManagedGoes removed
+  by_cases : (removed freed : Bool) (o : Option Linked) → freed_here id.tei (tei_freed outs) ≡ freed → s.links id ≡ o → IsGivenOnce id s.links removed Managed.effects → IsUnmovedByManagement removed
   by_cases removed true o freed is once = inr (inr (removes freed))
   by_cases removed false (Some l) not_freed is once = inl (passes_by not_freed (once (ap (λ (x : Option Linked). is_some x || removed) is)))
   by_cases removed false None not_freed is once = absent removed not_freed is once
 
-  pub managing : (removed : Bool) → IsGivenOnce id s.links removed Managed.effects → ManagedGoes removed
+  pub managing : (removed : Bool) → IsGivenOnce id s.links removed Managed.effects → IsUnmovedByManagement removed
   managing removed once = by_cases removed (freed_here id.tei (tei_freed outs)) (s.links id) refl refl once

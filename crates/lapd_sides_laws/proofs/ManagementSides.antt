@@ -5,7 +5,7 @@ use Rattle.std.specs.Prelude.{IfOk, is_some}
 use Rattle.rand_pcg.specs.Lcg.{Lcg}
 use Rattle.lapd_timers.specs.declared.timer.Timer.{Timer}
 use Rattle.lapd_timers.specs.declared.timer.Timer.TheVariants.{T200, T201, T202, T203}
-use Rattle.lapd_timers.specs.Due.{at_rest}
+use Rattle.lapd_timers.specs.Due.{all_stopped}
 use Rattle.lapd_frame.specs.declared.Sapi.{Sapi}
 use Rattle.lapd_frame.specs.declared.Sapi.TheVariants as sapi
 use Rattle.lapd_frame.specs.declared.Side.{Side}
@@ -43,10 +43,10 @@ use Rattle.lapd_sides.specs.Management.{carries_message, manages, busy_input}
 use Rattle.lapd_sides.specs.Network as net
 use Rattle.lapd_sides.specs.Network.{Network, new_network, assigner_acts, link_of_network, network_takes, network_expires, unit_to_group, network_requested}
 use Rattle.lapd_sides.specs.User as usr
-use Rattle.lapd_sides.specs.User.{User, new_user, nothing_kept, next, next_reference, drawn, link_of_user, establishes, establishes_kept, gives_up_kept, kept_after, terminal_acts, unit_from_group, for_layer_3, user_takes, user_expires, with_tei_or, is_kept, keeps, wants, forgets, user_requested}
+use Rattle.lapd_sides.specs.User.{User, new_user, nothing_pending, next, next_reference, drawn, link_of_user, establishes, establishes_pending, gives_up_pending, pending_after, terminal_acts, unit_from_group, for_layer_3, user_takes, user_expires, with_tei_or, is_pending, with_pending, wants, forgets, user_requested}
 use Rattle.lapd_sides_laws.specs.Interface.{Configs, Interface, Move, user_behaviour, network_behaviour, new_interface, by_user, by_network, side_does, happens, run}
 use Rattle.lapd_sides_laws.specs.ManagementTimers.{RunsAlone, HasTimerOfTerminal, HasTimerOfAssigner, HaveTimersOfManagement}
-use Rattle.lapd_sides_laws.specs.SideView.{Behaviour, SideView, Deed, Take, Lose, Expire, Ask, unmoved, takes_first, may_expire, or_unmoved, does}
+use Rattle.lapd_sides_laws.specs.SideView.{Behaviour, SideView, SideEvent, Take, Lose, Expire, Ask, unmoved, takes_first, may_expire, or_unmoved, does}
 use Rattle.lapd_sides_laws.proofs.ExactLinks.{if_either}
 use Rattle.lapd_sides_laws.proofs.ManagementTimers.{awaits_before, checks_before, terminal_row, assigner_row, expired_201, expired_202}
 
@@ -56,12 +56,12 @@ module _ (S : Type 0) (w : Behaviour S) (P : S → Type 0) where
   abbrev Keeps : Reaction S → Type 0
   Keeps a = P a.after
 
-  pub record KeptBySide : Type 0 where
+  pub record PreservedBySide : Type 0 where
     pub takes : (now : ℕ) (octets : List ℕ) (s : S) → P s → Keeps (w.takes octets now s)
     pub expires : (now : ℕ) (timer : Timer) (of : Option LinkId) (s : S) → may_expire timer of (w.served s) ≡ true → P s → Keeps (w.expires now timer of s)
     pub requested : (now : ℕ) (asked : Request) (s : S) → P s → IfOk (w.requested asked now s) Keeps
 
-  module _ (ways : KeptBySide) where
+  module _ (ways : PreservedBySide) where
     first_taken : (now : ℕ) (line : List (List ℕ)) (s : S) → P s → Keeps (takes_first w now line s)
     first_taken now [] s h = h
     first_taken now (octets ∷ rest) s h = ways.takes now octets s h
@@ -74,12 +74,12 @@ module _ (S : Type 0) (w : Behaviour S) (P : S → Type 0) where
     granted s (Ok a) h done = done
     granted s (Err kind) h done = h
 
-    pub kept_by_deed : (deed : Deed) (v : SideView S) → P v.now → P (does w deed v).now
+    pub preserved_by_event : (side_event : SideEvent) (v : SideView S) → P v.now → P (does w side_event v).now
     unfolding does
-    kept_by_deed (Take now) v h = first_taken now v.incoming v.now h
-    kept_by_deed (Lose at) v h = h
-    kept_by_deed (Expire timer of now) v h = where_it_may now timer of v.now (may_expire timer of (w.served v.now)) refl h
-    kept_by_deed (Ask asked now) v h = granted v.now (w.requested asked now v.now) h (ways.requested now asked v.now h)
+    preserved_by_event (Take now) v h = first_taken now v.incoming v.now h
+    preserved_by_event (Lose at) v h = h
+    preserved_by_event (Expire timer of now) v h = where_it_may now timer of v.now (may_expire timer of (w.served v.now)) refl h
+    preserved_by_event (Ask asked now) v h = granted v.now (w.requested asked now v.now) h (ways.requested now asked v.now h)
 
 -- ---- A network side: only a step of the assigner changes the timer.
 
@@ -106,32 +106,32 @@ module _ (config : Config) (now : ℕ) where
   unfolding link_of_network
   network_asks_link id input octets s h = network_among s (in_links id (link_acts side.Network id now input octets) s.served.links) h
 
-  network_hears_link : (id : LinkId) (input : Input) (octets : List ℕ) (s : Network) → HasTimerOfAssigner s → Checked (net.or_discarded s (link_of_network now id input octets s))
+  network_receives_link : (id : LinkId) (input : Input) (octets : List ℕ) (s : Network) → HasTimerOfAssigner s → Checked (net.or_discarded s (link_of_network now id input octets s))
   unfolding link_of_network
-  network_hears_link id input octets s h = network_discarded s (in_links id (link_acts side.Network id now input octets) s.served.links) h
+  network_receives_link id input octets s h = network_discarded s (in_links id (link_acts side.Network id now input octets) s.served.links) h
 
   assigning : (event : AssignerEvent) (s : Network) → RunsAlone T201 (checks_before s.assigner event) s.served.timers → Checked (assigner_acts config now event s)
   unfolding assigner_acts manages
   assigning event s h = assigner_row now s.served.timers s.assigner event h
 
-  network_message : (r : Result TeiMessage TeiFault) (s : Network) → HasTimerOfAssigner s → Checked (net.message_heard config now r s)
+  network_message : (r : Result TeiMessage TeiFault) (s : Network) → HasTimerOfAssigner s → Checked (net.message_received config now r s)
   network_message (Ok m) s h = assigning (assigner.Heard m) s h
   network_message (Err fault) s h = h
 
-  network_fault : (kind : FaultKind) (address : Option Address) (s : Network) → HasTimerOfAssigner s → Checked (net.fault_heard now kind address s)
+  network_fault : (kind : FaultKind) (address : Option Address) (s : Network) → HasTimerOfAssigner s → Checked (net.fault_received now kind address s)
   network_fault kind None s h = h
-  network_fault kind (Some address) s h = network_hears_link (id_of_address address) (Faulty kind) [] s h
+  network_fault kind (Some address) s h = network_receives_link (id_of_address address) (Faulty kind) [] s h
 
-  network_hears : (r : Result Fields FrameFault) (s : Network) → HasTimerOfAssigner s → Checked (net.heard config now r s)
-  network_hears (Ok frame) s h =
-      let heard_by_link = net.or_discarded s (link_of_network now (id_of_address frame.address) (Heard frame.control frame.address.role) frame.info s) in
-      if_either Checked (carries_message frame) (net.message_heard config now (message_at frame.info) s) heard_by_link (network_message (message_at frame.info) s h)
-      (network_hears_link (id_of_address frame.address) (Heard frame.control frame.address.role) frame.info s h)
-  network_hears (Err fault) s h = network_fault fault.kind fault.address s h
+  network_receives : (r : Result Fields FrameFault) (s : Network) → HasTimerOfAssigner s → Checked (net.received config now r s)
+  network_receives (Ok frame) s h =
+      let received_by_link = net.or_discarded s (link_of_network now (id_of_address frame.address) (Heard frame.control frame.address.role) frame.info s) in
+      if_either Checked (carries_message frame) (net.message_received config now (message_at frame.info) s) received_by_link (network_message (message_at frame.info) s h)
+      (network_receives_link (id_of_address frame.address) (Heard frame.control frame.address.role) frame.info s h)
+  network_receives (Err fault) s h = network_fault fault.kind fault.address s h
 
   network_taking : (octets : List ℕ) (s : Network) → HasTimerOfAssigner s → Checked (network_takes config octets now s)
   unfolding network_takes
-  network_taking octets s h = network_hears (frame_at side.User octets) s h
+  network_taking octets s h = network_receives (frame_at side.User octets) s h
 
   network_expiring : (timer : Timer) (of : Option LinkId) (s : Network) → may_expire timer of s.served ≡ true → HasTimerOfAssigner s → Checked (network_expires config now timer of s)
   unfolding network_expires
@@ -151,8 +151,8 @@ module _ (config : Config) (now : ℕ) where
   network_asking request.AskTei s h = h
   network_asking (request.Check tei) s h = assigning (assigner.Check tei) s h
 
-pub network_keeps_its_timer : (config : Config) → KeptBySide Network (network_behaviour config) HasTimerOfAssigner
-network_keeps_its_timer config = record { takes = network_taking config; expires = network_expiring config; requested = network_asking config }
+pub network_preserves_its_timer : (config : Config) → PreservedBySide Network (network_behaviour config) HasTimerOfAssigner
+network_preserves_its_timer config = record { takes = network_taking config; expires = network_expiring config; requested = network_asking config }
 
 pub new_network_waits : (config : Config) (known : List ℕ) → HasTimerOfAssigner (new_network config known)
 new_network_waits config known T200 = refl
@@ -185,20 +185,20 @@ module _ (config : Config) (now : ℕ) where
   unfolding link_of_user
   user_asks_link id input octets s h = user_among s (in_links id (link_acts side.User id now input octets) s.served.links) h
 
-  user_hears_link : (id : LinkId) (input : Input) (octets : List ℕ) (s : User) → HasTimerOfTerminal s → Awaited (usr.or_discarded s (link_of_user now id input octets s))
+  user_receives_link : (id : LinkId) (input : Input) (octets : List ℕ) (s : User) → HasTimerOfTerminal s → Awaited (usr.or_discarded s (link_of_user now id input octets s))
   unfolding link_of_user
-  user_hears_link id input octets s h = user_discarded s (in_links id (link_acts side.User id now input octets) s.served.links) h
+  user_receives_link id input octets s h = user_discarded s (in_links id (link_acts side.User id now input octets) s.served.links) h
 
   establishing : (on : Bool) (id : LinkId) (s : User) → HasTimerOfTerminal s → Awaited (establishes on now id s)
   unfolding link_of_user
   establishing true id s h = user_unmoved s (in_links id (link_acts side.User id now input.Establish []) s.served.links) h
   establishing false id s h = h
 
-  keeping : (outs : List TeiOut) (s : User) → HasTimerOfTerminal s → Awaited (kept_after now outs s)
+  keeping : (outs : List TeiOut) (s : User) → HasTimerOfTerminal s → Awaited (pending_after now outs s)
   keeping [] s h = h
   keeping (outcome.Got own ∷ outs) s h =
-      let first = establishes s.kept.call now (of_sapi sapi.Call own) (record s { kept = nothing_kept }) in
-      establishing s.kept.packet (of_sapi sapi.Packet own) first.after (establishing s.kept.call (of_sapi sapi.Call own) (record s { kept = nothing_kept }) h)
+      let first = establishes s.pending.call now (of_sapi sapi.Call own) (record s { pending = nothing_pending }) in
+      establishing s.pending.packet (of_sapi sapi.Packet own) first.after (establishing s.pending.call (of_sapi sapi.Call own) (record s { pending = nothing_pending }) h)
   keeping (outcome.Failed ∷ outs) s h = h
   keeping (outcome.Given t ∷ outs) s h = keeping outs s h
   keeping (outcome.Free t ∷ outs) s h = keeping outs s h
@@ -216,28 +216,28 @@ module _ (config : Config) (now : ℕ) where
       keeping step.outs (record s { served = (manages side.User config now step.outs s.served).after; terminal = step.now; random = drawn step.outs s.random })
       (terminal_row now s.served.timers s.terminal (event (next_reference s.random)) h)
 
-  user_message : (r : Result TeiMessage TeiFault) (s : User) → HasTimerOfTerminal s → Awaited (usr.message_heard config now r s)
+  user_message : (r : Result TeiMessage TeiFault) (s : User) → HasTimerOfTerminal s → Awaited (usr.message_received config now r s)
   user_message (Ok m) s h = terminal_acting (terminal.Heard m) s h
   user_message (Err fault) s h = h
 
-  user_fault : (kind : FaultKind) (address : Option Address) (s : User) → HasTimerOfTerminal s → Awaited (usr.fault_heard now kind address s)
+  user_fault : (kind : FaultKind) (address : Option Address) (s : User) → HasTimerOfTerminal s → Awaited (usr.fault_received now kind address s)
   user_fault kind None s h = h
-  user_fault kind (Some address) s h = user_hears_link (of_sapi address.sapi address.tei) (Faulty kind) [] s h
+  user_fault kind (Some address) s h = user_receives_link (of_sapi address.sapi address.tei) (Faulty kind) [] s h
 
-  user_data : (frame : Fields) (s : User) → HasTimerOfTerminal s → Awaited (usr.data_heard config now frame s)
+  user_data : (frame : Fields) (s : User) → HasTimerOfTerminal s → Awaited (usr.data_received config now frame s)
   user_data frame s h =
       let id = of_sapi frame.address.sapi frame.address.tei in
       if_either Awaited (for_layer_3 config frame) (unit_from_group frame.address.sapi frame.info s) (usr.or_discarded s (link_of_user now id (Heard frame.control frame.address.role) frame.info s)) h
-      (user_hears_link id (Heard frame.control frame.address.role) frame.info s h)
+      (user_receives_link id (Heard frame.control frame.address.role) frame.info s h)
 
-  user_hears : (r : Result Fields FrameFault) (s : User) → HasTimerOfTerminal s → Awaited (usr.heard config now r s)
-  user_hears (Ok frame) s h =
-      if_either Awaited (carries_message frame) (usr.message_heard config now (message_at frame.info) s) (usr.data_heard config now frame s) (user_message (message_at frame.info) s h) (user_data frame s h)
-  user_hears (Err fault) s h = user_fault fault.kind fault.address s h
+  user_receives : (r : Result Fields FrameFault) (s : User) → HasTimerOfTerminal s → Awaited (usr.received config now r s)
+  user_receives (Ok frame) s h =
+      if_either Awaited (carries_message frame) (usr.message_received config now (message_at frame.info) s) (usr.data_received config now frame s) (user_message (message_at frame.info) s h) (user_data frame s h)
+  user_receives (Err fault) s h = user_fault fault.kind fault.address s h
 
   user_taking : (octets : List ℕ) (s : User) → HasTimerOfTerminal s → Awaited (user_takes config octets now s)
   unfolding user_takes
-  user_taking octets s h = user_hears (frame_at side.Network octets) s h
+  user_taking octets s h = user_receives (frame_at side.Network octets) s h
 
   user_expiring : (timer : Timer) (of : Option LinkId) (s : User) → may_expire timer of s.served ≡ true → HasTimerOfTerminal s → Awaited (user_expires config now timer of s)
   unfolding user_expires
@@ -253,37 +253,37 @@ module _ (config : Config) (now : ℕ) where
   user_asking : (asked : Request) (s : User) → HasTimerOfTerminal s → AwaitedIfOk (user_requested config asked now s)
   unfolding user_requested
   user_asking (request.Establish id) s h = with_own s.terminal id.sapi input.Establish [] (wants config now id.sapi s) s h
-      (if_either AwaitedIfOk (is_served config id.sapi) (Ok (terminal_acts config now terminal.Want (record s { kept = keeps id.sapi true s.kept }))) (Err NoLink) (terminal_acting terminal.Want (record s { kept = keeps id.sapi true s.kept }) h) tt)
-  user_asking (request.Release id) s h = with_own s.terminal id.sapi input.Release [] (forgets id.sapi s) s h (if_either AwaitedIfOk (is_kept id.sapi s.kept) _ (Err NoLink) h tt)
+      (if_either AwaitedIfOk (is_served config id.sapi) (Ok (terminal_acts config now terminal.Want (record s { pending = with_pending id.sapi true s.pending }))) (Err NoLink) (terminal_acting terminal.Want (record s { pending = with_pending id.sapi true s.pending }) h) tt)
+  user_asking (request.Release id) s h = with_own s.terminal id.sapi input.Release [] (forgets id.sapi s) s h (if_either AwaitedIfOk (is_pending id.sapi s.pending) _ (Err NoLink) h tt)
   user_asking (request.Unit id octets) s h = with_own s.terminal id.sapi (UnitData (length octets.items)) octets.items (Err NoLink) s h tt
   user_asking (request.Give id message) s h = with_own s.terminal id.sapi (input.Give message.items) [] (Err (Link NotEstablished)) s h tt
   user_asking (request.Busy id on) s h = with_own s.terminal id.sapi (busy_input on) [] (Err NoLink) s h tt
   user_asking request.AskTei s h = terminal_acting terminal.Ask s h
   user_asking (request.Check tei) s h = h
 
-pub user_keeps_its_timer : (config : Config) → KeptBySide User (user_behaviour config) HasTimerOfTerminal
-user_keeps_its_timer config = record { takes = user_taking config; expires = user_expiring config; requested = user_asking config }
+pub user_preserves_its_timer : (config : Config) → PreservedBySide User (user_behaviour config) HasTimerOfTerminal
+user_preserves_its_timer config = record { takes = user_taking config; expires = user_expiring config; requested = user_asking config }
 
-at_rest_202 : (config : Config) → RunsAlone T202 false (at_rest config.durations)
-at_rest_202 config T200 = refl
-at_rest_202 config T201 = refl
-at_rest_202 config T202 = refl
-at_rest_202 config T203 = refl
+all_stopped_202 : (config : Config) → RunsAlone T202 false (all_stopped config.durations)
+all_stopped_202 config T200 = refl
+all_stopped_202 config T201 = refl
+all_stopped_202 config T202 = refl
+all_stopped_202 config T203 = refl
 
 pub new_user_waits : (config : Config) (fixed : Option ℕ) (random : Lcg) → HasTimerOfTerminal (new_user config fixed random)
-new_user_waits config None random = λ timer. at_rest_202 config timer
-new_user_waits config (Some tei) random = λ timer. at_rest_202 config timer
+new_user_waits config None random = λ timer. all_stopped_202 config timer
+new_user_waits config (Some tei) random = λ timer. all_stopped_202 config timer
 
 -- ---- Every run of an interface.
 
 module _ (c : Configs) where
-  move_keeps : (who : Side) (deed : Deed) (i : Interface) → HaveTimersOfManagement i → HaveTimersOfManagement (side_does c who deed i)
-  move_keeps side.User deed i h = (kept_by_deed User (user_behaviour c.user) HasTimerOfTerminal (user_keeps_its_timer c.user) deed (by_user i) h.0, h.1)
-  move_keeps side.Network deed i h = (h.0, kept_by_deed Network (network_behaviour c.network) HasTimerOfAssigner (network_keeps_its_timer c.network) deed (by_network i) h.1)
+  move_preserves : (who : Side) (side_event : SideEvent) (i : Interface) → HaveTimersOfManagement i → HaveTimersOfManagement (side_does c who side_event i)
+  move_preserves side.User side_event i h = (preserved_by_event User (user_behaviour c.user) HasTimerOfTerminal (user_preserves_its_timer c.user) side_event (by_user i) h.0, h.1)
+  move_preserves side.Network side_event i h = (h.0, preserved_by_event Network (network_behaviour c.network) HasTimerOfAssigner (network_preserves_its_timer c.network) side_event (by_network i) h.1)
 
-  run_keeps : (moves : List Move) (i : Interface) → HaveTimersOfManagement i → HaveTimersOfManagement (run c moves i)
-  run_keeps [] i h = h
-  run_keeps (move ∷ moves) i h = run_keeps moves (happens c move i) (move_keeps move.side move.deed i h)
+  run_preserves : (moves : List Move) (i : Interface) → HaveTimersOfManagement i → HaveTimersOfManagement (run c moves i)
+  run_preserves [] i h = h
+  run_preserves (move ∷ moves) i h = run_preserves moves (happens c move i) (move_preserves move.side move.event i h)
 
   pub run_waits : (fixed : Option ℕ) (random : Lcg) (known : List ℕ) (moves : List Move) → HaveTimersOfManagement (run c moves (new_interface (new_user c.user fixed random) (new_network c.network known)))
-  run_waits fixed random known moves = run_keeps moves (new_interface (new_user c.user fixed random) (new_network c.network known)) (new_user_waits c.user fixed random, new_network_waits c.network known)
+  run_waits fixed random known moves = run_preserves moves (new_interface (new_user c.user fixed random) (new_network c.network known)) (new_user_waits c.user fixed random, new_network_waits c.network known)

@@ -20,9 +20,9 @@ use Rattle.lapd_tei.specs.declared.terminal.TerminalEvent.{TerminalEvent}
 use Rattle.lapd_tei.specs.declared.terminal.TerminalEvent.TheVariants as terminal
 use Rattle.lapd_tei.specs.declared.assigner.AssignerEvent.{AssignerEvent}
 use Rattle.lapd_tei.specs.declared.assigner.AssignerEvent.TheVariants as assigner
-use Rattle.lapd_tei.specs.Assigner.{AssignerState, AssignerStep, least_free, serves, begins_check, counts_response, round_ends, timer_ends, assigner_hears, assigner_step, stays}
+use Rattle.lapd_tei.specs.Assigner.{AssignerState, AssignerStep, least_free, serves, begins_check, counts_response, round_ends, timer_ends, assigner_receives, assigner_step, stays}
 use Rattle.lapd_tei.specs.Message.{group_tei}
-use Rattle.lapd_tei.specs.Terminal.{TerminalStep, goes_to, n202, is_automatic, names, is_got_by, asks_again, awaiting_hears, assigned_hears, terminal_step, is_awaiting}
+use Rattle.lapd_tei.specs.Terminal.{TerminalStep, moves_to, n202, is_automatic, names, is_got_by, asks_again, awaiting_receives, assigned_receives, terminal_step, is_awaiting}
 use Rattle.lapd_sides_links.specs.Effects.{managed, stopped, started}
 use Rattle.lapd_sides_laws.specs.ManagementTimers.{RunsAlone}
 use Rattle.lapd_sides_laws.proofs.ExactLinks.{if_either}
@@ -55,19 +55,19 @@ module _ (now : ℕ) (t : Timers) where
   started_202 : (on : Bool) → RunsAlone T202 on t → RunsAlone T202 true (started now T202 t)
   started_202 on h = set_202 (Some (deadline_from now (length_of T202 t.durations))) t on h
 
-  awaiting_row : (purpose : Purpose) (count ri : ℕ) (what : TeiKind) (its ai : ℕ) → RunsAlone T202 true t → IsTimely (awaiting_hears purpose count ri what its ai)
+  awaiting_row : (purpose : Purpose) (count ri : ℕ) (what : TeiKind) (its ai : ℕ) → RunsAlone T202 true t → IsTimely (awaiting_receives purpose count ri what its ai)
   awaiting_row purpose count ri kind.Assigned its ai h =
-      if_either IsTimely ((its == ri) && is_automatic ai) (goes_to (Assigned (Some ri) ai) (outcome.Stop T202 ∷ outcome.Got ai ∷ [])) (goes_to (Awaiting purpose count ri) []) (set_202 None t true h) h
+      if_either IsTimely ((its == ri) && is_automatic ai) (moves_to (Assigned (Some ri) ai) (outcome.Stop T202 ∷ outcome.Got ai ∷ [])) (moves_to (Awaiting purpose count ri) []) (set_202 None t true h) h
   awaiting_row purpose count ri other its ai h = h
 
-  assigned_row : (by : Option ℕ) (tei : ℕ) (what : TeiKind) (its ai new : ℕ) → RunsAlone T202 false t → IsTimely (assigned_hears by tei what its ai new)
-  assigned_row by tei kind.Assigned its ai new h = if_either IsTimely ((ai == tei) && not (is_got_by by its)) (goes_to Unassigned (outcome.Gone tei ∷ [])) (goes_to (Assigned by tei) []) h h
-  assigned_row by tei kind.CheckRequest its ai new h = if_either IsTimely (names ai tei) _ (goes_to (Assigned by tei) []) h h
-  assigned_row by tei kind.Remove its ai new h = if_either IsTimely (names ai tei) (goes_to Unassigned (outcome.Gone tei ∷ [])) (goes_to (Assigned by tei) []) h h
+  assigned_row : (by : Option ℕ) (tei : ℕ) (what : TeiKind) (its ai new : ℕ) → RunsAlone T202 false t → IsTimely (assigned_receives by tei what its ai new)
+  assigned_row by tei kind.Assigned its ai new h = if_either IsTimely ((ai == tei) && not (is_got_by by its)) (moves_to Unassigned (outcome.Gone tei ∷ [])) (moves_to (Assigned by tei) []) h h
+  assigned_row by tei kind.CheckRequest its ai new h = if_either IsTimely (names ai tei) _ (moves_to (Assigned by tei) []) h h
+  assigned_row by tei kind.Remove its ai new h = if_either IsTimely (names ai tei) (moves_to Unassigned (outcome.Gone tei ∷ [])) (moves_to (Assigned by tei) []) h h
   assigned_row by tei other its ai new h = h
 
   again : (purpose : Purpose) (count ri new : ℕ) → RunsAlone T202 false t → IsTimely (asks_again purpose count ri new)
-  again purpose count ri new h = if_either IsTimely (nat_lt count n202) _ (goes_to Unassigned (outcome.Failed ∷ [])) (started_202 false h) h
+  again purpose count ri new h = if_either IsTimely (nat_lt count n202) _ (moves_to Unassigned (outcome.Failed ∷ [])) (started_202 false h) h
 
   pub terminal_row : (phase : Phase) (event : TerminalEvent) → RunsAlone T202 (awaits_before phase event) t → IsTimely (terminal_step phase event)
   terminal_row Unassigned (terminal.Ask ri) h = started_202 false h
@@ -100,11 +100,11 @@ module _ (now : ℕ) (t : Timers) where
   counting tei None a is h = h
   counting tei (Some check) a is h = if_either IsTimelyCheck (tei == check.tei) _ (stays a) (subst (λ (c : Option Check). RunsAlone T201 (is_some c) t) is h) h
 
-  hearing : (what : TeiKind) (ri ai : ℕ) (a : AssignerState) → RunsAlone T201 (is_some a.check) t → IsTimelyCheck (assigner_hears what ri ai a)
-  hearing kind.Request ri ai a h = serving ri (least_free a.held) a h
-  hearing kind.CheckResponse ri ai a h = counting ai a.check a refl h
-  hearing kind.Verify ri ai a h = beginning ai a.check a h
-  hearing other ri ai a h = h
+  reception_is_exact : (what : TeiKind) (ri ai : ℕ) (a : AssignerState) → RunsAlone T201 (is_some a.check) t → IsTimelyCheck (assigner_receives what ri ai a)
+  reception_is_exact kind.Request ri ai a h = serving ri (least_free a.held) a h
+  reception_is_exact kind.CheckResponse ri ai a h = counting ai a.check a refl h
+  reception_is_exact kind.Verify ri ai a h = beginning ai a.check a h
+  reception_is_exact other ri ai a h = h
 
   ending_round : (tei : ℕ) (nth : Round) (count : Responses) (a : AssignerState) → RunsAlone T201 false t → IsTimelyCheck (round_ends tei nth count a)
   ending_round tei round.First responses.Nobody a h = started_201 false h
@@ -124,7 +124,7 @@ checks_before a assigner.T201 = false
 checks_before a event = is_some a.check
 
 pub assigner_row : (now : ℕ) (t : Timers) (a : AssignerState) (event : AssignerEvent) → RunsAlone T201 (checks_before a event) t → IsTimelyCheck now t (assigner_step a event)
-assigner_row now t a (assigner.Heard m) h = hearing now t m.kind m.ri m.ai a h
+assigner_row now t a (assigner.Heard m) h = reception_is_exact now t m.kind m.ri m.ai a h
 assigner_row now t a (assigner.Check tei) h = beginning now t tei a.check a h
 assigner_row now t a assigner.T201 h = ending now t a.check a refl h
 

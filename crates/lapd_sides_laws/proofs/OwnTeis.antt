@@ -12,10 +12,10 @@ use Rattle.lapd_table.specs.declared.link_id.LinkId.{LinkId}
 use Rattle.lapd_sides_links.specs.declared.config.Config.{Config}
 use Rattle.lapd_sides_links.specs.declared.primitive.What.{What}
 use Rattle.lapd_sides_links.specs.Effects.{Effects, outcome_of}
-use Rattle.lapd_sides_links.specs.Links.{Links, Linked, Served, of_sapi, is_served, is_link_of, with_tei, primitives_of, told_at_removal, release_at_removal, told_of_tei}
-use Rattle.lapd_sides.specs.Management.{links_with, links_without, told_without, manages}
+use Rattle.lapd_sides_links.specs.Links.{Links, Linked, Served, of_sapi, is_served, is_link_of, with_tei, primitives_of, primitives_at_removal, release_at_removal, primitive_of_tei}
+use Rattle.lapd_sides.specs.Management.{links_with, links_without, removal_primitives, manages}
 use Rattle.lapd_sides_laws.specs.Interface.{fresh_link}
-use Rattle.lapd_sides_laws.specs.Premises.{tells_assignment}
+use Rattle.lapd_sides_laws.specs.Premises.{is_assignment}
 use Rattle.lapd_sides_laws.proofs.LinkOps.{none_of_both}
 use Rattle.lapd_sides_laws.proofs.Managed.{freed_here, freed_is_other, without_this, without_other}
 
@@ -25,25 +25,25 @@ AreOf P links = (k : LinkId) → is_some (links k) ≡ true → P k.tei
 
 -- no primitive reports that the TEI of an existing link is assigned or obtained
 abbrev pub IsQuietFor : Links → Effects → Type 0
-IsQuietFor links effects = (k : LinkId) → is_some (links k) ≡ true → list_any (tells_assignment k.tei) effects.primitives ≡ false
+IsQuietFor links effects = (k : LinkId) → is_some (links k) ≡ true → list_any (is_assignment k.tei) effects.primitives ≡ false
 
 pub both_of : (a b : Bool) → (a && b) ≡ true → (a ≡ true) × (b ≡ true)
 both_of true true h = (refl, refl)
 both_of true false h = cc
 both_of false b h = cc
 
-quiet_primitives : (tei : ℕ) (at : LinkId) (w : Option What) → list_any (tells_assignment tei) (primitives_of at w) ≡ false
+quiet_primitives : (tei : ℕ) (at : LinkId) (w : Option What) → list_any (is_assignment tei) (primitives_of at w) ≡ false
 quiet_primitives tei at None = refl
 quiet_primitives tei at (Some w) = refl
 
-quiet_at : (tei : ℕ) (at : LinkId) (l : Option Linked) → list_any (tells_assignment tei) (told_at_removal at l) ≡ false
+quiet_at : (tei : ℕ) (at : LinkId) (l : Option Linked) → list_any (is_assignment tei) (primitives_at_removal at l) ≡ false
 quiet_at tei at None = refl
 quiet_at tei at (Some l) = quiet_primitives tei at (release_at_removal l.end.state l.end.release_pending)
 
-quiet_without : (tei : ℕ) (freed : Option ℕ) (links : Links) → list_any (tells_assignment tei) (told_without freed links) ≡ false
-unfolding told_of_tei
+quiet_without : (tei : ℕ) (freed : Option ℕ) (links : Links) → list_any (is_assignment tei) (removal_primitives freed links) ≡ false
+unfolding primitive_of_tei
 quiet_without tei None links = refl
-quiet_without tei (Some t) links = none_of_both (tells_assignment tei) (told_at_removal (of_sapi Call t) (links (of_sapi Call t))) (told_at_removal (of_sapi Packet t) (links (of_sapi Packet t)))
+quiet_without tei (Some t) links = none_of_both (is_assignment tei) (primitives_at_removal (of_sapi Call t) (links (of_sapi Call t))) (primitives_at_removal (of_sapi Packet t) (links (of_sapi Packet t)))
     (quiet_at tei (of_sapi Call t) (links (of_sapi Call t))) (quiet_at tei (of_sapi Packet t) (links (of_sapi Packet t)))
 
 -- what a step of TEI management does to its TEIs: `P` holds for those before it, `Q` for those
@@ -51,7 +51,7 @@ quiet_without tei (Some t) links = none_of_both (tells_assignment tei) (told_at_
 pub record LeavesOwn (P Q : ℕ → Type 0) (outs : List TeiOut) : Type 0 where
   pub given : (t : ℕ) → tei_given outs ≡ Some t → Q t
   pub stays : (n : ℕ) → P n → (freed_here n (tei_freed outs) ≡ true) ⊎ Q n
-  pub quiet : (n : ℕ) → P n → list_any (tells_assignment n) (filter_map outcome_of outs) ≡ false
+  pub quiet : (n : ℕ) → P n → list_any (is_assignment n) (filter_map outcome_of outs) ≡ false
 
 module _ (side : Side) (config : Config) (now : ℕ) (outs : List TeiOut) (s : Served) (P Q : ℕ → Type 0) (own : LeavesOwn P Q outs) (are : AreOf P s.links) where
   -- a TEI that stays
@@ -89,5 +89,5 @@ module _ (side : Side) (config : Config) (now : ℕ) (outs : List TeiOut) (s : S
 
   pub managed_is_quiet : IsQuietFor s.links (manages side config now outs s).effects
   unfolding manages
-  managed_is_quiet k there = none_of_both (tells_assignment k.tei) (filter_map outcome_of outs) (told_without (tei_freed outs) (links_with config (tei_given outs) s.links))
+  managed_is_quiet k there = none_of_both (is_assignment k.tei) (filter_map outcome_of outs) (removal_primitives (tei_freed outs) (links_with config (tei_given outs) s.links))
       (own.quiet k.tei (are k there)) (quiet_without k.tei (tei_freed outs) (links_with config (tei_given outs) s.links))

@@ -17,8 +17,8 @@ use Rattle.lapd_link_definition.specs.Procedures.{retransmit_last_i_frame, out_w
 use Rattle.lapd_link_definition.specs.Refusal.{refused}
 use Rattle.lapd_link_definition.specs.EndOfStep.{end_step}
 use Rattle.lapd_link_definition.specs.Table.{row, step}
-use Rattle.lapd_link_definition.proofs.EachAction.{IsPut, KeptByActions, row_keeps, close_keeps}
-use Rattle.lapd_link_definition.proofs.KeptByStep.{taken}
+use Rattle.lapd_link_definition.proofs.EachAction.{IsPut, PreservedByActions, row_preserves, close_preserves}
+use Rattle.lapd_link_definition.proofs.PreservedByStep.{taken}
 use Rattle.lapd_sides_links.specs.Effects.{started, stopped, timed_by, timed}
 use Rattle.lapd_sides_links.specs.Links.{Linked, new_linked}
 use Rattle.lapd_sides_laws.specs.Projects.{IsTimed}
@@ -150,7 +150,7 @@ module _ (r : Reading) (now : ℕ) (t : Timers) where
       behind (before ++ (if a then [] else out_where b (Stop T203))) (if a then [] else Start T200 ∷ []) true (a && b)
       (subst (λ (x : Timers). Agree (timed now (if a then [] else Start T200 ∷ []) x) true (a && b)) (sym (timed_both now before (if a then [] else out_where b (Stop T203)) t)) (ensure_by now a b (timed now before t) h))
 
-  pub timed_actions : KeptByActions r Stopped Timely Timely (λ message. Unit {0}) (Unit {0}) (Unit {0}) (Unit {0}) (Unit {0}) (λ nr. Unit {0})
+  pub timed_actions : PreservedByActions r Stopped Timely Timely (λ message. Unit {0}) (Unit {0}) (Unit {0}) (Unit {0}) (Unit {0}) (λ nr. Unit {0})
   unfolding put state_to rc_to increment_rc layer3_initiated_to release_pending_to start stop expired clear_exception_conditions zero_state_variables set_peer_busy set_own_busy enquiry_response transmit_enquiry retransmit_last_i_frame transmit_rr queue_up discard_i_queue acknowledge invoke_retransmission discard_unacknowledged i_frame_ns transmit_i_frame ensure_t200
   timed_actions = record {
     puts = λ out s ok h. quiet s.outs (out ∷ []) _ _ (put_is_still out ok, tt) h;
@@ -194,10 +194,10 @@ pub timed_by_step : (r : Reading) (now : ℕ) (input : Input) (t : Timers) (e : 
     → Agree t e.t200 e.t203 → step r input e ≡ Ok s → Agree (timed now s.outs t) s.end.t200 s.end.t203
 unfolding step begin
 timed_by_step r now input t e s stopped h done =
-    let row_done = row_keeps r (Stopped r now t) (Timely r now t) (Timely r now t) _ _ _ _ _ _ (timed_actions r now t) e.state input (begin e)
+    let row_done = row_preserves r (Stopped r now t) (Timely r now t) (Timely r now t) _ _ _ _ _ _ (timed_actions r now t) e.state input (begin e)
     (λ message same. tt) (λ b. tt) (λ opened ns nr p same. tt) (λ u. tt) (λ there same. tt) (λ nr same. tt) stopped h in
     subst (Timely r now t) (taken (refused input e) (end_step r (row r e.state input (begin e))) s done).1
-    (close_keeps r (Stopped r now t) (Timely r now t) (Timely r now t) _ _ _ _ _ _ (timed_actions r now t) (row r e.state input (begin e)) tt row_done)
+    (close_preserves r (Stopped r now t) (Timely r now t) (Timely r now t) _ _ _ _ _ _ (timed_actions r now t) (row r e.state input (begin e)) tt row_done)
 
 -- the same, said of a link
 pub link_timed : (l : Linked) → IsTimed l → Agree l.timers l.end.t200 l.end.t203

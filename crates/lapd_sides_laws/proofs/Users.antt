@@ -35,7 +35,7 @@ use Rattle.lapd_tei.specs.Message.{message_at, group_tei}
 use Rattle.lapd_pair_laws.specs.Line.{Flight}
 use Rattle.lapd_table.specs.declared.link_id.LinkId.{LinkId}
 use Rattle.lapd_table.specs.LinkId.{id_eq}
-use Rattle.lapd_table.specs.Octets.{heard_by, fault_for}
+use Rattle.lapd_table.specs.Octets.{event_by, fault_for}
 use Rattle.lapd_table.proofs.Ids.{same_id_eq, id_eq_self}
 use Rattle.lapd_sides_links.specs.declared.config.Config.{Config}
 use Rattle.lapd_sides_links.specs.declared.primitive.Primitive.TheVariants.{Of}
@@ -48,14 +48,14 @@ use Rattle.lapd_sides_links.specs.Links.{Links, Linked, Reaction, of_sapi, is_se
 use Rattle.lapd_sides.specs.declared.request.Request.{Request}
 use Rattle.lapd_sides.specs.declared.request.Request.TheVariants as request
 use Rattle.lapd_sides.specs.Management.{carries_message, is_unit_to_group, is_management, is_ui, manages}
-use Rattle.lapd_sides.specs.User.{User, nothing_kept, unmoved, next_reference, drawn, with_links, among_links, link_of_user, or_discarded, or_unmoved, establishes, establishes_kept, told_of_sapi, gives_up_kept, kept_after, assigned, terminal_acts, message_heard, unit_from_group, for_layer_3, data_heard, fault_heard, heard, user_takes, user_expires, with_tei_or, is_kept, keeps, wants, forgets, user_requested}
-use Rattle.lapd_sides_laws.specs.Owed.{PassesBy, IsStep, Goes, IsRequest, IsNoRequest, ServesLink}
+use Rattle.lapd_sides.specs.User.{User, nothing_pending, unmoved, next_reference, drawn, with_links, among_links, link_of_user, or_discarded, or_unmoved, establishes, establishes_pending, primitive_of_sapi, gives_up_pending, pending_after, assigned, terminal_acts, message_received, unit_from_group, for_layer_3, data_received, fault_received, received, user_takes, user_expires, with_tei_or, is_pending, with_pending, wants, forgets, user_requested}
+use Rattle.lapd_sides_laws.specs.Owed.{PassesBy, IsStep, IsUnmovedBy, IsRequest, IsNoRequest, ServesLink}
 use Rattle.lapd_sides_laws.specs.Addressed.{is_named, is_for, parts_of, spelled}
 use Rattle.lapd_sides_laws.specs.Interface.{fresh_link, user_behaviour, own_link}
 use Rattle.lapd_sides_laws.specs.SideView.{if_granted, accepted_by}
-use Rattle.lapd_sides_laws.specs.Told.{what_for, told_of, given_to}
-use Rattle.lapd_sides_laws.specs.Premises.{IsGivenOnce, tells_assignment}
-use Rattle.lapd_sides_laws.proofs.Asked.{IsWish, establish_wish, release_wish, busy_wish, free_wish, give_wish, unit_wish, granted_part, none_given, one_given}
+use Rattle.lapd_sides_laws.specs.Primitives.{what_for, link_primitives, given_to}
+use Rattle.lapd_sides_laws.specs.Premises.{IsGivenOnce, is_assignment}
+use Rattle.lapd_sides_laws.proofs.Asked.{IsMoveRequest, establish_request, release_request, busy_request, free_request, give_request, unit_request, granted_part, none_given, one_given}
 use Rattle.lapd_sides_laws.proofs.LinkParts.{now_there, absent_refuses, absent_acts, own_granted, pass_then_step, step_then_pass, removal_then_pass, other_acts, other_expires, own_is_step, own_acts, own_expires, passes_by_nothing, passes_by_both}
 use Rattle.lapd_sides_laws.proofs.Timed.{new_is_timed}
 use Rattle.lapd_sides_laws.proofs.Managed.{managing, outcomes_spare, and_not, neither, any_first, other_tei, not_of_group}
@@ -67,8 +67,8 @@ module _ (config : Config) (id : LinkId) (low : id.tei < 127) (removed : Bool) w
   abbrev pub Stays : User → Reaction User → Type 0
   Stays s a = IsGivenOnce id s.served.links removed a.effects
 
-  abbrev pub UserGoes : ℕ → User → Reaction User → Type 0
-  UserGoes now s a = Goes side.User id now (fresh_link config id) removed s.served.links a.after.served.links a.effects
+  abbrev pub IsUnmovedByUser : ℕ → User → Reaction User → Type 0
+  IsUnmovedByUser now s a = IsUnmovedBy side.User id now (fresh_link config id) removed s.served.links a.after.served.links a.effects
 
   abbrev pub Steps : ℕ → Input → List ℕ → (Timers → Timers) → User → Reaction User → Type 0
   Steps now input octets change s a = IsStep side.User id now input octets change s.served.links a.after.served.links a.effects
@@ -99,33 +99,33 @@ module _ (config : Config) (id : LinkId) (low : id.tei < 127) (removed : Bool) w
   -- ---- TEI management.
 
   -- primitives for the group TEI are for no link
-  group_told : (on : Bool) (at : Sapi) (w : What) → told_of id (told_of_sapi on at w) ≡ []
-  group_told false at w = refl
-  group_told true at w = ap (λ (b : Bool). cons_option (if b then Some w else None) []) (not_of_group at id low)
+  group_is_other : (on : Bool) (at : Sapi) (w : What) → link_primitives id (primitive_of_sapi on at w) ≡ []
+  group_is_other false at w = refl
+  group_is_other true at w = ap (λ (b : Bool). cons_option (if b then Some w else None) []) (not_of_group at id low)
 
   establishing : (on : Bool) (now : ℕ) (other : LinkId) (s : User) → id_eq id other ≡ false → Passes s (establishes on now other s)
   establishing true now other s apart = link_wanted now other Establish [] s apart
   establishing false now other s apart = nothing s
 
-  establishing_kept : (now own : ℕ) (s : User) → (own == id.tei) ≡ false → Passes s (establishes_kept now own s)
-  establishing_kept now own s apart =
-      let first = establishes s.kept.call now (of_sapi sapi.Call own) (record s { kept = nothing_kept }) in
-      let second = establishes s.kept.packet now (of_sapi sapi.Packet own) first.after in
+  establishing_pending : (now own : ℕ) (s : User) → (own == id.tei) ≡ false → Passes s (establishes_pending now own s)
+  establishing_pending now own s apart =
+      let first = establishes s.pending.call now (of_sapi sapi.Call own) (record s { pending = nothing_pending }) in
+      let second = establishes s.pending.packet now (of_sapi sapi.Packet own) first.after in
       passes_by_both side.User id s.served.links first.after.served.links second.after.served.links first.effects second.effects
-      (establishing s.kept.call now (of_sapi sapi.Call own) (record s { kept = nothing_kept }) (other_tei sapi.Call own id apart))
-      (establishing s.kept.packet now (of_sapi sapi.Packet own) first.after (other_tei sapi.Packet own id apart))
+      (establishing s.pending.call now (of_sapi sapi.Call own) (record s { pending = nothing_pending }) (other_tei sapi.Call own id apart))
+      (establishing s.pending.packet now (of_sapi sapi.Packet own) first.after (other_tei sapi.Packet own id apart))
 
-  giving_up : (s : User) → Passes s (gives_up_kept s)
+  giving_up : (s : User) → Passes s (gives_up_pending s)
   giving_up s = record {
     links = refl;
     frames = refl;
-    told = filter_map-append (what_for id) (told_of_sapi s.kept.call sapi.Call what.Released) (told_of_sapi s.kept.packet sapi.Packet what.Released)
-        ∙ rw (group_told s.kept.call sapi.Call what.Released, group_told s.kept.packet sapi.Packet what.Released) refl;
+    delivered = filter_map-append (what_for id) (primitive_of_sapi s.pending.call sapi.Call what.Released) (primitive_of_sapi s.pending.packet sapi.Packet what.Released)
+        ∙ rw (group_is_other s.pending.call sapi.Call what.Released, group_is_other s.pending.packet sapi.Packet what.Released) refl;
   }
 
-  keeping : (now : ℕ) (outs : List TeiOut) (s : User) → list_any (tells_assignment id.tei) (filter_map outcome_of outs) ≡ false → Passes s (kept_after now outs s)
+  keeping : (now : ℕ) (outs : List TeiOut) (s : User) → list_any (is_assignment id.tei) (filter_map outcome_of outs) ≡ false → Passes s (pending_after now outs s)
   keeping now [] s spared = nothing s
-  keeping now (tei_out.Got own ∷ outs) s spared = establishing_kept now own s (neither (own == id.tei) _ spared).0
+  keeping now (tei_out.Got own ∷ outs) s spared = establishing_pending now own s (neither (own == id.tei) _ spared).0
   keeping now (tei_out.Failed ∷ outs) s spared = giving_up s
   keeping now (tei_out.Given t ∷ outs) s spared = keeping now outs s (neither (t == id.tei) _ spared).1
   keeping now (tei_out.Free t ∷ outs) s spared = keeping now outs s spared
@@ -147,26 +147,26 @@ module _ (config : Config) (id : LinkId) (low : id.tei < 127) (removed : Bool) w
   establishing_absent true now other s none = link_absent now other Establish [] s none
   establishing_absent false now other s none = nothing s
 
-  kept_absent : (now own : ℕ) (s : User) → s.served.links id ≡ None → Passes s (establishes_kept now own s)
-  kept_absent now own s none =
-      let first = establishes s.kept.call now (of_sapi sapi.Call own) (record s { kept = nothing_kept }) in
-      let second = establishes s.kept.packet now (of_sapi sapi.Packet own) first.after in
-      let one : Passes s first = establishing_absent s.kept.call now (of_sapi sapi.Call own) (record s { kept = nothing_kept }) none in
+  pending_absent : (now own : ℕ) (s : User) → s.served.links id ≡ None → Passes s (establishes_pending now own s)
+  pending_absent now own s none =
+      let first = establishes s.pending.call now (of_sapi sapi.Call own) (record s { pending = nothing_pending }) in
+      let second = establishes s.pending.packet now (of_sapi sapi.Packet own) first.after in
+      let one : Passes s first = establishing_absent s.pending.call now (of_sapi sapi.Call own) (record s { pending = nothing_pending }) none in
       passes_by_both side.User id s.served.links first.after.served.links second.after.served.links first.effects second.effects
-      one (establishing_absent s.kept.packet now (of_sapi sapi.Packet own) first.after (one.links ∙ none))
+      one (establishing_absent s.pending.packet now (of_sapi sapi.Packet own) first.after (one.links ∙ none))
 
-  keeping_absent : (now : ℕ) (outs : List TeiOut) (s : User) → s.served.links id ≡ None → Passes s (kept_after now outs s)
-  keeping_absent now [] s none = nothing s
-  keeping_absent now (tei_out.Got own ∷ outs) s none = kept_absent now own s none
-  keeping_absent now (tei_out.Failed ∷ outs) s none = giving_up s
-  keeping_absent now (tei_out.Given t ∷ outs) s none = keeping_absent now outs s none
-  keeping_absent now (tei_out.Free t ∷ outs) s none = keeping_absent now outs s none
-  keeping_absent now (tei_out.Doubled t ∷ outs) s none = keeping_absent now outs s none
-  keeping_absent now (tei_out.Gone t ∷ outs) s none = keeping_absent now outs s none
-  keeping_absent now (tei_out.InUse t ∷ outs) s none = keeping_absent now outs s none
-  keeping_absent now (tei_out.Send message ∷ outs) s none = keeping_absent now outs s none
-  keeping_absent now (tei_out.Start timer ∷ outs) s none = keeping_absent now outs s none
-  keeping_absent now (tei_out.Stop timer ∷ outs) s none = keeping_absent now outs s none
+  pending_after_absent : (now : ℕ) (outs : List TeiOut) (s : User) → s.served.links id ≡ None → Passes s (pending_after now outs s)
+  pending_after_absent now [] s none = nothing s
+  pending_after_absent now (tei_out.Got own ∷ outs) s none = pending_absent now own s none
+  pending_after_absent now (tei_out.Failed ∷ outs) s none = giving_up s
+  pending_after_absent now (tei_out.Given t ∷ outs) s none = pending_after_absent now outs s none
+  pending_after_absent now (tei_out.Free t ∷ outs) s none = pending_after_absent now outs s none
+  pending_after_absent now (tei_out.Doubled t ∷ outs) s none = pending_after_absent now outs s none
+  pending_after_absent now (tei_out.Gone t ∷ outs) s none = pending_after_absent now outs s none
+  pending_after_absent now (tei_out.InUse t ∷ outs) s none = pending_after_absent now outs s none
+  pending_after_absent now (tei_out.Send message ∷ outs) s none = pending_after_absent now outs s none
+  pending_after_absent now (tei_out.Start timer ∷ outs) s none = pending_after_absent now outs s none
+  pending_after_absent now (tei_out.Stop timer ∷ outs) s none = pending_after_absent now outs s none
 
   -- ---- Once the link has joined, the establishment that was kept for it is done.
 
@@ -203,77 +203,77 @@ module _ (config : Config) (id : LinkId) (low : id.tei < 127) (removed : Bool) w
   packet_is_other : (own : ℕ) → id_eq id (of_sapi sapi.Call own) ≡ true → id_eq id (of_sapi sapi.Packet own) ≡ false
   packet_is_other own same = subst (λ (k : LinkId). id_eq k (of_sapi sapi.Packet own) ≡ false) (sym (same_id_eq id (of_sapi sapi.Call own) same)) refl
 
-  kept_done : (now own : ℕ) (s : User) (l : Linked) → s.served.links id ≡ Some l → Passes s (establishes_kept now own s) ⊎ IsEstablished now s (establishes_kept now own s)
-  kept_done now own s l there =
-      let before : User = record s { kept = nothing_kept } in
-      let first = establishes s.kept.call now (of_sapi sapi.Call own) before in
-      let second = establishes s.kept.packet now (of_sapi sapi.Packet own) first.after in
-      elim (done s.kept.call now (of_sapi sapi.Call own) before l there) [
-        | inl one ↦ elim (done s.kept.packet now (of_sapi sapi.Packet own) first.after l (one.links ∙ there)) [
+  pending_done : (now own : ℕ) (s : User) (l : Linked) → s.served.links id ≡ Some l → Passes s (establishes_pending now own s) ⊎ IsEstablished now s (establishes_pending now own s)
+  pending_done now own s l there =
+      let before : User = record s { pending = nothing_pending } in
+      let first = establishes s.pending.call now (of_sapi sapi.Call own) before in
+      let second = establishes s.pending.packet now (of_sapi sapi.Packet own) first.after in
+      elim (done s.pending.call now (of_sapi sapi.Call own) before l there) [
+        | inl one ↦ elim (done s.pending.packet now (of_sapi sapi.Packet own) first.after l (one.links ∙ there)) [
           | inl two ↦ inl (passes_by_both side.User id s.served.links first.after.served.links second.after.served.links first.effects second.effects one two)
           | inr two ↦ inr (pass_then_step side.User id now Establish [] (λ t. t) s.served.links first.after.served.links second.after.served.links first.effects second.effects one two.1)
         ]
         | inr one ↦ inr (step_then_pass side.User id now Establish [] (λ t. t) s.served.links first.after.served.links second.after.served.links first.effects second.effects one.1
-            (establishing s.kept.packet now (of_sapi sapi.Packet own) first.after (packet_is_other own one.0)))
+            (establishing s.pending.packet now (of_sapi sapi.Packet own) first.after (packet_is_other own one.0)))
       ]
 
-  keeping_there : (now : ℕ) (outs : List TeiOut) (s : User) (l : Linked) → s.served.links id ≡ Some l → Passes s (kept_after now outs s) ⊎ IsEstablished now s (kept_after now outs s)
-  keeping_there now [] s l there = inl (nothing s)
-  keeping_there now (tei_out.Got own ∷ outs) s l there = kept_done now own s l there
-  keeping_there now (tei_out.Failed ∷ outs) s l there = inl (giving_up s)
-  keeping_there now (tei_out.Given t ∷ outs) s l there = keeping_there now outs s l there
-  keeping_there now (tei_out.Free t ∷ outs) s l there = keeping_there now outs s l there
-  keeping_there now (tei_out.Doubled t ∷ outs) s l there = keeping_there now outs s l there
-  keeping_there now (tei_out.Gone t ∷ outs) s l there = keeping_there now outs s l there
-  keeping_there now (tei_out.InUse t ∷ outs) s l there = keeping_there now outs s l there
-  keeping_there now (tei_out.Send message ∷ outs) s l there = keeping_there now outs s l there
-  keeping_there now (tei_out.Start timer ∷ outs) s l there = keeping_there now outs s l there
-  keeping_there now (tei_out.Stop timer ∷ outs) s l there = keeping_there now outs s l there
+  pending_after_there : (now : ℕ) (outs : List TeiOut) (s : User) (l : Linked) → s.served.links id ≡ Some l → Passes s (pending_after now outs s) ⊎ IsEstablished now s (pending_after now outs s)
+  pending_after_there now [] s l there = inl (nothing s)
+  pending_after_there now (tei_out.Got own ∷ outs) s l there = pending_done now own s l there
+  pending_after_there now (tei_out.Failed ∷ outs) s l there = inl (giving_up s)
+  pending_after_there now (tei_out.Given t ∷ outs) s l there = pending_after_there now outs s l there
+  pending_after_there now (tei_out.Free t ∷ outs) s l there = pending_after_there now outs s l there
+  pending_after_there now (tei_out.Doubled t ∷ outs) s l there = pending_after_there now outs s l there
+  pending_after_there now (tei_out.Gone t ∷ outs) s l there = pending_after_there now outs s l there
+  pending_after_there now (tei_out.InUse t ∷ outs) s l there = pending_after_there now outs s l there
+  pending_after_there now (tei_out.Send message ∷ outs) s l there = pending_after_there now outs s l there
+  pending_after_there now (tei_out.Start timer ∷ outs) s l there = pending_after_there now outs s l there
+  pending_after_there now (tei_out.Stop timer ∷ outs) s l there = pending_after_there now outs s l there
 
   -- ---- A step of the terminal.
 
   -- kept establishments leave the link unchanged if TEI management left it unchanged
-  keeping_as : (now : ℕ) (outs : List TeiOut) (s : User) (o : Option Linked) → s.served.links id ≡ o → (is_some o ≡ true → list_any (tells_assignment id.tei) (filter_map outcome_of outs) ≡ false) → Passes s (kept_after now outs s)
-  keeping_as now outs s (Some l) is spared = keeping now outs s (spared refl)
-  keeping_as now outs s None is spared = keeping_absent now outs s is
+  pending_after_as : (now : ℕ) (outs : List TeiOut) (s : User) (o : Option Linked) → s.served.links id ≡ o → (is_some o ≡ true → list_any (is_assignment id.tei) (filter_map outcome_of outs) ≡ false) → Passes s (pending_after now outs s)
+  pending_after_as now outs s (Some l) is spared = keeping now outs s (spared refl)
+  pending_after_as now outs s None is spared = pending_after_absent now outs s is
 
   there_so : (o : Option Linked) → is_some o ≡ true → (is_some o || removed) ≡ true
   there_so (Some l) h = refl
   there_so None h = cc
 
-  assigning : (now : ℕ) (step : TerminalStep) (s : User) → Stays s (assigned config now step s) → UserGoes now s (assigned config now step s)
+  assigning : (now : ℕ) (step : TerminalStep) (s : User) → Stays s (assigned config now step s) → IsUnmovedByUser now s (assigned config now step s)
   assigning now step s stays =
       let m = manages side.User config now step.outs s.served in
       let middle : User = record s { served = m.after; terminal = step.now; random = drawn step.outs s.random } in
-      let rest = kept_after now step.outs middle in
+      let rest = pending_after now step.outs middle in
       let fresh = fresh_link config id in
       let come : Links = with_link id (Some fresh) s.served.links in
-      let once : IsGivenOnce id s.served.links removed m.effects = λ h. any_first (tells_assignment id.tei) m.effects.primitives rest.effects.primitives (stays h) in
+      let once : IsGivenOnce id s.served.links removed m.effects = λ h. any_first (is_assignment id.tei) m.effects.primitives rest.effects.primitives (stays h) in
       elim (managing side.User config now step.outs s.served id low removed once) [
         | inl passes ↦ inl (passes_by_both side.User id s.served.links m.after.links rest.after.served.links m.effects rest.effects passes
-            (keeping_as now step.outs middle (s.served.links id) passes.links (λ there. outcomes_spare side.User config now step.outs s.served id low (once (there_so (s.served.links id) there)))))
+            (pending_after_as now step.outs middle (s.served.links id) passes.links (λ there. outcomes_spare side.User config now step.outs s.served id low (once (there_so (s.served.links id) there)))))
         | inr (inl came) ↦ inr (inl (record {
           absent = came.absent;
           not_removed = came.not_removed;
-          comes = elim (keeping_there now step.outs middle fresh (came.passes.links ∙ now_there id fresh s.served.links)) [
+          comes = elim (pending_after_there now step.outs middle fresh (came.passes.links ∙ now_there id fresh s.served.links)) [
             | inl left ↦ inl (passes_by_both side.User id come m.after.links rest.after.served.links m.effects rest.effects came.passes left)
             | inr does ↦ inr (pass_then_step side.User id now Establish [] (λ t. t) come m.after.links rest.after.served.links m.effects rest.effects came.passes does)
           ];
         }))
-        | inr (inr goes) ↦ inr (inr (removal_then_pass side.User id m.after.links rest.after.served.links m.effects rest.effects goes (keeping_absent now step.outs middle goes.gone)))
+        | inr (inr goes) ↦ inr (inr (removal_then_pass side.User id m.after.links rest.after.served.links m.effects rest.effects goes (pending_after_absent now step.outs middle goes.now_absent)))
       ]
 
-  acting : (now : ℕ) (event : ℕ → TerminalEvent) (s : User) → Stays s (terminal_acts config now event s) → UserGoes now s (terminal_acts config now event s)
+  acting : (now : ℕ) (event : ℕ → TerminalEvent) (s : User) → Stays s (terminal_acts config now event s) → IsUnmovedByUser now s (terminal_acts config now event s)
   unfolding terminal_acts
   acting now event s stays = assigning now (terminal_step s.terminal (event (next_reference s.random))) s stays
 
-  message : (now : ℕ) (r : Result TeiMessage TeiFault) (s : User) → Stays s (message_heard config now r s) → UserGoes now s (message_heard config now r s)
+  message : (now : ℕ) (r : Result TeiMessage TeiFault) (s : User) → Stays s (message_received config now r s) → IsUnmovedByUser now s (message_received config now r s)
   message now (Ok m) s stays = acting now (event.Heard m) s stays
   message now (Err fault) s stays = inl (nothing s)
 
   -- ---- Octets are taken.
 
-  chosen : (now : ℕ) (test : Bool) (x y : Reaction User) (s : User) → (Stays s x → UserGoes now s x) → Passes s y → Stays s (if test then x else y) → UserGoes now s (if test then x else y)
+  chosen : (now : ℕ) (test : Bool) (x y : Reaction User) (s : User) → (Stays s x → IsUnmovedByUser now s x) → Passes s y → Stays s (if test then x else y) → IsUnmovedByUser now s (if test then x else y)
   chosen now true x y s hx hy stays = hx stays
   chosen now false x y s hx hy stays = inl hy
 
@@ -282,22 +282,22 @@ module _ (config : Config) (id : LinkId) (low : id.tei < 127) (removed : Bool) w
   either false x y s hx hy = hy
 
   unit_to_all : (at : Sapi) (octets : List ℕ) (s : User) → Passes s (unit_from_group at octets s)
-  unit_to_all at octets s = record { links = refl; frames = refl; told = group_told true at (what.UnitUp octets) }
+  unit_to_all at octets s = record { links = refl; frames = refl; delivered = group_is_other true at (what.UnitUp octets) }
 
-  fault_other : (now : ℕ) (kind : FaultKind) (address : Option Address) (s : User) → is_named id (fault_for address kind) ≡ false → Passes s (fault_heard now kind address s)
+  fault_other : (now : ℕ) (kind : FaultKind) (address : Option Address) (s : User) → is_named id (fault_for address kind) ≡ false → Passes s (fault_received now kind address s)
   fault_other now kind None s apart = nothing s
   fault_other now kind (Some address) s apart = link_other now (of_sapi address.sapi address.tei) (Faulty kind) [] s apart
 
-  heard_other : (now : ℕ) (r : Result Fields FrameFault) (s : User) → is_named id (heard_by r) ≡ false → Stays s (heard config now r s) → UserGoes now s (heard config now r s)
-  heard_other now (Ok frame) s apart stays =
-      chosen now (carries_message frame) (message_heard config now (message_at frame.info) s) (data_heard config now frame s) s (message now (message_at frame.info) s)
+  received_other : (now : ℕ) (r : Result Fields FrameFault) (s : User) → is_named id (event_by r) ≡ false → Stays s (received config now r s) → IsUnmovedByUser now s (received config now r s)
+  received_other now (Ok frame) s apart stays =
+      chosen now (carries_message frame) (message_received config now (message_at frame.info) s) (data_received config now frame s) s (message now (message_at frame.info) s)
       (either (for_layer_3 config frame) (unit_from_group frame.address.sapi frame.info s) _ s (unit_to_all frame.address.sapi frame.info s)
       (link_other now (of_sapi frame.address.sapi frame.address.tei) (Heard frame.control frame.address.role) frame.info s apart)) stays
-  heard_other now (Err fault) s apart stays = inl (fault_other now fault.kind fault.address s apart)
+  received_other now (Err fault) s apart stays = inl (fault_other now fault.kind fault.address s apart)
 
-  pub takes_other : (octets : List ℕ) (now : ℕ) (s : User) → is_for side.Network id octets ≡ false → Stays s (user_takes config octets now s) → UserGoes now s (user_takes config octets now s)
+  pub takes_other : (octets : List ℕ) (now : ℕ) (s : User) → is_for side.Network id octets ≡ false → Stays s (user_takes config octets now s) → IsUnmovedByUser now s (user_takes config octets now s)
   unfolding user_takes
-  takes_other octets now s apart stays = heard_other now (frame_at side.Network octets) s apart stays
+  takes_other octets now s apart stays = received_other now (frame_at side.Network octets) s apart stays
 
   no_unit : (frame : Flight) → is_unit_to_group (parts_of id frame) ≡ false
   no_unit frame = and_not (is_ui frame.control) (id.tei == group_tei) (grind (arith, nat_tests))
@@ -315,8 +315,8 @@ module _ (config : Config) (id : LinkId) (low : id.tei < 127) (removed : Bool) w
       let input = Heard frame.control frame.role in
       let Goal : Reaction User → Type 0 = Steps now input frame.info (λ t. t) s in
       let does = in_links id (link_acts side.User id now input frame.info) s.served.links in
-      subst (λ (r : Result Fields FrameFault). Goal (heard config now r s)) (sym (frame_again side.Network (parts_of id frame) proper))
-      (subst (λ (b : Bool). Goal (if b then message_heard config now (message_at frame.info) s else data_heard config now (parts_of id frame) s)) (sym (plain frame))
+      subst (λ (r : Result Fields FrameFault). Goal (received config now r s)) (sym (frame_again side.Network (parts_of id frame) proper))
+      (subst (λ (b : Bool). Goal (if b then message_received config now (message_at frame.info) s else data_received config now (parts_of id frame) s)) (sym (plain frame))
       (subst (λ (b : Bool). Goal (if b then unit_from_group id.sapi frame.info s else or_discarded s (among_links s does))) (sym (not_for_all frame))
       (subst (λ (o : Result (Reaction Links) SideKind). Goal (or_discarded s (among_links s o))) (sym (own_acts side.User id s.served.links now input frame.info l d was done))
       (own_is_step side.User id s.served.links now input frame.info (λ t. t) l d was done))))
@@ -327,15 +327,15 @@ module _ (config : Config) (id : LinkId) (low : id.tei < 127) (removed : Bool) w
   takes_absent frame now s proper none =
       let input = Heard frame.control frame.role in
       let does = in_links id (link_acts side.User id now input frame.info) s.served.links in
-      subst (λ (r : Result Fields FrameFault). Passes s (heard config now r s)) (sym (frame_again side.Network (parts_of id frame) proper))
-      (subst (λ (b : Bool). Passes s (if b then message_heard config now (message_at frame.info) s else data_heard config now (parts_of id frame) s)) (sym (plain frame))
+      subst (λ (r : Result Fields FrameFault). Passes s (received config now r s)) (sym (frame_again side.Network (parts_of id frame) proper))
+      (subst (λ (b : Bool). Passes s (if b then message_received config now (message_at frame.info) s else data_received config now (parts_of id frame) s)) (sym (plain frame))
       (subst (λ (b : Bool). Passes s (if b then unit_from_group id.sapi frame.info s else or_discarded s (among_links s does))) (sym (not_for_all frame))
       (subst (λ (o : Result (Reaction Links) SideKind). Passes s (or_discarded s (among_links s o))) (sym (absent_refuses side.User id s.served.links now input frame.info none)) (nothing s))))
 
   -- ---- A timer expires.
 
   pub expires_other : (now : ℕ) (timer : Timer) (of : Option LinkId) (s : User) → ((other : LinkId) → of ≡ Some other → id_eq id other ≡ false)
-      → Stays s (user_expires config now timer of s) → UserGoes now s (user_expires config now timer of s)
+      → Stays s (user_expires config now timer of s) → IsUnmovedByUser now s (user_expires config now timer of s)
   unfolding user_expires
   expires_other now timer None s apart stays = acting now event.T202 (record s { served = record { links = s.served.links; timers = stopped timer s.served.timers } }) stays
   expires_other now timer (Some other) s apart stays =
@@ -366,35 +366,35 @@ module _ (config : Config) (id : LinkId) (low : id.tei < 127) (removed : Bool) w
   among now s a given (Ok b) each is = subst (λ (x : Reaction User). Asked now s x given) (same_user (with_links s b) a is) (each b refl)
   among now s a given (Err kind) each is = cc
 
-  link_asked : (now : ℕ) (other : LinkId) (input : Input) (octets : List ℕ) (s : User) (a : Reaction User) (given : List (LinkId × List ℕ)) → IsWish side.User input octets
+  link_asked : (now : ℕ) (other : LinkId) (input : Input) (octets : List ℕ) (s : User) (a : Reaction User) (given : List (LinkId × List ℕ)) → IsMoveRequest side.User input octets
       → given_to id given ≡ (if id_eq id other then messages_of input else []) → link_of_user now other input octets s ≡ Ok a → Asked now s a given
   unfolding link_of_user
-  link_asked now other input octets s a given wish given_is is =
-      among now s a given (in_links other (link_acts side.User other now input octets) s.served.links) (λ b granted. granted_part side.User id (fresh_link config id) removed s.served.links now other input octets b given wish given_is granted) is
+  link_asked now other input octets s a given line_request given_is is =
+      among now s a given (in_links other (link_acts side.User other now input octets) s.served.links) (λ b granted. granted_part side.User id (fresh_link config id) removed s.served.links now other input octets b given line_request given_is granted) is
 
   -- requests without a message; a request that is executed without a TEI leaves the link unchanged
-  plainly : (now : ℕ) (phase : Phase) (at : Sapi) (input : Input) (octets : List ℕ) (otherwise : Result (Reaction User) SideKind) (s : User) (a : Reaction User) → IsWish side.User input octets → messages_of input ≡ []
-      → (otherwise ≡ Ok a → UserGoes now s a) → with_tei_or now phase at input octets otherwise s ≡ Ok a → Asked now s a []
-  plainly now (Assigned by own) at input octets otherwise s a wish none else_ is = link_asked now (of_sapi at own) input octets s a [] wish (none_given (id_eq id (of_sapi at own)) (messages_of input) none) is
-  plainly now Unassigned at input octets otherwise s a wish none else_ is = inl (record { goes = else_ is; none_given = refl })
-  plainly now (Awaiting purpose count ri) at input octets otherwise s a wish none else_ is = inl (record { goes = else_ is; none_given = refl })
+  plainly : (now : ℕ) (phase : Phase) (at : Sapi) (input : Input) (octets : List ℕ) (otherwise : Result (Reaction User) SideKind) (s : User) (a : Reaction User) → IsMoveRequest side.User input octets → messages_of input ≡ []
+      → (otherwise ≡ Ok a → IsUnmovedByUser now s a) → with_tei_or now phase at input octets otherwise s ≡ Ok a → Asked now s a []
+  plainly now (Assigned by own) at input octets otherwise s a line_request none else_ is = link_asked now (of_sapi at own) input octets s a [] line_request (none_given (id_eq id (of_sapi at own)) (messages_of input) none) is
+  plainly now Unassigned at input octets otherwise s a line_request none else_ is = inl (record { goes = else_ is; none_given = refl })
+  plainly now (Awaiting purpose count ri) at input octets otherwise s a line_request none else_ is = inl (record { goes = else_ is; none_given = refl })
 
   giving : (now : ℕ) (phase : Phase) (other : LinkId) (message : List ℕ) (s : User) (a : Reaction User)
       → with_tei_or now phase other.sapi (Give message) [] (Err (Link NotEstablished)) s ≡ Ok a → Asked now s a ((own_link phase other, message) ∷ [])
-  giving now (Assigned by own) other message s a is = link_asked now (of_sapi other.sapi own) (Give message) [] s a ((of_sapi other.sapi own, message) ∷ []) (give_wish side.User message) (one_given id (of_sapi other.sapi own) message) is
+  giving now (Assigned by own) other message s a is = link_asked now (of_sapi other.sapi own) (Give message) [] s a ((of_sapi other.sapi own, message) ∷ []) (give_request side.User message) (one_given id (of_sapi other.sapi own) message) is
   giving now Unassigned other message s a is = cc
   giving now (Awaiting purpose count ri) other message s a is = cc
 
   wanting : (now : ℕ) (at : Sapi) (s : User) (a : Reaction User) (served : Bool) → Stays s a
-      → (if served then Ok (terminal_acts config now event.Want (record s { kept = keeps at true s.kept })) else Err NoLink) ≡ Ok a → UserGoes now s a
+      → (if served then Ok (terminal_acts config now event.Want (record s { pending = with_pending at true s.pending })) else Err NoLink) ≡ Ok a → IsUnmovedByUser now s a
   wanting now at s a true stays is =
-      let same = same_user (terminal_acts config now event.Want (record s { kept = keeps at true s.kept })) a is in
-      subst (UserGoes now s) same (acting now event.Want (record s { kept = keeps at true s.kept }) (subst (Stays s) (sym same) stays))
+      let same = same_user (terminal_acts config now event.Want (record s { pending = with_pending at true s.pending })) a is in
+      subst (IsUnmovedByUser now s) same (acting now event.Want (record s { pending = with_pending at true s.pending }) (subst (Stays s) (sym same) stays))
   wanting now at s a false stays is = cc
 
-  forgetting : (at : Sapi) (s : User) (a : Reaction User) (kept : Bool)
-      → (if kept then Ok (record { after = record s { kept = keeps at false s.kept }; effects = record no_effects { primitives = Of (of_sapi at group_tei) what.ReleaseConfirm ∷ [] } }) else Err NoLink) ≡ Ok a → Passes s a
-  forgetting at s a true is = subst (Passes s) (same_user _ a is) (record { links = refl; frames = refl; told = group_told true at what.ReleaseConfirm })
+  forgetting : (at : Sapi) (s : User) (a : Reaction User) (pending : Bool)
+      → (if pending then Ok (record { after = record s { pending = with_pending at false s.pending }; effects = record no_effects { primitives = Of (of_sapi at group_tei) what.ReleaseConfirm ∷ [] } }) else Err NoLink) ≡ Ok a → Passes s a
+  forgetting at s a true is = subst (Passes s) (same_user _ a is) (record { links = refl; frames = refl; delivered = group_is_other true at what.ReleaseConfirm })
   forgetting at s a false is = cc
 
   abbrev Refused : SideKind → Result (Reaction User) SideKind
@@ -406,13 +406,13 @@ module _ (config : Config) (id : LinkId) (low : id.tei < 127) (removed : Bool) w
   pub asked : (request : Request) (now : ℕ) (s : User) (a : Reaction User) → user_requested config request now s ≡ Ok a → Stays s a
       → Asked now s a (accepted_by (user_behaviour config) request now s)
   unfolding user_requested
-  asked (request.Establish other) now s a is stays = plainly now s.terminal other.sapi Establish [] (wants config now other.sapi s) s a (establish_wish side.User) refl (wanting now other.sapi s a (is_served config other.sapi) stays) is
-  asked (request.Release other) now s a is stays = plainly now s.terminal other.sapi Release [] (forgets other.sapi s) s a (release_wish side.User) refl (λ is. inl (forgetting other.sapi s a (is_kept other.sapi s.kept) is)) is
-  asked (request.Unit other octets) now s a is stays = plainly now s.terminal other.sapi (UnitData (length octets.items)) octets.items (Err NoLink) s a (unit_wish side.User octets.items) refl (λ is. inl (no_link s a NoLink is)) is
+  asked (request.Establish other) now s a is stays = plainly now s.terminal other.sapi Establish [] (wants config now other.sapi s) s a (establish_request side.User) refl (wanting now other.sapi s a (is_served config other.sapi) stays) is
+  asked (request.Release other) now s a is stays = plainly now s.terminal other.sapi Release [] (forgets other.sapi s) s a (release_request side.User) refl (λ is. inl (forgetting other.sapi s a (is_pending other.sapi s.pending) is)) is
+  asked (request.Unit other octets) now s a is stays = plainly now s.terminal other.sapi (UnitData (length octets.items)) octets.items (Err NoLink) s a (unit_request side.User octets.items) refl (λ is. inl (no_link s a NoLink is)) is
   asked (request.Give other message) now s a is stays =
       subst (λ (given : List (LinkId × List ℕ)). Asked now s a given) (sym (ap (if_granted (own_link s.terminal other) message.items) is)) (giving now s.terminal other message.items s a is)
-  asked (request.Busy other true) now s a is stays = plainly now s.terminal other.sapi input.BusyOn [] (Err NoLink) s a (busy_wish side.User) refl (λ is. inl (no_link s a NoLink is)) is
-  asked (request.Busy other false) now s a is stays = plainly now s.terminal other.sapi input.BusyOff [] (Err NoLink) s a (free_wish side.User) refl (λ is. inl (no_link s a NoLink is)) is
+  asked (request.Busy other true) now s a is stays = plainly now s.terminal other.sapi input.BusyOn [] (Err NoLink) s a (busy_request side.User) refl (λ is. inl (no_link s a NoLink is)) is
+  asked (request.Busy other false) now s a is stays = plainly now s.terminal other.sapi input.BusyOff [] (Err NoLink) s a (free_request side.User) refl (λ is. inl (no_link s a NoLink is)) is
   asked request.AskTei now s a is stays =
       let same = same_user (terminal_acts config now event.Ask s) a is in
       subst (λ (x : Reaction User). Asked now s x []) same (inl (record { goes = acting now event.Ask s (subst (Stays s) (sym same) stays); none_given = refl }))

@@ -10,13 +10,13 @@ use Rattle.lapd_link_definition.specs.End.{new_end}
 use Rattle.lapd_link_definition.specs.Parameters.{Parameters}
 use Rattle.lapd_link_definition.specs.Reports.{AreExpected}
 use Rattle.lapd_pair_laws.specs.Histories.{Receipt}
-use Rattle.lapd_pair_laws.specs.Kept.{IsKeptWorld}
+use Rattle.lapd_pair_laws.specs.Consistent.{IsConsistentWorld}
 use Rattle.lapd_pair_laws.specs.Move as world
 use Rattle.lapd_pair_laws.specs.Move.{View}
 use Rattle.lapd_pair_laws.specs.Safe.{IsSafe, AreSafe}
 use Rattle.lapd_pair_laws.specs.World as world_of
 use Rattle.lapd_pair_laws.specs.World.{World, new_world, view_of, with_view, in_world, world_after, outcomes}
-use Rattle.lapd_pair_laws.proofs.Keeping.{view_of_kept, run_kept, new_world_kept}
+use Rattle.lapd_pair_laws.proofs.Consistency.{view_of_consistent, run_consistent, new_world_consistent}
 use Rattle.lapd_pair_laws.specs.Reports.{ReportsExpected, AllReportsExpected}
 use Rattle.lapd_pair_laws.proofs.Reached.{every_run_safe, every_run_reports}
 use Rattle.lapd_table.specs.declared.link_id.LinkId.{LinkId}
@@ -27,12 +27,12 @@ use Rattle.lapd_sides.specs.Network.{Network}
 use Rattle.lapd_sides.specs.User.{User}
 use Rattle.lapd_sides_laws.specs.Addressed.{those_for}
 use Rattle.lapd_sides_laws.specs.Interface.{fresh_link, Configs, Interface, Move, user_behaviour, network_behaviour, new_interface, from_here, by_user, by_network, with_user, with_network, side_does, happens, run}
-use Rattle.lapd_sides_laws.specs.Premises.{IsTimelyMove, IsMoveGivingTeiOnce, AreTimely, GiveTeiOnce, KeepPremises}
+use Rattle.lapd_sides_laws.specs.Premises.{IsTimelyMove, IsMoveGivingTeiOnce, AreTimely, GiveTeiOnce, SatisfyPremises}
 use Rattle.lapd_sides_laws.specs.Projects.{HasLink, AwaitsLink, ShowsEnd, Projects, ProjectsTo, IsRight, IsSafeAt}
-use Rattle.lapd_sides_laws.specs.SideView.{Deed, SideView, does}
-use Rattle.lapd_sides_laws.specs.Told.{told_of, IsReceived, AreExpectedWhats}
-use Rattle.lapd_sides_laws.proofs.Deeds.{each_deed}
-use Rattle.lapd_sides_laws.proofs.Frames.{told_is_expected}
+use Rattle.lapd_sides_laws.specs.SideView.{SideEvent, SideView, does}
+use Rattle.lapd_sides_laws.specs.Primitives.{link_primitives, IsReceived, AreExpectedOfLink}
+use Rattle.lapd_sides_laws.proofs.SideEvents.{each_event}
+use Rattle.lapd_sides_laws.proofs.Frames.{delivered_is_expected}
 use Rattle.lapd_sides_laws.proofs.LinkParts.{expected_both}
 use Rattle.lapd_sides_laws.proofs.Networks.{of_network}
 use Rattle.lapd_sides_laws.proofs.Timed.{new_is_timed}
@@ -49,12 +49,12 @@ last_is_expected : (moves : List world.Move) (m : world.Move) (w : World) → Al
 last_is_expected [] m w h = h.0
 last_is_expected (first ∷ moves) m w h = last_is_expected moves m (world_after w (world_of.happens Tagged first w)) h.1
 
-module _ (who : Side) (deed : world.Deed) (w : World) (turn : world.Turn) (is : world.acts Tagged who deed (view_of who w) ≡ Ok turn) where
-  after_move : world_after w (world_of.happens Tagged (record { side = who; deed = deed }) w) ≡ with_view who turn.view w
+module _ (who : Side) (event : world.PairEvent) (w : World) (side_step : world.ViewStep) (is : world.acts Tagged who event (view_of who w) ≡ Ok side_step) where
+  after_move : world_after w (world_of.happens Tagged (record { side = who; event = event }) w) ≡ with_view who side_step.view w
   unfolding world_of.happens
   after_move = ap (λ o. world_after w (in_world who w o)) is
 
-  outs_are_expected : ReportsExpected (world_of.happens Tagged (record { side = who; deed = deed }) w) → AreExpected turn.outs
+  outs_are_expected : ReportsExpected (world_of.happens Tagged (record { side = who; event = event }) w) → AreExpected side_step.outs
   unfolding world_of.happens
   outs_are_expected h = subst (λ o. ReportsExpected (in_world who w o)) is h
 
@@ -111,7 +111,7 @@ module _ (c : Configs) (id : LinkId) (low : id.tei < 127) where
       → ProjectsTo c id (with_network v i) (with_view side.Network view w)
   by_network_after v i view w acted other = record { user = user_beside v i view w acted other; network = acted }
 
-  right_of : (i : Interface) (w : World) → ProjectsTo c id i w → AreSafe w → AreExpectedWhats (told_of id i.told_to_user) → AreExpectedWhats (told_of id i.told_to_network) → IsRight id i
+  right_of : (i : Interface) (w : World) → ProjectsTo c id i w → AreSafe w → AreExpectedOfLink (link_primitives id i.delivered_to_user) → AreExpectedOfLink (link_primitives id i.delivered_to_network) → IsRight id i
   right_of i w shows safe to_user to_network = record {
     to_network = received_as w.user.end.given _ w.user.history.acked _ _ _ shows.user.given (ap (λ k. k.acked) shows.user.known) (ap (λ k. k.received) shows.network.known)
         (safe_is_received w.user.end.given w.user.history.sent_in w.user.history.acked w.network.history.received safe.0);
@@ -131,32 +131,32 @@ module _ (c : Configs) (id : LinkId) (low : id.tei < 127) where
     pub record IsReached (i : Interface) : Type 0 where
       pub moves : List world.Move
       pub shows : ProjectsTo c id i (Reached moves)
-      pub reports_to_user : AreExpectedWhats (told_of id i.told_to_user)
-      pub reports_to_network : AreExpectedWhats (told_of id i.told_to_network)
+      pub reports_to_user : AreExpectedOfLink (link_primitives id i.delivered_to_user)
+      pub reports_to_network : AreExpectedOfLink (link_primitives id i.delivered_to_network)
 
-    kept : (moves : List world.Move) → IsKeptWorld Tagged (Reached moves)
-    kept moves = run_kept Tagged moves (new_world p q) (new_world_kept Tagged p q small_p small_q)
+    kept : (moves : List world.Move) → IsConsistentWorld Tagged (Reached moves)
+    kept moves = run_consistent Tagged moves (new_world p q) (new_world_consistent Tagged p q small_p small_q)
 
-    abbrev More : List world.Move → Side → world.Deed → List world.Move
-    More moves who deed = moves ++ record { side = who; deed = deed } ∷ []
+    abbrev More : List world.Move → Side → world.PairEvent → List world.Move
+    More moves who event = moves ++ record { side = who; event = event } ∷ []
 
-    more_is : (moves : List world.Move) (who : Side) (deed : world.Deed) (turn : world.Turn) → world.acts Tagged who deed (view_of who (Reached moves)) ≡ Ok turn
-        → with_view who turn.view (Reached moves) ≡ Reached (More moves who deed)
-    more_is moves who deed turn is = sym (run_more moves (record { side = who; deed = deed }) (new_world p q) ∙ after_move who deed (Reached moves) turn is)
+    more_is : (moves : List world.Move) (who : Side) (event : world.PairEvent) (side_step : world.ViewStep) → world.acts Tagged who event (view_of who (Reached moves)) ≡ Ok side_step
+        → with_view who side_step.view (Reached moves) ≡ Reached (More moves who event)
+    more_is moves who event side_step is = sym (run_more moves (record { side = who; event = event }) (new_world p q) ∙ after_move who event (Reached moves) side_step is)
 
     -- one more move reports only expected errors for a link
-    tells_expected : (moves : List world.Move) (who : Side) (deed : world.Deed) (turn : world.Turn) (octets : List ℕ) (before now : List What) → world.acts Tagged who deed (view_of who (Reached moves)) ≡ Ok turn
-        → now ≡ before ++ filter_map (what_of octets) turn.outs → AreExpectedWhats before → AreExpectedWhats now
-    tells_expected moves who deed turn octets before now is tells h =
-        let all = every_run_reports Tagged p q small_p small_q (More moves who deed) in
-        let outs = outs_are_expected who deed (Reached moves) turn is (last_is_expected moves (record { side = who; deed = deed }) (new_world p q) all) in
-        subst AreExpectedWhats (sym tells) (expected_both before (filter_map (what_of octets) turn.outs) h (told_is_expected octets turn.outs outs))
+    is_expected_primitive : (moves : List world.Move) (who : Side) (event : world.PairEvent) (side_step : world.ViewStep) (octets : List ℕ) (before now : List What) → world.acts Tagged who event (view_of who (Reached moves)) ≡ Ok side_step
+        → now ≡ before ++ filter_map (what_of octets) side_step.outs → AreExpectedOfLink before → AreExpectedOfLink now
+    is_expected_primitive moves who event side_step octets before now is tells h =
+        let all = every_run_reports Tagged p q small_p small_q (More moves who event) in
+        let outs = outs_are_expected who event (Reached moves) side_step is (last_is_expected moves (record { side = who; event = event }) (new_world p q) all) in
+        subst AreExpectedOfLink (sym tells) (expected_both before (filter_map (what_of octets) side_step.outs) h (delivered_is_expected octets side_step.outs outs))
 
-    one_move : (i : Interface) (who : Side) (deed : Deed) → IsTimelyMove id who deed i → IsMoveGivingTeiOnce c id who deed i → IsReached i → IsReached (side_does c who deed i)
-    one_move i side.User deed timely stays r =
+    one_move : (i : Interface) (who : Side) (event : SideEvent) → IsTimelyMove id who event i → IsMoveGivingTeiOnce c id who event i → IsReached i → IsReached (side_does c who event i)
+    one_move i side.User event timely stays r =
         let w = Reached r.moves in
-        let v = does (user_behaviour c.user) deed (by_user i) in
-        elim (each_deed User (user_behaviour c.user) side.User id (of_user c.user id low) (by_user i) (view_of side.User w) deed timely stays r.shows.user (view_of_kept Tagged side.User w (kept r.moves))) [
+        let v = does (user_behaviour c.user) event (by_user i) in
+        elim (each_event User (user_behaviour c.user) side.User id (of_user c.user id low) (by_user i) (view_of side.User w) event timely stays r.shows.user (view_of_consistent Tagged side.User w (kept r.moves))) [
           | inl n ↦ record {
             moves = r.moves;
             shows = by_user_after v i (view_of side.User w) w n.shows r.shows.network;
@@ -164,16 +164,16 @@ module _ (c : Configs) (id : LinkId) (low : id.tei < 127) where
             reports_to_network = r.reports_to_network;
           }
           | inr m ↦ record {
-            moves = More r.moves side.User m.deed;
-            shows = subst (ProjectsTo c id (with_user v i)) (more_is r.moves side.User m.deed m.turn m.is) (by_user_after v i m.turn.view w m.shows r.shows.network);
-            reports_to_user = tells_expected r.moves side.User m.deed m.turn m.octets (told_of id i.told_to_user) (told_of id v.told) m.is m.tells r.reports_to_user;
+            moves = More r.moves side.User m.event;
+            shows = subst (ProjectsTo c id (with_user v i)) (more_is r.moves side.User m.event m.side_step m.is) (by_user_after v i m.side_step.view w m.shows r.shows.network);
+            reports_to_user = is_expected_primitive r.moves side.User m.event m.side_step m.octets (link_primitives id i.delivered_to_user) (link_primitives id v.delivered) m.is m.tells r.reports_to_user;
             reports_to_network = r.reports_to_network;
           }
         ]
-    one_move i side.Network deed timely stays r =
+    one_move i side.Network event timely stays r =
         let w = Reached r.moves in
-        let v = does (network_behaviour c.network) deed (by_network i) in
-        elim (each_deed Network (network_behaviour c.network) side.Network id (of_network c.network id low) (by_network i) (view_of side.Network w) deed timely stays r.shows.network (view_of_kept Tagged side.Network w (kept r.moves))) [
+        let v = does (network_behaviour c.network) event (by_network i) in
+        elim (each_event Network (network_behaviour c.network) side.Network id (of_network c.network id low) (by_network i) (view_of side.Network w) event timely stays r.shows.network (view_of_consistent Tagged side.Network w (kept r.moves))) [
           | inl n ↦ record {
             moves = r.moves;
             shows = by_network_after v i (view_of side.Network w) w n.shows r.shows.user;
@@ -181,10 +181,10 @@ module _ (c : Configs) (id : LinkId) (low : id.tei < 127) where
             reports_to_network = n.expected r.reports_to_network;
           }
           | inr m ↦ record {
-            moves = More r.moves side.Network m.deed;
-            shows = subst (ProjectsTo c id (with_network v i)) (more_is r.moves side.Network m.deed m.turn m.is) (by_network_after v i m.turn.view w m.shows r.shows.user);
+            moves = More r.moves side.Network m.event;
+            shows = subst (ProjectsTo c id (with_network v i)) (more_is r.moves side.Network m.event m.side_step m.is) (by_network_after v i m.side_step.view w m.shows r.shows.user);
             reports_to_user = r.reports_to_user;
-            reports_to_network = tells_expected r.moves side.Network m.deed m.turn m.octets (told_of id i.told_to_network) (told_of id v.told) m.is m.tells r.reports_to_network;
+            reports_to_network = is_expected_primitive r.moves side.Network m.event m.side_step m.octets (link_primitives id i.delivered_to_network) (link_primitives id v.delivered) m.is m.tells r.reports_to_network;
           }
         ]
 
@@ -192,7 +192,7 @@ module _ (c : Configs) (id : LinkId) (low : id.tei < 127) where
 
     all_moves : (i : Interface) (moves : List Move) → AreTimely c id moves i → GiveTeiOnce c id moves i → IsReached i → IsReached (run c moves i)
     all_moves i [] timely stays r = r
-    all_moves i (move ∷ moves) timely stays r = all_moves (happens c move i) moves timely.1 stays.1 (one_move i move.side move.deed timely.0 stays.0 r)
+    all_moves i (move ∷ moves) timely stays r = all_moves (happens c move i) moves timely.1 stays.1 (one_move i move.side move.event timely.0 stays.0 r)
 
     -- the link is new on both sides or does not exist yet, and no octets for it are in transit
     begins : (i : Interface) → IsNew (fresh_link c.user id) i.user.served.links id p
@@ -210,19 +210,19 @@ module _ (c : Configs) (id : LinkId) (low : id.tei < 127) where
 
     pub link_safe_as : (i : Interface) → IsNew (fresh_link c.user id) i.user.served.links id p
         → IsNew (fresh_link c.network id) i.network.served.links id q
-        → those_for side.Network id i.to_user ≡ [] → those_for side.User id i.to_network ≡ [] → (moves : List Move) → KeepPremises c id moves (from_here i) → IsSafeAt c id (run c moves (from_here i))
+        → those_for side.Network id i.to_user ≡ [] → those_for side.User id i.to_network ≡ [] → (moves : List Move) → SatisfyPremises c id moves (from_here i) → IsSafeAt c id (run c moves (from_here i))
     link_safe_as i of_u of_n no_to_user no_to_network moves premises =
         let r = all_moves (from_here i) moves premises.0 premises.1 (begins i of_u of_n no_to_user no_to_network) in
         let safe = every_run_safe Tagged p q small_p small_q r.moves in
         record { user = p; network = q; moves = r.moves; shows = r.shows; safe = safe; right = right_of (run c moves (from_here i)) (Reached r.moves) r.shows safe r.reports_to_user r.reports_to_network }
 
     pub link_safe_from : (i : Interface) (m n : Lengths) → i.user.served.links id ≡ Some (new_linked p m) → i.network.served.links id ≡ Some (new_linked q n)
-        → those_for side.Network id i.to_user ≡ [] → those_for side.User id i.to_network ≡ [] → (moves : List Move) → KeepPremises c id moves (from_here i) → IsSafeAt c id (run c moves (from_here i))
+        → those_for side.Network id i.to_user ≡ [] → those_for side.User id i.to_network ≡ [] → (moves : List Move) → SatisfyPremises c id moves (from_here i) → IsSafeAt c id (run c moves (from_here i))
     link_safe_from i m n of_u of_n no_to_user no_to_network moves premises = link_safe_as i
         (inl (record { linked = new_linked p m; there = of_u; end = refl; timed = new_is_timed p m }))
         (inl (record { linked = new_linked q n; there = of_n; end = refl; timed = new_is_timed q n }))
         no_to_user no_to_network moves premises
 
     pub link_safe : (user : User) (network : Network) (m n : Lengths) → user.served.links id ≡ Some (new_linked p m) → network.served.links id ≡ Some (new_linked q n)
-        → (moves : List Move) → KeepPremises c id moves (new_interface user network) → IsSafeAt c id (run c moves (new_interface user network))
+        → (moves : List Move) → SatisfyPremises c id moves (new_interface user network) → IsSafeAt c id (run c moves (new_interface user network))
     link_safe user network m n of_u of_n moves premises = link_safe_from (new_interface user network) m n of_u of_n refl refl moves premises

@@ -16,7 +16,7 @@ use Rattle.lapd_sides_links.specs.Links.{Linked, Served, IsOfLink}
 use Rattle.lapd_tei.specs.Terminal.{is_awaiting}
 use Rattle.lapd_sides.specs.Network.{Network}
 use Rattle.lapd_sides.specs.User.{User}
-use Rattle.lapd_sides_laws.specs.ExactTimers.{HaveExactTimers, ComesBy, IsWoken}
+use Rattle.lapd_sides_laws.specs.ExactTimers.{HaveExactTimers, IsNoLaterThan, IsWoken}
 use Rattle.lapd_sides_laws.specs.ManagementTimers.{HasTimerOfTerminal, HasTimerOfAssigner, IsAwaited}
 use Rattle.lapd_sides_laws.proofs.ExactLinks.{runs_by_state}
 use Rattle.lapd_sides_laws.proofs.Timed.{is_on}
@@ -37,9 +37,9 @@ there (Some deadline) h = (deadline, refl)
 there None h = cc
 
 -- the next deadline is no later than that of any running timer
-comes_by : (s : Served) (e : RunningTimer) (next : Option ℕ) → Runs (of_served s) e → IsNextDeadline s next → ComesBy e.deadline next
-comes_by s e None runs h = absurd (h e.deadline e (record { runs = runs; is_past = omega arith }))
-comes_by s e (Some moment) runs h = elim (cases_lt e.deadline moment) [
+is_no_later_than : (s : Served) (e : RunningTimer) (next : Option ℕ) → Runs (of_served s) e → IsNextDeadline s next → IsNoLaterThan e.deadline next
+is_no_later_than s e None runs h = absurd (h e.deadline e (record { runs = runs; is_past = omega arith }))
+is_no_later_than s e (Some moment) runs h = elim (cases_lt e.deadline moment) [
   | inl early ↦ absurd (h.before e.deadline early e (record { runs = runs; is_past = omega arith }))
   | inr late ↦ record { moment = moment; is_next = refl; no_later = late }
 ]
@@ -47,9 +47,9 @@ comes_by s e (Some moment) runs h = elim (cases_lt e.deadline moment) [
 module _ (s : Served) (next : Option ℕ) (h : IsNextDeadline s next) where
   -- a timer of a link
   module _ (id : LinkId) (linked : Linked) (is_there : s.links id ≡ Some linked) where
-    link_timer : (timer : Timer) (deadline : ℕ) → IsOfLink timer → deadline_of timer linked.timers ≡ Some deadline → ComesBy deadline next
+    link_timer : (timer : Timer) (deadline : ℕ) → IsOfLink timer → deadline_of timer linked.timers ≡ Some deadline → IsNoLaterThan deadline next
     link_timer timer deadline own until =
-        comes_by s (record { timer = timer; of = Some id; deadline = deadline }) next
+        is_no_later_than s (record { timer = timer; of = Some id; deadline = deadline }) next
         (record { its = linked.timers; there = ap (option_map (λ (l : Linked). l.timers)) is_there; own = own; until = until }) h
 
     pub woken_by : HaveExactTimers s.links → (linked.end.state ≡ TeiAssigned → ⊥) → IsWoken linked next
@@ -66,7 +66,7 @@ module _ (s : Served) (next : Option ℕ) (h : IsNextDeadline s next) where
       record {
         deadline = t.0;
         its = t.1;
-        in_time = comes_by s (record { timer = timer; of = None; deadline = t.0 }) next (record { its = s.timers; there = refl; own = tt; until = t.1 }) h;
+        in_time = is_no_later_than s (record { timer = timer; of = None; deadline = t.0 }) next (record { its = s.timers; there = refl; own = tt; until = t.1 }) h;
       }
 
 pub link_is_woken : (s : Served) (id : LinkId) (linked : Linked) (next : Option ℕ) → HaveExactTimers s.links → s.links id ≡ Some linked → (linked.end.state ≡ TeiAssigned → ⊥) → IsNextDeadline s next → IsWoken linked next

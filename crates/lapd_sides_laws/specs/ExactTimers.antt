@@ -11,7 +11,7 @@ use Rattle.lapd_link_definition.specs.RunningTimers.{AreTimersOf, HasTimersOfSta
 use Rattle.lapd_table.specs.declared.link_id.LinkId.{LinkId}
 use Rattle.lapd_sides_links.specs.Links.{Linked, Links}
 use Rattle.lapd_sides_laws.specs.Interface.{Interface}
-use Rattle.lapd_sides_laws.specs.SideView.{Behaviour, SideView, Deed, does}
+use Rattle.lapd_sides_laws.specs.SideView.{Behaviour, SideView, SideEvent, does}
 
 -- A timer has a deadline exactly when it runs at the link's end: T200 and T203 by the state, T201
 -- and T202 never. V(S), V(A) and V(R) are tags.
@@ -40,7 +40,7 @@ RunByState l = AreTimersOf l.end.state (is_some (deadline_of T200 l.timers))
     (is_some (deadline_of T203 l.timers)) (l.end.window.vs ≡ l.end.window.va)
 
 -- a side has a next deadline, no later than this one
-pub record ComesBy (deadline : ℕ) (next : Option ℕ) : Type 0 where
+pub record IsNoLaterThan (deadline : ℕ) (next : Option ℕ) : Type 0 where
   pub moment : ℕ
   pub is_next : next ≡ Some moment
   pub no_later : moment ≤ deadline
@@ -50,7 +50,7 @@ pub record IsWoken (l : Linked) (next : Option ℕ) : Type 0 where
   pub deadline : ℕ
   pub its : (deadline_of T200 l.timers ≡ Some deadline)
       ⊎ (deadline_of T203 l.timers ≡ Some deadline)
-  pub in_time : ComesBy deadline next
+  pub in_time : IsNoLaterThan deadline next
 
 -- ---- One side, whatever octets arrive.
 
@@ -62,21 +62,22 @@ abbrev pub AreOctets : List ℕ → Type 0
 AreOctets octets = All IsOctet octets
 
 -- octets arrive from anyone, behind those in transit to the side; then an event of the side follows
-pub record Turn : Type 0 where
+pub record SideStep : Type 0 where
   pub comes : List (List ℕ)
-  pub deed : Deed
+  pub event : SideEvent
 
-abbrev pub BringsOctets : Turn → Type 0
-BringsOctets turn = All AreOctets turn.comes
+abbrev pub BringsOctets : SideStep → Type 0
+BringsOctets side_step = All AreOctets side_step.comes
 
-abbrev pub turned : {S : Type 0} → Behaviour S → Turn → SideView S → SideView S
-turned w turn v = does w turn.deed (record v { incoming = v.incoming ++ turn.comes })
+abbrev pub stepped : {S : Type 0} → Behaviour S → SideStep → SideView S → SideView S
+stepped w side_step v = does w side_step.event
+    (record v { incoming = v.incoming ++ side_step.comes })
 
 -- a list of turns, one after another
-abbrev pub turned_by_all : {S : Type 0} → Behaviour S → List Turn → SideView S → SideView S
-turned_by_all w [] v = v
-turned_by_all w (turn ∷ turns) v = turned_by_all w turns (turned w turn v)
+abbrev pub stepped_by_all : {S : Type 0} → Behaviour S → List SideStep → SideView S → SideView S
+stepped_by_all w [] v = v
+stepped_by_all w (side_step ∷ side_steps) v = stepped_by_all w side_steps (stepped w side_step v)
 
 -- a newly created side, with nothing delivered, accepted or in transit
 abbrev pub new_view : {S : Type 0} → S → SideView S
-new_view s = record { now = s; told = []; given = []; incoming = []; outgoing = [] }
+new_view s = record { now = s; delivered = []; given = []; incoming = []; outgoing = [] }

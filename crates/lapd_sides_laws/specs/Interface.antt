@@ -11,7 +11,7 @@ use Rattle.lapd_sides_links.specs.declared.primitive.Primitive.{Primitive}
 use Rattle.lapd_sides_links.specs.Links.{Linked, of_sapi, new_linked, parameters_for}
 use Rattle.lapd_sides.specs.Network.{Network, network_takes, network_expires, network_requested}
 use Rattle.lapd_sides.specs.User.{User, user_takes, user_expires, user_requested}
-use Rattle.lapd_sides_laws.specs.SideView.{Behaviour, SideView, Deed, does}
+use Rattle.lapd_sides_laws.specs.SideView.{Behaviour, SideView, SideEvent, does}
 
 -- ---- The two sides.
 
@@ -55,8 +55,8 @@ pub record Configs : Type 0 where
 pub record Interface : Type 0 where
   pub user : User
   pub network : Network
-  pub told_to_user : List Primitive
-  pub told_to_network : List Primitive
+  pub delivered_to_user : List Primitive
+  pub delivered_to_network : List Primitive
   pub given_to_user : List (LinkId × List ℕ)
   pub given_to_network : List (LinkId × List ℕ)
   pub to_user : List (List ℕ)
@@ -67,8 +67,8 @@ abbrev pub new_interface : User → Network → Interface
 new_interface user network = record {
   user = user;
   network = network;
-  told_to_user = [];
-  told_to_network = [];
+  delivered_to_user = [];
+  delivered_to_network = [];
   given_to_user = [];
   given_to_network = [];
   to_user = [];
@@ -78,8 +78,8 @@ new_interface user network = record {
 -- the same interface, with primitives and messages recorded from this moment on
 abbrev pub from_here : Interface → Interface
 from_here i = record i {
-  told_to_user = [];
-  told_to_network = [];
+  delivered_to_user = [];
+  delivered_to_network = [];
   given_to_user = [];
   given_to_network = [];
 }
@@ -88,7 +88,7 @@ from_here i = record i {
 abbrev pub by_user : Interface → SideView User
 by_user i = record {
   now = i.user;
-  told = i.told_to_user;
+  delivered = i.delivered_to_user;
   given = i.given_to_user;
   incoming = i.to_user;
   outgoing = i.to_network;
@@ -97,7 +97,7 @@ by_user i = record {
 abbrev pub by_network : Interface → SideView Network
 by_network i = record {
   now = i.network;
-  told = i.told_to_network;
+  delivered = i.delivered_to_network;
   given = i.given_to_network;
   incoming = i.to_network;
   outgoing = i.to_user;
@@ -106,7 +106,7 @@ by_network i = record {
 abbrev pub with_user : SideView User → Interface → Interface
 with_user v i = record i {
   user = v.now;
-  told_to_user = v.told;
+  delivered_to_user = v.delivered;
   given_to_user = v.given;
   to_user = v.incoming;
   to_network = v.outgoing;
@@ -115,7 +115,7 @@ with_user v i = record i {
 abbrev pub with_network : SideView Network → Interface → Interface
 with_network v i = record i {
   network = v.now;
-  told_to_network = v.told;
+  delivered_to_network = v.delivered;
   given_to_network = v.given;
   to_network = v.incoming;
   to_user = v.outgoing;
@@ -126,15 +126,15 @@ with_network v i = record i {
 -- an event of one of the two sides
 pub record Move : Type 0 where
   pub side : Side
-  pub deed : Deed
+  pub event : SideEvent
 
-abbrev pub side_does : Configs → Side → Deed → Interface → Interface
-side_does c side.User deed i = with_user (does (user_behaviour c.user) deed (by_user i)) i
-side_does c side.Network deed i =
-    with_network (does (network_behaviour c.network) deed (by_network i)) i
+abbrev pub side_does : Configs → Side → SideEvent → Interface → Interface
+side_does c side.User event i = with_user (does (user_behaviour c.user) event (by_user i)) i
+side_does c side.Network event i =
+    with_network (does (network_behaviour c.network) event (by_network i)) i
 
 abbrev pub happens : Configs → Move → Interface → Interface
-happens c move i = side_does c move.side move.deed i
+happens c move i = side_does c move.side move.event i
 
 -- a list of moves, one after another
 abbrev pub run : Configs → List Move → Interface → Interface

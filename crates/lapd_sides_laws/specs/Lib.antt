@@ -1,5 +1,5 @@
 pub mod Addressed
-pub mod Told
+pub mod Primitives
 pub mod SideView
 pub mod Interface
 pub mod Premises

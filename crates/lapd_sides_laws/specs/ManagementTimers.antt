@@ -8,7 +8,7 @@ use Rattle.lapd_link_definition.specs.RunningTimers.{is_same_timer}
 use Rattle.lapd_tei.specs.Terminal.{is_awaiting}
 use Rattle.lapd_sides.specs.Network.{Network}
 use Rattle.lapd_sides.specs.User.{User}
-use Rattle.lapd_sides_laws.specs.ExactTimers.{ComesBy}
+use Rattle.lapd_sides_laws.specs.ExactTimers.{IsNoLaterThan}
 use Rattle.lapd_sides_laws.specs.Interface.{Interface}
 
 -- this timer has a deadline exactly if `runs` is true, and no other timer has one
@@ -32,4 +32,4 @@ HaveTimersOfManagement i = HasTimerOfTerminal i.user × HasTimerOfAssigner i.net
 pub record IsAwaited (timer : Timer) (t : Timers) (next : Option ℕ) : Type 0 where
   pub deadline : ℕ
   pub its : deadline_of timer t ≡ Some deadline
-  pub in_time : ComesBy deadline next
+  pub in_time : IsNoLaterThan deadline next

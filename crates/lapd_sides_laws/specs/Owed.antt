@@ -23,10 +23,10 @@ use Rattle.lapd_sides_links.specs.Effects.{Effects, sent_by, what_of, timed, sto
 use Rattle.lapd_sides_links.specs.Links.{Links, Linked, Reaction, with_link}
 use Rattle.lapd_sides.specs.declared.request.Request.{Request}
 use Rattle.lapd_sides_laws.specs.Addressed.{is_for, those_for, spelled}
-use Rattle.lapd_sides_laws.specs.Premises.{tells_removal, IsGivenOnce}
+use Rattle.lapd_sides_laws.specs.Premises.{is_removal, IsGivenOnce}
 use Rattle.lapd_sides_laws.specs.Projects.{IsTimed}
 use Rattle.lapd_sides_laws.specs.SideView.{Behaviour, accepted_by}
-use Rattle.lapd_sides_laws.specs.Told.{told_of, given_to, Known, learns_all, AreExpectedWhats}
+use Rattle.lapd_sides_laws.specs.Primitives.{link_primitives, given_to, Known, learns_all, AreExpectedOfLink}
 
 -- ---- What an event of a side does to one of its links: nothing, or one step.
 
@@ -35,7 +35,7 @@ pub record PassesBy (side : Side) (id : LinkId) (before now : Links) (effects : 
   where
     pub links : now id ≡ before id
     pub frames : those_for side id effects.frames ≡ []
-    pub told : told_of id effects.primitives ≡ []
+    pub delivered : link_primitives id effects.primitives ≡ []
 
 -- The link does a step of the state table, and the frames and primitives for the link are those of
 -- the step. Before the step, `change` leaves the link's timers unchanged or stops an expired one.
@@ -49,11 +49,11 @@ pub record IsStep (side : Side) (id : LinkId) (at : ℕ) (input : Input) (octets
       ≡ Some (record { end = done.end; timers = timed at done.outs (change linked.timers) })
   pub frames : those_for side id effects.frames
       ≡ filter_map (sent_by (setup_for side id) done.end octets) done.outs
-  pub told : told_of id effects.primitives ≡ filter_map (what_of octets) done.outs
+  pub delivered : link_primitives id effects.primitives ≡ filter_map (what_of octets) done.outs
 
 -- The link joins as a new one, if its TEI was not removed before. Then it stays unchanged, or does
 -- the establishment that was kept for it.
-pub record IsComing (side : Side) (id : LinkId) (at : ℕ) (fresh : Linked) (removed : Bool)
+pub record IsAddition (side : Side) (id : LinkId) (at : ℕ) (fresh : Linked) (removed : Bool)
     (before now : Links) (effects : Effects) : Type 0 where
   pub absent : before id ≡ None
   pub not_removed : removed ≡ false
@@ -62,36 +62,36 @@ pub record IsComing (side : Side) (id : LinkId) (at : ℕ) (fresh : Linked) (rem
 
 -- primitives for a link that is removed: they change nothing that layer 3 knows, and report no
 -- error
-pub record AreSilent (whats : List What) : Type 0 where
-  pub teaches : (k : Known) → learns_all whats k ≡ k
-  pub expected : AreExpectedWhats whats
+pub record AreSilent (reports_of_link : List What) : Type 0 where
+  pub teaches : (k : Known) → learns_all reports_of_link k ≡ k
+  pub expected : AreExpectedOfLink reports_of_link
 
 -- the link is removed with its TEI
 pub record IsRemoval (side : Side) (id : LinkId) (now : Links) (effects : Effects) : Type 0 where
-  pub gone : now id ≡ None
+  pub now_absent : now id ≡ None
   pub frames : those_for side id effects.frames ≡ []
-  pub told : AreSilent (told_of id effects.primitives)
-  pub tells : list_any (tells_removal id.tei) effects.primitives ≡ true
+  pub delivered : AreSilent (link_primitives id effects.primitives)
+  pub tells : list_any (is_removal id.tei) effects.primitives ≡ true
 
 -- the event is no step of an existing link: it leaves the link unchanged, creates it or removes it
-abbrev pub Goes : Side → LinkId → ℕ → Linked → Bool → Links → Links → Effects → Type 0
-Goes side id at fresh removed before now effects = PassesBy side id before now effects
-    ⊎ (IsComing side id at fresh removed before now effects ⊎ IsRemoval side id now effects)
+abbrev pub IsUnmovedBy : Side → LinkId → ℕ → Linked → Bool → Links → Links → Effects → Type 0
+IsUnmovedBy side id at fresh removed before now effects = PassesBy side id before now effects
+    ⊎ (IsAddition side id at fresh removed before now effects ⊎ IsRemoval side id now effects)
 
 -- an accepted request is a move of the link (`IsRequest`), or no step of it (`IsNoRequest`)
 pub record IsRequest (side : Side) (id : LinkId) (now : ℕ) (before after : Links)
     (effects : Effects) (given : List (LinkId × List ℕ)) : Type 0 where
-  pub deed : world.Deed
+  pub event : world.PairEvent
   pub input : Input
   pub octets : List ℕ
-  pub is_deed : (v : View) → acts Tagged side deed v ≡ takes Tagged input octets v
+  pub is_event : (v : View) → acts Tagged side event v ≡ takes Tagged input octets v
   pub no_expiry : (timer : Timer) → input ≡ Expiry timer → ⊥
   pub is_step : IsStep side id now input octets (λ t. t) before after effects
   pub given_is : given_to id given ≡ messages_of input
 
 pub record IsNoRequest (side : Side) (id : LinkId) (now : ℕ) (fresh : Linked) (removed : Bool)
     (before after : Links) (effects : Effects) (given : List (LinkId × List ℕ)) : Type 0 where
-  pub goes : Goes side id now fresh removed before after effects
+  pub goes : IsUnmovedBy side id now fresh removed before after effects
   pub none_given : given_to id given ≡ []
 
 -- ---- Every event of a side.
@@ -103,7 +103,7 @@ pub record ServesLink {S : Type 0} (w : Behaviour S) (side : Side) (id : LinkId)
     : Type 0 where
   pub takes_other : (octets : List ℕ) (now : ℕ) (s : S) → is_for (other_side side) id octets ≡ false
       → IsGivenOnce id (w.served s).links removed (w.takes octets now s).effects
-      → Goes side id now (w.fresh id) removed (w.served s).links
+      → IsUnmovedBy side id now (w.fresh id) removed (w.served s).links
       (w.served (w.takes octets now s).after).links (w.takes octets now s).effects
   pub takes_own : (frame : Flight) (now : ℕ) (s : S) (l : Linked) (d : StepState)
       → content_fault frame.role frame.control (length frame.info) ≡ None
@@ -121,7 +121,7 @@ pub record ServesLink {S : Type 0} (w : Behaviour S) (side : Side) (id : LinkId)
   pub expires_other : (now : ℕ) (timer : Timer) (of : Option LinkId) (s : S)
       → ((other : LinkId) → of ≡ Some other → id_eq id other ≡ false)
       → IsGivenOnce id (w.served s).links removed (w.expires now timer of s).effects
-      → Goes side id now (w.fresh id) removed (w.served s).links
+      → IsUnmovedBy side id now (w.fresh id) removed (w.served s).links
       (w.served (w.expires now timer of s).after).links (w.expires now timer of s).effects
   pub expires_own : (now : ℕ) (timer : Timer) (s : S) (l : Linked) (d : StepState)
       → (w.served s).links id ≡ Some l → step Tagged (Expiry timer) l.end ≡ Ok d

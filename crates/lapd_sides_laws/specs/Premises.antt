@@ -13,85 +13,86 @@ use Rattle.lapd_sides_links.specs.Effects.{Effects}
 use Rattle.lapd_sides_links.specs.Links.{Links}
 use Rattle.lapd_sides_laws.specs.Addressed.{is_poll_for, is_final_for}
 use Rattle.lapd_sides_laws.specs.Interface.{Configs, Interface, Move, user_behaviour, network_behaviour, by_user, by_network, happens}
-use Rattle.lapd_sides_laws.specs.SideView.{Behaviour, SideView, Deed, Expire, reaction}
+use Rattle.lapd_sides_laws.specs.SideView.{Behaviour, SideView, SideEvent, Expire, reaction}
 
 -- ---- Of one event.
 
 -- T200 of the link does not expire while a command with P=1 from this side, or a response with F=1
 -- to it, is in transit.
-abbrev pub IsTimely : {S : Type 0} → Side → LinkId → Deed → SideView S → Type 0
+abbrev pub IsTimely : {S : Type 0} → Side → LinkId → SideEvent → SideView S → Type 0
 IsTimely side id (Expire timer of now) v = timer ≡ T200 → of ≡ Some id
     → (list_any (is_poll_for side id) v.outgoing ≡ false)
     × (list_any (is_final_for (other_side side) id) v.incoming ≡ false)
-IsTimely side id deed v = Unit {0}
+IsTimely side id event v = Unit {0}
 
 -- a primitive reports that the TEI is freed, removed or given up
-abbrev pub tells_removal : ℕ → Primitive → Bool
-tells_removal tei (Management (outcome.Free t)) = t == tei
-tells_removal tei (Management (outcome.Doubled t)) = t == tei
-tells_removal tei (Management (outcome.Gone t)) = t == tei
-tells_removal tei other = false
+abbrev pub is_removal : ℕ → Primitive → Bool
+is_removal tei (Management (outcome.Free t)) = t == tei
+is_removal tei (Management (outcome.Doubled t)) = t == tei
+is_removal tei (Management (outcome.Gone t)) = t == tei
+is_removal tei other = false
 
 -- a primitive reports that the TEI is assigned or obtained
-abbrev pub tells_assignment : ℕ → Primitive → Bool
-tells_assignment tei (Management (outcome.Given t)) = t == tei
-tells_assignment tei (Management (outcome.Got t)) = t == tei
-tells_assignment tei other = false
+abbrev pub is_assignment : ℕ → Primitive → Bool
+is_assignment tei (Management (outcome.Given t)) = t == tei
+is_assignment tei (Management (outcome.Got t)) = t == tei
+is_assignment tei other = false
 
 -- The TEI is not assigned or obtained while the link exists, nor after the TEI was removed.
 abbrev pub IsGivenOnce : LinkId → Links → Bool → Effects → Type 0
 IsGivenOnce id links removed effects = (is_some (links id) || removed) ≡ true
-    → list_any (tells_assignment id.tei) effects.primitives ≡ false
+    → list_any (is_assignment id.tei) effects.primitives ≡ false
 
-abbrev pub GivesTeiOnce : {S : Type 0} → Behaviour S → LinkId → Deed → SideView S → Type 0
-GivesTeiOnce w id deed v = IsGivenOnce id (w.served v.now).links
-    (list_any (tells_removal id.tei) v.told) (reaction w deed v).effects
+abbrev pub GivesTeiOnce : {S : Type 0} → Behaviour S → LinkId → SideEvent → SideView S → Type 0
+GivesTeiOnce w id event v = IsGivenOnce id (w.served v.now).links
+    (list_any (is_removal id.tei) v.delivered) (reaction w event v).effects
 
 -- The TEI is not assigned or obtained after it was removed. For newly created sides this is enough:
 -- they never assign or obtain a TEI whose links exist.
 abbrev pub IsNotGivenAgain : LinkId → Bool → Effects → Type 0
 IsNotGivenAgain id removed effects = removed ≡ true
-    → list_any (tells_assignment id.tei) effects.primitives ≡ false
+    → list_any (is_assignment id.tei) effects.primitives ≡ false
 
-abbrev pub LeavesTeiTaken : {S : Type 0} → Behaviour S → LinkId → Deed → SideView S → Type 0
-LeavesTeiTaken w id deed v =
-    IsNotGivenAgain id (list_any (tells_removal id.tei) v.told) (reaction w deed v).effects
+abbrev pub LeavesTeiTaken : {S : Type 0} → Behaviour S → LinkId → SideEvent → SideView S → Type 0
+LeavesTeiTaken w id event v =
+    IsNotGivenAgain id (list_any (is_removal id.tei) v.delivered) (reaction w event v).effects
 
 -- ---- Of all moves of a run.
 
-abbrev pub IsTimelyMove : LinkId → Side → Deed → Interface → Type 0
-IsTimelyMove id side.User deed i = IsTimely side.User id deed (by_user i)
-IsTimelyMove id side.Network deed i = IsTimely side.Network id deed (by_network i)
+abbrev pub IsTimelyMove : LinkId → Side → SideEvent → Interface → Type 0
+IsTimelyMove id side.User event i = IsTimely side.User id event (by_user i)
+IsTimelyMove id side.Network event i = IsTimely side.Network id event (by_network i)
 
-abbrev pub IsMoveGivingTeiOnce : Configs → LinkId → Side → Deed → Interface → Type 0
-IsMoveGivingTeiOnce c id side.User deed i = GivesTeiOnce (user_behaviour c.user) id deed (by_user i)
-IsMoveGivingTeiOnce c id side.Network deed i =
-    GivesTeiOnce (network_behaviour c.network) id deed (by_network i)
+abbrev pub IsMoveGivingTeiOnce : Configs → LinkId → Side → SideEvent → Interface → Type 0
+IsMoveGivingTeiOnce c id side.User event i = GivesTeiOnce (user_behaviour c.user) id event
+    (by_user i)
+IsMoveGivingTeiOnce c id side.Network event i =
+    GivesTeiOnce (network_behaviour c.network) id event (by_network i)
 
-abbrev pub IsMoveLeavingTeiTaken : Configs → LinkId → Side → Deed → Interface → Type 0
-IsMoveLeavingTeiTaken c id side.User deed i =
-    LeavesTeiTaken (user_behaviour c.user) id deed (by_user i)
-IsMoveLeavingTeiTaken c id side.Network deed i =
-    LeavesTeiTaken (network_behaviour c.network) id deed (by_network i)
+abbrev pub IsMoveLeavingTeiTaken : Configs → LinkId → Side → SideEvent → Interface → Type 0
+IsMoveLeavingTeiTaken c id side.User event i =
+    LeavesTeiTaken (user_behaviour c.user) id event (by_user i)
+IsMoveLeavingTeiTaken c id side.Network event i =
+    LeavesTeiTaken (network_behaviour c.network) id event (by_network i)
 
 abbrev pub AreTimely : Configs → LinkId → List Move → Interface → Type 0
 AreTimely c id [] i = Unit {0}
-AreTimely c id (move ∷ moves) i = IsTimelyMove id move.side move.deed i
+AreTimely c id (move ∷ moves) i = IsTimelyMove id move.side move.event i
     × AreTimely c id moves (happens c move i)
 
 abbrev pub GiveTeiOnce : Configs → LinkId → List Move → Interface → Type 0
 GiveTeiOnce c id [] i = Unit {0}
-GiveTeiOnce c id (move ∷ moves) i = IsMoveGivingTeiOnce c id move.side move.deed i
+GiveTeiOnce c id (move ∷ moves) i = IsMoveGivingTeiOnce c id move.side move.event i
     × GiveTeiOnce c id moves (happens c move i)
 
 abbrev pub LeaveTeiTaken : Configs → LinkId → List Move → Interface → Type 0
 LeaveTeiTaken c id [] i = Unit {0}
-LeaveTeiTaken c id (move ∷ moves) i = IsMoveLeavingTeiTaken c id move.side move.deed i
+LeaveTeiTaken c id (move ∷ moves) i = IsMoveLeavingTeiTaken c id move.side move.event i
     × LeaveTeiTaken c id moves (happens c move i)
 
 -- both premises; then both premises for newly created sides
-abbrev pub KeepPremises : Configs → LinkId → List Move → Interface → Type 0
-KeepPremises c id moves i = AreTimely c id moves i × GiveTeiOnce c id moves i
+abbrev pub SatisfyPremises : Configs → LinkId → List Move → Interface → Type 0
+SatisfyPremises c id moves i = AreTimely c id moves i × GiveTeiOnce c id moves i
 
-abbrev pub KeepPremisesAsMade : Configs → LinkId → List Move → Interface → Type 0
-KeepPremisesAsMade c id moves i = AreTimely c id moves i × LeaveTeiTaken c id moves i
+abbrev pub SatisfyPremisesAsMade : Configs → LinkId → List Move → Interface → Type 0
+SatisfyPremisesAsMade c id moves i = AreTimely c id moves i × LeaveTeiTaken c id moves i

@@ -19,9 +19,9 @@ use Rattle.lapd_sides_links.specs.declared.primitive.Primitive.{Primitive}
 use Rattle.lapd_sides_links.specs.Links.{Links, Linked}
 use Rattle.lapd_sides_laws.specs.Addressed.{those_for, all_spelled}
 use Rattle.lapd_sides_laws.specs.Interface.{Configs, Interface, user_behaviour, network_behaviour, by_user, by_network}
-use Rattle.lapd_sides_laws.specs.Premises.{tells_removal}
+use Rattle.lapd_sides_laws.specs.Premises.{is_removal}
 use Rattle.lapd_sides_laws.specs.SideView.{Behaviour, SideView}
-use Rattle.lapd_sides_laws.specs.Told.{Known, told_of, given_to, known_of, IsReceived, AreExpectedWhats}
+use Rattle.lapd_sides_laws.specs.Primitives.{Known, link_primitives, given_to, known_of, IsReceived, AreExpectedOfLink}
 
 -- T200 and T203 of a link run only if its end says so
 pub record IsTimed (l : Linked) : Type 0 where
@@ -51,24 +51,24 @@ pub record AwaitsLink (fresh : Linked) (links : Links) (id : LinkId) (e : End) :
   pub end : e ≡ fresh.end
 
 -- the link no longer exists, since its TEI was removed
-pub record LacksLink (links : Links) (id : LinkId) (told : List Primitive) : Type 0 where
+pub record LacksLink (links : Links) (id : LinkId) (delivered : List Primitive) : Type 0 where
   pub absent : links id ≡ None
-  pub removed : list_any (tells_removal id.tei) told ≡ true
+  pub removed : list_any (is_removal id.tei) delivered ≡ true
 
 abbrev pub ShowsEnd : Linked → Links → LinkId → List Primitive → End → Type 0
-ShowsEnd fresh links id told e =
-    HasLink links id e ⊎ (AwaitsLink fresh links id e ⊎ LacksLink links id told)
+ShowsEnd fresh links id delivered e =
+    HasLink links id e ⊎ (AwaitsLink fresh links id e ⊎ LacksLink links id delivered)
 
 -- The link's end is the one in the world, unless the link no longer exists. The octets in transit
 -- for the link are the world's frames, spelled. Its primitives and accepted messages are those that
 -- the world recorded.
 pub record Projects {S : Type 0} (w : Behaviour S) (side : Side) (id : LinkId) (v : SideView S)
     (view : world.View) : Type 0 where
-  pub link : ShowsEnd (w.fresh id) (w.served v.now).links id v.told view.station.end
+  pub link : ShowsEnd (w.fresh id) (w.served v.now).links id v.delivered view.station.end
   pub incoming : those_for (other_side side) id v.incoming
       ≡ all_spelled (other_side side) id view.incoming
   pub outgoing : those_for side id v.outgoing ≡ all_spelled side id view.outgoing
-  pub known : known_of id v.told ≡ known_by view.station.history
+  pub known : known_of id v.delivered ≡ known_by view.station.history
   pub given : given_to id v.given ≡ view.station.end.given
 
 -- on both sides
@@ -81,12 +81,13 @@ pub record ProjectsTo (c : Configs) (id : LinkId) (i : Interface) (w : World) : 
 -- order and once each, among those submitted; each message that counts as acknowledged was
 -- received; and no error but F, G, H and I was reported.
 pub record IsRight (id : LinkId) (i : Interface) : Type 0 where
-  pub to_network : IsReceived (given_to id i.given_to_user) (known_of id i.told_to_user).acked
-      (known_of id i.told_to_network).received
-  pub to_user : IsReceived (given_to id i.given_to_network) (known_of id i.told_to_network).acked
-      (known_of id i.told_to_user).received
-  pub reports_to_user : AreExpectedWhats (told_of id i.told_to_user)
-  pub reports_to_network : AreExpectedWhats (told_of id i.told_to_network)
+  pub to_network : IsReceived (given_to id i.given_to_user) (known_of id i.delivered_to_user).acked
+      (known_of id i.delivered_to_network).received
+  pub to_user : IsReceived (given_to id i.given_to_network)
+      (known_of id i.delivered_to_network).acked
+      (known_of id i.delivered_to_user).received
+  pub reports_to_user : AreExpectedOfLink (link_primitives id i.delivered_to_user)
+  pub reports_to_network : AreExpectedOfLink (link_primitives id i.delivered_to_network)
 
 -- The interface represents, for the link, a world of two ends that some moves lead to from a new
 -- world. That world is safe in both directions, so the link's primitives are right.

@@ -11,13 +11,13 @@ use Rattle.lapd_sides.specs.Network.{new_network}
 use Rattle.lapd_sides.specs.User.{new_user}
 use Rattle.lapd_sides.specs.Worked as sides
 use Rattle.lapd_sides_laws.specs.Interface.{Configs, Interface, Move, new_interface}
-use Rattle.lapd_sides_laws.specs.SideView.{Deed, Take, Lose, Expire, Ask}
+use Rattle.lapd_sides_laws.specs.SideView.{SideEvent, Take, Lose, Expire, Ask}
 
-abbrev pub by_user : Deed → Move
-by_user deed = record { side = side.User; deed = deed }
+abbrev pub by_user : SideEvent → Move
+by_user event = record { side = side.User; event = event }
 
-abbrev pub by_network : Deed → Move
-by_network deed = record { side = side.Network; deed = deed }
+abbrev pub by_network : SideEvent → Move
+by_network event = record { side = side.Network; event = event }
 
 -- both sides serve both SAPIs; the user has TEI 64, and the network knows it
 abbrev pub configs : Configs

@@ -27,17 +27,17 @@ pub record Behaviour (S : Type 0) : Type 0 where
 -- the octets in transit to it and from it.
 pub record SideView (S : Type 0) : Type 0 where
   pub now : S
-  pub told : List Primitive
+  pub delivered : List Primitive
   pub given : List (LinkId × List ℕ)
   pub incoming : List (List ℕ)
   pub outgoing : List (List ℕ)
 
 -- `now` is in milliseconds; octets are lost by their position, counted from 0
-pub data Deed : Type 0 where
-  Take : (now : ℕ) → Deed
-  Lose : (at : ℕ) → Deed
-  Expire : (timer : Timer) → (of : Option LinkId) → (now : ℕ) → Deed
-  Ask : (request : Request) → (now : ℕ) → Deed
+pub data SideEvent : Type 0 where
+  Take : (now : ℕ) → SideEvent
+  Lose : (at : ℕ) → SideEvent
+  Expire : (timer : Timer) → (of : Option LinkId) → (now : ℕ) → SideEvent
+  Ask : (request : Request) → (now : ℕ) → SideEvent
 
 -- ---- How the side reacts.
 
@@ -66,7 +66,7 @@ abbrev pub or_unmoved : {S : Type 0} → S → Result (Reaction S) SideKind → 
 or_unmoved s (Ok a) = a
 or_unmoved s (Err kind) = unmoved s
 
-abbrev pub reaction : {S : Type 0} → Behaviour S → Deed → SideView S → Reaction S
+abbrev pub reaction : {S : Type 0} → Behaviour S → SideEvent → SideView S → Reaction S
 reaction w (Take now) v = takes_first w now v.incoming v.now
 reaction w (Lose at) v = unmoved v.now
 reaction w (Expire timer of now) v =
@@ -76,7 +76,7 @@ reaction w (Ask request now) v = or_unmoved v.now (w.requested request now v.now
 -- ---- The rest of an event.
 
 -- the octets that stay in transit to the side
-abbrev pub left : Deed → List (List ℕ) → List (List ℕ)
+abbrev pub left : SideEvent → List (List ℕ) → List (List ℕ)
 left (Take now) line = drop 1 line
 left (Lose at) line = remove line at
 left other line = line
@@ -92,15 +92,15 @@ accepted_by w (request.Give id message) now s =
     if_granted (w.means s id) message.items (w.requested (request.Give id message) now s)
 accepted_by w other now s = []
 
-abbrev pub accepted : {S : Type 0} → Behaviour S → Deed → SideView S → List (LinkId × List ℕ)
+abbrev pub accepted : {S : Type 0} → Behaviour S → SideEvent → SideView S → List (LinkId × List ℕ)
 accepted w (Ask request now) v = accepted_by w request now v.now
 accepted w other v = []
 
-unfoldable pub does : {S : Type 0} → Behaviour S → Deed → SideView S → SideView S
-does w deed v = record {
-  now = (reaction w deed v).after;
-  told = v.told ++ (reaction w deed v).effects.primitives;
-  given = v.given ++ accepted w deed v;
-  incoming = left deed v.incoming;
-  outgoing = v.outgoing ++ (reaction w deed v).effects.frames;
+unfoldable pub does : {S : Type 0} → Behaviour S → SideEvent → SideView S → SideView S
+does w event v = record {
+  now = (reaction w event v).after;
+  delivered = v.delivered ++ (reaction w event v).effects.primitives;
+  given = v.given ++ accepted w event v;
+  incoming = left event v.incoming;
+  outgoing = v.outgoing ++ (reaction w event v).effects.frames;
 }

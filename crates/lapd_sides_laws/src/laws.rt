@@ -27,15 +27,15 @@ ghost use Rattle.lapd_sides.specs.ShowsUser as usr;
 ghost use Rattle.lapd_sides.specs.User.{User, new_user, got_for, user_takes, user_requested};
 ghost use Rattle.lapd_sides_laws.specs.Addressed.{those_for};
 ghost use Rattle.lapd_sides_laws.specs.Calls.{NetworkDoes, UserDoes, take_of};
-ghost use Rattle.lapd_sides_laws.specs.ExactTimers.{HasExactTimers, HaveExactTimers, BothHaveExactTimers, RunByState, IsWoken, AreOctets, BringsOctets, Turn, turned_by_all, new_view};
+ghost use Rattle.lapd_sides_laws.specs.ExactTimers.{HasExactTimers, HaveExactTimers, BothHaveExactTimers, RunByState, IsWoken, AreOctets, BringsOctets, SideStep, stepped_by_all, new_view};
 ghost use Rattle.lapd_sides_laws.specs.Interface.{user_behaviour, network_behaviour, Configs, Move, Interface, new_interface, from_here, run};
 ghost use Rattle.lapd_sides_laws.specs.ManagementTimers.{HasTimerOfTerminal, HasTimerOfAssigner, HaveTimersOfManagement, IsAwaited};
 ghost use Rattle.lapd_sides_laws.specs.Owed.{ServesLink};
-ghost use Rattle.lapd_sides_laws.specs.Premises.{AreTimely, GiveTeiOnce, KeepPremises, KeepPremisesAsMade};
+ghost use Rattle.lapd_sides_laws.specs.Premises.{AreTimely, GiveTeiOnce, SatisfyPremises, SatisfyPremisesAsMade};
 ghost use Rattle.lapd_sides_laws.specs.Projects.{IsRight, IsSafeAt};
 ghost use Rattle.lapd_sides_laws.specs.Schedule.{configs, call, packet, at_first, unassigned, IsMessage, both_links, assigned, removed, hasty, regained, with_old_frames, answered_before};
-ghost use Rattle.lapd_sides_laws.specs.SideView.{SideView, Deed, Expire, Ask, does};
-ghost use Rattle.lapd_sides_laws.specs.Told.{told_of};
+ghost use Rattle.lapd_sides_laws.specs.SideView.{SideView, SideEvent, Expire, Ask, does};
+ghost use Rattle.lapd_sides_laws.specs.Primitives.{link_primitives};
 
 /// Every link between two sides is safe after every run, in both directions, if its T200 never
 /// expires while an awaited answer is in transit and its TEI is assigned once (`Premises`).
@@ -58,13 +58,13 @@ pub fn each_link_is_safe()
         (p q : Parameters) (m n : Lengths) → id.tei < 127 → p.k ≤ 127 → q.k ≤ 127
         → user.served.links id ≡ Some (new_linked p m)
         → network.served.links id ≡ Some (new_linked q n)
-        → (moves : List Move) → KeepPremises c id moves (new_interface user network)
+        → (moves : List Move) → SatisfyPremises c id moves (new_interface user network)
         → IsSafeAt c id (run c moves (new_interface user network)) }
     ensures as_made { (c : Configs) (id : LinkId) (fixed : Option ℕ) (known : List ℕ)
         (random : Lcg) → id.tei < 127
         → (parameters_for c.user id.sapi).k ≤ 127 → (parameters_for c.network id.sapi).k ≤ 127
         → (moves : List Move)
-        → KeepPremisesAsMade c id moves
+        → SatisfyPremisesAsMade c id moves
         (new_interface (new_user c.user fixed random) (new_network c.network known))
         → IsSafeAt c id (run c moves
         (new_interface (new_user c.user fixed random) (new_network c.network known))) }
@@ -73,7 +73,7 @@ pub fn each_link_is_safe()
         → i.user.served.links id ≡ Some (new_linked p m)
         → i.network.served.links id ≡ Some (new_linked q n)
         → those_for side.Network id i.to_user ≡ [] → those_for side.User id i.to_network ≡ []
-        → (moves : List Move) → KeepPremises c id moves (from_here i)
+        → (moves : List Move) → SatisfyPremises c id moves (from_here i)
         → IsSafeAt c id (run c moves (from_here i)) }
 {}
 
@@ -98,10 +98,10 @@ pub fn each_link_gets_its_own()
 /// delivers. A `take` that runs out of memory loses its octets, unless they are taken again. A
 /// `tick` that does something is the expiry of the timer that is due. A `request` is a request
 /// event, whether the side accepts or refuses it.
-pub fn calls_are_deeds()
+pub fn calls_are_events()
     ensures network_takes { (old new : NetSide) (acts : Effects) (result : Result ⊤ SideFault)
         (octets : List ℕ) (rest : List (List ℕ)) (now : ℕ)
-        → net.Hears result old new acts (λ s. given_for s.assigner octets)
+        → net.NetworkReceives result old new acts (λ s. given_for s.assigner octets)
         (λ config. network_takes config octets now)
         → (config : Config) (v : SideView Network) → net.ShowNetwork old config v.now
         → v.incoming ≡ octets ∷ rest → NetworkDoes new config acts (take_of result now) v }
@@ -117,7 +117,7 @@ pub fn calls_are_deeds()
         → NetworkDoes new config acts (Ask request now) v }
     ensures user_takes { (old new : UserSide) (acts : Effects) (result : Result ⊤ SideFault)
         (octets : List ℕ) (rest : List (List ℕ)) (now : ℕ)
-        → usr.Hears result old new acts (λ s. got_for s octets)
+        → usr.UserReceives result old new acts (λ s. got_for s octets)
         (λ config. user_takes config octets now)
         → (config : Config) (v : SideView User) → usr.ShowUser old config v.now
         → v.incoming ≡ octets ∷ rest → UserDoes new config acts (take_of result now) v }
@@ -142,37 +142,40 @@ pub fn calls_are_deeds()
 /// the TEI is removed.
 pub fn schedule_is_computed()
     ensures call_premises { (message answer : Vec ℕ Global) → IsMessage 1 message
-        → IsMessage 2 answer → KeepPremises configs call (both_links message answer) at_first }
+        → IsMessage 2 answer → SatisfyPremises configs call (both_links message answer) at_first }
     ensures packet_premises { (message answer : Vec ℕ Global) → IsMessage 1 message
-        → IsMessage 2 answer → KeepPremises configs packet (both_links message answer) at_first }
+        → IsMessage 2 answer → SatisfyPremises configs packet (both_links message answer) at_first }
     ensures call_to_user { (message answer : Vec ℕ Global) → IsMessage 1 message
         → IsMessage 2 answer
-        → told_of call (run configs (both_links message answer) at_first).told_to_user
+        → link_primitives call (run configs (both_links message answer) at_first).delivered_to_user
         ≡ what.Confirmed ∷ what.Acknowledged 1 ∷ [] }
     ensures call_to_network { (message answer : Vec ℕ Global) → IsMessage 1 message
         → IsMessage 2 answer
-        → told_of call (run configs (both_links message answer) at_first).told_to_network
+        → link_primitives call
+        (run configs (both_links message answer) at_first).delivered_to_network
         ≡ what.Established ∷ what.Up (1 ∷ []) ∷ [] }
     ensures packet_to_user { (message answer : Vec ℕ Global) → IsMessage 1 message
         → IsMessage 2 answer
-        → told_of packet (run configs (both_links message answer) at_first).told_to_user
+        → link_primitives packet
+        (run configs (both_links message answer) at_first).delivered_to_user
         ≡ what.Confirmed ∷ what.Up (2 ∷ []) ∷ [] }
     ensures packet_to_network { (message answer : Vec ℕ Global) → IsMessage 1 message
         → IsMessage 2 answer
-        → told_of packet (run configs (both_links message answer) at_first).told_to_network
+        → link_primitives packet
+        (run configs (both_links message answer) at_first).delivered_to_network
         ≡ what.Established ∷ what.Acknowledged 1 ∷ [] }
     ensures removed_premises { (first : Vec ℕ Global) → IsMessage 1 first
-        → KeepPremises configs call (removed first) at_first }
+        → SatisfyPremises configs call (removed first) at_first }
     ensures removed_to_user { (first : Vec ℕ Global) → IsMessage 1 first
-        → told_of call (run configs (removed first) at_first).told_to_user
+        → link_primitives call (run configs (removed first) at_first).delivered_to_user
         ≡ what.Confirmed ∷ what.Released ∷ [] }
     ensures assigned_premises { (message : Vec ℕ Global) → IsMessage 1 message
-        → KeepPremises configs call (assigned message) unassigned }
+        → SatisfyPremises configs call (assigned message) unassigned }
     ensures assigned_to_user { (message : Vec ℕ Global) → IsMessage 1 message
-        → told_of call (run configs (assigned message) unassigned).told_to_user
+        → link_primitives call (run configs (assigned message) unassigned).delivered_to_user
         ≡ what.Confirmed ∷ what.Acknowledged 1 ∷ [] }
     ensures assigned_to_network { (message : Vec ℕ Global) → IsMessage 1 message
-        → told_of call (run configs (assigned message) unassigned).told_to_network
+        → link_primitives call (run configs (assigned message) unassigned).delivered_to_network
         ≡ what.Established ∷ what.Up (1 ∷ []) ∷ [] }
 {}
 
@@ -190,13 +193,13 @@ pub fn each_premise_is_needed()
         → GiveTeiOnce configs call (hasty first second) at_first
         × (IsRight call (run configs (hasty first second) at_first) → ⊥) }
     ensures of_that_link { (first second : Vec ℕ Global) → IsMessage 1 first → IsMessage 2 second
-        → KeepPremises configs packet (hasty first second) at_first
+        → SatisfyPremises configs packet (hasty first second) at_first
         × (IsRight call (run configs (hasty first second) at_first) → ⊥) }
     ensures tei { (first second : Vec ℕ Global) → IsMessage 1 first → IsMessage 2 second
         → AreTimely configs call (regained first second) at_first
         × (IsRight call (run configs (regained first second) at_first) → ⊥) }
     ensures line { (message : Vec ℕ Global) → IsMessage 1 message
-        → KeepPremises configs call (answered_before message) with_old_frames
+        → SatisfyPremises configs call (answered_before message) with_old_frames
         × (IsRight call (run configs (answered_before message) with_old_frames) → ⊥) }
 {}
 
@@ -207,30 +210,33 @@ pub fn each_premise_is_needed()
 /// assigned again, and any octets may arrive (Q.921 5.9.1, 5.9.8, 5.10.3).
 ///
 /// - `new_network`, `new_user`: newly created sides have this property.
-/// - `network_deed`, `user_deed`: each event keeps it, from any side whose links have it, if only
+/// - `network_event`, `user_event`: each event keeps it, from any side whose links have it, if only
 ///   octets are in transit to the side.
-/// - `network_turns`, `user_turns`: so a side has it, whatever octets arrive before each event and
+/// - `network_steps`, `user_steps`: so a side has it, whatever octets arrive before each event and
 ///   whatever the events are.
 /// - `interface`: so both sides have it after every list of moves.
 /// - `by_state`: the state determines which of T200 and T203 have a deadline.
 /// - `woken`: while a link is in any state but 4, its side has a next deadline, no later than the
 ///   link's own. So a caller that sleeps until the next deadline does not sleep forever.
-pub fn timers_run_as_ends_say()
+pub fn timers_run_as_ends_require()
     ensures new_network { (config : Config) (known : List ℕ)
         → HaveExactTimers (new_network config known).served.links }
     ensures new_user { (config : Config) (fixed : Option ℕ) (random : Lcg)
         → HaveExactTimers (new_user config fixed random).served.links }
-    ensures network_deed { (config : Config) (deed : Deed) (v : SideView Network)
+    ensures network_event { (config : Config) (event : SideEvent) (v : SideView Network)
         → All AreOctets v.incoming → HaveExactTimers v.now.served.links
-        → HaveExactTimers (does (network_behaviour config) deed v).now.served.links }
-    ensures user_deed { (config : Config) (deed : Deed) (v : SideView User)
+        → HaveExactTimers (does (network_behaviour config) event v).now.served.links }
+    ensures user_event { (config : Config) (event : SideEvent) (v : SideView User)
         → All AreOctets v.incoming → HaveExactTimers v.now.served.links
-        → HaveExactTimers (does (user_behaviour config) deed v).now.served.links }
-    ensures network_turns { (config : Config) (known : List ℕ) (turns : List Turn)
-        → All BringsOctets turns → HaveExactTimers (turned_by_all (network_behaviour config) turns
+        → HaveExactTimers (does (user_behaviour config) event v).now.served.links }
+    ensures network_steps { (config : Config) (known : List ℕ) (side_steps : List SideStep)
+        → All BringsOctets side_steps → HaveExactTimers
+        (stepped_by_all (network_behaviour config) side_steps
         (new_view (new_network config known))).now.served.links }
-    ensures user_turns { (config : Config) (fixed : Option ℕ) (random : Lcg) (turns : List Turn)
-        → All BringsOctets turns → HaveExactTimers (turned_by_all (user_behaviour config) turns
+    ensures user_steps { (config : Config) (fixed : Option ℕ) (random : Lcg)
+        (side_steps : List SideStep)
+        → All BringsOctets side_steps → HaveExactTimers
+        (stepped_by_all (user_behaviour config) side_steps
         (new_view (new_user config fixed random))).now.served.links }
     ensures interface { (c : Configs) (fixed : Option ℕ) (random : Lcg) (known : List ℕ)
         (moves : List Move)
@@ -249,7 +255,7 @@ pub fn timers_run_as_ends_say()
 /// TEI does not wait forever, and a check ends (Q.921 5.3.2, 5.3.3, 5.9.6, 5.9.7).
 ///
 /// - `new_user`, `new_network`: newly created sides have this property.
-/// - `user_deed`, `network_deed`: each event keeps it, whatever is in transit to the side.
+/// - `user_event`, `network_event`: each event keeps it, whatever is in transit to the side.
 /// - `interface`: so both sides have it after every list of moves.
 /// - `terminal_is_woken`, `assigner_is_woken`: while one of them waits, its side has a next
 ///   deadline, no later than the timer's.
@@ -258,12 +264,12 @@ pub fn management_timers_run_while_it_waits()
         → HasTimerOfTerminal (new_user config fixed random) }
     ensures new_network { (config : Config) (known : List ℕ)
         → HasTimerOfAssigner (new_network config known) }
-    ensures user_deed { (config : Config) (deed : Deed) (v : SideView User)
+    ensures user_event { (config : Config) (event : SideEvent) (v : SideView User)
         → HasTimerOfTerminal v.now
-        → HasTimerOfTerminal (does (user_behaviour config) deed v).now }
-    ensures network_deed { (config : Config) (deed : Deed) (v : SideView Network)
+        → HasTimerOfTerminal (does (user_behaviour config) event v).now }
+    ensures network_event { (config : Config) (event : SideEvent) (v : SideView Network)
         → HasTimerOfAssigner v.now
-        → HasTimerOfAssigner (does (network_behaviour config) deed v).now }
+        → HasTimerOfAssigner (does (network_behaviour config) event v).now }
     ensures interface { (c : Configs) (fixed : Option ℕ) (random : Lcg) (known : List ℕ)
         (moves : List Move)
         → HaveTimersOfManagement (run c moves

@@ -6,7 +6,7 @@
 //! runs. The definitions, in the order of specs/:
 //!
 //! - `Addressed`: octets on the line belong to a link if they carry its SAPI and TEI.
-//! - `Told`: what layer 3 knows of a link from its primitives and its own messages alone: the
+//! - `Primitives`: what layer 3 knows of a link from its primitives and its own messages alone: the
 //!   messages received, and the positions of its own messages that were acknowledged or dropped.
 //!   `IsReceived` says when this is right: the messages received are, in order and once each, among
 //!   the messages submitted, and each message that counts as acknowledged was received.
@@ -37,11 +37,11 @@
 //! - [`each_link_gets_its_own`]: an event leaves a link unchanged, is one step of it, or creates or
 //!   removes it with its TEI.
 //! - [`each_link_is_safe`]: after every run that keeps the premises of a link, that link is safe.
-//! - [`calls_are_deeds`]: `take`, `tick` and `request` of both sides are events, by their
+//! - [`calls_are_events`]: `take`, `tick` and `request` of both sides are events, by their
 //!   contracts.
 //! - [`schedule_is_computed`]: the premises can be met.
 //! - [`each_premise_is_needed`]: no premise can be dropped.
-//! - [`timers_run_as_ends_say`]: no link ever lacks the timer that it waits for, whatever arrives
+//! - [`timers_run_as_ends_require`]: no link ever lacks the timer that it waits for, whatever arrives
 //!   and whatever the side does.
 //! - [`management_timers_run_while_it_waits`]: the same for TEI management.
 //!
@@ -52,6 +52,6 @@
 mod laws;
 
 pub use laws::{
-    calls_are_deeds, each_link_gets_its_own, each_link_is_safe, each_premise_is_needed,
-    management_timers_run_while_it_waits, schedule_is_computed, timers_run_as_ends_say,
+    calls_are_events, each_link_gets_its_own, each_link_is_safe, each_premise_is_needed,
+    management_timers_run_while_it_waits, schedule_is_computed, timers_run_as_ends_require,
 };

@@ -9,7 +9,7 @@ use Rattle.lapd_timers.specs.Due.{Timers, deadline_of}
 use Rattle.lapd_frame.specs.declared.Side.{Side}
 use Rattle.lapd_mod128.specs.Counting.{Tagged}
 use Rattle.lapd_frame.specs.Frame.{Fields, n201, spelling}
-use Rattle.lapd_link.specs.Link.{LinkStandsFor, Setup, setup_of, Refuses}
+use Rattle.lapd_link.specs.Link.{LinkRepresents, Setup, setup_of, Refuses}
 use Rattle.lapd_link.specs.SentFrame.{made_frame, sent_frame, HasFramesOf}
 use Rattle.lapd_link.proofs.Frames.{frames_of_link}
 use Rattle.lapd_link.specs.declared.link.Link.{Link}
@@ -32,7 +32,7 @@ use Rattle.lapd_sides_links.specs.declared.side_fault.SideKind.TheVariants as ki
 use Rattle.lapd_sides_links.specs.Effects.{Effects, effects_of_link, sent_by, what_of, timed, stopped}
 use Rattle.lapd_sides_links.specs.Links.{Links, Linked, Reaction, acted, link_acts, link_expires, in_place, where_there, in_links, with_link}
 use Rattle.lapd_sides_links.specs.Expiries.{IsFirst, IsPast, Runs, of_links}
-use Rattle.lapd_sides_links.specs.Places.{AreAtRest}
+use Rattle.lapd_sides_links.specs.Places.{AreStopped}
 use Rattle.lapd_sides_links.specs.TimersAtPlaces.{of_places}
 use Rattle.lapd_sides_links.specs.Shown.{timers_at, made_by, IsLinked, ShowLinks, HaveActed}
 use Rattle.lapd_sides_links.proofs.Dues.{same_past, same_runs}
@@ -85,14 +85,14 @@ some_is h = cc
 record IsShown (link : Link) (t : Option Timers) (l : Option Linked) : Type 0 where
   linked : Linked
   there : l ≡ Some linked
-  stands : LinkStandsFor link linked.end
+  represented : LinkRepresents link linked.end
   timers : t ≡ Some linked.timers
 
 shown_linked : (link : Link) (t : Option Timers) (l : Option Linked) → IsLinked (Some link) t l → IsShown link t l
 shown_linked link None None h = absurd h
 shown_linked link None (Some l) h = absurd h
 shown_linked link (Some t) None h = absurd h
-shown_linked link (Some t) (Some l) h = record { linked = l; there = refl; stands = h.0; timers = ap (λ (x : Timers). Some x) h.1 }
+shown_linked link (Some t) (Some l) h = record { linked = l; there = refl; represented = h.0; timers = ap (λ (x : Timers). Some x) h.1 }
 
 true_is_false : true ≡ false → ⊥
 true_is_false h = absurd (cc)
@@ -124,41 +124,41 @@ same_octets setup e octets (output ∷ outs) h =
     ap (λ (f : Option Fields). cons_option (option_map (spelling setup.side) f) (filter_map (made_by setup e octets) outs)) (All-head P output outs h)
     ∙ ap (cons_option (sent_by setup e octets output)) (same_octets setup e octets outs (All-tail P output outs h))
 
-frames_are_sent : (table : LinkTable) (id : LinkId) (link : Link) (e : End) (octets : List ℕ) (outs : List Out) → HasFramesOf link outs → link_at table id ≡ Some link → LinkStandsFor link e → length octets ≤ n201
+frames_are_sent : (table : LinkTable) (id : LinkId) (link : Link) (e : End) (octets : List ℕ) (outs : List Out) → HasFramesOf link outs → link_at table id ≡ Some link → LinkRepresents link e → length octets ≤ n201
     → filter_map (made_by (setup_for (side_of table) id) e octets) outs ≡ filter_map (sent_by (setup_for (side_of table) id) e octets) outs
-frames_are_sent table id link e octets outs has there stands fits =
-    subst (λ (setup : Setup). filter_map (made_by setup e octets) outs ≡ filter_map (sent_by setup e octets) outs) (setup_at table id link there) (same_octets (setup_of link) e octets outs (has e stands octets fits))
+frames_are_sent table id link e octets outs has there represented fits =
+    subst (λ (setup : Setup). filter_map (made_by setup e octets) outs ≡ filter_map (sent_by setup e octets) outs) (setup_at table id link there) (same_octets (setup_of link) e octets outs (has e represented octets fits))
 
 -- The rest of a step: the table has taken it, the timers follow, and the effects are appended.
-have_done : (side : Side) (old new : LinkSet) (table : LinkTable) (links : Links) (id : LinkId) (now : ℕ) (input : Input) (octets : List ℕ) (change : Timers → Timers) (outs : List Out) (told told_after : Effects)
+have_done : (side : Side) (old new : LinkSet) (table : LinkTable) (links : Links) (id : LinkId) (now : ℕ) (input : Input) (octets : List ℕ) (change : Timers → Timers) (outs : List Out) (delivered primitives_after : Effects)
     → StepsAt old.table table id input outs → new.table ≡ table
     → timers_at new.link_timers id ≡ option_map (timed now outs) (option_map change (timers_at old.link_timers id))
     → ((other : LinkId) → other ≢ id → timers_at new.link_timers other ≡ timers_at old.link_timers other)
-    → ((link : Link) (e : End) → link_at table id ≡ Some link → LinkStandsFor link e → told_after.frames ≡ told.frames ++ filter_map (made_by (setup_for (side_of table) id) e octets) outs)
-    → told_after.primitives ≡ told.primitives ++ map (Of id) (filter_map (what_of octets) outs)
+    → ((link : Link) (e : End) → link_at table id ≡ Some link → LinkRepresents link e → primitives_after.frames ≡ delivered.frames ++ filter_map (made_by (setup_for (side_of table) id) e octets) outs)
+    → primitives_after.primitives ≡ delivered.primitives ++ map (Of id) (filter_map (what_of octets) outs)
     → length octets ≤ n201
-    → ShowLinks side old links → HaveActed side new told told_after (in_links id (does_so side id now input octets change) links)
+    → ShowLinks side old links → HaveActed side new delivered primitives_after (in_links id (does_so side id now input octets change) links)
 unfolding in_links
-have_done side old new table links id now input octets change outs told told_after steps same_table own others frames primitives fits shown =
+have_done side old new table links id now input octets change outs delivered primitives_after steps same_table own others frames primitives fits shown =
     let x = shown_linked steps.before (timers_at old.link_timers id) (links id) (subst (λ (found : Option Link). IsLinked found (timers_at old.link_timers id) (links id)) steps.was (shown.each id)) in
-    let done = steps.steps x.linked.end x.stands in
+    let done = steps.steps x.linked.end x.represented in
     let s = done.0 in
     let is = done.1 in
     let same : s.outs ≡ outs = done.2 in
-    let stands = done.3 in
+    let represented = done.3 in
     let l : Linked = record { end = s.end; timers = timed now s.outs (change x.linked.timers) } in
     let set : new.table ≡ table = same_table in
     let there : link_at new.table id ≡ Some steps.after = ap (λ (t : LinkTable). link_at t id) set ∙ steps.changes.there in
     let timers : timers_at new.link_timers id ≡ Some l.timers =
     own ∙ ap (λ (t : Option Timers). option_map (timed now outs) (option_map change t)) x.timers ∙ ap (λ (o : List Out). Some (timed now o (change x.linked.timers))) (sym same) in
     let of_side : side_of table ≡ side = steps.changes.side ∙ shown.of_side in
-    let told_frames : told_after.frames ≡ told.frames ++ filter_map (sent_by (setup_for side id) s.end octets) s.outs =
-    frames steps.after s.end steps.changes.there stands
-    ∙ ap (λ (f : List (List ℕ)). told.frames ++ f) (frames_are_sent table id steps.after s.end octets outs (frames_of_link steps.before steps.after input outs steps.steps) steps.changes.there stands fits)
-    ∙ ap (λ (k : Side). told.frames ++ filter_map (sent_by (setup_for k id) s.end octets) outs) of_side
-    ∙ ap (λ (o : List Out). told.frames ++ filter_map (sent_by (setup_for side id) s.end octets) o) (sym same) in
-    let told_primitives : told_after.primitives ≡ told.primitives ++ map (Of id) (filter_map (what_of octets) s.outs) =
-    primitives ∙ ap (λ (o : List Out). told.primitives ++ map (Of id) (filter_map (what_of octets) o)) (sym same) in
+    let delivered_frames : primitives_after.frames ≡ delivered.frames ++ filter_map (sent_by (setup_for side id) s.end octets) s.outs =
+    frames steps.after s.end steps.changes.there represented
+    ∙ ap (λ (f : List (List ℕ)). delivered.frames ++ f) (frames_are_sent table id steps.after s.end octets outs (frames_of_link steps.before steps.after input outs steps.steps) steps.changes.there represented fits)
+    ∙ ap (λ (k : Side). delivered.frames ++ filter_map (sent_by (setup_for k id) s.end octets) outs) of_side
+    ∙ ap (λ (o : List Out). delivered.frames ++ filter_map (sent_by (setup_for side id) s.end octets) o) (sym same) in
+    let most_primitives : primitives_after.primitives ≡ delivered.primitives ++ map (Of id) (filter_map (what_of octets) s.outs) =
+    primitives ∙ ap (λ (o : List Out). delivered.primitives ++ map (Of id) (filter_map (what_of octets) o)) (sym same) in
     record {
       acted = record { after = with_link id (Some l) links; effects = effects_of_link side id s.end octets s.outs };
       is = ap (λ (m : Option Linked). where_there id links m (does_so side id now input octets change)) x.there
@@ -168,49 +168,49 @@ have_done side old new table links id now input octets change outs told told_aft
         each = λ other. other_linked old new links id other (Some l) (id_eq other id) refl
             (λ test. subst (λ (k : LinkId). IsLinked (link_at new.table k) (timers_at new.link_timers k) (Some l)) (sym (same_id_eq other id test))
             (subst (λ (f : Option Link). IsLinked f (timers_at new.link_timers id) (Some l)) (sym there)
-            (subst (λ (t : Option Timers). IsLinked (Some steps.after) t (Some l)) (sym timers) (stands, refl))))
+            (subst (λ (t : Option Timers). IsLinked (Some steps.after) t (Some l)) (sym timers) (represented, refl))))
             (λ differ. ap (λ (t : LinkTable). link_at t other) set ∙ steps.changes.others other differ) (others other) (id_eq_self id) (shown.each other);
       };
-      given = same_effects told_after _ _ told_frames told_primitives;
+      given = same_effects primitives_after _ _ delivered_frames most_primitives;
     }
 
 unchanged_timers : (t : Option Timers) → t ≡ option_map (λ (s : Timers). s) t
 unchanged_timers None = refl
 unchanged_timers (Some t) = refl
 
-pub have_acted : (side : Side) (old new : LinkSet) (table : LinkTable) (links : Links) (id : LinkId) (now : ℕ) (input : Input) (octets : List ℕ) (outs : List Out) (told told_after : Effects)
+pub have_acted : (side : Side) (old new : LinkSet) (table : LinkTable) (links : Links) (id : LinkId) (now : ℕ) (input : Input) (octets : List ℕ) (outs : List Out) (delivered primitives_after : Effects)
     → StepsAt old.table table id input outs → new.table ≡ table
     → timers_at new.link_timers id ≡ option_map (timed now outs) (timers_at old.link_timers id)
     → ((other : LinkId) → other ≢ id → timers_at new.link_timers other ≡ timers_at old.link_timers other)
-    → ((link : Link) (e : End) → link_at table id ≡ Some link → LinkStandsFor link e → told_after.frames ≡ told.frames ++ filter_map (made_by (setup_for (side_of table) id) e octets) outs)
-    → told_after.primitives ≡ told.primitives ++ map (Of id) (filter_map (what_of octets) outs)
+    → ((link : Link) (e : End) → link_at table id ≡ Some link → LinkRepresents link e → primitives_after.frames ≡ delivered.frames ++ filter_map (made_by (setup_for (side_of table) id) e octets) outs)
+    → primitives_after.primitives ≡ delivered.primitives ++ map (Of id) (filter_map (what_of octets) outs)
     → length octets ≤ n201
-    → ShowLinks side old links → HaveActed side new told told_after (in_links id (link_acts side id now input octets) links)
+    → ShowLinks side old links → HaveActed side new delivered primitives_after (in_links id (link_acts side id now input octets) links)
 unfolding link_acts
-have_acted side old new table links id now input octets outs told told_after steps same_table own others frames primitives fits shown =
-    have_done side old new table links id now input octets (λ (s : Timers). s) outs told told_after steps same_table (own ∙ ap (option_map (timed now outs)) (unchanged_timers (timers_at old.link_timers id))) others frames primitives fits shown
+have_acted side old new table links id now input octets outs delivered primitives_after steps same_table own others frames primitives fits shown =
+    have_done side old new table links id now input octets (λ (s : Timers). s) outs delivered primitives_after steps same_table (own ∙ ap (option_map (timed now outs)) (unchanged_timers (timers_at old.link_timers id))) others frames primitives fits shown
 
 -- the same after an expiry: the timer has been stopped first
-pub have_expired : (side : Side) (old new : LinkSet) (table : LinkTable) (links : Links) (id : LinkId) (now : ℕ) (timer : Timer) (middle : Option Timers) (outs : List Out) (told told_after : Effects)
+pub have_expired : (side : Side) (old new : LinkSet) (table : LinkTable) (links : Links) (id : LinkId) (now : ℕ) (timer : Timer) (middle : Option Timers) (outs : List Out) (delivered primitives_after : Effects)
     → StepsAt old.table table id (Expiry timer) outs → new.table ≡ table
     → middle ≡ option_map (stopped timer) (timers_at old.link_timers id) → timers_at new.link_timers id ≡ option_map (timed now outs) middle
     → ((other : LinkId) → other ≢ id → timers_at new.link_timers other ≡ timers_at old.link_timers other)
-    → ((link : Link) (e : End) → link_at table id ≡ Some link → LinkStandsFor link e → told_after.frames ≡ told.frames ++ filter_map (made_by (setup_for (side_of table) id) e []) outs)
-    → told_after.primitives ≡ told.primitives ++ map (Of id) (filter_map (what_of []) outs)
-    → ShowLinks side old links → HaveActed side new told told_after (in_links id (link_expires side id now timer) links)
+    → ((link : Link) (e : End) → link_at table id ≡ Some link → LinkRepresents link e → primitives_after.frames ≡ delivered.frames ++ filter_map (made_by (setup_for (side_of table) id) e []) outs)
+    → primitives_after.primitives ≡ delivered.primitives ++ map (Of id) (filter_map (what_of []) outs)
+    → ShowLinks side old links → HaveActed side new delivered primitives_after (in_links id (link_expires side id now timer) links)
 unfolding link_acts link_expires
-have_expired side old new table links id now timer middle outs told told_after steps same_table stop own others frames primitives shown =
-    have_done side old new table links id now (Expiry timer) [] (stopped timer) outs told told_after steps same_table (own ∙ ap (option_map (timed now outs)) stop) others frames primitives (omega arith) shown
+have_expired side old new table links id now timer middle outs delivered primitives_after steps same_table stop own others frames primitives shown =
+    have_done side old new table links id now (Expiry timer) [] (stopped timer) outs delivered primitives_after steps same_table (own ∙ ap (option_map (timed now outs)) stop) others frames primitives (omega arith) shown
 
 -- The frames that the code wrote for these outputs are those of the definition, whatever end the
 -- found link represents.
 pub frames_put : (table : LinkTable) (id : LinkId) (link found : Link) (e : End) (octets : List ℕ) (outs lent : List Out) (before put after : List (List ℕ))
-    → link_at table id ≡ Some link → link_at table id ≡ Some found → setup_of found ≡ setup_for (side_of table) id → LinkStandsFor link e
-    → ((e : End) → LinkStandsFor found e → put ≡ before ++ filter_map (made_by (setup_of found) e octets) lent) → lent ≡ outs → after ≡ put
+    → link_at table id ≡ Some link → link_at table id ≡ Some found → setup_of found ≡ setup_for (side_of table) id → LinkRepresents link e
+    → ((e : End) → LinkRepresents found e → put ≡ before ++ filter_map (made_by (setup_of found) e octets) lent) → lent ≡ outs → after ≡ put
     → after ≡ before ++ filter_map (made_by (setup_for (side_of table) id) e octets) outs
-frames_put table id link found e octets outs lent before put after there value setup stands made same told =
+frames_put table id link found e octets outs lent before put after there value setup represented made same delivered =
     let one : link ≡ found = some_is (sym there ∙ value) in
-    told ∙ made e (subst (λ (l : Link). LinkStandsFor l e) one stands)
+    delivered ∙ made e (subst (λ (l : Link). LinkRepresents l e) one represented)
     ∙ ap (λ (k : Setup). before ++ filter_map (made_by k e octets) lent) setup
     ∙ ap (λ (o : List Out). before ++ filter_map (made_by (setup_for (side_of table) id) e octets) o) same
 
@@ -235,10 +235,10 @@ put_in_place side old new links id l same own table link_timers shown = record {
 }
 
 -- a new link is the existing one
-pub now_linked : (found : Option Link) (t : Option Timers) (link : Link) (l : Linked) → found ≡ Some link → t ≡ Some l.timers → LinkStandsFor link l.end → IsLinked found t (Some l)
-now_linked found t link l f time stands = rw (f, time) (stands, refl)
+pub now_linked : (found : Option Link) (t : Option Timers) (link : Link) (l : Linked) → found ≡ Some link → t ≡ Some l.timers → LinkRepresents link l.end → IsLinked found t (Some l)
+now_linked found t link l f time represented = rw (f, time) (represented, refl)
 
-pub none_linked : (found : Option Link) (t : Option Timers) → found ≡ None → IfSome t AreAtRest → IsLinked found t None
+pub none_linked : (found : Option Link) (t : Option Timers) → found ≡ None → IfSome t AreStopped → IsLinked found t None
 none_linked found t f rest = rw f rest
 
 -- ---- The timers of the existing links.
@@ -247,7 +247,7 @@ none_linked found t f rest = rw f rest
 runs_linked : (found : Option Link) (t : Option Timers) (l : Option Linked) (its : Timers) (timer : Timer) (deadline : ℕ) → IsLinked found t l
     → t ≡ Some its → deadline_of timer its ≡ Some deadline → option_map (λ (x : Linked). x.timers) l ≡ Some its
 runs_linked None t None its timer deadline h is runs =
-    let rest : AreAtRest its = subst (λ (x : Option Timers). IfSome x AreAtRest) is h in
+    let rest : AreStopped its = subst (λ (x : Option Timers). IfSome x AreStopped) is h in
     let k : None ≡ Some deadline = sym (rest timer) ∙ runs in absurd (cc)
 runs_linked None t (Some l) its timer deadline h is runs = absurd h
 runs_linked (Some link) None None its timer deadline h is runs = absurd h

@@ -14,7 +14,7 @@ use Rattle.lapd_table.proofs.Ids.{same_id_eq}
 use Rattle.lapd_sides_links.specs.declared.config.Config.{Config}
 use Rattle.lapd_sides_links.specs.declared.link_set.LinkSet.{LinkSet}
 use Rattle.lapd_sides_links.specs.declared.primitive.Primitive.{Primitive}
-use Rattle.lapd_sides_links.specs.Links.{Links, Linked, of_sapi, with_link, with_tei, without_tei, new_linked, told_at_removal, told_of_tei}
+use Rattle.lapd_sides_links.specs.Links.{Links, Linked, of_sapi, with_link, with_tei, without_tei, new_linked, primitives_at_removal, primitive_of_tei}
 use Rattle.lapd_sides_links.specs.TimersAtPlaces.{placed}
 use Rattle.lapd_sides_links.specs.Shown.{timers_at, IsLinked, ShowLinks}
 
@@ -80,21 +80,21 @@ either_none : (test : Bool) (l : Option Linked) → l ≡ None → l ≡ (if tes
 either_none true l none = none
 either_none false l none = refl
 
-gone_at : (side : Side) (s : LinkSet) (tei : ℕ) (links : Links) (sapi : Sapi) (t : ℕ) → ShowLinks side s links
+removed_at : (side : Side) (s : LinkSet) (tei : ℕ) (links : Links) (sapi : Sapi) (t : ℕ) → ShowLinks side s links
     → with_link (of_sapi Packet tei) None (with_link (of_sapi Call tei) None links) (of_sapi sapi t) ≡ without_tei tei links (of_sapi sapi t)
 unfolding without_tei placed
-gone_at side s tei links Call t shown = refl
-gone_at side s tei links Packet t shown = refl
-gone_at side s tei links Management t shown = either_none (t == tei) (links (of_sapi Management t)) (unplaced (link_at s.table (of_sapi Management t)) (links (of_sapi Management t)) (shown.each (of_sapi Management t)))
+removed_at side s tei links Call t shown = refl
+removed_at side s tei links Packet t shown = refl
+removed_at side s tei links Management t shown = either_none (t == tei) (links (of_sapi Management t)) (unplaced (link_at s.table (of_sapi Management t)) (links (of_sapi Management t)) (shown.each (of_sapi Management t)))
 
-pub both_gone : (side : Side) (old new : LinkSet) (tei : ℕ) (links : Links) → ShowLinks side old links
+pub both_removed : (side : Side) (old new : LinkSet) (tei : ℕ) (links : Links) → ShowLinks side old links
     → ShowLinks side new (with_link (of_sapi Packet tei) None (with_link (of_sapi Call tei) None links)) → ShowLinks side new (without_tei tei links)
-both_gone side old new tei links before shown = same_links side new _ (without_tei tei links) (λ id. gone_at side old tei links id.sapi id.tei before) shown
+both_removed side old new tei links before shown = same_links side new _ (without_tei tei links) (λ id. removed_at side old tei links id.sapi id.tei before) shown
 
 -- the release of the first link is reported, then that of the second, which was unchanged
-pub both_told : (before middle after : List Primitive) (tei : ℕ) (links : Links) → middle ≡ before ++ told_at_removal (of_sapi Call tei) (links (of_sapi Call tei))
-    → after ≡ middle ++ told_at_removal (of_sapi Packet tei) (with_link (of_sapi Call tei) None links (of_sapi Packet tei)) → after ≡ before ++ told_of_tei tei links
-unfolding told_of_tei
-both_told before middle after tei links first second =
-    second ∙ ap (λ (m : List Primitive). m ++ told_at_removal (of_sapi Packet tei) (links (of_sapi Packet tei))) first
-    ∙ append_assoc before (told_at_removal (of_sapi Call tei) (links (of_sapi Call tei))) (told_at_removal (of_sapi Packet tei) (links (of_sapi Packet tei)))
+pub both_delivered : (before middle after : List Primitive) (tei : ℕ) (links : Links) → middle ≡ before ++ primitives_at_removal (of_sapi Call tei) (links (of_sapi Call tei))
+    → after ≡ middle ++ primitives_at_removal (of_sapi Packet tei) (with_link (of_sapi Call tei) None links (of_sapi Packet tei)) → after ≡ before ++ primitive_of_tei tei links
+unfolding primitive_of_tei
+both_delivered before middle after tei links first second =
+    second ∙ ap (λ (m : List Primitive). m ++ primitives_at_removal (of_sapi Packet tei) (links (of_sapi Packet tei))) first
+    ∙ append_assoc before (primitives_at_removal (of_sapi Call tei) (links (of_sapi Call tei))) (primitives_at_removal (of_sapi Packet tei) (links (of_sapi Packet tei)))

@@ -7,7 +7,7 @@ use Rattle.std.proofs.lemmas.Option.{slice_get_within, get_or_from_slice_get, sa
 use Rattle.lapd_timers.specs.declared.timer.Timer.{Timer}
 use Rattle.lapd_timers.specs.declared.timer.Timer.TheVariants.{T200, T201, T202, T203}
 use Rattle.lapd_timers.specs.Durations.{Lengths}
-use Rattle.lapd_timers.specs.Due.{Timers, deadline_of, at_rest}
+use Rattle.lapd_timers.specs.Due.{Timers, deadline_of, all_stopped}
 use Rattle.lapd_timers.specs.Due as due
 use Rattle.lapd_frame.specs.declared.Sapi.{Sapi}
 use Rattle.lapd_frame.specs.declared.Sapi.TheVariants.{Call, Packet, Management}
@@ -16,7 +16,7 @@ use Rattle.lapd_sides_links.specs.declared.running_timer.RunningTimer.{RunningTi
 use Rattle.lapd_sides_links.specs.declared.timer_places.TimerPlaces.{TimerPlaces}
 use Rattle.lapd_sides_links.specs.Links.{Served, IsOfLink, of_sapi}
 use Rattle.lapd_sides_links.specs.Expiries.{IsTimerOf, Runs, IsPast, IsNoLaterLink, IsNoLater, IsFirst, IsDue, IsNextDeadline, of_management, of_links, of_served}
-use Rattle.lapd_sides_links.specs.Places.{AreAtRest, RunsFor, IsSooner, expiry_at, own_expiry_at, earlier}
+use Rattle.lapd_sides_links.specs.Places.{AreStopped, RunsFor, IsSooner, expiry_at, own_expiry_at, earlier}
 use Rattle.lapd_sides_links.specs.TimersAtPlaces.{placed, of_places, entry_place, RunsAt, AreEntered, RunsForPlaced}
 use Rattle.lapd_sides_links.specs.Tournament.{entry, IsEntered}
 use Rattle.lapd_sides_links.proofs.Order.{link_no_later_self, no_later_chained, earlier_deadline, joined, same_first, sooner_of, deadline, sooner_deadline}
@@ -62,28 +62,28 @@ first_of_both id timers a b first one other is = joined (RunsAsOf id timers T200
 
 -- ---- Timers at rest.
 
-pub rests : (durations : Lengths) → AreAtRest (at_rest durations)
-rests durations T200 = refl
-rests durations T201 = refl
-rests durations T202 = refl
-rests durations T203 = refl
+pub all_are_stopped : (durations : Lengths) → AreStopped (all_stopped durations)
+all_are_stopped durations T200 = refl
+all_are_stopped durations T201 = refl
+all_are_stopped durations T202 = refl
+all_are_stopped durations T203 = refl
 
-pub halted : (timers : Option Timers) → IfSome (option_map (λ (t : Timers). at_rest t.durations) timers) AreAtRest
+pub halted : (timers : Option Timers) → IfSome (option_map (λ (t : Timers). all_stopped t.durations) timers) AreStopped
 halted None = tt
-halted (Some timers) = rests timers.durations
+halted (Some timers) = all_are_stopped timers.durations
 
-rest_among : (durations : Lengths) (places : List Timers) (tei : ℕ) (found : Option Timers) → places ≡ replicate 127 (at_rest durations) → slice_get places tei ≡ found → IfSome found AreAtRest
-rest_among durations places tei None all is = tt
-rest_among durations places tei (Some timers) all is =
-    let each : All AreAtRest places = subst (All AreAtRest) (sym all) (All-replicate AreAtRest 127 (at_rest durations) (rests durations)) in
-    subst AreAtRest (get_or_from_slice_get places tei timers timers is) (All-get_or AreAtRest places tei timers (slice_get_within places tei timers is) each)
+stopped_among : (durations : Lengths) (places : List Timers) (tei : ℕ) (found : Option Timers) → places ≡ replicate 127 (all_stopped durations) → slice_get places tei ≡ found → IfSome found AreStopped
+stopped_among durations places tei None all is = tt
+stopped_among durations places tei (Some timers) all is =
+    let each : All AreStopped places = subst (All AreStopped) (sym all) (All-replicate AreStopped 127 (all_stopped durations) (all_are_stopped durations)) in
+    subst AreStopped (get_or_from_slice_get places tei timers timers is) (All-get_or AreStopped places tei timers (slice_get_within places tei timers is) each)
 
-pub new_rest : (s : TimerPlaces) (durations : Lengths) (sapi : Sapi) (tei : ℕ) → s.call.items ≡ replicate 127 (at_rest durations) → s.packet.items ≡ replicate 127 (at_rest durations)
-    → IfSome (placed s (of_sapi sapi tei)) AreAtRest
+pub new_stopped : (s : TimerPlaces) (durations : Lengths) (sapi : Sapi) (tei : ℕ) → s.call.items ≡ replicate 127 (all_stopped durations) → s.packet.items ≡ replicate 127 (all_stopped durations)
+    → IfSome (placed s (of_sapi sapi tei)) AreStopped
 unfolding placed
-new_rest s durations Call tei call packet = rest_among durations s.call.items tei (slice_get s.call.items tei) call refl
-new_rest s durations Packet tei call packet = rest_among durations s.packet.items tei (slice_get s.packet.items tei) packet refl
-new_rest s durations Management tei call packet = tt
+new_stopped s durations Call tei call packet = stopped_among durations s.call.items tei (slice_get s.call.items tei) call refl
+new_stopped s durations Packet tei call packet = stopped_among durations s.packet.items tei (slice_get s.packet.items tei) packet refl
+new_stopped s durations Management tei call packet = tt
 
 -- ---- In each slot of the tournament.
 
@@ -91,37 +91,37 @@ abbrev entry_place_of : LinkId → Option ℕ
 entry_place_of id = entry_place id.sapi id.tei
 
 -- the timers of a link run in its slot
-record Stands (s : TimerPlaces) (e : RunningTimer) : Type 0 where
+record RunsAtItsPlace (s : TimerPlaces) (e : RunningTimer) : Type 0 where
   at : ℕ
   there : RunsAt s at e
 
-stands_at : (s : TimerPlaces) (sapi : Sapi) (tei : ℕ) (e : RunningTimer) → e.of ≡ Some (of_sapi sapi tei) → Runs (of_places s) e → Stands s e
+runs_at_its_place : (s : TimerPlaces) (sapi : Sapi) (tei : ℕ) (e : RunningTimer) → e.of ≡ Some (of_sapi sapi tei) → Runs (of_places s) e → RunsAtItsPlace s e
 unfolding placed
-stands_at s Call tei e is x = record { at = tei; there = record { id = of_sapi Call tei; is_of = is; stands = refl; runs = x } }
-stands_at s Packet tei e is x = record { at = 128 + tei; there = record { id = of_sapi Packet tei; is_of = is; stands = refl; runs = x } }
-stands_at s Management tei e is x = let there : None ≡ Some x.its = sym (ap (of_places s) is) ∙ x.there in absurd (cc)
+runs_at_its_place s Call tei e is x = record { at = tei; there = record { id = of_sapi Call tei; is_of = is; represented = refl; runs = x } }
+runs_at_its_place s Packet tei e is x = record { at = 128 + tei; there = record { id = of_sapi Packet tei; is_of = is; represented = refl; runs = x } }
+runs_at_its_place s Management tei e is x = let there : None ≡ Some x.its = sym (ap (of_places s) is) ∙ x.there in absurd (cc)
 
-stands : (s : TimerPlaces) (of : Option LinkId) (e : RunningTimer) → e.of ≡ of → Runs (of_places s) e → Stands s e
-stands s None e is x = let there : None ≡ Some x.its = sym (ap (of_places s) is) ∙ x.there in absurd (cc)
-stands s (Some id) e is x = stands_at s id.sapi id.tei e is x
+represented : (s : TimerPlaces) (of : Option LinkId) (e : RunningTimer) → e.of ≡ of → Runs (of_places s) e → RunsAtItsPlace s e
+represented s None e is x = let there : None ≡ Some x.its = sym (ap (of_places s) is) ∙ x.there in absurd (cc)
+represented s (Some id) e is x = runs_at_its_place s id.sapi id.tei e is x
 
 entry_behind : (A : RunningTimer → Type 0) (found : Option RunningTimer) (e : RunningTimer) → IsFirst A found → A e → IsBehind found e
 entry_behind A None e h x = absurd (h e x)
 entry_behind A (Some f) e h x = record { first = f; there = refl; low = h.1 e x }
 
-behind_entered : (s : TimerPlaces) (entries : List (Option RunningTimer)) (e : RunningTimer) (x : Stands s e) → AreEntered s entries → IsBehind (entry entries x.at) e
+behind_entered : (s : TimerPlaces) (entries : List (Option RunningTimer)) (e : RunningTimer) (x : RunsAtItsPlace s e) → AreEntered s entries → IsBehind (entry entries x.at) e
 behind_entered s entries e x h = entry_behind (RunsAt s x.at) (entry entries x.at) e (h x.at) x.there
 
 -- the first of all entries is the first of all running timers
 pub first_of_entries : (s : TimerPlaces) (entries : List (Option RunningTimer)) (first : Option RunningTimer) → AreEntered s entries → IsFirst (IsEntered entries) first → IsFirst (Runs (of_places s)) first
 first_of_entries s entries None h k = λ e x.
-    let place = stands s e.of e refl x in
+    let place = represented s e.of e refl x in
     let behind = behind_entered s entries e place h in
     k behind.first (record { at = place.at; there = behind.there })
 first_of_entries s entries (Some a) h k = (
   (subst (IsFirst (RunsAt s k.0.at)) k.0.there (h k.0.at)).0.runs,
   λ e x.
-      let place = stands s e.of e refl x in
+      let place = represented s e.of e refl x in
       let behind = behind_entered s entries e place h in
       no_later_chained a behind.first e (k.1 behind.first (record { at = place.at; there = behind.there })) behind.low,
 )
@@ -144,11 +144,11 @@ same_link_at Call Management m n at p q low high = absurd (cc)
 same_link_at Packet Management m n at p q low high = absurd (cc)
 
 runs_there : (s : TimerPlaces) (id : LinkId) (at : ℕ) (found : Option Timers) (e : RunningTimer) → placed s id ≡ found → entry_place_of id ≡ Some at → RunsForPlaced id found e → RunsAt s at e
-runs_there s id at None e is stands h = absurd h
-runs_there s id at (Some timers) e is stands h = record {
+runs_there s id at None e is represented h = absurd h
+runs_there s id at (Some timers) e is represented h = record {
   id = id;
   is_of = h.is_of;
-  stands = stands;
+  represented = represented;
   runs = record {
     its = timers;
     there = ap (of_places s) h.is_of ∙ is;
@@ -161,9 +161,9 @@ placed_there : (s : TimerPlaces) (at : ℕ) (e : RunningTimer) → (x : RunsAt s
 placed_there s at e x = sym (ap (of_places s) x.is_of) ∙ x.runs.there
 
 runs_back : (s : TimerPlaces) (id : LinkId) (at : ℕ) (e : RunningTimer) → id.tei ≤ 127 → entry_place_of id ≡ Some at → RunsAt s at e → RunsForPlaced id (placed s id) e
-runs_back s id at e tei stands x =
+runs_back s id at e tei represented x =
     let there = placed_there s at e x in
-    let same : x.id ≡ id = same_link_at x.id.sapi id.sapi x.id.tei id.tei at x.stands stands (within_at s x.id.sapi x.id.tei x.runs.its there) tei in
+    let same : x.id ≡ id = same_link_at x.id.sapi id.sapi x.id.tei id.tei at x.represented represented (within_at s x.id.sapi x.id.tei x.runs.its there) tei in
     let runs : RunsFor x.id x.runs.its e = record { is_of = x.is_of; own = subst (λ (of : Option LinkId). IsTimerOf of e.timer) x.is_of x.runs.own; until = x.runs.until } in
     subst (λ (k : LinkId). RunsForPlaced k (placed s k) e) same (subst (λ (o : Option Timers). RunsForPlaced x.id o e) (sym there) runs)
 
@@ -171,7 +171,7 @@ runs_over_places : (a b : TimerPlaces) (at : ℕ) (e : RunningTimer) → (x : Ru
 runs_over_places a b at e x same = record {
   id = x.id;
   is_of = x.is_of;
-  stands = x.stands;
+  represented = x.represented;
   runs = record { its = x.runs.its; there = ap (of_places b) x.is_of ∙ (same ∙ placed_there a at e x); own = x.runs.own; until = x.runs.until };
 }
 
@@ -183,30 +183,30 @@ is_or_not (Some n) at = elim (cases_eq n at) [
 ]
 
 elsewhere : (s : TimerPlaces) (id : LinkId) (at : ℕ) (e : RunningTimer) → (x : RunsAt s at e) → entry_place_of id ≢ Some at → x.id ≢ id
-elsewhere s id at e x other = λ same. other (sym (ap (λ (k : LinkId). entry_place k.sapi k.tei) same) ∙ x.stands)
+elsewhere s id at e x other = λ same. other (sym (ap (λ (k : LinkId). entry_place k.sapi k.tei) same) ∙ x.represented)
 
 pub entered_anew : (old new : TimerPlaces) (before after : List (Option RunningTimer)) (id : LinkId) (found : Option Timers) → found ≡ placed new id → id.tei ≤ 127
     → ((at : ℕ) → entry_place id.sapi id.tei ≡ Some at → IsFirst (RunsForPlaced id found) (entry after at))
     → ((at : ℕ) → entry_place id.sapi id.tei ≢ Some at → entry after at ≡ entry before at)
     → ((k : LinkId) → k ≢ id → placed new k ≡ placed old k) → AreEntered old before → AreEntered new after
 entered_anew old new before after id found is tei own others places h = λ at. elim (is_or_not (entry_place id.sapi id.tei) at) [
-  | inl stands ↦ same_first (RunsForPlaced id found) (RunsAt new at) (entry after at)
-      (λ e x. runs_there new id at found e (sym is) stands x)
-      (λ e x. subst (λ (o : Option Timers). RunsForPlaced id o e) (sym is) (runs_back new id at e tei stands x)) (own at stands)
+  | inl represented ↦ same_first (RunsForPlaced id found) (RunsAt new at) (entry after at)
+      (λ e x. runs_there new id at found e (sym is) represented x)
+      (λ e x. subst (λ (o : Option Timers). RunsForPlaced id o e) (sym is) (runs_back new id at e tei represented x)) (own at represented)
   | inr other ↦ same_first (RunsAt old at) (RunsAt new at) (entry after at)
       (λ e x. runs_over_places old new at e x (places x.id (elsewhere old id at e x other)))
       (λ e x. runs_over_places new old at e x (sym (places x.id (elsewhere new id at e x other))))
       (subst (IsFirst (RunsAt old at)) (sym (others at other)) (h at))
 ]
 
-resting : (found : Option Timers) (its : Timers) (timer : Timer) (deadline : ℕ) → IfSome found AreAtRest → found ≡ Some its → deadline_of timer its ≡ Some deadline → ⊥
+resting : (found : Option Timers) (its : Timers) (timer : Timer) (deadline : ℕ) → IfSome found AreStopped → found ≡ Some its → deadline_of timer its ≡ Some deadline → ⊥
 resting None its timer deadline h is runs = absurd (cc)
 resting (Some t) its timer deadline h is runs =
     let same : t ≡ its = cc in
-    let k : None ≡ Some deadline = sym (subst AreAtRest same h timer) ∙ runs in absurd (cc)
+    let k : None ≡ Some deadline = sym (subst AreStopped same h timer) ∙ runs in absurd (cc)
 
 -- no timer runs, and none is entered
-pub none_entered_yet : (s : TimerPlaces) (entries : List (Option RunningTimer)) → ((id : LinkId) → IfSome (placed s id) AreAtRest) → ((at : ℕ) → entry entries at ≡ None) → AreEntered s entries
+pub none_entered_yet : (s : TimerPlaces) (entries : List (Option RunningTimer)) → ((id : LinkId) → IfSome (placed s id) AreStopped) → ((at : ℕ) → entry entries at ≡ None) → AreEntered s entries
 none_entered_yet s entries rest none = λ at. subst (IsFirst (RunsAt s at)) (sym (none at))
     (λ e x. resting (placed s x.id) x.runs.its e.timer e.deadline (rest x.id) (placed_there s at e x) x.runs.until)
 

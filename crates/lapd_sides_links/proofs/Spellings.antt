@@ -17,15 +17,15 @@ written_behind frames pushed place made written octets primitives size push is =
     ∙ (map-append (λ (f : ArrayVec ℕ). f.items) frames (written ∷ [])
     ∙ ap (λ (o : List ℕ). map (λ (f : ArrayVec ℕ). f.items) frames ++ o ∷ []) is)))
 
-pub filled_behind : (primitives pushed : List Primitive) (place : ℕ) (made filled told : Primitive) (frames : List (List ℕ))
-    → length primitives ≡ place → pushed ≡ primitives ++ made ∷ [] → filled ≡ told
-    → these frames (set pushed place filled) ≡ these frames (primitives ++ told ∷ [])
-filled_behind primitives pushed place made filled told frames size push is = ap (these frames)
+pub filled_behind : (primitives pushed : List Primitive) (place : ℕ) (made filled delivered : Primitive) (frames : List (List ℕ))
+    → length primitives ≡ place → pushed ≡ primitives ++ made ∷ [] → filled ≡ delivered
+    → these frames (set pushed place filled) ≡ these frames (primitives ++ delivered ∷ [])
+filled_behind primitives pushed place made filled delivered frames size push is = ap (these frames)
     (ap (λ (l : List Primitive). set l place filled) push
     ∙ (set_at primitives made [] filled place size ∙ ap (λ (p : Primitive). primitives ++ p ∷ []) is))
 
 -- the written frame is the last item
-pub pushed_behind : (primitives pushed : List Primitive) (place : ℕ) (made found told : Primitive)
-    → length primitives ≡ place → pushed ≡ primitives ++ made ∷ [] → found ≡ get_or pushed place found → made ≡ told → found ≡ told
-pushed_behind primitives pushed place made found told size push read is =
+pub pushed_behind : (primitives pushed : List Primitive) (place : ℕ) (made found delivered : Primitive)
+    → length primitives ≡ place → pushed ≡ primitives ++ made ∷ [] → found ≡ get_or pushed place found → made ≡ delivered → found ≡ delivered
+pushed_behind primitives pushed place made found delivered size push read is =
     read ∙ (ap (λ (l : List Primitive). get_or l place found) push ∙ (get_or_at primitives made [] found place size ∙ is))

@@ -291,5 +291,5 @@ pub other_entry : (nodes settled : List (Option RunningTimer)) (place other : �
 other_entry nodes settled place other expiry differ same = get_or-drop 256 settled other None ∙ (same (256 + other) (omega arith)
     ∙ (get_or-set_other nodes (256 + place) (256 + other) expiry None (λ q. differ (omega (arith, q))) ∙ sym (get_or-drop 256 nodes other None)))
 
-pub places_kept : (nodes won : List (Option RunningTimer)) (other : ℕ) → ((n : ℕ) → 256 ≤ n → entry won n ≡ entry nodes n) → entry (drop 256 won) other ≡ entry (drop 256 nodes) other
-places_kept nodes won other same = get_or-drop 256 won other None ∙ (same (256 + other) (omega arith) ∙ sym (get_or-drop 256 nodes other None))
+pub places_preserved : (nodes won : List (Option RunningTimer)) (other : ℕ) → ((n : ℕ) → 256 ≤ n → entry won n ≡ entry nodes n) → entry (drop 256 won) other ≡ entry (drop 256 nodes) other
+places_preserved nodes won other same = get_or-drop 256 won other None ∙ (same (256 + other) (omega arith) ∙ sym (get_or-drop 256 nodes other None))

@@ -21,7 +21,7 @@ use Rattle.lapd_sides_links.proofs.Acting.{refuses_found}
 -- each link refuses it
 link_refuses : (link : Link) (n : ℕ) → 260 < n → Refuses link (UnitData n) TooLong
 unfolding step
-link_refuses link n h = λ e stands. rw (lt-ltb 260 n h) refl
+link_refuses link n h = λ e represented. rw (lt-ltb 260 n h) refl
 
 refused_there : (at : Option Link) (n : ℕ) → IsSome at → 260 < n → IsSomeAnd at (λ k. Refuses k (UnitData n) TooLong)
 refused_there None n there h = absurd (cc)

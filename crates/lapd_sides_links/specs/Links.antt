@@ -3,7 +3,7 @@
 use Rattle.std.specs.Prelude.{ℕ, ◌==◌, ◌&&◌, nat_lt, if◌then◌else◌, Bool, true, false, List, [], ◌∷◌, ◌++◌, Option, Some, None, Result, Ok, Err, ⊤}
 use Rattle.lapd_timers.specs.declared.timer.Timer.{Timer}
 use Rattle.lapd_timers.specs.declared.timer.Timer.TheVariants.{T200, T201, T202, T203}
-use Rattle.lapd_timers.specs.Due.{Timers, at_rest}
+use Rattle.lapd_timers.specs.Due.{Timers, all_stopped}
 use Rattle.lapd_timers.specs.Durations.{Lengths}
 use Rattle.lapd_frame.specs.declared.Sapi.{Sapi}
 use Rattle.lapd_frame.specs.declared.Sapi.TheVariants.{Call, Packet, Management}
@@ -124,7 +124,7 @@ in_links id does links = where_there id links (links id) does
 
 -- a new link, in state 4, with no timer running
 abbrev pub new_linked : Parameters → Lengths → Linked
-new_linked parameters lengths = record { end = new_end parameters; timers = at_rest lengths }
+new_linked parameters lengths = record { end = new_end parameters; timers = all_stopped lengths }
 
 -- the links of a TEI: of SAPI 0, and of SAPI 16 if it is served
 abbrev pub is_link_of : Config → ℕ → LinkId → Bool
@@ -151,15 +151,15 @@ abbrev pub primitives_of : LinkId → Option What → List Primitive
 primitives_of id None = []
 primitives_of id (Some w) = Of id w ∷ []
 
-abbrev pub told_at_removal : LinkId → Option Linked → List Primitive
-told_at_removal id None = []
-told_at_removal id (Some l) = primitives_of id
+abbrev pub primitives_at_removal : LinkId → Option Linked → List Primitive
+primitives_at_removal id None = []
+primitives_at_removal id (Some l) = primitives_of id
     (release_at_removal l.end.state l.end.release_pending)
 
 -- the releases of both links of a TEI, by ascending SAPI
-unfoldable pub told_of_tei : ℕ → Links → List Primitive
-told_of_tei tei links = told_at_removal (of_sapi Call tei) (links (of_sapi Call tei))
-    ++ told_at_removal (of_sapi Packet tei) (links (of_sapi Packet tei))
+unfoldable pub primitive_of_tei : ℕ → Links → List Primitive
+primitive_of_tei tei links = primitives_at_removal (of_sapi Call tei) (links (of_sapi Call tei))
+    ++ primitives_at_removal (of_sapi Packet tei) (links (of_sapi Packet tei))
 
 -- no links
 abbrev pub no_links : Links

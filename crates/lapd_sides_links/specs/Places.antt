@@ -13,8 +13,8 @@ pub record HasPlaces (call packet : List Timers) : Type 0 where
   pub packet_places : length packet ≡ 127
 
 -- none of these runs
-abbrev pub AreAtRest : Timers → Type 0
-AreAtRest timers = (timer : Timer) → deadline_of timer timers ≡ None
+abbrev pub AreStopped : Timers → Type 0
+AreStopped timers = (timer : Timer) → deadline_of timer timers ≡ None
 
 -- ---- The running timers.
 

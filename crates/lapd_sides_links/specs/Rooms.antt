@@ -2,15 +2,15 @@
 use Rattle.std.specs.Prelude.{◌≤◌, ◌+◌, length}
 use Rattle.lapd_link_definition.specs.Input.{Input}
 use Rattle.lapd_link_machine.specs.Bounds.{most_outputs}
-use Rattle.lapd_sides_links.specs.declared.acts.TheConstants.{MOST_TOLD, MOST_FRAMES, MOST_PRIMITIVES}
+use Rattle.lapd_sides_links.specs.declared.acts.TheConstants.{MOST_PRIMITIVES_OF_STEP, MOST_FRAMES, MOST_PRIMITIVES}
 use Rattle.lapd_sides_links.specs.Effects.{Effects}
 
 -- there is room for everything that a step may produce for this input
 pub record HasRoomFor (input : Input) (acts : Effects) : Type 0 where
   pub frames : length acts.frames + most_outputs input ≤ MOST_FRAMES
-  pub primitives : length acts.primitives + MOST_TOLD ≤ MOST_PRIMITIVES
+  pub primitives : length acts.primitives + MOST_PRIMITIVES_OF_STEP ≤ MOST_PRIMITIVES
 
 -- a step for this input produced no more than that
 pub record AddsAtMost (input : Input) (old new : Effects) : Type 0 where
   pub frames : length new.frames ≤ length old.frames + most_outputs input
-  pub primitives : length new.primitives ≤ length old.primitives + MOST_TOLD
+  pub primitives : length new.primitives ≤ length old.primitives + MOST_PRIMITIVES_OF_STEP

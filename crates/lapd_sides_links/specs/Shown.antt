@@ -3,7 +3,7 @@ use Rattle.std.specs.Prelude.{◌≡◌, ℕ, List, drop, Option, Some, None, op
 use Rattle.lapd_timers.specs.Due.{Timers}
 use Rattle.lapd_frame.specs.declared.Side.{Side}
 use Rattle.lapd_frame.specs.Frame.{spelling}
-use Rattle.lapd_link.specs.Link.{LinkStandsFor, Setup}
+use Rattle.lapd_link.specs.Link.{LinkRepresents, Setup}
 use Rattle.lapd_link.specs.SentFrame.{made_frame}
 use Rattle.lapd_link.specs.declared.link.Link.{Link}
 use Rattle.lapd_link_definition.specs.declared.out.Out.{Out}
@@ -15,7 +15,7 @@ use Rattle.lapd_sides_links.specs.declared.timer_places.TimerPlaces.{TimerPlaces
 use Rattle.lapd_sides_links.specs.declared.side_fault.SideKind.{SideKind}
 use Rattle.lapd_sides_links.specs.Effects.{Effects, and_then}
 use Rattle.lapd_sides_links.specs.Links.{Links, Linked, Reaction}
-use Rattle.lapd_sides_links.specs.Places.{AreAtRest}
+use Rattle.lapd_sides_links.specs.Places.{AreStopped}
 use Rattle.lapd_sides_links.specs.TimersAtPlaces.{placed}
 
 -- the timers in the slot of a link, whether or not the link exists
@@ -30,8 +30,8 @@ made_by setup e octets output = option_map (spelling setup.side)
 
 -- a link with its timers; or no link, and no timer running in its slot
 abbrev pub IsLinked : Option Link → Option Timers → Option Linked → Type 0
-IsLinked None timers None = IfSome timers AreAtRest
-IsLinked (Some link) (Some timers) (Some l) = LinkStandsFor link l.end × (timers ≡ l.timers)
+IsLinked None timers None = IfSome timers AreStopped
+IsLinked (Some link) (Some timers) (Some l) = LinkRepresents link l.end × (timers ≡ l.timers)
 IsLinked link timers l = ⊥
 
 -- The existing links represent those of the definition, and so do their timers.
@@ -51,16 +51,16 @@ pub record HaveActed (side : Side) (s : LinkSet) (before after : Effects)
 -- ---- The effect of a call, whatever links it finds.
 
 -- the call takes this step of the links
-abbrev pub Does : LinkSet → LinkSet → Effects → Effects
+abbrev pub LinksDo : LinkSet → LinkSet → Effects → Effects
     → (Side → Links → Result (Reaction Links) SideKind) → Type 0
-Does old new before after step =
+LinksDo old new before after step =
     (side : Side) (links : Links) → ShowLinks side old links
     → HaveActed side new before after (step side links)
 
 -- the step of the links is refused, for this reason
-abbrev pub RefusesAs : LinkSet → (Side → Links → Result (Reaction Links) SideKind) → SideKind
+abbrev pub LinksRefuseAs : LinkSet → (Side → Links → Result (Reaction Links) SideKind) → SideKind
     → Type 0
-RefusesAs old step kind = (side : Side) (links : Links) → ShowLinks side old links
+LinksRefuseAs old step kind = (side : Side) (links : Links) → ShowLinks side old links
     → step side links ≡ Err kind
 
 -- the links change in this way
@@ -69,5 +69,5 @@ Becomes old new change = (side : Side) (links : Links) → ShowLinks side old li
     → ShowLinks side new (change links)
 
 -- the links are unchanged
-abbrev pub ShowsAsBefore : LinkSet → LinkSet → Type 0
-ShowsAsBefore old new = Becomes old new (λ links. links)
+abbrev pub ShowsLinksAsBefore : LinkSet → LinkSet → Type 0
+ShowsLinksAsBefore old new = Becomes old new (λ links. links)

@@ -27,29 +27,29 @@ digits_text [] = []
 digits_text (octet ∷ octets) = 32 ∷ encode_lower (octet ∷ octets)
 
 -- the word that reports an output to layer 3 or management; empty if it is not reported
-abbrev pub told_word : Out → List ℕ
-told_word out.Up = codes "data"
-told_word out.UnitUp = codes "unit"
-told_word out.Established = codes "established"
-told_word out.Confirmed = codes "confirmed"
-told_word out.Released = codes "released"
-told_word out.ReleaseConfirm = codes "release-confirmed"
-told_word (out.Acknowledged n) = codes "acknowledged"
-told_word (out.Dropped n) = codes "dropped"
-told_word (out.Report letter) = codes "report"
-told_word other = []
+abbrev pub word_of_out : Out → List ℕ
+word_of_out out.Up = codes "data"
+word_of_out out.UnitUp = codes "unit"
+word_of_out out.Established = codes "established"
+word_of_out out.Confirmed = codes "confirmed"
+word_of_out out.Released = codes "released"
+word_of_out out.ReleaseConfirm = codes "release-confirmed"
+word_of_out (out.Acknowledged n) = codes "acknowledged"
+word_of_out (out.Dropped n) = codes "dropped"
+word_of_out (out.Report letter) = codes "report"
+word_of_out other = []
 
 -- the first word of a link's primitive: that of its output
 abbrev pub what_word : What → List ℕ
-what_word (what.Up octets) = told_word out.Up
-what_word (what.UnitUp octets) = told_word out.UnitUp
-what_word what.Established = told_word out.Established
-what_word what.Confirmed = told_word out.Confirmed
-what_word what.Released = told_word out.Released
-what_word what.ReleaseConfirm = told_word out.ReleaseConfirm
-what_word (what.Acknowledged n) = told_word (out.Acknowledged n)
-what_word (what.Dropped n) = told_word (out.Dropped n)
-what_word (what.Report letter) = told_word (out.Report letter)
+what_word (what.Up octets) = word_of_out out.Up
+what_word (what.UnitUp octets) = word_of_out out.UnitUp
+what_word what.Established = word_of_out out.Established
+what_word what.Confirmed = word_of_out out.Confirmed
+what_word what.Released = word_of_out out.Released
+what_word what.ReleaseConfirm = word_of_out out.ReleaseConfirm
+what_word (what.Acknowledged n) = word_of_out (out.Acknowledged n)
+what_word (what.Dropped n) = word_of_out (out.Dropped n)
+what_word (what.Report letter) = word_of_out (out.Report letter)
 
 -- the rest of a link's primitive
 abbrev pub what_rest : What → List ℕ

@@ -36,7 +36,7 @@ entry_place Management tei = None
 pub record RunsAt (s : TimerPlaces) (at : ℕ) (e : RunningTimer) : Type 0 where
   pub id : LinkId
   pub is_of : e.of ≡ Some id
-  pub stands : entry_place id.sapi id.tei ≡ Some at
+  pub represented : entry_place id.sapi id.tei ≡ Some at
   pub runs : Runs (of_places s) e
 
 -- each tournament slot has the first of T200 and T203 of its link

@@ -17,7 +17,7 @@ use std::alloc::{AllocError, Global};
 use std::marker::Model;
 
 /// The maximum number of primitives of one step of a link.
-pub const MOST_TOLD: usize = 6;
+pub const MOST_PRIMITIVES_OF_STEP: usize = 6;
 
 /// The room for frames: enough for one step of a link, and for the two links that establish when a
 /// TEI is assigned, with at most seven outputs each.
@@ -168,7 +168,7 @@ impl Acts {
     // The octets are copied once, into their place: otherwise the whole buffer would be copied
     // twice.
     #[inline(always)]
-    pub(crate) fn tell_up(&mut self, of: LinkId, octets: &[u8])
+    pub(crate) fn deliver_up(&mut self, of: LinkId, octets: &[u8])
         requires fits { length octets.now ≤ N201 }
         requires room { length self.old.primitives < MOST_PRIMITIVES }
         ensures { self.new ≡ record self.old {
@@ -184,7 +184,7 @@ impl Acts {
     /// Appends a primitive.
     // Inlined, so that a primitive without octets is written without copying the room for them.
     #[inline(always)]
-    pub fn tell(&mut self, primitive: Primitive)
+    pub fn deliver(&mut self, primitive: Primitive)
         requires { length self.old.primitives < MOST_PRIMITIVES }
         ensures { self.new ≡ record self.old {
           primitives = self.old.primitives ++ primitive

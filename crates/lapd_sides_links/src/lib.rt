@@ -8,13 +8,13 @@
 mod acts;
 mod config;
 mod deadlines;
+mod delivery;
 mod link_set;
 mod link_timers;
 mod octets;
 mod primitive;
 mod running_timer;
 mod side_fault;
-mod telling;
 mod timer_places;
 mod tournament;
 
@@ -27,6 +27,6 @@ pub use lapd_tei::{TeiMessage, TeiOut};
 pub use lapd_timers::{Durations, Timer, TimerSet};
 pub use link_set::LinkSet;
 pub use octets::Octets;
-pub use primitive::{Primitive, What, told_word};
+pub use primitive::{Primitive, What, word_of_out};
 pub use running_timer::RunningTimer;
 pub use side_fault::{SideFault, SideKind, refused};

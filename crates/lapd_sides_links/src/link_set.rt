@@ -3,9 +3,9 @@
 ghost use Rattle.std.specs.Prelude.{◌≡◌, ◌≢◌, ◌≤◌, ◌<◌, ◌+◌, ◌++◌, length, map, option_map, [], Some, None, IfSome, option_copied, IfOk, IfErr, OnOk, OnErr};
 ghost use Rattle.std.specs.List.{filter_map};
 ghost use Rattle.lapd_frame.specs.declared.Side.{Side};
-ghost use Rattle.lapd_link.specs.Link.{LinkStandsFor};
+ghost use Rattle.lapd_link.specs.Link.{LinkRepresents};
 ghost use Rattle.lapd_link.specs.declared.link.Link.{Link};
-ghost use Rattle.lapd_link_machine.specs.Bounds.{told_count};
+ghost use Rattle.lapd_link_machine.specs.Bounds.{primitive_count};
 ghost use Rattle.lapd_link_definition.specs.End.{End};
 ghost use Rattle.lapd_link_definition.specs.State.{state_number};
 ghost use Rattle.lapd_link_definition.specs.declared.state.State.{State};
@@ -18,12 +18,12 @@ ghost use Rattle.lapd_sides_links.specs.declared.acts.TheConstants.{MOST_FRAMES,
 ghost use Rattle.lapd_sides_links.specs.declared.primitive.Primitive.TheVariants.{Of};
 ghost use Rattle.lapd_sides_links.specs.Effects.{timed, what_of};
 ghost use Rattle.lapd_sides_links.specs.Expiries.{IsFirst, IsPast, IsTimerOf, Runs, of_links};
-ghost use Rattle.lapd_sides_links.specs.Links.{Links, IsOfLink, no_links, of_sapi, with_link, with_tei, without_tei, new_linked, release_at_removal, primitives_of, told_at_removal, told_of_tei, links_of_held, in_links, link_acts, link_expires};
+ghost use Rattle.lapd_sides_links.specs.Links.{Links, IsOfLink, no_links, of_sapi, with_link, with_tei, without_tei, new_linked, release_at_removal, primitives_of, primitives_at_removal, primitive_of_tei, links_of_held, in_links, link_acts, link_expires};
 ghost use Rattle.lapd_sides_links.specs.Rooms.{HasRoomFor, AddsAtMost};
 
+use crate::delivery::{deliver_all, put_frames};
 use crate::link_timers::LinkTimers;
 use crate::side_fault::refused;
-use crate::telling::{put_frames, tell_all};
 use crate::{Acts, Config, Primitive, RunningTimer, SideFault, SideKind, What};
 use lapd_frame::N201;
 use lapd_link::{Event, Link, LinkFault, Outs, Params, Sapi, Side, Tei};
@@ -43,7 +43,7 @@ pub struct LinkSet {
 }
 
 impl LinkSet {
-    ghost use Rattle.lapd_sides_links.specs.Shown.{timers_at, made_by, ShowLinks, Does, RefusesAs, Becomes, ShowsAsBefore};
+    ghost use Rattle.lapd_sides_links.specs.Shown.{timers_at, made_by, ShowLinks, LinksDo, LinksRefuseAs, Becomes, ShowsLinksAsBefore};
 
     /// Creates a set without links, and allocates room for the timers of all links that can exist.
     ///
@@ -77,7 +77,7 @@ impl LinkSet {
         requires tei { id.now.tei < 127 }
         ensures ok { OnOk result (Becomes self.old self.new
             (with_link id.now (Some (new_linked params durations)))) }
-        ensures unchanged { OnErr result (ShowsAsBefore self.old self.new) }
+        ensures unchanged { OnErr result (ShowsLinksAsBefore self.old self.new) }
         ensures new { OnOk result (link_at self.old.table id.now ≡ None) }
     {
         let link = Link::new(alloc, self.table.side(), id.sapi, id.tei, params)?;
@@ -96,7 +96,7 @@ impl LinkSet {
     pub fn add_tei(&mut self, alloc: Global, config: &Config, tei: Tei) -> Result<(), AllocError>
         requires tei { tei < 127 }
         ensures ok { OnOk result (Becomes self.old self.new (with_tei config.now tei)) }
-        ensures unchanged { OnErr result (ShowsAsBefore self.old self.new) }
+        ensures unchanged { OnErr result (ShowsLinksAsBefore self.old self.new) }
     {
         let call = name(Sapi::Call, tei);
         self.add(alloc, &call, config.params0, config.durations)?;
@@ -137,26 +137,27 @@ impl LinkSet {
     pub fn remove_tei(&mut self, tei: Tei, acts: &mut Acts)
         requires room { length acts.old.primitives + 2 ≤ MOST_PRIMITIVES }
         ensures shown { Becomes self.old self.new (without_tei tei) }
-        ensures told { (side : Side) (links : Links) → ShowLinks side self.old links
-            → acts.new.primitives ≡ acts.old.primitives ++ told_of_tei tei links }
+        ensures delivered { (side : Side) (links : Links) → ShowLinks side self.old links
+            → acts.new.primitives ≡ acts.old.primitives ++ primitive_of_tei tei links }
         ensures frames { acts.new.frames ≡ acts.old.frames }
         ensures at_most { length acts.new.primitives ≤ length acts.old.primitives + 2 }
     {
-        self.remove_and_tell(&name(Sapi::Call, tei), acts);
-        self.remove_and_tell(&name(Sapi::Packet, tei), acts);
+        self.remove_and_deliver(&name(Sapi::Call, tei), acts);
+        self.remove_and_deliver(&name(Sapi::Packet, tei), acts);
     }
 
     /// Removes the link with this id, and reports its release.
-    fn remove_and_tell(&mut self, id: &LinkId, acts: &mut Acts)
+    fn remove_and_deliver(&mut self, id: &LinkId, acts: &mut Acts)
         requires room { length acts.old.primitives < MOST_PRIMITIVES }
         ensures shown { Becomes self.old self.new (with_link id.now None) }
-        ensures told { (side : Side) (links : Links) → ShowLinks side self.old links
-            → acts.new.primitives ≡ acts.old.primitives ++ told_at_removal id.now (links id.now) }
+        ensures delivered { (side : Side) (links : Links) → ShowLinks side self.old links
+            → acts.new.primitives ≡ acts.old.primitives ++ primitives_at_removal id.now
+            (links id.now) }
         ensures frames { acts.new.frames ≡ acts.old.frames }
         ensures room { length acts.new.primitives ≤ length acts.old.primitives + 1 }
     {
         if let Some(link) = self.table.link(*id) {
-            tell_removal(id, link, acts);
+            deliver_removal(id, link, acts);
         }
         self.remove(id);
     }
@@ -203,10 +204,10 @@ impl LinkSet {
         requires key { IsKey self.old.table key.now }
         requires fits { length octets.now ≤ N201 }
         requires frame_room { length acts.old.frames + length self.old.outs.items ≤ MOST_FRAMES }
-        requires primitive_room { length acts.old.primitives + told_count self.old.outs.items
+        requires primitive_room { length acts.old.primitives + primitive_count self.old.outs.items
             ≤ MOST_PRIMITIVES }
         ensures frames { (link : Link) (e : End) → link_at self.old.table key.now.id ≡ Some link
-            → LinkStandsFor link e
+            → LinkRepresents link e
             → acts.new.frames ≡ acts.old.frames
             ++ filter_map (made_by (setup_for (side_of self.old.table) key.now.id) e octets.now)
             self.old.outs.items }
@@ -215,7 +216,7 @@ impl LinkSet {
         ensures most_frames { length acts.new.frames
             ≤ length acts.old.frames + length self.old.outs.items }
         ensures most_primitives { length acts.new.primitives
-            ≤ length acts.old.primitives + told_count self.old.outs.items }
+            ≤ length acts.old.primitives + primitive_count self.old.outs.items }
         ensures own { timers_at self.new.link_timers key.now.id
             ≡ option_map (timed now self.old.outs.items)
             (timers_at self.old.link_timers key.now.id) }
@@ -225,7 +226,7 @@ impl LinkSet {
     {
         let outs = self.outs.as_slice();
         put_frames(self.table.link_at(key), octets, outs, acts);
-        tell_all(key.id(), octets, outs, acts);
+        deliver_all(key.id(), octets, outs, acts);
         self.link_timers.apply_outputs(key.id(), outs, now);
     }
 
@@ -246,13 +247,13 @@ impl LinkSet {
         requires for_link { IsFor id.now event }
         requires fits { length octets.now ≤ N201 }
         requires room { HasRoomFor (input_of event) acts.old }
-        ensures ok { OnOk result (Does self.old self.new acts.old acts.new
+        ensures ok { OnOk result (LinksDo self.old self.new acts.old acts.new
             (λ side. in_links id.now (link_acts side id.now now
             (input_of event.entry) octets.now))) }
-        ensures err { IfErr result (RefusesAs self.old
+        ensures err { IfErr result (LinksRefuseAs self.old
             (λ side. in_links id.now (link_acts side id.now now
             (input_of event.entry) octets.now))) }
-        ensures unchanged { OnErr result (ShowsAsBefore self.old self.new) }
+        ensures unchanged { OnErr result (ShowsLinksAsBefore self.old self.new) }
         ensures nothing { OnErr result (acts.new ≡ acts.old) }
         ensures most { AddsAtMost (input_of event.entry) acts.old acts.new }
     {
@@ -275,13 +276,13 @@ impl LinkSet {
         requires for_link { IsFor key.now.id event }
         requires fits { length octets.now ≤ N201 }
         requires room { HasRoomFor (input_of event) acts.old }
-        ensures ok { OnOk result (Does self.old self.new acts.old acts.new
+        ensures ok { OnOk result (LinksDo self.old self.new acts.old acts.new
             (λ side. in_links key.now.id (link_acts side key.now.id now
             (input_of event.entry) octets.now))) }
-        ensures err { IfErr result (RefusesAs self.old
+        ensures err { IfErr result (LinksRefuseAs self.old
             (λ side. in_links key.now.id (link_acts side key.now.id now
             (input_of event.entry) octets.now))) }
-        ensures unchanged { OnErr result (ShowsAsBefore self.old self.new) }
+        ensures unchanged { OnErr result (ShowsLinksAsBefore self.old self.new) }
         ensures nothing { OnErr result (acts.new ≡ acts.old) }
         ensures most { AddsAtMost (input_of event.entry) acts.old acts.new }
     {
@@ -308,13 +309,13 @@ impl LinkSet {
         acts: &mut Acts,
     ) -> Result<(), SideKind>
         requires room { HasRoomFor (UnitData (length octets.now)) acts.old }
-        ensures ok { OnOk result (Does self.old self.new acts.old acts.new
+        ensures ok { OnOk result (LinksDo self.old self.new acts.old acts.new
             (λ side. in_links id.now (link_acts side id.now now
             (UnitData (length octets.now)) octets.now))) }
-        ensures err { IfErr result (RefusesAs self.old
+        ensures err { IfErr result (LinksRefuseAs self.old
             (λ side. in_links id.now (link_acts side id.now now
             (UnitData (length octets.now)) octets.now))) }
-        ensures unchanged { OnErr result (ShowsAsBefore self.old self.new) }
+        ensures unchanged { OnErr result (ShowsLinksAsBefore self.old self.new) }
         ensures nothing { OnErr result (acts.new ≡ acts.old) }
     {
         let Some(key) = self.table.find(id) else {
@@ -341,13 +342,13 @@ impl LinkSet {
         acts: &mut Acts,
     ) -> Result<(), SideFault>
         requires room { HasRoomFor (Give message.items) acts.old }
-        ensures ok { OnOk result (Does self.old self.new acts.old acts.new
+        ensures ok { OnOk result (LinksDo self.old self.new acts.old acts.new
             (λ side. in_links id.now (link_acts side id.now now (Give message.items) []))) }
-        ensures err { IfErr result (λ fault. RefusesAs self.old
+        ensures err { IfErr result (λ fault. LinksRefuseAs self.old
             (λ side. in_links id.now (link_acts side id.now now (Give message.items) []))
             fault.kind) }
-        ensures handed_back { IfErr result (λ fault. fault.message ≡ Some message) }
-        ensures unchanged { OnErr result (ShowsAsBefore self.old self.new) }
+        ensures returned { IfErr result (λ fault. fault.message ≡ Some message) }
+        ensures unchanged { OnErr result (ShowsLinksAsBefore self.old self.new) }
         ensures nothing { OnErr result (acts.new ≡ acts.old) }
     {
         let Some(key) = self.table.find(id) else {
@@ -377,11 +378,11 @@ impl LinkSet {
     ) -> Result<(), SideKind>
         requires of_link { IsOfLink timer }
         requires room { HasRoomFor (input.Expiry timer) acts.old }
-        ensures ok { OnOk result (Does self.old self.new acts.old acts.new
+        ensures ok { OnOk result (LinksDo self.old self.new acts.old acts.new
             (λ side. in_links id.now (link_expires side id.now now timer))) }
-        ensures err { IfErr result (RefusesAs self.old
+        ensures err { IfErr result (LinksRefuseAs self.old
             (λ side. in_links id.now (link_expires side id.now now timer))) }
-        ensures unchanged { OnErr result (ShowsAsBefore self.old self.new) }
+        ensures unchanged { OnErr result (ShowsLinksAsBefore self.old self.new) }
         ensures nothing { OnErr result (acts.new ≡ acts.old) }
     {
         let Some(key) = self.table.find(id) else {
@@ -430,16 +431,16 @@ fn name(sapi: Sapi, tei: Tei) -> LinkId
 }
 
 /// Reports the release of a link that is removed.
-fn tell_removal(id: &LinkId, link: &Link, acts: &mut Acts)
+fn deliver_removal(id: &LinkId, link: &Link, acts: &mut Acts)
     requires room { length acts.old.primitives < MOST_PRIMITIVES }
-    ensures told { (e : End) → LinkStandsFor link.now e
+    ensures delivered { (e : End) → LinkRepresents link.now e
         → acts.new.primitives ≡ acts.old.primitives
         ++ primitives_of id.now (release_at_removal e.state e.release_pending) }
     ensures frames { acts.new.frames ≡ acts.old.frames }
     ensures room { length acts.new.primitives ≤ length acts.old.primitives + 1 }
 {
     if let Some(what) = release_at_removal(link.state(), link.release_pending()) {
-        acts.tell(Primitive::Of(*id, what));
+        acts.deliver(Primitive::Of(*id, what));
     }
 }
 

@@ -1,12 +1,12 @@
 //! The timers of the links of a side.
 
 ghost use Rattle.std.specs.Prelude.{◌≡◌, ◌≢◌, ℕ, ◌<◌, ◌≤◌, Some, option_map, option_copied, IfOk, IfSome};
-ghost use Rattle.lapd_timers.specs.Due.{at_rest, deadline_of};
+ghost use Rattle.lapd_timers.specs.Due.{all_stopped, deadline_of};
 ghost use Rattle.lapd_table.specs.declared.link_id.LinkId.{LinkId};
 ghost use Rattle.lapd_sides_links.specs.declared.tournament.TheConstants.{PLACES};
 ghost use Rattle.lapd_sides_links.specs.Effects.{timed, stopped};
 ghost use Rattle.lapd_sides_links.specs.Expiries.{IsFirst, IsPast, Runs};
-ghost use Rattle.lapd_sides_links.specs.Places.{AreAtRest, expiry_at};
+ghost use Rattle.lapd_sides_links.specs.Places.{AreStopped, expiry_at};
 ghost use Rattle.lapd_sides_links.specs.TimersAtPlaces.{placed, of_places, entry_place, RunsForPlaced};
 ghost use Rattle.lapd_sides_links.specs.Tournament.{entry};
 
@@ -48,7 +48,7 @@ impl LinkTimers {
     ///
     /// `AllocError` if an allocation failed.
     pub fn new(alloc: Global) -> Result<LinkTimers, AllocError>
-        ensures { IfOk result (λ s. (id : LinkId) → IfSome (placed s id) AreAtRest) }
+        ensures { IfOk result (λ s. (id : LinkId) → IfSome (placed s id) AreStopped) }
     {
         Ok(LinkTimers {
             places: TimerPlaces::new(alloc)?,
@@ -59,7 +59,7 @@ impl LinkTimers {
     /// Stops all timers of one link and sets their durations.
     pub fn reset(&mut self, id: &LinkId, durations: Durations)
         ensures own { id.now.sapi ≢ Sapi.Management → id.now.tei < 127
-            → placed self.new id.now ≡ Some (at_rest durations) }
+            → placed self.new id.now ≡ Some (all_stopped durations) }
         ensures others { (other : LinkId) → other ≢ id.now
             → placed self.new other ≡ placed self.old other }
     {
@@ -70,7 +70,7 @@ impl LinkTimers {
     /// Stops all timers of one link.
     pub fn stop_all(&mut self, id: &LinkId)
         ensures own { placed self.new id.now
-            ≡ option_map (λ timers. at_rest timers.durations) (placed self.old id.now) }
+            ≡ option_map (λ timers. all_stopped timers.durations) (placed self.old id.now) }
         ensures others { (other : LinkId) → other ≢ id.now
             → placed self.new other ≡ placed self.old other }
     {

@@ -1,7 +1,7 @@
 //! The primitives that a side reports to the layers above it.
 
 ghost use Rattle.std.specs.Prelude.{◌≡◌, Some};
-ghost use Rattle.lapd_sides_links.specs.Texts.{primitive_text, told_word, what_text, what_word};
+ghost use Rattle.lapd_sides_links.specs.Texts.{primitive_text, word_of_out, what_text, what_word};
 
 use crate::Octets;
 use lapd_link::{Letter, Out};
@@ -50,15 +50,15 @@ impl What {
         ensures { result.now ≡ what_word self.now }
     {
         match self {
-            What::Up(_) => told_word(&Out::Up),
-            What::UnitUp(_) => told_word(&Out::UnitUp),
-            What::Established => told_word(&Out::Established),
-            What::Confirmed => told_word(&Out::Confirmed),
-            What::Released => told_word(&Out::Released),
-            What::ReleaseConfirm => told_word(&Out::ReleaseConfirm),
-            What::Acknowledged(n) => told_word(&Out::Acknowledged(*n)),
-            What::Dropped(n) => told_word(&Out::Dropped(*n)),
-            What::Report(letter) => told_word(&Out::Report(*letter)),
+            What::Up(_) => word_of_out(&Out::Up),
+            What::UnitUp(_) => word_of_out(&Out::UnitUp),
+            What::Established => word_of_out(&Out::Established),
+            What::Confirmed => word_of_out(&Out::Confirmed),
+            What::Released => word_of_out(&Out::Released),
+            What::ReleaseConfirm => word_of_out(&Out::ReleaseConfirm),
+            What::Acknowledged(n) => word_of_out(&Out::Acknowledged(*n)),
+            What::Dropped(n) => word_of_out(&Out::Dropped(*n)),
+            What::Report(letter) => word_of_out(&Out::Report(*letter)),
         }
     }
 }
@@ -66,8 +66,8 @@ impl What {
 /// The word that reports this output to layer 3 or management, as in `established`; empty if it is
 /// not reported.
 #[inline(always)]
-pub fn told_word(output: &Out) -> &'static str
-    ensures { result.now ≡ told_word output.now }
+pub fn word_of_out(output: &Out) -> &'static str
+    ensures { result.now ≡ word_of_out output.now }
 {
     match output {
         Out::Up => "data",

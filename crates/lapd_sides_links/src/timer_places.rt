@@ -1,12 +1,12 @@
 //! Storage for the timers of the links of a side.
 
 ghost use Rattle.std.specs.Prelude.{◌≡◌, ◌≢◌, ◌<◌, Some, option_map, option_copied, IfOk, IfSome};
-ghost use Rattle.lapd_timers.specs.Due.{at_rest};
+ghost use Rattle.lapd_timers.specs.Due.{all_stopped};
 ghost use Rattle.lapd_table.specs.declared.link_id.LinkId.{LinkId};
 ghost use Rattle.lapd_sides_links.specs.Effects.{timed, stopped};
-ghost use Rattle.lapd_sides_links.specs.Places.{HasPlaces, AreAtRest};
+ghost use Rattle.lapd_sides_links.specs.Places.{HasPlaces, AreStopped};
 
-use crate::telling::apply_outputs;
+use crate::delivery::apply_outputs;
 use lapd_link::{Out, Sapi};
 use lapd_table::LinkId;
 use lapd_timers::{Durations, Timer, TimerSet};
@@ -32,7 +32,7 @@ impl TimerPlaces {
     ///
     /// `AllocError` if an allocation failed.
     pub fn new(alloc: Global) -> Result<TimerPlaces, AllocError>
-        ensures { IfOk result (λ s. (id : LinkId) → IfSome (placed s id) AreAtRest) }
+        ensures { IfOk result (λ s. (id : LinkId) → IfSome (placed s id) AreStopped) }
     {
         let timers = [TimerSet::new(Durations::standard()); 127];
         Ok(TimerPlaces {
@@ -44,8 +44,8 @@ impl TimerPlaces {
     /// Stops all timers of one link and sets their durations.
     pub fn reset(&mut self, id: &LinkId, durations: Durations)
         ensures own { id.now.sapi ≢ Sapi.Management → id.now.tei < 127
-            → placed self.new id.now ≡ Some (at_rest durations) }
-        ensures rests { placed self.new id.now ≡ option_map (λ _. at_rest durations)
+            → placed self.new id.now ≡ Some (all_stopped durations) }
+        ensures all_are_stopped { placed self.new id.now ≡ option_map (λ _. all_stopped durations)
             (placed self.old id.now) }
         ensures others { (other : LinkId) → other ≢ id.now
             → placed self.new other ≡ placed self.old other }
@@ -60,7 +60,7 @@ impl TimerPlaces {
 
     /// Stops all timers of one link.
     pub fn stop_all(&mut self, id: &LinkId)
-        ensures own { placed self.new id.now ≡ option_map (λ timers. at_rest timers.durations)
+        ensures own { placed self.new id.now ≡ option_map (λ timers. all_stopped timers.durations)
             (placed self.old id.now) }
         ensures others { (other : LinkId) → other ≢ id.now
             → placed self.new other ≡ placed self.old other }
@@ -121,14 +121,14 @@ impl TimerPlaces {
 
 /// Stops all timers and sets their durations.
 fn reset(timers: &mut TimerSet, durations: Durations)
-    ensures { timers.new ≡ at_rest durations }
+    ensures { timers.new ≡ all_stopped durations }
 {
     *timers = TimerSet::new(durations);
 }
 
 /// Stops all timers.
 fn stop_all(timers: &mut TimerSet)
-    ensures { timers.new ≡ at_rest timers.old.durations }
+    ensures { timers.new ≡ all_stopped timers.old.durations }
 {
     *timers = TimerSet::new(timers.durations());
 }

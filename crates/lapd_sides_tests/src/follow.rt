@@ -215,7 +215,7 @@ impl Follow {
 
     /// Draws a move, and makes it with the pair and then with the side that it concerns. Returns
     /// whether both have the same result.
-    fn turn(&mut self) -> bool {
+    fn make_move(&mut self) -> bool {
         match self.draw() {
             Some(deed) => {
                 self.put_call(&deed);
@@ -252,7 +252,10 @@ impl Follow {
         self.begin("user 64 fast")?;
         for now in 0..MOVES {
             self.now = now;
-            if !self.turn() || !self.is_alike(0, Side::Network) || !self.is_alike(1, Side::User) {
+            if !self.make_move()
+                || !self.is_alike(0, Side::Network)
+                || !self.is_alike(1, Side::User)
+            {
                 return self.failed();
             }
         }

@@ -69,7 +69,7 @@ impl Watch {
     /// Passes each prefix of these octets, the shortest first.
     fn hear_fronts(&mut self, octets: &[u8]) {
         for len in 0..=octets.len() {
-            self.hear(octets.get(..len).unwrap_or(&[]));
+            self.receive(octets.get(..len).unwrap_or(&[]));
         }
     }
 
@@ -85,13 +85,13 @@ impl Watch {
     /// Passes no octets, each single octet, each pair of octets, and each pair after the address of
     /// the link (SAPI 0 and TEI 64, as a command and as a response).
     fn hear_two_octets(&mut self) {
-        self.hear(&[]);
+        self.receive(&[]);
         for first in 0..=u8::MAX {
-            self.hear(&[first]);
+            self.receive(&[first]);
             for second in 0..=u8::MAX {
-                self.hear(&[first, second]);
-                self.hear(&[0x00, 0x81, first, second]);
-                self.hear(&[0x02, 0x81, first, second]);
+                self.receive(&[first, second]);
+                self.receive(&[0x00, 0x81, first, second]);
+                self.receive(&[0x02, 0x81, first, second]);
             }
         }
     }

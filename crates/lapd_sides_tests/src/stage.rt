@@ -38,7 +38,7 @@ pub(crate) struct Stage {
 #[derive(Drop)]
 struct Notes {
     row: Text,
-    came: Text,
+    result: Text,
     met: Text,
 }
 
@@ -110,17 +110,17 @@ impl Stage {
     /// again.
     fn does(&mut self, words: &str, notes: &mut Notes) {
         let before = self.digest();
-        notes.came.clear();
-        self.step(words, &mut notes.came);
+        notes.result.clear();
+        self.step(words, &mut notes.result);
         let refused = matches!(
-            notes.came.as_str(),
+            notes.result.as_str(),
             "no memory" | "refused B3 Memory;" | "refused U3 Memory;"
         );
         if refused && self.digest() == before {
             notes.met.clear();
             notes.met.put(words);
-            notes.came.clear();
-            self.step(words, &mut notes.came);
+            notes.result.clear();
+            self.step(words, &mut notes.result);
         }
     }
 
@@ -128,7 +128,7 @@ impl Stage {
     fn is_right(&mut self, line: &str, notes: &mut Notes) -> bool {
         let (words, wanted) = split(line, ": ");
         self.does(words, notes);
-        notes.came.is(wanted)
+        notes.result.is(wanted)
     }
 
     /// Runs rows. Fails at the first line with another result.
@@ -149,7 +149,7 @@ impl Notes {
     fn new() -> Notes {
         Notes {
             row: Text::new(),
-            came: Text::new(),
+            result: Text::new(),
             met: Text::new(),
         }
     }
@@ -157,8 +157,8 @@ impl Notes {
     /// Fails and reports this line.
     fn fail(&self, line: &str) -> Result<(), Fail> {
         let row = self.row.as_str();
-        let came = self.came.as_str();
-        Err(Fail::new(format_args!("{row}: {line}, and not {came}")))
+        let result = self.result.as_str();
+        Err(Fail::new(format_args!("{row}: {line}, and not {result}")))
     }
 }
 
@@ -169,7 +169,7 @@ fn lead(alloc: Global, subject: u32, notes: &mut Notes) -> Result<(), Fail> {
 }
 
 /// Runs the rows of a subject, and prints the step whose allocation failed, if any.
-fn lead_and_tell(rt: &HostRuntime, subject: u32) -> Result<(), Fail> {
+fn lead_and_print(rt: &HostRuntime, subject: u32) -> Result<(), Fail> {
     let mut notes = Notes::new();
     lead(rt.alloc(), subject, &mut notes)?;
     if !notes.met.is("") {
@@ -180,7 +180,7 @@ fn lead_and_tell(rt: &HostRuntime, subject: u32) -> Result<(), Fail> {
 }
 
 #[test]
-fn all_goes_as_said(rt: HostRuntime) -> Result<(), Fail> {
+fn rows_hold(rt: HostRuntime) -> Result<(), Fail> {
     let mut notes = Notes::new();
     for subject in 0..SUBJECTS {
         lead(rt.alloc(), subject, &mut notes)?;
@@ -194,20 +194,20 @@ fn all_goes_as_said(rt: HostRuntime) -> Result<(), Fail> {
 
 #[test]
 fn a_network_side_without_memory(rt: HostRuntime) -> Result<(), Fail> {
-    lead_and_tell(&rt, NETWORK_SIDES)
+    lead_and_print(&rt, NETWORK_SIDES)
 }
 
 #[test]
 fn a_user_side_without_memory(rt: HostRuntime) -> Result<(), Fail> {
-    lead_and_tell(&rt, USER_SIDES)
+    lead_and_print(&rt, USER_SIDES)
 }
 
 #[test]
 fn a_bus_without_memory(rt: HostRuntime) -> Result<(), Fail> {
-    lead_and_tell(&rt, BUSES)
+    lead_and_print(&rt, BUSES)
 }
 
 #[test]
 fn links_without_memory(rt: HostRuntime) -> Result<(), Fail> {
-    lead_and_tell(&rt, LINKS)
+    lead_and_print(&rt, LINKS)
 }

@@ -67,7 +67,7 @@ fn put_removed(table: &mut LinkTable, id: &LinkId, text: &mut Text) {
 
 /// Passes octets to the table. Writes the link that they are for and its outputs, or why there is
 /// no such link.
-fn put_heard(table: &mut LinkTable, octets: &[u8], text: &mut Text) {
+fn put_received(table: &mut LinkTable, octets: &[u8], text: &mut Text) {
     match table.dispatch(octets) {
         Ok((id, outs)) => {
             text.item("", &id);
@@ -117,7 +117,7 @@ impl Stage {
         let (word, behind) = split(words, " ");
         match word {
             "new" => self.table = LinkTable::new(self.alloc, Side::Network),
-            "hear" => self.hear(behind, text),
+            "hear" => self.receive(behind, text),
             "links" => put_links(&self.table, text),
             "memory" => text.item("", &TableFault::Memory),
             _ => match link_of(behind) {
@@ -138,9 +138,9 @@ impl Stage {
         }
     }
 
-    fn hear(&mut self, digits: &str, text: &mut Text) {
+    fn receive(&mut self, digits: &str, text: &mut Text) {
         match octets_of(self.alloc, digits) {
-            Some(octets) => put_heard(&mut self.table, octets.as_slice(), text),
+            Some(octets) => put_received(&mut self.table, octets.as_slice(), text),
             None => text.put("no memory"),
         }
     }

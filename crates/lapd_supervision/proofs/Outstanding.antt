@@ -3,7 +3,7 @@ use Rattle.std.proofs.Common.{◌≡◌, ℕ, ◌+◌, ◌%◌, ◌<◌, ◌≤�
 use Rattle.std.proofs.lemmas.Bool.Decides.{nat_tests}
 use Rattle.std.proofs.lemmas.Grind.{common_steps}
 use Rattle.lapd_mod128.specs.Counting.{Reading, Whole, Tagged, after, reaches}
-use Rattle.lapd_mod128.proofs.Steps.{reaches_tells, reaches_holds, tags_are_reached, reaches_between, steps_to_between, steps_add_up, no_steps, one_more_step}
+use Rattle.lapd_mod128.proofs.Steps.{reaches_implies, reaches_holds, tags_are_reached, reaches_between, steps_to_between, steps_add_up, no_steps, one_more_step}
 use Rattle.lapd_supervision.specs.StateVariables.{StateVariables, without_ack_pending, after_i_frame, is_valid_nr, with_va, acknowledged_count, acknowledges_all, with_vs, outstanding, may_send, after_sending, with_peer_busy}
 
 -- ---- N(R)
@@ -79,5 +79,5 @@ reaches_with_vs r nr m = reaches_itself r nr
 
 pub reaches_after_sending : (r : Reading) (m : StateVariables) → reaches r m.va m.vs ≡ true → reaches r (after_sending r m).va (after_sending r m).vs ≡ true
 unfolding after_sending after
-reaches_after_sending Whole m counted = reaches_holds m.va (m.vs + 1) (omega (arith, reaches_tells m.va m.vs counted))
+reaches_after_sending Whole m counted = reaches_holds m.va (m.vs + 1) (omega (arith, reaches_implies m.va m.vs counted))
 reaches_after_sending Tagged m counted = tags_are_reached m.va ((m.vs + 1) % 128)

@@ -40,7 +40,7 @@ pub fn status_by_the_busy_condition()
 /// A valid N(R) reduces the outstanding I frames by those that it acknowledges. If N(R) is V(S), or
 /// V(S) is set back to N(R), no I frame is outstanding (Q.921 5.6.3.2, 5.8.3).
 #[tactic(auto, using(crate::proofs::Outstanding::outstanding_with_va, crate::proofs::Outstanding::outstanding_after_all, crate::proofs::Outstanding::outstanding_with_vs))]
-pub fn what_an_nr_acknowledges()
+pub fn nr_acknowledges()
     ensures part { (r : Reading) (nr : ℕ) (m : StateVariables) → is_valid_nr r nr m ≡ true →
         outstanding r (with_va nr m) + acknowledged_count r nr m ≡ outstanding r m }
     ensures all { (r : Reading) (nr : ℕ) (m : StateVariables) → acknowledges_all nr m ≡ true

@@ -2,7 +2,7 @@
 use Rattle.std.proofs.Common.{◌≡◌, ◌≢◌, ℕ, List, [], Bool, true, false, Option, Some, None, Ok, Err, refl, sym, ap, subst, ◌∙◌, inl, inr}
 use Rattle.std.specs.Prelude.{if◌then◌else◌, option_map, IsSomeAnd}
 use Rattle.lapd_mod128.specs.Counting.{Tagged}
-use Rattle.lapd_link.specs.Link.{LinkStandsFor, Refuses}
+use Rattle.lapd_link.specs.Link.{LinkRepresents, Refuses}
 use Rattle.lapd_link.specs.declared.link.Link.{Link}
 use Rattle.lapd_link_definition.specs.declared.event.LinkFault.{LinkFault}
 use Rattle.lapd_link_definition.specs.declared.out.Out.{Out}
@@ -15,12 +15,12 @@ use Rattle.lapd_table.specs.declared.table_fault.TableFault.{TableFault}
 use Rattle.lapd_table.specs.declared.table_fault.TableFault.TheVariants.{NoLink, AlreadyThere, Memory, Discarded}
 use Rattle.lapd_table.specs.LinkId.{id_eq}
 use Rattle.lapd_table.specs.LinkTable.{link_at, IsUnchanged, StepsAt, RefusesAt, arrives, HasDispatched, IsForNoLink}
-use Rattle.lapd_table.specs.Alone.{Octets, Asked, heard, end_by, outs_by, after, Ends, ends_after, sent_at, sent_for, IsEndOf, ShowsEnds, Follows}
+use Rattle.lapd_table.specs.Alone.{Octets, Asked, event_for, end_by, outs_by, after, Ends, ends_after, sent_at, sent_for, IsEndOf, ShowsEnds, Follows}
 use Rattle.lapd_table.proofs.Ids.{same_id_eq, id_eq_self, bool_cases}
 
 -- ---- The end that a link represents.
 
-end_there : (link : Link) (o : Option End) → IsEndOf (Some link) o → (e : End) × (o ≡ Some e) × LinkStandsFor link e
+end_there : (link : Link) (o : Option End) → IsEndOf (Some link) o → (e : End) × (o ≡ Some e) × LinkRepresents link e
 end_there link None h = absurd h
 end_there link (Some e) h = (e, refl, h)
 
@@ -47,10 +47,10 @@ module _ (old new : LinkTable) (id : LinkId) (input : Input) (ends : Ends) (show
   ]
 
   module _ (outs : List Out) (steps : StepsAt old new id input outs) where
-    its_end : (e : End) × (ends id ≡ Some e) × LinkStandsFor steps.before e
+    its_end : (e : End) × (ends id ≡ Some e) × LinkRepresents steps.before e
     its_end = let Shown : Option Link → Type 0 = λ l. IsEndOf l (ends id) in end_there steps.before (ends id) (subst Shown steps.was (shown id))
 
-    its_step : (s : StepState) × (step Tagged input its_end.0 ≡ Ok s) × (s.outs ≡ outs) × LinkStandsFor steps.after s.end
+    its_step : (s : StepState) × (step Tagged input its_end.0 ≡ Ok s) × (s.outs ≡ outs) × LinkRepresents steps.after s.end
     its_step = steps.steps its_end.0 its_end.2
 
     differs : (other : LinkId) → id_eq other id ≡ false → other ≢ id
@@ -118,7 +118,7 @@ refused old new id input fault refuses unchanged = record {
 }
 
 -- the link that octets address, once their meaning is known
-as_named : (old new : LinkTable) (octets : List ℕ) (id : LinkId) (outs : List Out) (what : Option (LinkId × Input)) → heard (arrives old octets) ≡ what
+as_named : (old new : LinkTable) (octets : List ℕ) (id : LinkId) (outs : List Out) (what : Option (LinkId × Input)) → event_for (arrives old octets) ≡ what
     → ((ends : Ends) → ShowsEnds old ends → ShowsEnds new (ends_after what ends)) → ((ends : Ends) → ShowsEnds old ends → sent_for id what ends ≡ outs) → Follows old new (Octets octets) id outs
 as_named old new octets id outs what is now goes = record {
   ends = λ ends shown. let Shown : Option (LinkId × Input) → Type 0 = λ w. ShowsEnds new (ends_after w ends) in subst Shown (sym is) (now ends shown);
@@ -127,17 +127,17 @@ as_named old new octets id outs what is now goes = record {
 
 pub dispatched : (old new : LinkTable) (octets : List ℕ) (id : LinkId) (outs : List Out) → HasDispatched old new octets id outs → Follows old new (Octets octets) id outs
 dispatched old new octets id outs done =
-    as_named old new octets id outs (Some (id, done.input)) (ap heard done.arrived)
+    as_named old new octets id outs (Some (id, done.input)) (ap event_for done.arrived)
     (λ ends shown. stepped_ends old new id done.input ends shown outs done.steps)
     (λ ends shown. stepped_sent old new id done.input ends shown outs done.steps)
 
 pub not_dispatched : (old new : LinkTable) (octets : List ℕ) (id : LinkId) (fault : TableFault) → IsForNoLink old octets fault → IsUnchanged old new → Follows old new (Octets octets) id []
 not_dispatched old new octets id NoLink none unchanged =
-    as_named old new octets id [] (Some (none.0, none.1)) (ap heard none.2)
+    as_named old new octets id [] (Some (none.0, none.1)) (ap event_for none.2)
     (λ ends shown. absent_ends old new none.0 none.1 ends shown unchanged none.3)
     (λ ends shown. absent_sent old new none.0 none.1 ends shown unchanged none.3 id)
 not_dispatched old new octets id (Discarded kind) none unchanged =
-    as_named old new octets id [] None (ap heard none)
+    as_named old new octets id [] None (ap event_for none)
     (λ ends shown other. let Shown : Option Link → Type 0 = λ l. IsEndOf l (ends other) in subst Shown (sym (unchanged.links other)) (shown other))
     (λ ends shown. refl)
 not_dispatched old new octets id AlreadyThere none unchanged = absurd none

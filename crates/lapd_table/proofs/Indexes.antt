@@ -47,8 +47,8 @@ id_of_setup_for side id other h = ap id_of_setup h
 
 -- ---- The map of the keys.
 
-pub keeps_of_updates : (old new : Keys) (id : LinkId) (slot : Option ℕ) → tree.Updates id_cmp old new id slot → Keeps old new id slot
-keeps_of_updates old new id slot updates = record {
+pub preserves_of_updates : (old new : Keys) (id : LinkId) (slot : Option ℕ) → tree.Updates id_cmp old new id slot → Keeps old new id slot
+preserves_of_updates old new id slot updates = record {
   there = updates.1;
   others = λ other differs. elim (id_cases id other) [
     | inl same ↦ absurd (differs (sym same))

@@ -33,10 +33,10 @@ use Rattle.lapd_table.specs.declared.table_fault.TableFault.{TableFault}
 use Rattle.lapd_table.specs.declared.table_fault.TableFault.TheVariants.{NoLink}
 use Rattle.lapd_table.specs.LinkId.{id_cmp, id_of_address, id_of_setup, setup_for}
 use Rattle.lapd_table.specs.Index.{key_of, IsIndex}
-use Rattle.lapd_table.specs.Octets.{fault_for, heard_by}
+use Rattle.lapd_table.specs.Octets.{fault_for, event_by}
 use Rattle.lapd_table.specs.LinkTable.{side_of, link_at, IsKey, Changes, IsUnchanged, StepsAt, RefusesAt, IsFor, arrives, HasDispatched, IsForNoLink}
 use Rattle.lapd_table.proofs.Ids.{id_cmp_total, same_by_eq}
-use Rattle.lapd_table.proofs.Indexes.{Links, Keys, Keeps, found_in, Finds, keeps_of_updates, linked, found_setup, stepped_index, stepped_finds, removed_index, removed_finds, added_index, added_finds, same_index, same_found, taken_out_again}
+use Rattle.lapd_table.proofs.Indexes.{Links, Keys, Keeps, found_in, Finds, preserves_of_updates, linked, found_setup, stepped_index, stepped_finds, removed_index, removed_finds, added_index, added_finds, same_index, same_found, taken_out_again}
 
 -- ---- By cases of options and results.
 
@@ -229,7 +229,7 @@ module _ (old : LinkTable) (link : Link) (side : (setup_of link).side ≡ side_o
   -- the entry of the link is in the map
   module _ (keys : Keys) (named : tree.Updates id_cmp old.keys keys id (Some key)) where
     keeps : Keeps old.keys keys id (Some key)
-    keeps = keeps_of_updates old.keys keys id (Some key) named
+    keeps = preserves_of_updates old.keys keys id (Some key) named
 
     pub with_link_index : IsIndex old.side links keys
     with_link_index = added_index old.side roomy old.keys roomy_index id absent key vacant links keys link put keeps setup
@@ -271,7 +271,7 @@ with_room old new side kept keys =
 
 module _ (old : LinkTable) (id : LinkId) (keys : Keys) (unnamed : tree.Updates id_cmp old.keys keys id None) where
   gone : Keeps old.keys keys id None
-  gone = keeps_of_updates old.keys keys id None unnamed
+  gone = preserves_of_updates old.keys keys id None unnamed
 
   pub without_link_index : (key : ℕ) → key_of old.keys id ≡ Some key → (links : Links) → slab.Updates old.links links key None → IsIndex old.side links keys
   without_link_index key there links out = removed_index old.side old.links old.keys old.index id key there links keys out gone
@@ -310,9 +310,9 @@ setup_of_lent table id (Some link) h = setup_at table id link.now (sym h)
 
 -- ---- Reading octets.
 
-pub arrived : (table : LinkTable) (octets : List ℕ) (from : Side) (result : Result Fields FrameFault) → from ≡ other_side table.side → result ≡ frame_at from octets → arrives table octets ≡ heard_by result
+pub arrived : (table : LinkTable) (octets : List ℕ) (from : Side) (result : Result Fields FrameFault) → from ≡ other_side table.side → result ≡ frame_at from octets → arrives table octets ≡ event_by result
 unfolding side_of
-arrived table octets from result same exact = sym (ap heard_by exact ∙ ap (λ f. heard_by (frame_at f octets)) same)
+arrived table octets from result same exact = sym (ap event_by exact ∙ ap (λ f. event_by (frame_at f octets)) same)
 
 -- ---- The ids.
 

@@ -5,7 +5,7 @@ use Rattle.lapd_mod128.specs.Counting.{Tagged}
 use Rattle.lapd_frame.specs.declared.Side.{Side}
 use Rattle.lapd_frame.specs.Address.{other_side}
 use Rattle.lapd_frame.specs.declared.fault_kind.FaultKind.{FaultKind}
-use Rattle.lapd_link.specs.Link.{LinkStandsFor}
+use Rattle.lapd_link.specs.Link.{LinkRepresents}
 use Rattle.lapd_link.specs.declared.link.Link.{Link}
 use Rattle.lapd_link_definition.specs.declared.event.LinkFault.{LinkFault}
 use Rattle.lapd_link_definition.specs.declared.out.Out.{Out}
@@ -26,13 +26,13 @@ pub data Arrival : Type 0 where
   Asked : (id : LinkId) → (input : Input) → Arrival
 
 -- the link that received octets are for, with its input; `None` if they are discarded
-abbrev pub heard : Result (LinkId × Input) FaultKind → Option (LinkId × Input)
-heard (Ok named) = Some named
-heard (Err kind) = None
+abbrev pub event_for : Result (LinkId × Input) FaultKind → Option (LinkId × Input)
+event_for (Ok named) = Some named
+event_for (Err kind) = None
 
 -- the link that an arrival is for, with its input
 abbrev pub named : Side → Arrival → Option (LinkId × Input)
-named side (Octets octets) = heard (addressed (other_side side) octets)
+named side (Octets octets) = event_for (addressed (other_side side) octets)
 named side (Asked id input) = Some (id, input)
 
 -- prepends an input if it is for this link
@@ -117,7 +117,7 @@ pub record IsAsAlone (side : Side) (arrivals : List Arrival) (ends : Ends) (id :
 -- this link represents this end, or neither exists
 abbrev pub IsEndOf : Option Link → Option End → Type 0
 IsEndOf None None = Unit {0}
-IsEndOf (Some link) (Some e) = LinkStandsFor link e
+IsEndOf (Some link) (Some e) = LinkRepresents link e
 IsEndOf link e = ⊥
 
 abbrev pub ShowsEnds : LinkTable → Ends → Type 0

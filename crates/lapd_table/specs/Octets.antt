@@ -16,11 +16,11 @@ abbrev pub fault_for : Option Address → FaultKind → Result (LinkId × Input)
 fault_for (Some address) kind = Ok (id_of_address address, Faulty kind)
 fault_for None kind = Err kind
 
-abbrev pub heard_by : Result Fields FrameFault → Result (LinkId × Input) FaultKind
-heard_by (Ok f) = Ok (id_of_address f.address, Heard f.control f.address.role)
-heard_by (Err fault) = fault_for fault.address fault.kind
+abbrev pub event_by : Result Fields FrameFault → Result (LinkId × Input) FaultKind
+event_by (Ok f) = Ok (id_of_address f.address, Heard f.control f.address.role)
+event_by (Err fault) = fault_for fault.address fault.kind
 
 -- Octets that this side sends: the link whose address they carry, with the frame or the fault that
 -- it receives; or the fault because of which they are for no link.
 abbrev pub addressed : Side → List ℕ → Result (LinkId × Input) FaultKind
-addressed from octets = heard_by (frame_at from octets)
+addressed from octets = event_by (frame_at from octets)

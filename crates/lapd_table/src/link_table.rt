@@ -66,7 +66,7 @@ impl LinkTable {
             (Some link)) }
         ensures err { IfErr result (λ refused. IsNotAdded self.old
             (id_of_setup (setup_of link)) refused.0) }
-        ensures handed_back { IfErr result (λ refused. refused.1 ≡ link) }
+        ensures returned { IfErr result (λ refused. refused.1 ≡ link) }
         ensures unchanged { OnErr result (IsUnchanged self.old self.new) }
     {
         let id = LinkId::of_link(&link);
@@ -176,10 +176,14 @@ impl LinkTable {
         match read(bytes, self.side.other()) {
             Ok(frame) => {
                 let id = LinkId::of_address(&frame.address());
-                self.hear(id, Event::Heard(&frame), outs)
+                self.handle_event(id, Event::Heard(&frame), outs)
             }
             Err(FrameFault { kind, address }) => match address {
-                Some(address) => self.hear(LinkId::of_address(&address), Event::Fault(kind), outs),
+                Some(address) => self.handle_event(
+                    LinkId::of_address(&address),
+                    Event::Fault(kind),
+                    outs,
+                ),
                 None => {
                     outs.clear();
                     Err(TableFault::Discarded(kind))
@@ -190,7 +194,12 @@ impl LinkTable {
 
     /// Passes a frame or a fault to the link with this SAPI and TEI, if it exists. No link refuses
     /// one.
-    fn hear(&mut self, id: LinkId, event: Event, outs: &mut Outs) -> Result<LinkId, TableFault>
+    fn handle_event(
+        &mut self,
+        id: LinkId,
+        event: Event,
+        outs: &mut Outs,
+    ) -> Result<LinkId, TableFault>
         requires for_link { IsFor id event }
         requires heard { (e : End) → refused (input_of event) e ≡ None }
         ensures ok { IfOk result (λ done. (done ≡ id)
@@ -314,7 +323,7 @@ impl LinkTable {
             (Give message.items) outs.items) }
         ensures err { IfErr result (λ refused. RefusesAt self.old id
             (Give message.items) refused.fault) }
-        ensures handed_back { IfErr result (λ refused. refused.message ≡ message) }
+        ensures returned { IfErr result (λ refused. refused.message ≡ message) }
         ensures unchanged { OnErr result (IsUnchanged self.old self.new) }
     {
         let mut outs = Outs::new();
@@ -338,7 +347,7 @@ impl LinkTable {
             (Give message.items) outs.new.items) }
         ensures err { IfErr result (λ refused. RefusesAt self.old id
             (Give message.items) refused.fault) }
-        ensures handed_back { IfErr result (λ refused. refused.message ≡ message) }
+        ensures returned { IfErr result (λ refused. refused.message ≡ message) }
         ensures unchanged { OnErr result (IsUnchanged self.old self.new) }
         ensures empty { OnErr result (outs.new.items ≡ []) }
     {
@@ -362,7 +371,7 @@ impl LinkTable {
             (Give message.items) outs.new.items) }
         ensures err { IfErr result (λ refused. RefusesAt self.old key.now.id
             (Give message.items) refused.fault) }
-        ensures handed_back { IfErr result (λ refused. refused.message ≡ message) }
+        ensures returned { IfErr result (λ refused. refused.message ≡ message) }
         ensures bounded { OnOk result (IsBounded (Give message.items) outs.new.items) }
         ensures unchanged { OnErr result (IsUnchanged self.old self.new) }
         ensures empty { OnErr result (outs.new.items ≡ []) }
@@ -384,7 +393,7 @@ impl LinkTable {
             (Give message.items) outs.new.items) }
         ensures err { IfErr result (λ refused. RefusesAt self.old id
             (Give message.items) refused.fault) }
-        ensures handed_back { IfErr result (λ refused. refused.message ≡ message) }
+        ensures returned { IfErr result (λ refused. refused.message ≡ message) }
         ensures bounded { OnOk result (IsBounded (Give message.items) outs.new.items) }
         ensures unchanged { OnErr result (IsUnchanged self.old self.new) }
         ensures empty { OnErr result (outs.new.items ≡ []) }

@@ -12,7 +12,7 @@ use Rattle.lapd_tei.specs.Assigner.{is_held, known_held}
 use Rattle.lapd_tei.specs.Bus.{BusState, moved}
 use Rattle.lapd_tei.specs.Single.{references, freed, assigned_by, IsNobodys, FreesNobodys}
 use Rattle.lapd_tei.specs.Service.{BusEvent, Move, Want, Join, Restart, event_step, IsKnown, KnowsInUse, IsNoOthers, place_of_event, AsksByItsOwn, FreesNobodysTei, RestartsKnowing, JoinsByItsOwn, Throughout}
-use Rattle.lapd_tei.proofs.AssignerKeeps.{all_at}
+use Rattle.lapd_tei.proofs.AssignerPreserves.{all_at}
 
 abbrev pub every : {X : Type 0} → (X → Bool) → List X → Bool
 every p [] = true

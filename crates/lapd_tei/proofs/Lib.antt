@@ -1,10 +1,10 @@
 pub mod Holding
-pub mod KeptByBus
+pub mod PreservedByBus
 pub mod Named
-pub mod TerminalKeeps
-pub mod AssignerKeeps
+pub mod TerminalPreserves
+pub mod AssignerPreserves
 pub mod EachMove
-pub mod EventsKeep
-pub mod RunKeeps
+pub mod EventsPreserve
+pub mod RunPreserves
 pub mod Computed
 pub mod Witnesses

@@ -128,15 +128,15 @@ timer_ends None a = stays a
 timer_ends (Some check) a = round_ends check.tei check.round check.responses a
 
 -- the network side processes requests, check responses and verifications
-abbrev pub assigner_hears : TeiKind → ℕ → ℕ → AssignerState → AssignerStep
-assigner_hears kind.Request ri ai a = serves ri (least_free a.held) a
-assigner_hears kind.CheckResponse ri ai a = counts_response ai a.check a
-assigner_hears kind.Verify ri ai a = begins_check ai a.check a
-assigner_hears other ri ai a = stays a
+abbrev pub assigner_receives : TeiKind → ℕ → ℕ → AssignerState → AssignerStep
+assigner_receives kind.Request ri ai a = serves ri (least_free a.held) a
+assigner_receives kind.CheckResponse ri ai a = counts_response ai a.check a
+assigner_receives kind.Verify ri ai a = begins_check ai a.check a
+assigner_receives other ri ai a = stays a
 
 -- One step.
 abbrev pub assigner_step : AssignerState → AssignerEvent → AssignerStep
-assigner_step a (event.Heard m) = assigner_hears m.kind m.ri m.ai a
+assigner_step a (event.Heard m) = assigner_receives m.kind m.ri m.ai a
 assigner_step a (event.Check tei) = begins_check tei a.check a
 assigner_step a event.T201 = timer_ends a.check a
 

@@ -112,20 +112,21 @@ with_mark b i t f = record {
   up = b.up;
 }
 
-abbrev pub hears : BusState → ℕ → ℕ → ℕ → Broadcast → Phase → Bool → Result BusStep BusFault
-hears b i t ri f phase true = Err HeardBefore
-hears b i t ri f phase false = Ok (terminal_did (with_mark b i t f) t
+abbrev pub reaches_terminal : BusState → ℕ → ℕ → ℕ → Broadcast → Phase → Bool
+    → Result BusStep BusFault
+reaches_terminal b i t ri f phase true = Err HeardBefore
+reaches_terminal b i t ri f phase false = Ok (terminal_did (with_mark b i t f) t
     (terminal_step phase (event.Heard f.message ri)))
 
 -- the terminal receives the message, if both exist and it did not receive it before
-abbrev pub terminal_hears : BusState → ℕ → ℕ → ℕ → Option Broadcast → Option Phase
+abbrev pub terminal_receives : BusState → ℕ → ℕ → ℕ → Option Broadcast → Option Phase
     → Result BusStep BusFault
-terminal_hears b i t ri (Some f) (Some phase) =
-    hears b i t ri f phase (slice_index_or f.heard t false)
-terminal_hears b i t ri f phase = Err NothingThere
+terminal_receives b i t ri (Some f) (Some phase) =
+    reaches_terminal b i t ri f phase (slice_index_or f.heard t false)
+terminal_receives b i t ri f phase = Err NothingThere
 
 abbrev pub hear : BusState → ℕ → ℕ → ℕ → Result BusStep BusFault
-hear b i t ri = terminal_hears b i t ri (slice_get b.down i) (slice_get b.terminals t)
+hear b i t ri = terminal_receives b i t ri (slice_get b.down i) (slice_get b.terminals t)
 
 -- drops a message, if it exists
 abbrev pub drops_down : BusState → ℕ → Option Broadcast → Result BusStep BusFault
@@ -160,13 +161,13 @@ abbrev pub drop_up : BusState → ℕ → Result BusStep BusFault
 drop_up b i = drops_up b i (slice_get b.up i)
 
 -- the assigner receives a message, which is removed
-abbrev pub network_hears : BusState → ℕ → Option TeiMessage → Result BusStep BusFault
-network_hears b i None = Err NothingThere
-network_hears b i (Some m) = Ok (assigner_did (without_up b i)
+abbrev pub network_receives : BusState → ℕ → Option TeiMessage → Result BusStep BusFault
+network_receives b i None = Err NothingThere
+network_receives b i (Some m) = Ok (assigner_did (without_up b i)
     (assigner_step b.assigner (assigner.Heard m)))
 
 abbrev pub hear_up : BusState → ℕ → Result BusStep BusFault
-hear_up b i = network_hears b i (slice_get b.up i)
+hear_up b i = network_receives b i (slice_get b.up i)
 
 -- an event of the assigner
 abbrev pub to_assigner : BusState → AssignerEvent → BusStep

@@ -19,8 +19,8 @@ pub record TerminalStep : Type 0 where
   pub now : Phase
   pub outs : List TeiOut
 
-abbrev pub goes_to : Phase → List TeiOut → TerminalStep
-goes_to phase outs = record { now = phase; outs = outs }
+abbrev pub moves_to : Phase → List TeiOut → TerminalStep
+moves_to phase outs = record { now = phase; outs = outs }
 
 -- N202, the maximum number of requests for a TEI (5.9.4)
 abbrev pub n202 : ℕ
@@ -41,49 +41,50 @@ is_got_by (Some own) ri = own == ri
 
 -- requests a TEI for the first time (5.3.2)
 abbrev pub asks : Purpose → ℕ → TerminalStep
-asks purpose ri = goes_to (Awaiting purpose 1 ri) (Send (request ri) ∷ Start T202 ∷ [])
+asks purpose ri = moves_to (Awaiting purpose 1 ri) (Send (request ri) ∷ Start T202 ∷ [])
 
 -- T202 expires: requests the TEI again with a new reference, N202 times in all (5.3.2.1)
 abbrev pub asks_again : Purpose → ℕ → ℕ → ℕ → TerminalStep
 asks_again purpose count ri new =
-    if nat_lt count n202 then goes_to (Awaiting purpose (count + 1) new)
+    if nat_lt count n202 then moves_to (Awaiting purpose (count + 1) new)
     (Send (request new) ∷ Start T202 ∷ [])
-    else goes_to Unassigned (Failed ∷ [])
+    else moves_to Unassigned (Failed ∷ [])
 
 -- While a TEI is awaited: an assignment with the outstanding reference is accepted (5.3.2). A
 -- denial and all other messages are ignored.
-abbrev pub awaiting_hears : Purpose → ℕ → ℕ → TeiKind → ℕ → ℕ → TerminalStep
-awaiting_hears purpose count ri kind.Assigned its ai =
-    if (its == ri) && is_automatic ai then goes_to (Assigned (Some ri) ai) (Stop T202 ∷ Got ai ∷ [])
-    else goes_to (Awaiting purpose count ri) []
-awaiting_hears purpose count ri other its ai = goes_to (Awaiting purpose count ri) []
+abbrev pub awaiting_receives : Purpose → ℕ → ℕ → TeiKind → ℕ → ℕ → TerminalStep
+awaiting_receives purpose count ri kind.Assigned its ai =
+    if (its == ri) && is_automatic ai then moves_to (Assigned (Some ri) ai)
+    (Stop T202 ∷ Got ai ∷ [])
+    else moves_to (Awaiting purpose count ri) []
+awaiting_receives purpose count ri other its ai = moves_to (Awaiting purpose count ri) []
 
 -- With a TEI: removed if the TEI is assigned to another terminal (5.3.4), a check request is
 -- answered (5.3.3), and Identity remove is obeyed (5.3.4).
-abbrev pub assigned_hears : Option ℕ → ℕ → TeiKind → ℕ → ℕ → ℕ → TerminalStep
-assigned_hears by tei kind.Assigned its ai new =
-    if (ai == tei) && not (is_got_by by its) then goes_to Unassigned (Gone tei ∷ [])
-    else goes_to (Assigned by tei) []
-assigned_hears by tei kind.CheckRequest its ai new =
-    if names ai tei then goes_to (Assigned by tei) (Send (check_response new tei) ∷ [])
-    else goes_to (Assigned by tei) []
-assigned_hears by tei kind.Remove its ai new =
-    if names ai tei then goes_to Unassigned (Gone tei ∷ []) else goes_to (Assigned by tei) []
-assigned_hears by tei other its ai new = goes_to (Assigned by tei) []
+abbrev pub assigned_receives : Option ℕ → ℕ → TeiKind → ℕ → ℕ → ℕ → TerminalStep
+assigned_receives by tei kind.Assigned its ai new =
+    if (ai == tei) && not (is_got_by by its) then moves_to Unassigned (Gone tei ∷ [])
+    else moves_to (Assigned by tei) []
+assigned_receives by tei kind.CheckRequest its ai new =
+    if names ai tei then moves_to (Assigned by tei) (Send (check_response new tei) ∷ [])
+    else moves_to (Assigned by tei) []
+assigned_receives by tei kind.Remove its ai new =
+    if names ai tei then moves_to Unassigned (Gone tei ∷ []) else moves_to (Assigned by tei) []
+assigned_receives by tei other its ai new = moves_to (Assigned by tei) []
 
 -- One step. The reference of each event is a fresh one, for the message that it may send.
 abbrev pub terminal_step : Phase → TerminalEvent → TerminalStep
 terminal_step Unassigned (event.Ask ri) = asks Assignment ri
 terminal_step Unassigned (event.Want ri) = asks Establishment ri
 terminal_step (Awaiting purpose count ri) (event.Want new) =
-    goes_to (Awaiting Establishment count ri) []
+    moves_to (Awaiting Establishment count ri) []
 terminal_step (Awaiting purpose count ri) (event.Heard m new) =
-    awaiting_hears purpose count ri m.kind m.ri m.ai
+    awaiting_receives purpose count ri m.kind m.ri m.ai
 terminal_step (Awaiting purpose count ri) (event.T202 new) = asks_again purpose count ri new
-terminal_step (Assigned by tei) (event.Heard m new) = assigned_hears by tei m.kind m.ri m.ai new
-terminal_step (Awaiting purpose count ri) event.Leave = goes_to Unassigned (Stop T202 ∷ [])
-terminal_step (Assigned by tei) event.Leave = goes_to Unassigned (Gone tei ∷ [])
-terminal_step phase other = goes_to phase []
+terminal_step (Assigned by tei) (event.Heard m new) = assigned_receives by tei m.kind m.ri m.ai new
+terminal_step (Awaiting purpose count ri) event.Leave = moves_to Unassigned (Stop T202 ∷ [])
+terminal_step (Assigned by tei) event.Leave = moves_to Unassigned (Gone tei ∷ [])
+terminal_step phase other = moves_to phase []
 
 -- Queries of a terminal: the number of its state, its TEI, the number of its
 -- requests, and its last reference, outstanding or of the request that obtained its TEI.

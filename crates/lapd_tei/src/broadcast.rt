@@ -40,7 +40,7 @@ impl Broadcast {
     }
 
     /// Whether the terminal at this index has received it.
-    pub fn is_heard_by(&self, t: usize) -> bool
+    pub fn is_received_by(&self, t: usize) -> bool
         ensures { result ≡ slice_index_or self.now.heard t false }
     {
         match self.heard.get(t) {

@@ -211,7 +211,7 @@ impl Bus {
         let (Some(broadcast), Some(there)) = (self.down.get(i), self.terminals.get(t)) else {
             return Err(BusFault::NothingThere);
         };
-        if broadcast.is_heard_by(t) {
+        if broadcast.is_received_by(t) {
             return Err(BusFault::HeardBefore);
         }
         let mut terminal = *there;

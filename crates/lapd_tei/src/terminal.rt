@@ -4,7 +4,7 @@ ghost use Rattle.lapd_tei.specs.declared.out.TeiOut.TheVariants.{Send, Start, Go
 ghost use Rattle.lapd_tei.specs.declared.phase.Phase.TheVariants.{Unassigned, Awaiting, Assigned};
 ghost use Rattle.std.specs.List.{All};
 ghost use Rattle.lapd_tei.specs.Out.{request, IsInRange};
-ghost use Rattle.lapd_tei.specs.Terminal.{state_number, tei_of, count_of, reference_of, is_awaiting, new_terminal, terminal_step, awaiting_hears, assigned_hears, is_automatic, IsTerminal};
+ghost use Rattle.lapd_tei.specs.Terminal.{state_number, tei_of, count_of, reference_of, is_awaiting, new_terminal, terminal_step, awaiting_receives, assigned_receives, is_automatic, IsTerminal};
 
 use crate::out::{no_outs, one_out, two_outs};
 use crate::phase::{Phase, Purpose};
@@ -186,7 +186,7 @@ fn awaiting(purpose: Purpose, count: u8, ri: u16, event: TerminalEvent) -> (Phas
             let purpose = Purpose::Establishment;
             (Phase::Awaiting { purpose, count, ri }, no_outs())
         }
-        TerminalEvent::Heard(message, _) => awaiting_hears(purpose, count, ri, message),
+        TerminalEvent::Heard(message, _) => awaiting_receives(purpose, count, ri, message),
         TerminalEvent::T202(new) => {
             if count < N202 {
                 ask(purpose, count + 1, new)
@@ -206,7 +206,7 @@ fn assigned(by: Option<u16>, tei: Tei, event: TerminalEvent) -> (Phase, TeiOuts)
     ensures in_range { All IsInRange result.1.items }
 {
     match event {
-        TerminalEvent::Heard(message, ri) => assigned_hears(by, tei, message, ri),
+        TerminalEvent::Heard(message, ri) => assigned_receives(by, tei, message, ri),
         TerminalEvent::Leave => gone(tei),
         _ => (Phase::Assigned { by, tei }, no_outs()),
     }
@@ -237,10 +237,10 @@ fn gone(tei: Tei) -> (Phase, TeiOuts)
 }
 
 /// Processes a message while the terminal awaits a TEI.
-fn awaiting_hears(purpose: Purpose, count: u8, ri: u16, message: TeiMessage) -> (Phase, TeiOuts)
-    ensures now { result.0 ≡ (awaiting_hears purpose count ri message.kind message.ri
+fn awaiting_receives(purpose: Purpose, count: u8, ri: u16, message: TeiMessage) -> (Phase, TeiOuts)
+    ensures now { result.0 ≡ (awaiting_receives purpose count ri message.kind message.ri
         message.ai).now }
-    ensures outs { result.1.items ≡ (awaiting_hears purpose count ri message.kind message.ri
+    ensures outs { result.1.items ≡ (awaiting_receives purpose count ri message.kind message.ri
         message.ai).outs }
     ensures in_range { All IsInRange result.1.items }
 {
@@ -255,10 +255,10 @@ fn awaiting_hears(purpose: Purpose, count: u8, ri: u16, message: TeiMessage) -> 
 
 /// Processes a message while the terminal has a TEI. A response uses the reference `ri`.
 #[tactic(auto, using(crate::proofs::Named::one_is_named))]
-fn assigned_hears(by: Option<u16>, tei: Tei, message: TeiMessage, ri: u16) -> (Phase, TeiOuts)
+fn assigned_receives(by: Option<u16>, tei: Tei, message: TeiMessage, ri: u16) -> (Phase, TeiOuts)
     requires { tei < 127 }
-    ensures now { result.0 ≡ (assigned_hears by tei message.kind message.ri message.ai ri).now }
-    ensures outs { result.1.items ≡ (assigned_hears by tei message.kind message.ri message.ai
+    ensures now { result.0 ≡ (assigned_receives by tei message.kind message.ri message.ai ri).now }
+    ensures outs { result.1.items ≡ (assigned_receives by tei message.kind message.ri message.ai
         ri).outs }
     ensures in_range { All IsInRange result.1.items }
 {

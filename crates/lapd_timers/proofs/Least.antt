@@ -96,21 +96,21 @@ joined now s (Some l) e h old = cond_both (nat_le l.deadline e.deadline) (Some l
     (λ first. kept now s l e h old (leb-true _ _ first))
     (λ later. passed now s l e h old (leb-false _ _ later))
 
-stands_still : (s : Timers) (timer other : Timer) (deadline : ℕ) → deadline_of timer s ≡ None → deadline_of other s ≡ Some deadline → other ≡ timer → ⊥
-stands_still s timer other deadline q runs same = let k : None ≡ Some deadline = sym q ∙ (sym (ap (λ t. deadline_of t s) same) ∙ runs) in cc
+stopped_differs : (s : Timers) (timer other : Timer) (deadline : ℕ) → deadline_of timer s ≡ None → deadline_of other s ≡ Some deadline → other ≡ timer → ⊥
+stopped_differs s timer other deadline q runs same = let k : None ≡ Some deadline = sym q ∙ (sym (ap (λ t. deadline_of t s) same) ∙ runs) in cc
 
-comes_later : (s : Timers) (timer other : Timer) (deadline its now : ℕ) → deadline_of timer s ≡ Some deadline → deadline_of other s ≡ Some its → other ≡ timer → its ≤ now → now < deadline → ⊥
-comes_later s timer other deadline its now q runs same past later =
+is_later : (s : Timers) (timer other : Timer) (deadline its now : ℕ) → deadline_of timer s ≡ Some deadline → deadline_of other s ≡ Some its → other ≡ timer → its ≤ now → now < deadline → ⊥
+is_later s timer other deadline its now q runs same past later =
     let k : Some deadline ≡ Some its = sym q ∙ (sym (ap (λ t. deadline_of t s) same) ∙ runs) in
     let j : deadline ≡ its = cc in omega arith
 
 -- the next timer is compared
 one_more : (now : ℕ) (s : Timers) (timer : Timer) (least : Option TimerDeadline) (deadline : Option ℕ) → deadline_of timer s ≡ deadline
     → IsLeast (IsAmong now s (place timer)) least → IsLeast (IsAmong now s (place timer + 1)) (sooner now timer deadline least)
-one_more now s timer least None q old = as_before now s timer least (λ f h same. stands_still s timer f.timer f.deadline q h.runs same) old
+one_more now s timer least None q old = as_before now s timer least (λ f h same. stopped_differs s timer f.timer f.deadline q h.runs same) old
 one_more now s timer least (Some deadline) q old = cond_both (nat_le deadline now) _ _ (IsLeast (IsAmong now s (place timer + 1)))
     (λ past. joined now s least (record { deadline = deadline; timer = timer }) (record { runs = q; is_past = leb-true _ _ past }) old)
-    (λ later. as_before now s timer least (λ f h same. comes_later s timer f.timer deadline f.deadline now q h.runs same h.is_past (leb-false _ _ later)) old)
+    (λ later. as_before now s timer least (λ f h same. is_later s timer f.timer deadline f.deadline now q h.runs same h.is_past (leb-false _ _ later)) old)
 
 none_yet : (now : ℕ) (s : Timers) → IsLeast (IsAmong now s 0) None
 none_yet now s f h = omega (arith, h.early)

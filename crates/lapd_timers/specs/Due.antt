@@ -15,8 +15,8 @@ pub record Timers : Type 0 where
   pub t203 : Option ℕ
 
 -- new timers: none runs
-abbrev pub at_rest : Lengths → Timers
-at_rest durations = record {
+abbrev pub all_stopped : Lengths → Timers
+all_stopped durations = record {
   durations = durations;
   t200 = None;
   t201 = None;

@@ -1,6 +1,6 @@
 ghost use Rattle.std.specs.Prelude.{◌≡◌, is_some, None, Some};
 ghost use Rattle.lapd_timers.specs.Durations.{length_of};
-ghost use Rattle.lapd_timers.specs.Due.{at_rest, deadline_of, with_deadline, deadline_from, sooner, timer_of, IsDue};
+ghost use Rattle.lapd_timers.specs.Due.{all_stopped, deadline_of, with_deadline, deadline_from, sooner, timer_of, IsDue};
 
 use crate::{Durations, Timer};
 use std::marker::Model;
@@ -48,7 +48,7 @@ struct TimerDeadline {
 impl TimerSet {
     /// Makes timers with these durations. None runs yet.
     pub fn new(durations: Durations) -> TimerSet
-        ensures { result ≡ at_rest durations }
+        ensures { result ≡ all_stopped durations }
     {
         TimerSet {
             durations,

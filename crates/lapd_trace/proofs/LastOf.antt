@@ -1,7 +1,7 @@
 -- The last lines of a list that grows.
 use Rattle.std.proofs.Common.{◌≡◌, ℕ, ◌+◌, ◌-◌, List, [], ◌∷◌, ◌++◌, map, length, drop, sym, ap, ◌∙◌, arith}
 use Rattle.std.proofs.lemmas.List.{drop-append-le, drop-drop, drop-map, length-drop, length-append, length-map, map-append}
-use Rattle.lapd_trace.specs.KeptLines.{last_of}
+use Rattle.lapd_trace.specs.HistoryLines.{last_of}
 
 -- the last n lines of the last n and one new line are the last n lines of all
 pub last_of_more : (n : ℕ) (lines : List (List ℕ)) (line : List ℕ)

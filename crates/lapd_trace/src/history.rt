@@ -1,6 +1,6 @@
 ghost use Rattle.std.specs.Prelude.{◌≡◌, ◌≤◌, ℕ, List, [], ◌∷◌, ◌++◌, IfOk};
 ghost use Rattle.std.specs.String.{string_bytes};
-ghost use Rattle.lapd_trace.specs.KeptLines.{KeptLines, last_of};
+ghost use Rattle.lapd_trace.specs.HistoryLines.{HistoryLines, last_of};
 
 use crate::Lines;
 use circular_buffer::HeapCircularBuffer;
@@ -16,9 +16,9 @@ pub struct History {
 impl Model for History {
     ghost use Rattle.std.specs.Prelude.{◌<◌, map};
     ghost use Rattle.std.specs.String.{string_bytes};
-    ghost use Rattle.lapd_trace.specs.KeptLines.{KeptLines};
+    ghost use Rattle.lapd_trace.specs.HistoryLines.{HistoryLines};
 
-    ghost Value = { KeptLines };
+    ghost Value = { HistoryLines };
 
     ghost view = { λ h. record {
       room = h.lines.capacity;

@@ -79,22 +79,37 @@ fn is_line(printed: &[u8], line: &str) -> bool {
 const PASSED_OVER: &str = "user 00817f\nuser  00817f\n\nnet 008173\n";
 
 // Whether the valid lines are printed, and the other one is reported.
-fn passes_over(alloc: Global, printed: &mut Vec<u8>, told: &mut Vec<u8>) -> Result<(), Fail> {
+fn passes_over(
+    alloc: Global,
+    printed: &mut Vec<u8>,
+    lines_printed: &mut Vec<u8>,
+) -> Result<(), Fail> {
     let (form, style) = (LineForm::Strict, Style::Plain);
     let mut script = PASSED_OVER.as_bytes();
-    let ended = decode_good_lines(alloc, &mut script, printed, form, style, &mut *told);
+    let ended = decode_good_lines(
+        alloc,
+        &mut script,
+        printed,
+        form,
+        style,
+        &mut *lines_printed,
+    );
     let text = b"U>N SAPI 0 TEI 64 C SABME P=1\nN>U SAPI 0 TEI 64 R UA F=1\n".as_slice();
     let passed = b"skipped: user  00817f\n".as_slice();
     all_hold(&[
         (ended == Ok(()), PASSED_OVER, "its end"),
         (printed.as_slice() == text, PASSED_OVER, "its text"),
-        (told.as_slice() == passed, PASSED_OVER, "what is told"),
+        (
+            lines_printed.as_slice() == passed,
+            PASSED_OVER,
+            "what is told",
+        ),
     ])
 }
 
 #[test]
 fn bad_lines_are_passed_over(rt: HostRuntime) -> Result<(), Fail> {
     let mut printed = Vec::new(rt.alloc());
-    let mut told = Vec::new(rt.alloc());
-    passes_over(rt.alloc(), &mut printed, &mut told)
+    let mut lines_printed = Vec::new(rt.alloc());
+    passes_over(rt.alloc(), &mut printed, &mut lines_printed)
 }

@@ -1,6 +1,6 @@
 //! Reading captures, compared by the printed lines.
 
-use crate::wants::{is_said, wants};
+use crate::wants::{is_printed_as, wants};
 use lapd_cli_decode::{Capture, CaptureStop, CaptureStyle, Side, Style, decode_capture};
 use std::alloc::Global;
 use std::test::Fail;
@@ -64,7 +64,7 @@ captured in part|d4c3b2a102000400000000000000000000000400b100000001000000d007000
 const HOW: CaptureStyle = CaptureStyle {
     style: Style::Named,
     sender: Side::User,
-    keeping: false,
+    keeps_going: false,
 };
 
 #[test]
@@ -73,14 +73,14 @@ fn captures_are_printed(rt: HostRuntime) -> Result<(), Fail> {
         style: Style::Json,
         ..HOW
     };
-    let keeping = CaptureStyle {
-        keeping: true,
+    let keeps_going = CaptureStyle {
+        keeps_going: true,
         ..HOW
     };
     rows_hold(rt.alloc(), CAPTURES, HOW)?;
     rows_hold(rt.alloc(), FAULTS, HOW)?;
     rows_hold(rt.alloc(), OBJECTS, objects)?;
-    rows_hold(rt.alloc(), PASSED_OVER, keeping)
+    rows_hold(rt.alloc(), PASSED_OVER, keeps_going)
 }
 
 fn rows_hold(alloc: Global, rows: &str, how: CaptureStyle) -> Result<(), Fail> {
@@ -123,9 +123,9 @@ fn print_capture(
     printed: &mut Vec<u8>,
     how: CaptureStyle,
 ) -> Result<(), CaptureStop> {
-    let mut told = Vec::new(alloc);
+    let mut lines_printed = Vec::new(alloc);
     match Capture::new(octets) {
-        Ok(mut capture) => decode_capture(alloc, &mut capture, printed, &mut told, how),
+        Ok(mut capture) => decode_capture(alloc, &mut capture, printed, &mut lines_printed, how),
         Err(fault) => Err(CaptureStop::Capture(fault, 0)),
     }
 }
@@ -134,7 +134,7 @@ fn print_capture(
 fn ends_by(alloc: Global, ended: Result<(), CaptureStop>, fault: &str) -> bool {
     match ended {
         Ok(()) => fault.is_empty(),
-        Err(stop) => is_said(alloc, &stop, fault),
+        Err(stop) => is_printed_as(alloc, &stop, fault),
     }
 }
 

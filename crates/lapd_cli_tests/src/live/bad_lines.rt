@@ -1,7 +1,7 @@
 //! Lines that are invalid with the real clock, and lines that are valid.
 
 use crate::live::made::{Arrivals, Input, Made, Trouble};
-use crate::live::played::{Who, play};
+use crate::live::scenario_run::{Who, scenario};
 use crate::live::typed::{Keys, Reads};
 use crate::wants::wants;
 use lapd_cli_live::{LineStyle, LiveStop, Style};
@@ -45,10 +45,10 @@ fn is(alloc: Global, who: Who, line: &str, bad: bool) -> bool {
     let reads = Reads::new();
     let keys = Keys::new(line, &reads);
     let made = Made::new(alloc, ARRIVALS, Input::File, Trouble::Never);
-    match play(alloc, who, STYLE, made, keys, false) {
-        Ok(played) => {
+    match scenario(alloc, who, STYLE, made, keys, false) {
+        Ok(scenario_run) => {
             let fault = LiveStop::Script(ScriptFault::BadLine(1));
-            (played.ended == Err(fault)) == bad
+            (scenario_run.ended == Err(fault)) == bad
         }
         Err(_) => false,
     }
@@ -64,7 +64,7 @@ fn are(alloc: Global, who: Who, lines: &str, bad: bool) -> Result<(), Fail> {
 }
 
 #[test]
-fn bad_lines_are_told(rt: HostRuntime) -> Result<(), Fail> {
+fn bad_lines_are_reported(rt: HostRuntime) -> Result<(), Fail> {
     are(rt.alloc(), Who::Net, BAD, true)?;
     are(rt.alloc(), Who::Net, GOOD, false)?;
     are(rt.alloc(), Who::User, BAD_OF_USER, true)?;

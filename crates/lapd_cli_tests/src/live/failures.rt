@@ -1,7 +1,7 @@
 //! Each call of the surroundings fails once.
 
 use crate::live::made::{Arrivals, Input, Made, Trouble};
-use crate::live::played::{Played, Who, hold, play};
+use crate::live::scenario_run::{ScenarioRun, Who, hold, scenario};
 use crate::live::typed::{Keys, Reads};
 use crate::wants::wants;
 use lapd_cli_live::{LineStyle, LiveStop, Style};
@@ -31,23 +31,23 @@ fn calls_with(
     trouble: Trouble,
 ) -> Option<(u64, Result<(), LiveStop>)> {
     let reads = Reads::new();
-    match played_with(alloc, is_script, trouble, &reads) {
-        Ok(played) => Some((played.made.calls, played.ended)),
+    match run_with(alloc, is_script, trouble, &reads) {
+        Ok(scenario_run) => Some((scenario_run.made.calls, scenario_run.ended)),
         Err(_) => None,
     }
 }
 
 /// A script or a session with this trouble.
-fn played_with<'s>(
+fn run_with<'s>(
     alloc: Global,
     is_script: bool,
     trouble: Trouble,
     reads: &'s Reads,
-) -> Result<Played<'s>, AllocError> {
+) -> Result<ScenarioRun<'s>, AllocError> {
     let keys = Keys::new(SCRIPT, reads);
     let made = Made::new(alloc, ARRIVALS, Input::Typed(reads), trouble);
     if is_script {
-        play(alloc, Who::Net, STYLE, made, keys, true)
+        scenario(alloc, Who::Net, STYLE, made, keys, true)
     } else {
         hold(alloc, Who::Net, STYLE, made, keys, true)
     }
@@ -85,7 +85,7 @@ fn end_at_each(alloc: Global, is_script: bool) -> Result<(), Fail> {
 }
 
 #[test]
-fn each_call_fails_in_turn(rt: HostRuntime) -> Result<(), Fail> {
+fn each_call_fails_once(rt: HostRuntime) -> Result<(), Fail> {
     end_at_each(rt.alloc(), true)?;
     end_at_each(rt.alloc(), false)
 }

@@ -75,7 +75,7 @@ pub(crate) struct Made<'s> {
     /// The number of calls.
     pub(crate) calls: u64,
     /// The side's reports, one a line: `discarded SAPI TEI` and `impair LOSS DELAY`.
-    pub(crate) told: String,
+    pub(crate) lines_printed: String,
 }
 
 impl<'s> Made<'s> {
@@ -95,7 +95,7 @@ impl<'s> Made<'s> {
             is_all_lost: false,
             trouble,
             calls: 0,
-            told: String::new(alloc),
+            lines_printed: String::new(alloc),
         }
     }
 
@@ -225,14 +225,14 @@ impl<'s> Made<'s> {
     fn record_discarded(&mut self, id: LinkId) -> Result<(), AllocError> {
         let sapi = id.sapi;
         let tei = id.tei;
-        write!(self.told, "discarded {sapi} {tei}\n")
+        write!(self.lines_printed, "discarded {sapi} {tei}\n")
     }
 
     /// Records an impairment.
     fn record_impairment(&mut self, impairment: Impairment) -> Result<(), AllocError> {
         let loss = impairment.loss;
         let delay = impairment.delay;
-        write!(self.told, "impair {loss} {delay}\n")
+        write!(self.lines_printed, "impair {loss} {delay}\n")
     }
 }
 

@@ -3,7 +3,7 @@
 //! timers.
 
 use crate::live::made::{Arrivals, Input, Made, Trouble};
-use crate::live::played::{Who, all_rows, play};
+use crate::live::scenario_run::{Who, all_rows, scenario};
 use crate::live::typed::{Keys, Reads};
 use crate::wants::wants;
 use lapd_cli_live::{LineStyle, Style};
@@ -241,9 +241,9 @@ fn printed(
     let events = "100000 close\n";
     let arrivals = Arrivals { events, answers };
     let made = Made::new(alloc, arrivals, Input::File, trouble);
-    let played = play(alloc, who, STYLE, made, keys, false)?;
-    match played.ended {
-        Ok(()) => Ok(Some((played.printed, played.made.calls))),
+    let scenario_run = scenario(alloc, who, STYLE, made, keys, false)?;
+    match scenario_run.ended {
+        Ok(()) => Ok(Some((scenario_run.printed, scenario_run.made.calls))),
         Err(_) => Ok(None),
     }
 }

@@ -62,7 +62,7 @@ impl Read for Keys<'_> {
 #[derive(Drop)]
 pub(crate) struct Reader {
     alloc: Global,
-    pub(crate) told: String,
+    pub(crate) lines_printed: String,
 }
 
 impl Reader {
@@ -70,7 +70,7 @@ impl Reader {
     pub(crate) fn new(alloc: Global) -> Reader {
         Reader {
             alloc,
-            told: String::new(alloc),
+            lines_printed: String::new(alloc),
         }
     }
 
@@ -78,13 +78,13 @@ impl Reader {
     fn record(&mut self, line: &[u8]) -> Result<(), AllocError> {
         let line = String::from_utf8_lossy(self.alloc, line)?;
         let line = line.as_str();
-        write!(self.told, "refuse {line}\n")
+        write!(self.lines_printed, "refuse {line}\n")
     }
 }
 
 impl Person for Reader {
     fn greet(&mut self) {
-        let _ = self.told.push_str("greet\n");
+        let _ = self.lines_printed.push_str("greet\n");
     }
 
     fn tidied(&self, line: &[u8]) -> Result<Vec<u8>, AllocError> {
@@ -96,6 +96,6 @@ impl Person for Reader {
     }
 
     fn help(&mut self) {
-        let _ = self.told.push_str("help\n");
+        let _ = self.lines_printed.push_str("help\n");
     }
 }

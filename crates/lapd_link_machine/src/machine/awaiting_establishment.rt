@@ -23,17 +23,17 @@ fn release_primitive(asked: bool) -> Out
 
 #[tactic(auto, using(crate::proofs::Rows::then_row, crate::proofs::Rows::else_row), unfolding(lapd_link_definition::specs::AwaitingEstablishment::end_establishment, lapd_link_definition::specs::AwaitingEstablishment::confirm_or_indicate, lapd_link_definition::specs::AwaitingEstablishment::ua_final, lapd_link_definition::specs::AwaitingEstablishment::awaiting_establishment_t200, lapd_link_definition::specs::AwaitingEstablishment::awaiting_establishment))]
 impl Machine {
-    ghost use Rattle.lapd_link_machine.specs.StandsFor.{Does, HasRoom, Grows};
+    ghost use Rattle.lapd_link_machine.specs.Represents.{MachineDoes, HasOutputRoom, Grows};
 
     /// Receives a frame (Figure B.5).
-    pub(crate) fn awaiting_establishment_heard(
+    pub(crate) fn awaiting_establishment_frame(
         &mut self,
         control: Control,
         role: Role,
         outs: &mut Outs,
     )
-        requires room { HasRoom 6 outs.old }
-        ensures step { Does self.old outs.old self.new outs.new
+        requires room { HasOutputRoom 6 outs.old }
+        ensures step { MachineDoes self.old outs.old self.new outs.new
             (awaiting_establishment (Heard control role)) }
         ensures len { Grows 6 outs.old outs.new }
     {
@@ -58,8 +58,9 @@ impl Machine {
     /// DL-ESTABLISH request, not refused: layer 3 establishes, instead of the data link itself
     /// (Figure B.5).
     pub(crate) fn awaiting_establishment_establish(&mut self, outs: &mut Outs)
-        requires room { HasRoom 1 outs.old }
-        ensures step { Does self.old outs.old self.new outs.new (awaiting_establishment Establish) }
+        requires room { HasOutputRoom 1 outs.old }
+        ensures step { MachineDoes self.old outs.old self.new outs.new
+            (awaiting_establishment Establish) }
         ensures len { Grows 1 outs.old outs.new }
         ensures state { self.new.state ≡ self.old.state }
     {
@@ -69,8 +70,9 @@ impl Machine {
 
     /// DL-RELEASE request: the release is pending until the response to the SABME (Figure B.5).
     pub(crate) fn awaiting_establishment_release(&mut self, outs: &mut Outs)
-        requires room { HasRoom 1 outs.old }
-        ensures step { Does self.old outs.old self.new outs.new (awaiting_establishment Release) }
+        requires room { HasOutputRoom 1 outs.old }
+        ensures step { MachineDoes self.old outs.old self.new outs.new
+            (awaiting_establishment Release) }
         ensures len { Grows 1 outs.old outs.new }
     {
         self.discard_i_queue(outs);
@@ -79,8 +81,8 @@ impl Machine {
 
     /// Receives a UA with F=1 (Figure B.5).
     fn ua_final(&mut self, outs: &mut Outs)
-        requires room { HasRoom 4 outs.old }
-        ensures step { Does self.old outs.old self.new outs.new ua_final }
+        requires room { HasOutputRoom 4 outs.old }
+        ensures step { MachineDoes self.old outs.old self.new outs.new ua_final }
         ensures len { Grows 4 outs.old outs.new }
     {
         if self.release_pending {
@@ -101,8 +103,8 @@ impl Machine {
     /// Confirms to layer 3 the establishment that it requested. Otherwise, if messages are lost,
     /// indicates to it that the link was re-established (Figure B.5).
     fn confirm_or_indicate(&mut self, outs: &mut Outs)
-        requires room { HasRoom 2 outs.old }
-        ensures step { Does self.old outs.old self.new outs.new confirm_or_indicate }
+        requires room { HasOutputRoom 2 outs.old }
+        ensures step { MachineDoes self.old outs.old self.new outs.new confirm_or_indicate }
         ensures len { Grows 2 outs.old outs.new }
     {
         if self.layer3_initiated {
@@ -114,8 +116,8 @@ impl Machine {
 
     /// T200 expires: the SABME is retransmitted, N200 times at most (Figure B.5).
     pub(crate) fn awaiting_establishment_t200(&mut self, outs: &mut Outs)
-        requires room { HasRoom 3 outs.old }
-        ensures step { Does self.old outs.old self.new outs.new awaiting_establishment_t200 }
+        requires room { HasOutputRoom 3 outs.old }
+        ensures step { MachineDoes self.old outs.old self.new outs.new awaiting_establishment_t200 }
         ensures len { Grows 3 outs.old outs.new }
     {
         if self.rc < self.params.n200() {
@@ -133,8 +135,8 @@ impl Machine {
 
     /// The SABME was refused, or never answered (Figure B.5).
     fn end_establishment(&mut self, outs: &mut Outs)
-        requires room { HasRoom 1 outs.old }
-        ensures step { Does self.old outs.old self.new outs.new end_establishment }
+        requires room { HasOutputRoom 1 outs.old }
+        ensures step { MachineDoes self.old outs.old self.new outs.new end_establishment }
         ensures len { Grows 1 outs.old outs.new }
     {
         let out = release_primitive(self.release_pending);

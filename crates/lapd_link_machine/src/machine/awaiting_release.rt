@@ -10,12 +10,12 @@ use lapd_link_definition::{Letter, Out, State};
 
 #[tactic(auto, using(crate::proofs::Rows::then_row, crate::proofs::Rows::else_row), unfolding(lapd_link_definition::specs::AwaitingRelease::confirm_release, lapd_link_definition::specs::AwaitingRelease::awaiting_release_t200, lapd_link_definition::specs::AwaitingRelease::awaiting_release))]
 impl Machine {
-    ghost use Rattle.lapd_link_machine.specs.StandsFor.{Does, HasRoom, Grows};
+    ghost use Rattle.lapd_link_machine.specs.Represents.{MachineDoes, HasOutputRoom, Grows};
 
     /// Receives a frame (Figure B.6).
-    pub(crate) fn awaiting_release_heard(&mut self, control: Control, role: Role, outs: &mut Outs)
-        requires room { HasRoom 6 outs.old }
-        ensures step { Does self.old outs.old self.new outs.new
+    pub(crate) fn awaiting_release_frame(&mut self, control: Control, role: Role, outs: &mut Outs)
+        requires room { HasOutputRoom 6 outs.old }
+        ensures step { MachineDoes self.old outs.old self.new outs.new
             (awaiting_release (Heard control role)) }
         ensures len { Grows 6 outs.old outs.new }
     {
@@ -35,8 +35,8 @@ impl Machine {
 
     /// The DISC is answered (Figure B.6).
     fn confirm_release(&mut self, outs: &mut Outs)
-        requires room { HasRoom 2 outs.old }
-        ensures step { Does self.old outs.old self.new outs.new confirm_release }
+        requires room { HasOutputRoom 2 outs.old }
+        ensures step { MachineDoes self.old outs.old self.new outs.new confirm_release }
         ensures len { Grows 2 outs.old outs.new }
     {
         self.stop_t200(outs);
@@ -46,8 +46,8 @@ impl Machine {
 
     /// T200 expires: the DISC is retransmitted, N200 times at most (Figure B.6).
     pub(crate) fn awaiting_release_t200(&mut self, outs: &mut Outs)
-        requires room { HasRoom 2 outs.old }
-        ensures step { Does self.old outs.old self.new outs.new awaiting_release_t200 }
+        requires room { HasOutputRoom 2 outs.old }
+        ensures step { MachineDoes self.old outs.old self.new outs.new awaiting_release_t200 }
         ensures len { Grows 2 outs.old outs.new }
     {
         if self.rc < self.params.n200() {

@@ -4,7 +4,7 @@ ghost use Rattle.std.specs.Prelude.{◌≡◌, []};
 ghost use Rattle.lapd_link_definition.specs.Begins.{is_sabme, is_final_ua, begins};
 ghost use Rattle.lapd_link_definition.specs.End.{End, begin};
 ghost use Rattle.lapd_link_definition.specs.Input.{Heard, input_of};
-ghost use Rattle.lapd_link_machine.specs.StandsFor.{StandsFor};
+ghost use Rattle.lapd_link_machine.specs.Represents.{Represents};
 
 use crate::machine::Machine;
 use lapd_frame::{Control, Role};
@@ -34,7 +34,7 @@ fn is_final_ua(control: &Control, role: Role) -> bool
 impl Machine {
     /// Whether an establishment begins with this event.
     pub fn begins(&self, event: &Event) -> bool
-        ensures { (e : End) → StandsFor self.now [] (begin e)
+        ensures { (e : End) → Represents self.now [] (begin e)
             → result ≡ begins e.state e.release_pending (input_of event.now) }
     {
         match event {
@@ -52,7 +52,7 @@ impl Machine {
 
     /// Whether an establishment begins with this frame.
     fn begins_with(&self, control: &Control, role: Role) -> bool
-        ensures { (e : End) → StandsFor self.now [] (begin e)
+        ensures { (e : End) → Represents self.now [] (begin e)
             → result ≡ begins e.state e.release_pending (Heard control.now role) }
     {
         match self.state {

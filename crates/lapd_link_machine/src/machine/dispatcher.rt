@@ -37,20 +37,20 @@ fn is_unit_data(control: &Control, role: Role) -> bool
 #[tactic(auto, using(crate::proofs::Rows::then_row, crate::proofs::Rows::else_row), unfolding(lapd_link_definition::specs::TeiAssigned::tei_assigned, lapd_link_definition::specs::AwaitingEstablishment::awaiting_establishment, lapd_link_definition::specs::AwaitingRelease::awaiting_release, lapd_link_definition::specs::Established::multiple_frame_established, lapd_link_definition::specs::TimerRecovery::timer_recovery, lapd_link_definition::specs::Established::in_7_and_8, lapd_link_definition::specs::Table::report_fault, lapd_link_definition::specs::Table::by_state, lapd_link_definition::specs::Table::row))]
 impl Machine {
     ghost use Rattle.lapd_link_machine.specs.Sent.{IsBetweenSteps};
-    ghost use Rattle.lapd_link_machine.specs.StandsFor.{Does, HasRoom, Grows};
+    ghost use Rattle.lapd_link_machine.specs.Represents.{MachineDoes, HasOutputRoom, Grows};
 
     /// Makes the row of an event.
     #[inline(always)]
     pub(crate) fn row(&mut self, event: Event, outs: &mut Outs)
-        requires room { HasRoom 6 outs.old }
+        requires room { HasOutputRoom 6 outs.old }
         requires between { IsBetweenSteps self.old }
-        ensures step { Does self.old outs.old self.new outs.new
+        ensures step { MachineDoes self.old outs.old self.new outs.new
             (row Tagged self.old.state (input_of event.entry)) }
         ensures len { Grows 6 outs.old outs.new }
         ensures state { input_of event.entry ≡ Establish → is_established self.new.state ≡ false }
     {
         match event {
-            Event::Heard(frame) => self.heard(frame.control(), frame.address().role, outs),
+            Event::Heard(frame) => self.frame_received(frame.control(), frame.address().role, outs),
             Event::Fault(kind) => self.fault(kind, outs),
             Event::T200 => self.t200_expiry(outs),
             Event::T203 => self.t203_expiry(outs),
@@ -64,41 +64,41 @@ impl Machine {
 
     /// Makes the row of a received frame.
     #[inline(always)]
-    fn heard(&mut self, control: Control, role: Role, outs: &mut Outs)
-        requires room { HasRoom 6 outs.old }
+    fn frame_received(&mut self, control: Control, role: Role, outs: &mut Outs)
+        requires room { HasOutputRoom 6 outs.old }
         requires between { IsBetweenSteps self.old }
-        ensures step { Does self.old outs.old self.new outs.new
+        ensures step { MachineDoes self.old outs.old self.new outs.new
             (row Tagged self.old.state (Heard control role)) }
         ensures len { Grows 6 outs.old outs.new }
     {
         if is_unit_data(&control, role) {
             self.put(Out::UnitUp, outs);
         } else {
-            self.heard_by_state(control, role, outs);
+            self.frame_by_state(control, role, outs);
         }
     }
 
     /// Makes the row of a received frame other than a UI command.
-    fn heard_by_state(&mut self, control: Control, role: Role, outs: &mut Outs)
-        requires room { HasRoom 6 outs.old }
+    fn frame_by_state(&mut self, control: Control, role: Role, outs: &mut Outs)
+        requires room { HasOutputRoom 6 outs.old }
         requires between { IsBetweenSteps self.old }
-        ensures step { Does self.old outs.old self.new outs.new
+        ensures step { MachineDoes self.old outs.old self.new outs.new
             (by_state Tagged self.old.state (Heard control role)) }
         ensures len { Grows 6 outs.old outs.new }
     {
         match self.state {
-            State::TeiAssigned => self.tei_assigned_heard(control, role, outs),
-            State::AwaitingEstablishment => self.awaiting_establishment_heard(control, role, outs),
-            State::AwaitingRelease => self.awaiting_release_heard(control, role, outs),
-            State::MultipleFrameEstablished => self.established_heard(control, role, outs),
-            State::TimerRecovery => self.timer_recovery_heard(control, role, outs),
+            State::TeiAssigned => self.tei_assigned_frame(control, role, outs),
+            State::AwaitingEstablishment => self.awaiting_establishment_frame(control, role, outs),
+            State::AwaitingRelease => self.awaiting_release_frame(control, role, outs),
+            State::MultipleFrameEstablished => self.established_frame(control, role, outs),
+            State::TimerRecovery => self.timer_recovery_frame(control, role, outs),
         }
     }
 
     /// Reports a fault in a frame, which breaks an established link.
     fn fault(&mut self, kind: FaultKind, outs: &mut Outs)
-        requires room { HasRoom 6 outs.old }
-        ensures step { Does self.old outs.old self.new outs.new
+        requires room { HasOutputRoom 6 outs.old }
+        ensures step { MachineDoes self.old outs.old self.new outs.new
             (row Tagged self.old.state (Faulty kind)) }
         ensures len { Grows 6 outs.old outs.new }
     {
@@ -116,9 +116,9 @@ impl Machine {
 
     /// T200 expires, if it runs.
     fn t200_expiry(&mut self, outs: &mut Outs)
-        requires room { HasRoom 6 outs.old }
+        requires room { HasOutputRoom 6 outs.old }
         requires between { IsBetweenSteps self.old }
-        ensures step { Does self.old outs.old self.new outs.new
+        ensures step { MachineDoes self.old outs.old self.new outs.new
             (row Tagged self.old.state (Expiry Timer.T200)) }
         ensures len { Grows 6 outs.old outs.new }
     {
@@ -129,9 +129,9 @@ impl Machine {
 
     /// T200, which was running, expires.
     fn t200_expiry_by_state(&mut self, outs: &mut Outs)
-        requires room { HasRoom 6 outs.old }
+        requires room { HasOutputRoom 6 outs.old }
         requires between { IsBetweenSteps self.old }
-        ensures step { Does self.old outs.old self.new outs.new
+        ensures step { MachineDoes self.old outs.old self.new outs.new
             (by_state Tagged self.old.state (Expiry Timer.T200)) }
         ensures len { Grows 6 outs.old outs.new }
     {
@@ -146,8 +146,8 @@ impl Machine {
 
     /// T203 expires, if it runs.
     fn t203_expiry(&mut self, outs: &mut Outs)
-        requires room { HasRoom 6 outs.old }
-        ensures step { Does self.old outs.old self.new outs.new
+        requires room { HasOutputRoom 6 outs.old }
+        ensures step { MachineDoes self.old outs.old self.new outs.new
             (row Tagged self.old.state (Expiry Timer.T203)) }
         ensures len { Grows 6 outs.old outs.new }
     {
@@ -158,8 +158,8 @@ impl Machine {
 
     /// T203, which was running, expires.
     fn t203_expiry_by_state(&mut self, outs: &mut Outs)
-        requires room { HasRoom 6 outs.old }
-        ensures step { Does self.old outs.old self.new outs.new
+        requires room { HasOutputRoom 6 outs.old }
+        ensures step { MachineDoes self.old outs.old self.new outs.new
             (by_state Tagged self.old.state (Expiry Timer.T203)) }
         ensures len { Grows 6 outs.old outs.new }
     {
@@ -174,8 +174,8 @@ impl Machine {
 
     /// DL-ESTABLISH request, not refused.
     fn establish(&mut self, outs: &mut Outs)
-        requires room { HasRoom 6 outs.old }
-        ensures step { Does self.old outs.old self.new outs.new
+        requires room { HasOutputRoom 6 outs.old }
+        ensures step { MachineDoes self.old outs.old self.new outs.new
             (row Tagged self.old.state Establish) }
         ensures len { Grows 6 outs.old outs.new }
         ensures state { is_established self.new.state ≡ false }
@@ -192,8 +192,8 @@ impl Machine {
 
     /// DL-RELEASE request.
     fn release(&mut self, outs: &mut Outs)
-        requires room { HasRoom 6 outs.old }
-        ensures step { Does self.old outs.old self.new outs.new
+        requires room { HasOutputRoom 6 outs.old }
+        ensures step { MachineDoes self.old outs.old self.new outs.new
             (row Tagged self.old.state Release) }
         ensures len { Grows 6 outs.old outs.new }
     {
@@ -209,8 +209,9 @@ impl Machine {
 
     /// Own receiver busy begins.
     fn busy_begins(&mut self, outs: &mut Outs)
-        requires room { HasRoom 6 outs.old }
-        ensures step { Does self.old outs.old self.new outs.new (row Tagged self.old.state BusyOn) }
+        requires room { HasOutputRoom 6 outs.old }
+        ensures step { MachineDoes self.old outs.old self.new outs.new
+            (row Tagged self.old.state BusyOn) }
         ensures len { Grows 6 outs.old outs.new }
     {
         match self.state {
@@ -221,8 +222,8 @@ impl Machine {
 
     /// Own receiver busy ends.
     fn busy_ends(&mut self, outs: &mut Outs)
-        requires room { HasRoom 6 outs.old }
-        ensures step { Does self.old outs.old self.new outs.new
+        requires room { HasOutputRoom 6 outs.old }
+        ensures step { MachineDoes self.old outs.old self.new outs.new
             (row Tagged self.old.state BusyOff) }
         ensures len { Grows 6 outs.old outs.new }
     {

@@ -16,18 +16,18 @@ use lapd_link_definition::State;
 #[tactic(auto, using(crate::proofs::Rows::then_row, crate::proofs::Rows::else_row), unfolding(lapd_link_definition::specs::EndOfStep::acknowledge_pending, lapd_link_definition::specs::EndOfStep::end_step))]
 impl Machine {
     ghost use Rattle.lapd_link_definition.specs.EndOfStep.{send_all};
-    ghost use Rattle.lapd_link_machine.specs.Bounds.{told_count};
-    ghost use Rattle.lapd_link_machine.specs.StandsFor.{StandsFor, Does, Grows};
+    ghost use Rattle.lapd_link_machine.specs.Bounds.{primitive_count};
+    ghost use Rattle.lapd_link_machine.specs.Represents.{Represents, MachineDoes, Grows};
 
     /// Ends a step.
     #[inline(always)]
     pub fn end_step(&mut self, outs: &mut Outs)
         requires room { array_vec_len outs.old ≤ 6 }
-        ensures step { Does self.old outs.old self.new outs.new (end_step Tagged) }
+        ensures step { MachineDoes self.old outs.old self.new outs.new (end_step Tagged) }
         ensures numbers { AreTags self.new.window }
         ensures len { length outs.new.items ≤ MOST_OUTPUTS }
         ensures few { is_established self.old.state ≡ false → Grows 1 outs.old outs.new }
-        ensures untold { told_count outs.new.items ≡ told_count outs.old.items }
+        ensures untold { primitive_count outs.new.items ≡ primitive_count outs.old.items }
     {
         self.send_all(outs);
         self.acknowledge_pending(outs);
@@ -38,12 +38,12 @@ impl Machine {
     #[inline(always)]
     fn send_all(&mut self, outs: &mut Outs)
         requires room { array_vec_len outs.old ≤ 6 }
-        ensures step { (s : StepState) → StandsFor self.old outs.old.items s
-            → StandsFor self.new outs.new.items (send_all Tagged (unsent s.end) s) }
+        ensures step { (s : StepState) → Represents self.old outs.old.items s
+            → Represents self.new outs.new.items (send_all Tagged (unsent s.end) s) }
         ensures len { array_vec_len outs.new < MOST_OUTPUTS }
         ensures none { is_established self.old.state ≡ false
             → array_vec_len outs.new ≡ array_vec_len outs.old }
-        ensures untold { told_count outs.new.items ≡ told_count outs.old.items }
+        ensures untold { primitive_count outs.new.items ≡ primitive_count outs.old.items }
     {
         while self.may_send_next() {
             self.transmit_i_frame(outs);
@@ -53,7 +53,7 @@ impl Machine {
 
     /// Whether one more message is sent.
     fn may_send_next(&self) -> bool
-        ensures shown { (s : StepState) (outs : List Out) → StandsFor self.now outs s
+        ensures shown { (s : StepState) (outs : List Out) → Represents self.now outs s
             → result ≡ may_send_next Tagged s }
         ensures few { result ≡ true → outstanding Tagged self.now.window < 127 }
         ensures established { result ≡ true → is_established self.now.state ≡ true }
@@ -67,9 +67,9 @@ impl Machine {
     /// Sends the pending acknowledgement.
     fn acknowledge_pending(&mut self, outs: &mut Outs)
         requires room { array_vec_len outs.old ≤ 135 }
-        ensures step { Does self.old outs.old self.new outs.new acknowledge_pending }
+        ensures step { MachineDoes self.old outs.old self.new outs.new acknowledge_pending }
         ensures len { Grows 1 outs.old outs.new }
-        ensures untold { told_count outs.new.items ≡ told_count outs.old.items }
+        ensures untold { primitive_count outs.new.items ≡ primitive_count outs.old.items }
     {
         if self.is_7_or_8() && self.window.ack_pending() {
             self.transmit_rr(outs);

@@ -18,12 +18,12 @@ use lapd_timers::Timer;
 /// The rows that states 7 and 8 share.
 #[tactic(auto, using(crate::proofs::Rows::then_row, crate::proofs::Rows::else_row), unfolding(lapd_link_definition::specs::Established::in_7_and_8, lapd_link_definition::specs::Established::busy_on, lapd_link_definition::specs::Established::busy_off))]
 impl Machine {
-    ghost use Rattle.lapd_link_machine.specs.StandsFor.{Does, HasRoom, Grows};
+    ghost use Rattle.lapd_link_machine.specs.Represents.{MachineDoes, HasOutputRoom, Grows};
 
     /// DL-ESTABLISH request (Figures B.7 and B.8).
     pub(crate) fn established_establish(&mut self, outs: &mut Outs)
-        requires room { HasRoom 4 outs.old }
-        ensures step { Does self.old outs.old self.new outs.new (in_7_and_8 Establish) }
+        requires room { HasOutputRoom 4 outs.old }
+        ensures step { MachineDoes self.old outs.old self.new outs.new (in_7_and_8 Establish) }
         ensures len { Grows 4 outs.old outs.new }
         ensures state { self.new.state ≡ State.AwaitingEstablishment }
     {
@@ -34,8 +34,8 @@ impl Machine {
 
     /// DL-RELEASE request (Figures B.7 and B.8).
     pub(crate) fn established_release(&mut self, outs: &mut Outs)
-        requires room { HasRoom 4 outs.old }
-        ensures step { Does self.old outs.old self.new outs.new (in_7_and_8 Release) }
+        requires room { HasOutputRoom 4 outs.old }
+        ensures step { MachineDoes self.old outs.old self.new outs.new (in_7_and_8 Release) }
         ensures len { Grows 4 outs.old outs.new }
     {
         self.discard_i_queue(outs);
@@ -48,8 +48,8 @@ impl Machine {
 
     /// Own receiver busy begins, if it was not set (Figures B.7 and B.8).
     pub(crate) fn busy_on(&mut self, outs: &mut Outs)
-        requires room { HasRoom 1 outs.old }
-        ensures step { Does self.old outs.old self.new outs.new busy_on }
+        requires room { HasOutputRoom 1 outs.old }
+        ensures step { MachineDoes self.old outs.old self.new outs.new busy_on }
         ensures len { Grows 1 outs.old outs.new }
     {
         if !self.window.own_busy() {
@@ -59,8 +59,8 @@ impl Machine {
 
     /// Own receiver busy ends (Figures B.7 and B.8).
     pub(crate) fn busy_off(&mut self, outs: &mut Outs)
-        requires room { HasRoom 1 outs.old }
-        ensures step { Does self.old outs.old self.new outs.new busy_off }
+        requires room { HasOutputRoom 1 outs.old }
+        ensures step { MachineDoes self.old outs.old self.new outs.new busy_off }
         ensures len { Grows 1 outs.old outs.new }
     {
         if self.window.own_busy() {
@@ -69,9 +69,10 @@ impl Machine {
     }
 
     /// Receives a frame that both states handle alike (Figures B.7 and B.8).
-    pub(crate) fn in_7_and_8_heard(&mut self, control: Control, role: Role, outs: &mut Outs)
-        requires room { HasRoom 6 outs.old }
-        ensures step { Does self.old outs.old self.new outs.new (in_7_and_8 (Heard control role)) }
+    pub(crate) fn in_7_and_8_frame(&mut self, control: Control, role: Role, outs: &mut Outs)
+        requires room { HasOutputRoom 6 outs.old }
+        ensures step { MachineDoes self.old outs.old self.new outs.new
+            (in_7_and_8 (Heard control role)) }
         ensures len { Grows 6 outs.old outs.new }
     {
         match (control, role) {
@@ -92,8 +93,8 @@ impl Machine {
 
     /// SABME: the peer re-establishes the link (Figures B.7 and B.8).
     fn established_sabme(&mut self, p: bool, outs: &mut Outs)
-        requires room { HasRoom 6 outs.old }
-        ensures step { Does self.old outs.old self.new outs.new
+        requires room { HasOutputRoom 6 outs.old }
+        ensures step { MachineDoes self.old outs.old self.new outs.new
             (in_7_and_8 (Heard (Control.Sabme p) Role.Command)) }
         ensures len { Grows 6 outs.old outs.new }
     {
@@ -109,8 +110,8 @@ impl Machine {
 
     /// DISC: the peer releases the link (Figures B.7 and B.8).
     fn established_disc(&mut self, p: bool, outs: &mut Outs)
-        requires room { HasRoom 5 outs.old }
-        ensures step { Does self.old outs.old self.new outs.new
+        requires room { HasOutputRoom 5 outs.old }
+        ensures step { MachineDoes self.old outs.old self.new outs.new
             (in_7_and_8 (Heard (Control.Disc p) Role.Command)) }
         ensures len { Grows 5 outs.old outs.new }
     {
@@ -127,14 +128,14 @@ impl Machine {
 #[tactic(auto, using(crate::proofs::Rows::then_row, crate::proofs::Rows::else_row), unfolding(lapd_link_definition::specs::Established::poll_or_final, lapd_link_definition::specs::Established::established_t200, lapd_link_definition::specs::Established::multiple_frame_established, lapd_link_definition::specs::Established::in_7_and_8))]
 impl Machine {
     ghost use Rattle.lapd_link_machine.specs.Sent.{SentAreOutstanding};
-    ghost use Rattle.lapd_link_machine.specs.StandsFor.{Does, HasRoom, Grows};
+    ghost use Rattle.lapd_link_machine.specs.Represents.{MachineDoes, HasOutputRoom, Grows};
 
     /// Receives a frame (Figure B.7).
     #[inline(always)]
-    pub(crate) fn established_heard(&mut self, control: Control, role: Role, outs: &mut Outs)
-        requires room { HasRoom 6 outs.old }
+    pub(crate) fn established_frame(&mut self, control: Control, role: Role, outs: &mut Outs)
+        requires room { HasOutputRoom 6 outs.old }
         requires counted { SentAreOutstanding self.old }
-        ensures step { Does self.old outs.old self.new outs.new
+        ensures step { MachineDoes self.old outs.old self.new outs.new
             (multiple_frame_established Tagged (Heard control role)) }
         ensures len { Grows 6 outs.old outs.new }
     {
@@ -161,16 +162,16 @@ impl Machine {
             | Control::Disc { .. }
             | Control::Ua { .. }
             | Control::Frmr { .. }
-            | Control::Xid { .. } => self.in_7_and_8_heard(control, role, outs),
+            | Control::Xid { .. } => self.in_7_and_8_frame(control, role, outs),
         }
     }
 
     /// Receives an I frame (Figure B.7).
     #[inline(always)]
     fn established_i_frame(&mut self, ns: Number, nr: Number, p: bool, role: Role, outs: &mut Outs)
-        requires room { HasRoom 6 outs.old }
+        requires room { HasOutputRoom 6 outs.old }
         requires counted { SentAreOutstanding self.old }
-        ensures step { Does self.old outs.old self.new outs.new
+        ensures step { MachineDoes self.old outs.old self.new outs.new
             (multiple_frame_established Tagged (Heard (Control.I ns nr p) role)) }
         ensures len { Grows 6 outs.old outs.new }
     {
@@ -185,8 +186,8 @@ impl Machine {
 
     /// Receives a DM (Figure B.7).
     fn established_dm(&mut self, f: bool, role: Role, outs: &mut Outs)
-        requires room { HasRoom 4 outs.old }
-        ensures step { Does self.old outs.old self.new outs.new
+        requires room { HasOutputRoom 4 outs.old }
+        ensures step { MachineDoes self.old outs.old self.new outs.new
             (multiple_frame_established Tagged (Heard (Control.Dm f) role)) }
         ensures len { Grows 4 outs.old outs.new }
     {
@@ -202,8 +203,8 @@ impl Machine {
 
     /// A command with P=1 is answered, and a response with F=1 is unsolicited (Figure B.7).
     fn poll_or_final(&mut self, role: Role, pf: bool, outs: &mut Outs)
-        requires room { HasRoom 1 outs.old }
-        ensures step { Does self.old outs.old self.new outs.new (poll_or_final role pf) }
+        requires room { HasOutputRoom 1 outs.old }
+        ensures step { MachineDoes self.old outs.old self.new outs.new (poll_or_final role pf) }
         ensures len { Grows 1 outs.old outs.new }
         ensures counted { SentAreOutstanding self.old → SentAreOutstanding self.new }
     {
@@ -216,8 +217,8 @@ impl Machine {
 
     /// T203 expires: an enquiry is sent (Figure B.7).
     pub(crate) fn established_t203(&mut self, outs: &mut Outs)
-        requires room { HasRoom 2 outs.old }
-        ensures step { Does self.old outs.old self.new outs.new
+        requires room { HasOutputRoom 2 outs.old }
+        ensures step { MachineDoes self.old outs.old self.new outs.new
             (multiple_frame_established Tagged (Expiry Timer.T203)) }
         ensures len { Grows 2 outs.old outs.new }
     {
@@ -229,9 +230,9 @@ impl Machine {
 
     /// T200 expires: the last I frame is retransmitted, or an enquiry is sent (Figure B.7).
     pub(crate) fn established_t200(&mut self, outs: &mut Outs)
-        requires room { HasRoom 2 outs.old }
+        requires room { HasOutputRoom 2 outs.old }
         requires counted { SentAreOutstanding self.old }
-        ensures step { Does self.old outs.old self.new outs.new (established_t200 Tagged) }
+        ensures step { MachineDoes self.old outs.old self.new outs.new (established_t200 Tagged) }
         ensures len { Grows 2 outs.old outs.new }
     {
         if self.sends_last() {
@@ -270,7 +271,7 @@ impl Machine {
 #[tactic(auto, using(crate::proofs::Rows::then_row, crate::proofs::Rows::else_row), unfolding(lapd_link_definition::specs::Established::acknowledge_with_timers, lapd_link_definition::specs::Established::i_frame_nr, lapd_link_definition::specs::Established::rr_nr, lapd_link_definition::specs::Established::rej_nr, lapd_link_definition::specs::Established::rnr_nr))]
 impl Machine {
     ghost use Rattle.lapd_link_machine.specs.Sent.{SentAreOutstanding, IsTaken};
-    ghost use Rattle.lapd_link_machine.specs.StandsFor.{Does, HasRoom, Grows};
+    ghost use Rattle.lapd_link_machine.specs.Represents.{MachineDoes, HasOutputRoom, Grows};
 
     /// The window after a valid N(R), and what it acknowledges. The machine is unchanged.
     #[inline(always)]
@@ -291,9 +292,9 @@ impl Machine {
     /// Processes the N(R) of an I frame; while the peer is busy, T200 keeps running (Figure B.7).
     #[inline(always)]
     fn i_frame_nr(&mut self, nr: Number, outs: &mut Outs)
-        requires room { HasRoom 4 outs.old }
+        requires room { HasOutputRoom 4 outs.old }
         requires counted { SentAreOutstanding self.old }
-        ensures step { Does self.old outs.old self.new outs.new (i_frame_nr Tagged nr) }
+        ensures step { MachineDoes self.old outs.old self.new outs.new (i_frame_nr Tagged nr) }
         ensures len { Grows 4 outs.old outs.new }
     {
         match self.acknowledged_by(nr) {
@@ -311,9 +312,9 @@ impl Machine {
     /// Processes the N(R) of an RR frame (Figure B.7).
     #[inline(always)]
     fn rr_nr(&mut self, nr: Number, outs: &mut Outs)
-        requires room { HasRoom 4 outs.old }
+        requires room { HasOutputRoom 4 outs.old }
         requires counted { SentAreOutstanding self.old }
-        ensures step { Does self.old outs.old self.new outs.new (rr_nr Tagged nr) }
+        ensures step { MachineDoes self.old outs.old self.new outs.new (rr_nr Tagged nr) }
         ensures len { Grows 4 outs.old outs.new }
     {
         match self.acknowledged_by(nr) {
@@ -326,10 +327,10 @@ impl Machine {
     /// some (Figure B.7).
     #[inline(always)]
     fn acknowledge_with_timers(&mut self, nr: Number, taken: (Window, Advance), outs: &mut Outs)
-        requires room { HasRoom 3 outs.old }
+        requires room { HasOutputRoom 3 outs.old }
         requires taken { IsTaken nr self.old.window taken }
         requires counted { SentAreOutstanding self.old }
-        ensures step { Does self.old outs.old self.new outs.new
+        ensures step { MachineDoes self.old outs.old self.new outs.new
             (acknowledge_with_timers Tagged nr) }
         ensures len { Grows 3 outs.old outs.new }
     {
@@ -345,9 +346,9 @@ impl Machine {
 
     /// Processes the N(R) of a REJ frame (Figure B.7).
     fn rej_nr(&mut self, nr: Number, outs: &mut Outs)
-        requires room { HasRoom 4 outs.old }
+        requires room { HasOutputRoom 4 outs.old }
         requires counted { SentAreOutstanding self.old }
-        ensures step { Does self.old outs.old self.new outs.new (rej_nr Tagged nr) }
+        ensures step { MachineDoes self.old outs.old self.new outs.new (rej_nr Tagged nr) }
         ensures len { Grows 4 outs.old outs.new }
     {
         match self.acknowledged_by(nr) {
@@ -363,9 +364,9 @@ impl Machine {
 
     /// Processes the N(R) of an RNR frame (Figure B.7).
     fn rnr_nr(&mut self, nr: Number, outs: &mut Outs)
-        requires room { HasRoom 4 outs.old }
+        requires room { HasOutputRoom 4 outs.old }
         requires counted { SentAreOutstanding self.old }
-        ensures step { Does self.old outs.old self.new outs.new (rnr_nr Tagged nr) }
+        ensures step { MachineDoes self.old outs.old self.new outs.new (rnr_nr Tagged nr) }
         ensures len { Grows 4 outs.old outs.new }
     {
         match self.acknowledged_by(nr) {

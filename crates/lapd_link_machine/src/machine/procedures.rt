@@ -19,13 +19,13 @@ use lapd_timers::Timer;
 #[tactic(auto, unfolding(lapd_link_definition::specs::Procedures::put, lapd_link_definition::specs::Procedures::state_to, lapd_link_definition::specs::Procedures::rc_to, lapd_link_definition::specs::Procedures::increment_rc, lapd_link_definition::specs::Procedures::layer3_initiated_to, lapd_link_definition::specs::Procedures::release_pending_to, lapd_link_definition::specs::Procedures::start, lapd_link_definition::specs::Procedures::stop, lapd_link_definition::specs::Procedures::expired))]
 impl Machine {
     ghost use Rattle.lapd_link_machine.specs.Sent.{SentAreOutstanding, IsTaken};
-    ghost use Rattle.lapd_link_machine.specs.Bounds.{told_count};
-    ghost use Rattle.lapd_link_machine.specs.StandsFor.{Does, DoesQuietly, HasRoom, Grows};
+    ghost use Rattle.lapd_link_machine.specs.Bounds.{primitive_count};
+    ghost use Rattle.lapd_link_machine.specs.Represents.{MachineDoes, DoesQuietly, HasOutputRoom, Grows};
 
     /// Adds an output.
     pub(crate) fn put(&mut self, out: Out, outs: &mut Outs)
-        requires room { HasRoom 1 outs.old }
-        ensures step { Does self.old outs.old self.new outs.new (put out) }
+        requires room { HasOutputRoom 1 outs.old }
+        ensures step { MachineDoes self.old outs.old self.new outs.new (put out) }
         ensures len { Grows 1 outs.old outs.new }
         ensures counted { SentAreOutstanding self.old → SentAreOutstanding self.new }
     {
@@ -72,10 +72,10 @@ impl Machine {
 
     /// START T200: it is started or restarted.
     pub(crate) fn start_t200(&mut self, outs: &mut Outs)
-        requires room { HasRoom 1 outs.old }
-        ensures step { Does self.old outs.old self.new outs.new (start Timer.T200) }
+        requires room { HasOutputRoom 1 outs.old }
+        ensures step { MachineDoes self.old outs.old self.new outs.new (start Timer.T200) }
         ensures len { Grows 1 outs.old outs.new }
-        ensures untold { told_count outs.new.items ≡ told_count outs.old.items }
+        ensures untold { primitive_count outs.new.items ≡ primitive_count outs.old.items }
         ensures window { self.new.window ≡ self.old.window }
         ensures t200 { self.new.t200 ≡ true }
     {
@@ -85,8 +85,8 @@ impl Machine {
 
     /// STOP T200: it is stopped if it runs.
     pub(crate) fn stop_t200(&mut self, outs: &mut Outs)
-        requires room { HasRoom 1 outs.old }
-        ensures step { Does self.old outs.old self.new outs.new (stop Timer.T200) }
+        requires room { HasOutputRoom 1 outs.old }
+        ensures step { MachineDoes self.old outs.old self.new outs.new (stop Timer.T200) }
         ensures len { Grows 1 outs.old outs.new }
     {
         if self.t200 {
@@ -105,8 +105,8 @@ impl Machine {
 
     /// START T203: it is started or restarted.
     pub(crate) fn start_t203(&mut self, outs: &mut Outs)
-        requires room { HasRoom 1 outs.old }
-        ensures step { Does self.old outs.old self.new outs.new (start Timer.T203) }
+        requires room { HasOutputRoom 1 outs.old }
+        ensures step { MachineDoes self.old outs.old self.new outs.new (start Timer.T203) }
         ensures len { Grows 1 outs.old outs.new }
     {
         self.t203 = true;
@@ -115,10 +115,10 @@ impl Machine {
 
     /// STOP T203: it is stopped if it runs.
     pub(crate) fn stop_t203(&mut self, outs: &mut Outs)
-        requires room { HasRoom 1 outs.old }
-        ensures step { Does self.old outs.old self.new outs.new (stop Timer.T203) }
+        requires room { HasOutputRoom 1 outs.old }
+        ensures step { MachineDoes self.old outs.old self.new outs.new (stop Timer.T203) }
         ensures len { Grows 1 outs.old outs.new }
-        ensures untold { told_count outs.new.items ≡ told_count outs.old.items }
+        ensures untold { primitive_count outs.new.items ≡ primitive_count outs.old.items }
         ensures window { self.new.window ≡ self.old.window }
     {
         if self.t203 {
@@ -139,8 +139,8 @@ impl Machine {
 #[tactic(auto, unfolding(lapd_link_definition::specs::Procedures::clear_exception_conditions, lapd_link_definition::specs::Procedures::zero_state_variables, lapd_link_definition::specs::Procedures::set_peer_busy, lapd_link_definition::specs::Procedures::set_own_busy, lapd_link_definition::specs::Procedures::enquiry_response, lapd_link_definition::specs::Procedures::transmit_enquiry, lapd_link_definition::specs::Procedures::transmit_rr, lapd_link_definition::specs::Procedures::i_frame_ns))]
 impl Machine {
     ghost use Rattle.lapd_link_machine.specs.Sent.{SentAreOutstanding, IsTaken};
-    ghost use Rattle.lapd_link_machine.specs.Bounds.{told_count};
-    ghost use Rattle.lapd_link_machine.specs.StandsFor.{Does, DoesQuietly, HasRoom, Grows};
+    ghost use Rattle.lapd_link_machine.specs.Bounds.{primitive_count};
+    ghost use Rattle.lapd_link_machine.specs.Represents.{MachineDoes, DoesQuietly, HasOutputRoom, Grows};
 
     /// CLEAR EXCEPTION CONDITIONS: clears busy, rejecting and a pending acknowledgement.
     pub(crate) fn clear_exception_conditions(&mut self)
@@ -166,8 +166,8 @@ impl Machine {
 
     /// SET or CLEAR OWN RECEIVER BUSY, and report it to the peer.
     pub(crate) fn set_own_busy(&mut self, on: bool, outs: &mut Outs)
-        requires room { HasRoom 1 outs.old }
-        ensures step { Does self.old outs.old self.new outs.new (set_own_busy on) }
+        requires room { HasOutputRoom 1 outs.old }
+        ensures step { MachineDoes self.old outs.old self.new outs.new (set_own_busy on) }
         ensures len { Grows 1 outs.old outs.new }
     {
         let (window, control) = self.window.own(on);
@@ -177,8 +177,8 @@ impl Machine {
 
     /// ENQUIRY RESPONSE: a poll is answered.
     pub(crate) fn enquiry_response(&mut self, outs: &mut Outs)
-        requires room { HasRoom 1 outs.old }
-        ensures step { Does self.old outs.old self.new outs.new enquiry_response }
+        requires room { HasOutputRoom 1 outs.old }
+        ensures step { MachineDoes self.old outs.old self.new outs.new enquiry_response }
         ensures len { Grows 1 outs.old outs.new }
         ensures counted { SentAreOutstanding self.old → SentAreOutstanding self.new }
     {
@@ -189,8 +189,8 @@ impl Machine {
 
     /// TRANSMIT ENQUIRY: polls the peer, and starts T200.
     pub(crate) fn transmit_enquiry(&mut self, outs: &mut Outs)
-        requires room { HasRoom 2 outs.old }
-        ensures step { Does self.old outs.old self.new outs.new transmit_enquiry }
+        requires room { HasOutputRoom 2 outs.old }
+        ensures step { MachineDoes self.old outs.old self.new outs.new transmit_enquiry }
         ensures len { Grows 2 outs.old outs.new }
     {
         let (window, control) = self.window.enquiry();
@@ -202,10 +202,10 @@ impl Machine {
 
     /// Sends the pending acknowledgement.
     pub(crate) fn transmit_rr(&mut self, outs: &mut Outs)
-        requires room { HasRoom 1 outs.old }
-        ensures step { Does self.old outs.old self.new outs.new transmit_rr }
+        requires room { HasOutputRoom 1 outs.old }
+        ensures step { MachineDoes self.old outs.old self.new outs.new transmit_rr }
         ensures len { Grows 1 outs.old outs.new }
-        ensures untold { told_count outs.new.items ≡ told_count outs.old.items }
+        ensures untold { primitive_count outs.new.items ≡ primitive_count outs.old.items }
     {
         let (window, control) = self.window.acknowledge();
         self.window = window;
@@ -215,8 +215,8 @@ impl Machine {
     /// Processes the N(S) and P of an I frame.
     #[inline(always)]
     pub(crate) fn i_frame_ns(&mut self, ns: Number, p: bool, outs: &mut Outs)
-        requires room { HasRoom 2 outs.old }
-        ensures step { Does self.old outs.old self.new outs.new (i_frame_ns Tagged ns p) }
+        requires room { HasOutputRoom 2 outs.old }
+        ensures step { MachineDoes self.old outs.old self.new outs.new (i_frame_ns Tagged ns p) }
         ensures len { Grows 2 outs.old outs.new }
         ensures counted { SentAreOutstanding self.old → SentAreOutstanding self.new }
     {
@@ -235,15 +235,15 @@ impl Machine {
 #[tactic(auto, using(crate::proofs::Tails::tail_waiting, crate::proofs::Tails::tail_place, crate::proofs::Tails::tail_emptied, crate::proofs::Tails::tail_acknowledged, crate::proofs::Tails::tail_gone_back, crate::proofs::Tails::tail_sent, crate::proofs::Tails::tail_given, crate::proofs::Tails::room_sent, crate::proofs::Tails::room_gone_back), unfolding(lapd_link_definition::specs::Procedures::queue_up, lapd_link_definition::specs::Procedures::discard_i_queue, lapd_link_definition::specs::Procedures::acknowledge, lapd_link_definition::specs::Procedures::invoke_retransmission, lapd_link_definition::specs::Procedures::discard_unacknowledged, lapd_link_definition::specs::Procedures::transmit_i_frame))]
 impl Machine {
     ghost use Rattle.lapd_link_machine.specs.Sent.{SentAreOutstanding, IsTaken};
-    ghost use Rattle.lapd_link_machine.specs.Bounds.{told_count};
-    ghost use Rattle.lapd_link_machine.specs.StandsFor.{Does, DoesQuietly, HasRoom, Grows};
+    ghost use Rattle.lapd_link_machine.specs.Bounds.{primitive_count};
+    ghost use Rattle.lapd_link_machine.specs.Represents.{MachineDoes, DoesQuietly, HasOutputRoom, Grows};
 
     /// Queues a message, or returns it if the queue is full.
     #[inline(always)]
     pub fn queue_up(&mut self, message: Vec<u8>) -> Result<(), Vec<u8>>
         ensures full { is_err result ≡ (length self.old.queue.messages == self.old.queue.room) }
         ensures ok { OnOk result (DoesQuietly self.old self.new (queue_up message.items)) }
-        ensures handed_back { IfErr result (λ back. back ≡ message) }
+        ensures returned { IfErr result (λ back. back ≡ message) }
         ensures unchanged { OnErr result (self.new ≡ self.old) }
     {
         self.queue.put(message)
@@ -251,8 +251,8 @@ impl Machine {
 
     /// DISCARD I QUEUE: the whole queue is dropped.
     pub(crate) fn discard_i_queue(&mut self, outs: &mut Outs)
-        requires room { HasRoom 1 outs.old }
-        ensures step { Does self.old outs.old self.new outs.new discard_i_queue }
+        requires room { HasOutputRoom 1 outs.old }
+        ensures step { MachineDoes self.old outs.old self.new outs.new discard_i_queue }
         ensures len { Grows 1 outs.old outs.new }
         ensures state { self.new.state ≡ self.old.state }
     {
@@ -265,10 +265,10 @@ impl Machine {
     /// V(A) = N(R): the messages before a valid N(R) are acknowledged and removed from the queue.
     #[inline(always)]
     pub(crate) fn acknowledge(&mut self, nr: Number, taken: (Window, Advance), outs: &mut Outs)
-        requires room { HasRoom 1 outs.old }
+        requires room { HasOutputRoom 1 outs.old }
         requires taken { IsTaken nr self.old.window taken }
         requires counted { SentAreOutstanding self.old }
-        ensures step { Does self.old outs.old self.new outs.new (acknowledge Tagged nr) }
+        ensures step { MachineDoes self.old outs.old self.new outs.new (acknowledge Tagged nr) }
         ensures len { Grows 1 outs.old outs.new }
     {
         let count = u16::from(taken.1.count);
@@ -290,8 +290,8 @@ impl Machine {
     /// DISCARD I QUEUE and an indication of the establishment, if messages were sent and not
     /// acknowledged.
     pub(crate) fn discard_unacknowledged(&mut self, outs: &mut Outs)
-        requires room { HasRoom 2 outs.old }
-        ensures step { Does self.old outs.old self.new outs.new discard_unacknowledged }
+        requires room { HasOutputRoom 2 outs.old }
+        ensures step { MachineDoes self.old outs.old self.new outs.new discard_unacknowledged }
         ensures len { Grows 2 outs.old outs.new }
     {
         if self.window.vs().value() != self.window.va().value() {
@@ -302,11 +302,11 @@ impl Machine {
 
     /// Sends the first unsent message.
     pub(crate) fn transmit_i_frame(&mut self, outs: &mut Outs)
-        requires room { HasRoom 1 outs.old }
+        requires room { HasOutputRoom 1 outs.old }
         requires unsent { self.old.queue.sent < length self.old.queue.messages }
-        ensures step { Does self.old outs.old self.new outs.new (transmit_i_frame Tagged) }
+        ensures step { MachineDoes self.old outs.old self.new outs.new (transmit_i_frame Tagged) }
         ensures len { Grows 1 outs.old outs.new }
-        ensures untold { told_count outs.new.items ≡ told_count outs.old.items }
+        ensures untold { primitive_count outs.new.items ≡ primitive_count outs.old.items }
         ensures window { self.new.window ≡ after_sending Tagged self.old.window }
         ensures t200 { self.new.t200 ≡ self.old.t200 }
     {
@@ -321,13 +321,14 @@ impl Machine {
 /// The last sent message is retransmitted.
 #[tactic(auto, using(crate::proofs::Tails::tail_last_place), unfolding(lapd_link_definition::specs::Procedures::retransmit_last_i_frame))]
 impl Machine {
-    ghost use Rattle.lapd_link_machine.specs.StandsFor.{Does, HasRoom, Grows};
+    ghost use Rattle.lapd_link_machine.specs.Represents.{MachineDoes, HasOutputRoom, Grows};
 
     /// Retransmits it with P=1, and starts T200.
     pub(crate) fn retransmit_last_i_frame(&mut self, outs: &mut Outs)
-        requires room { HasRoom 2 outs.old }
+        requires room { HasOutputRoom 2 outs.old }
         requires sent { 0 < self.old.queue.sent }
-        ensures step { Does self.old outs.old self.new outs.new (retransmit_last_i_frame Tagged) }
+        ensures step { MachineDoes self.old outs.old self.new outs.new
+            (retransmit_last_i_frame Tagged) }
         ensures len { Grows 2 outs.old outs.new }
     {
         let place = self.queue.sent() - 1;
@@ -343,16 +344,16 @@ impl Machine {
 #[tactic(auto, using(crate::proofs::Guards::guard_starts, crate::proofs::Guards::guard_runs))]
 impl Machine {
     ghost use Rattle.lapd_link_machine.specs.Sent.{SentAreOutstanding, IsTaken};
-    ghost use Rattle.lapd_link_machine.specs.Bounds.{told_count};
-    ghost use Rattle.lapd_link_machine.specs.StandsFor.{Does, DoesQuietly, HasRoom, Grows};
+    ghost use Rattle.lapd_link_machine.specs.Bounds.{primitive_count};
+    ghost use Rattle.lapd_link_machine.specs.Represents.{MachineDoes, DoesQuietly, HasOutputRoom, Grows};
 
     /// If T200 does not run, stops T203 and starts T200.
     pub(crate) fn ensure_t200(&mut self, outs: &mut Outs)
         requires room { array_vec_len outs.old + (if self.old.t200 then 0 else 2) ≤ MOST_OUTPUTS }
-        ensures step { Does self.old outs.old self.new outs.new ensure_t200 }
+        ensures step { MachineDoes self.old outs.old self.new outs.new ensure_t200 }
         ensures len { array_vec_len outs.new ≤ array_vec_len outs.old
             + (if self.old.t200 then 0 else 2) }
-        ensures untold { told_count outs.new.items ≡ told_count outs.old.items }
+        ensures untold { primitive_count outs.new.items ≡ primitive_count outs.old.items }
         ensures window { self.new.window ≡ self.old.window }
         ensures t200 { self.new.t200 ≡ true }
     {
@@ -366,12 +367,12 @@ impl Machine {
 /// Procedures made of these actions.
 #[tactic(auto, unfolding(lapd_link_definition::specs::Procedures::establish_data_link, lapd_link_definition::specs::Procedures::reestablish_data_link, lapd_link_definition::specs::Procedures::nr_error_recovery))]
 impl Machine {
-    ghost use Rattle.lapd_link_machine.specs.StandsFor.{Does, HasRoom, Grows};
+    ghost use Rattle.lapd_link_machine.specs.Represents.{MachineDoes, HasOutputRoom, Grows};
 
     /// ESTABLISH DATA LINK: sends a SABME, whose response is then awaited.
     pub(crate) fn establish_data_link(&mut self, outs: &mut Outs)
-        requires room { HasRoom 3 outs.old }
-        ensures step { Does self.old outs.old self.new outs.new establish_data_link }
+        requires room { HasOutputRoom 3 outs.old }
+        ensures step { MachineDoes self.old outs.old self.new outs.new establish_data_link }
         ensures len { Grows 3 outs.old outs.new }
         ensures state { self.new.state ≡ State.AwaitingEstablishment }
     {
@@ -386,8 +387,8 @@ impl Machine {
 
     /// The data link initiates the establishment itself.
     pub(crate) fn reestablish_data_link(&mut self, outs: &mut Outs)
-        requires room { HasRoom 3 outs.old }
-        ensures step { Does self.old outs.old self.new outs.new reestablish_data_link }
+        requires room { HasOutputRoom 3 outs.old }
+        ensures step { MachineDoes self.old outs.old self.new outs.new reestablish_data_link }
         ensures len { Grows 3 outs.old outs.new }
     {
         self.layer3_initiated_to(false);
@@ -396,8 +397,8 @@ impl Machine {
 
     /// N(R) ERROR RECOVERY: the response to an N(R) that is not valid.
     pub(crate) fn nr_error_recovery(&mut self, outs: &mut Outs)
-        requires room { HasRoom 4 outs.old }
-        ensures step { Does self.old outs.old self.new outs.new nr_error_recovery }
+        requires room { HasOutputRoom 4 outs.old }
+        ensures step { MachineDoes self.old outs.old self.new outs.new nr_error_recovery }
         ensures len { Grows 4 outs.old outs.new }
     {
         self.put(Out::Report(Letter::J), outs);

@@ -60,11 +60,11 @@ fn refused_when_long(len: usize) -> Option<LinkFault>
 
 #[tactic(auto, unfolding(lapd_link_definition::specs::End::begin))]
 impl Machine {
-    ghost use Rattle.lapd_link_machine.specs.StandsFor.{StandsFor};
+    ghost use Rattle.lapd_link_machine.specs.Represents.{Represents};
 
     /// Why an event is refused.
     pub fn refuses(&self, event: &Event) -> Option<LinkFault>
-        ensures { (e : End) → StandsFor self.now [] (begin e)
+        ensures { (e : End) → Represents self.now [] (begin e)
             → result ≡ refused (input_of event.now) e }
     {
         match event {
@@ -83,7 +83,7 @@ impl Machine {
     /// Why a message of this many octets is refused, whether or not the queue is full.
     pub fn refuses_message(&self, len: usize) -> Option<LinkFault>
         ensures { (message : List ℕ) (e : End) → length message ≡ len
-            → StandsFor self.now [] (begin e) → MatchOption result
+            → Represents self.now [] (begin e) → MatchOption result
             (refused (Give message) e ≡ refused_when_full
             (length self.now.queue.messages == self.now.queue.room))
             (λ fault. refused (Give message) e ≡ Some fault) }

@@ -19,11 +19,11 @@ use std::alloc::{AllocError, Global};
 impl Machine {
     ghost use Rattle.lapd_link_machine.specs.Bounds.{IsBounded};
     ghost use Rattle.lapd_link_machine.specs.Sent.{IsBetweenSteps};
-    ghost use Rattle.lapd_link_machine.specs.StandsFor.{StandsFor};
+    ghost use Rattle.lapd_link_machine.specs.Represents.{Represents};
 
     /// Makes a machine in state 4. It allocates its I queue.
     pub fn new(alloc: Global, params: Params) -> Result<Machine, AllocError>
-        ensures end { IfOk result (λ m. StandsFor m [] (begin (new_end params))) }
+        ensures end { IfOk result (λ m. Represents m [] (begin (new_end params))) }
         ensures between { IfOk result IsBetweenSteps }
     {
         let queue = IQueue::new(alloc, params.room())?;
@@ -45,8 +45,8 @@ impl Machine {
     pub fn step(&mut self, event: Event, outs: &mut Outs)
         requires empty { outs.old.items ≡ [] }
         requires between { IsBetweenSteps self.old }
-        ensures step { (e : End) → StandsFor self.old [] (begin e)
-            → StandsFor self.new outs.new.items (end_step Tagged
+        ensures step { (e : End) → Represents self.old [] (begin e)
+            → Represents self.new outs.new.items (end_step Tagged
             (row Tagged e.state (input_of event.entry) (begin e))) }
         ensures numbers { AreTags self.new.window }
         ensures bounded { IsBounded (input_of event.entry) outs.new.items }

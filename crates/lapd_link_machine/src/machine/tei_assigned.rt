@@ -18,12 +18,12 @@ pub fn unsolicited_ua(f: bool) -> Letter
 
 #[tactic(auto, unfolding(lapd_link_definition::specs::TeiAssigned::tei_assigned))]
 impl Machine {
-    ghost use Rattle.lapd_link_machine.specs.StandsFor.{Does, HasRoom, Grows};
+    ghost use Rattle.lapd_link_machine.specs.Represents.{MachineDoes, HasOutputRoom, Grows};
 
     /// Receives a frame (Figure B.4).
-    pub(crate) fn tei_assigned_heard(&mut self, control: Control, role: Role, outs: &mut Outs)
-        requires room { HasRoom 6 outs.old }
-        ensures step { Does self.old outs.old self.new outs.new
+    pub(crate) fn tei_assigned_frame(&mut self, control: Control, role: Role, outs: &mut Outs)
+        requires room { HasOutputRoom 6 outs.old }
+        ensures step { MachineDoes self.old outs.old self.new outs.new
             (tei_assigned (Heard control role)) }
         ensures len { Grows 6 outs.old outs.new }
     {
@@ -46,8 +46,8 @@ impl Machine {
 
     /// DL-ESTABLISH request (Figure B.4).
     pub(crate) fn tei_assigned_establish(&mut self, outs: &mut Outs)
-        requires room { HasRoom 4 outs.old }
-        ensures step { Does self.old outs.old self.new outs.new (tei_assigned Establish) }
+        requires room { HasOutputRoom 4 outs.old }
+        ensures step { MachineDoes self.old outs.old self.new outs.new (tei_assigned Establish) }
         ensures len { Grows 4 outs.old outs.new }
         ensures state { self.new.state ≡ State.AwaitingEstablishment }
     {

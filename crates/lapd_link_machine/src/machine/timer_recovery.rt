@@ -23,13 +23,13 @@ fn is_final(role: Role, pf: bool) -> bool
 #[tactic(auto, using(crate::proofs::Rows::then_row, crate::proofs::Rows::else_row), unfolding(lapd_link_definition::specs::TimerRecovery::i_frame_nr_in_recovery, lapd_link_definition::specs::TimerRecovery::poll, lapd_link_definition::specs::TimerRecovery::rr_nr_in_recovery, lapd_link_definition::specs::TimerRecovery::rnr_nr_in_recovery, lapd_link_definition::specs::TimerRecovery::timer_recovery_t200, lapd_link_definition::specs::TimerRecovery::timer_recovery, lapd_link_definition::specs::Established::in_7_and_8))]
 impl Machine {
     ghost use Rattle.lapd_link_machine.specs.Sent.{SentAreOutstanding};
-    ghost use Rattle.lapd_link_machine.specs.StandsFor.{Does, HasRoom, Grows};
+    ghost use Rattle.lapd_link_machine.specs.Represents.{MachineDoes, HasOutputRoom, Grows};
 
     /// Receives a frame (Figure B.8).
-    pub(crate) fn timer_recovery_heard(&mut self, control: Control, role: Role, outs: &mut Outs)
-        requires room { HasRoom 6 outs.old }
+    pub(crate) fn timer_recovery_frame(&mut self, control: Control, role: Role, outs: &mut Outs)
+        requires room { HasOutputRoom 6 outs.old }
         requires counted { SentAreOutstanding self.old }
-        ensures step { Does self.old outs.old self.new outs.new
+        ensures step { MachineDoes self.old outs.old self.new outs.new
             (timer_recovery Tagged (Heard control role)) }
         ensures len { Grows 6 outs.old outs.new }
     {
@@ -56,7 +56,7 @@ impl Machine {
             | Control::Disc { .. }
             | Control::Ua { .. }
             | Control::Frmr { .. }
-            | Control::Xid { .. } => self.in_7_and_8_heard(control, role, outs),
+            | Control::Xid { .. } => self.in_7_and_8_frame(control, role, outs),
         }
     }
 
@@ -69,9 +69,9 @@ impl Machine {
         role: Role,
         outs: &mut Outs,
     )
-        requires room { HasRoom 6 outs.old }
+        requires room { HasOutputRoom 6 outs.old }
         requires counted { SentAreOutstanding self.old }
-        ensures step { Does self.old outs.old self.new outs.new
+        ensures step { MachineDoes self.old outs.old self.new outs.new
             (timer_recovery Tagged (Heard (Control.I ns nr p) role)) }
         ensures len { Grows 6 outs.old outs.new }
     {
@@ -86,8 +86,8 @@ impl Machine {
 
     /// Receives a DM (Figure B.8).
     fn timer_recovery_dm(&mut self, f: bool, role: Role, outs: &mut Outs)
-        requires room { HasRoom 4 outs.old }
-        ensures step { Does self.old outs.old self.new outs.new
+        requires room { HasOutputRoom 4 outs.old }
+        ensures step { MachineDoes self.old outs.old self.new outs.new
             (timer_recovery Tagged (Heard (Control.Dm f) role)) }
         ensures len { Grows 4 outs.old outs.new }
     {
@@ -106,8 +106,8 @@ impl Machine {
 
     /// Answers a command with P=1 (Figure B.8).
     fn poll(&mut self, role: Role, pf: bool, outs: &mut Outs)
-        requires room { HasRoom 1 outs.old }
-        ensures step { Does self.old outs.old self.new outs.new (poll role pf) }
+        requires room { HasOutputRoom 1 outs.old }
+        ensures step { MachineDoes self.old outs.old self.new outs.new (poll role pf) }
         ensures len { Grows 1 outs.old outs.new }
         ensures counted { SentAreOutstanding self.old → SentAreOutstanding self.new }
     {
@@ -119,9 +119,10 @@ impl Machine {
 
     /// Processes the N(R) of an I frame (Figure B.8).
     fn i_frame_nr_in_recovery(&mut self, nr: Number, outs: &mut Outs)
-        requires room { HasRoom 4 outs.old }
+        requires room { HasOutputRoom 4 outs.old }
         requires counted { SentAreOutstanding self.old }
-        ensures step { Does self.old outs.old self.new outs.new (i_frame_nr_in_recovery Tagged nr) }
+        ensures step { MachineDoes self.old outs.old self.new outs.new
+            (i_frame_nr_in_recovery Tagged nr) }
         ensures len { Grows 4 outs.old outs.new }
     {
         match self.acknowledged_by(nr) {
@@ -132,9 +133,10 @@ impl Machine {
 
     /// Processes the N(R) of an RR or REJ frame; a final ends the recovery (Figure B.8).
     fn rr_nr_in_recovery(&mut self, last: bool, nr: Number, outs: &mut Outs)
-        requires room { HasRoom 4 outs.old }
+        requires room { HasOutputRoom 4 outs.old }
         requires counted { SentAreOutstanding self.old }
-        ensures step { Does self.old outs.old self.new outs.new (rr_nr_in_recovery Tagged last nr) }
+        ensures step { MachineDoes self.old outs.old self.new outs.new
+            (rr_nr_in_recovery Tagged last nr) }
         ensures len { Grows 4 outs.old outs.new }
     {
         match self.acknowledged_by(nr) {
@@ -155,9 +157,9 @@ impl Machine {
 
     /// Processes the N(R) of an RNR frame; a final ends the recovery (Figure B.8).
     fn rnr_nr_in_recovery(&mut self, last: bool, nr: Number, outs: &mut Outs)
-        requires room { HasRoom 4 outs.old }
+        requires room { HasOutputRoom 4 outs.old }
         requires counted { SentAreOutstanding self.old }
-        ensures step { Does self.old outs.old self.new outs.new
+        ensures step { MachineDoes self.old outs.old self.new outs.new
             (rnr_nr_in_recovery Tagged last nr) }
         ensures len { Grows 4 outs.old outs.new }
     {
@@ -178,8 +180,8 @@ impl Machine {
 
     /// T200 expires: the enquiry is retransmitted, N200 times at most (Figure B.8).
     pub(crate) fn timer_recovery_t200(&mut self, outs: &mut Outs)
-        requires room { HasRoom 4 outs.old }
-        ensures step { Does self.old outs.old self.new outs.new timer_recovery_t200 }
+        requires room { HasOutputRoom 4 outs.old }
+        ensures step { MachineDoes self.old outs.old self.new outs.new timer_recovery_t200 }
         ensures len { Grows 4 outs.old outs.new }
     {
         if self.rc < self.params.n200() {

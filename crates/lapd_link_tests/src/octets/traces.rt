@@ -32,7 +32,7 @@ fn holds_numbers(history: &History, first: u16, pushed: u16) -> bool {
 
 /// Whether a history of `room` lines, after the lines 0 to `pushed` - 1, keeps the last of them in
 /// order.
-fn keeps_the_last(alloc: Global, room: u16, pushed: u16) -> bool {
+fn history_keeps_the_last(alloc: Global, room: u16, pushed: u16) -> bool {
     if room == 0 || room > 1024 {
         return false;
     }
@@ -60,7 +60,7 @@ const HISTORIES: &[(&str, u16, u16)] = &[
 /// Histories keep the last lines.
 pub(crate) fn wrong(alloc: Global) -> Option<&'static str> {
     for (row, room, pushed) in HISTORIES {
-        if !keeps_the_last(alloc, *room, *pushed) {
+        if !history_keeps_the_last(alloc, *room, *pushed) {
             return Some(row);
         }
     }
@@ -71,7 +71,7 @@ pub(crate) fn wrong(alloc: Global) -> Option<&'static str> {
 // another (docs/DEVELOPING.md).
 
 /// Who sent octets, and their line: frames and faults whose lines need one allocation, and two.
-const TOLD: &[(Side, &[u8], &str)] = &[
+const TRACED: &[(Side, &[u8], &str)] = &[
     (Side::User, &[], "U>N F1 TooShort"),
     (
         Side::Network,
@@ -121,8 +121,8 @@ fn history_at_last(alloc: Global, met: &mut Refusals) -> Result<History, AllocEr
 }
 
 /// Pushes each line into a history, and returns whether each is the expected one.
-fn pushes_told(alloc: Global, history: &mut History, met: &mut Refusals) -> bool {
-    for (from, octets, text) in TOLD {
+fn pushes_traced(alloc: Global, history: &mut History, met: &mut Refusals) -> bool {
+    for (from, octets, text) in TRACED {
         match line_at_last(alloc, *from, octets, met) {
             Ok(printed) if printed.as_str() == *text => history.push(printed),
             _ => return false,
@@ -151,7 +151,7 @@ U>N F3 SapiNotServed 04817f
 fn wrong_told(alloc: Global, met: &mut Refusals) -> Option<&'static str> {
     match history_at_last(alloc, met) {
         Ok(mut history) => {
-            if pushes_told(alloc, &mut history, met) && lines_of(&history).is(LAST_TWO) {
+            if pushes_traced(alloc, &mut history, met) && lines_of(&history).is(LAST_TWO) {
                 None
             } else {
                 Some("of four lines: other text, or not the last two")

@@ -19,7 +19,7 @@ const EVENTS: u32 = 50_000;
 
 /// Draws an event, and executes it on the link and by the table. Returns the event if the results
 /// differ.
-fn wrong_turn(
+fn wrong_schedule(
     table: &mut Table,
     link: &mut Driven,
     plain: &mut Plain,
@@ -40,7 +40,7 @@ fn wrong_turn(
 fn wrong_event(table: &mut Table, link: &mut Driven, plain: &mut Plain) -> Option<&'static str> {
     let mut draws = EventDraws::new(921);
     for _ in 0..EVENTS {
-        let wrong = wrong_turn(table, link, plain, &mut draws);
+        let wrong = wrong_schedule(table, link, plain, &mut draws);
         if wrong.is_some() {
             return wrong;
         }

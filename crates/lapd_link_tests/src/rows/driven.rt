@@ -163,7 +163,7 @@ impl Driven {
 
     /// Whether a line calls for these outputs.
     pub(super) fn gives(&mut self, line: &str, outs: &str) -> bool {
-        self.does(line.as_bytes()) && is_told(self.printed.as_bytes(), outs)
+        self.does(line.as_bytes()) && is_printed(self.printed.as_bytes(), outs)
     }
 
     /// Whether it is in this condition.
@@ -179,7 +179,7 @@ impl Driven {
 }
 
 /// Whether printed lines are these outputs, `; ` between them, or `-` for none.
-fn is_told(printed: &[u8], outs: &str) -> bool {
+fn is_printed(printed: &[u8], outs: &str) -> bool {
     let mut text = Text::new();
     match printed {
         [lines @ .., _] => {

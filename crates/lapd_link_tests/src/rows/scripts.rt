@@ -186,7 +186,7 @@ impl Subject for Driven {
             "=" => self.is_in(rest),
             "254" => self.takes("give ", 254),
             "126" => self.takes("frame 0081", 126),
-            _ => self.plays(row),
+            _ => self.passes(row),
         }
     }
 }
@@ -204,7 +204,7 @@ impl Driven {
     }
 
     /// Whether an event has the outputs of a row `event | outputs`.
-    fn plays(&mut self, row: &str) -> bool {
+    fn passes(&mut self, row: &str) -> bool {
         match with_octets(self.alloc, row, "+260*aa", 260) {
             Some(row) => {
                 let (event, outs) = split(row.as_str(), " | ");

@@ -139,7 +139,7 @@ impl Watch {
     }
 
     /// Brings the link to its state, and passes octets.
-    pub(super) fn hear(&mut self, octets: &[u8]) {
+    pub(super) fn receive(&mut self, octets: &[u8]) {
         self.lead();
         match self.talk.side.table().link(id_at(PLACE)) {
             Some(link) if link.state() == self.state => self.look(octets),
@@ -149,7 +149,7 @@ impl Watch {
 
     /// Passes octets, and notes them if a check fails.
     pub(super) fn look(&mut self, octets: &[u8]) {
-        if !self.hears(octets) {
+        if !self.receives(octets) {
             self.wrong.hex(octets);
             self.wrong.put(";");
         }
@@ -157,7 +157,7 @@ impl Watch {
 
     /// Passes these octets and checks the results: the side sends only valid frames, it counts
     /// discarded octets and has no results for them, and all other links are unchanged.
-    fn hears(&mut self, octets: &[u8]) -> bool {
+    fn receives(&mut self, octets: &[u8]) -> bool {
         let place = place_of(octets);
         let discarded = is_discarded(octets, self.to_network, self.is_there(place));
         let wanted = self

@@ -2,8 +2,8 @@ use Rattle.std.proofs.Common.{◌≡◌, length}
 use Rattle.lapd_cli_console.specs.Tidied.{without_front}
 use Rattle.lapd_cli_console.proofs.typed_line.without_front.Given as goal
 
-abbrev pub invariant-loop-kept : goal.invariant-loop-kept
-invariant-loop-kept l = without_front l.kept ≡ without_front l.initial.kept
+abbrev pub invariant-loop-remaining : goal.invariant-loop-remaining
+invariant-loop-remaining l = without_front l.remaining ≡ without_front l.initial.remaining
 
-abbrev pub decreases-loop-kept : goal.decreases-loop-kept
-decreases-loop-kept l = length l.kept
+abbrev pub decreases-loop-remaining : goal.decreases-loop-remaining
+decreases-loop-remaining l = length l.remaining

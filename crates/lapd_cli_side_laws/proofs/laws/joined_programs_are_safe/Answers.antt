@@ -1,5 +1,5 @@
-use Rattle.lapd_cli_side_laws.proofs.Joins.{both_played, lines_of_network, lines_of_user, played_safely}
+use Rattle.lapd_cli_side_laws.proofs.Joins.{both_run, lines_of_network, lines_of_user, run_safely}
 use Rattle.lapd_cli_side_laws.proofs.laws.joined_programs_are_safe.Goals as goal
 
 pub returns : goal.returns
-returns c = record { played = both_played; safe = played_safely; network_lines = lines_of_network; user_lines = lines_of_user }
+returns c = record { run_together = both_run; safe = run_safely; network_lines = lines_of_network; user_lines = lines_of_user }

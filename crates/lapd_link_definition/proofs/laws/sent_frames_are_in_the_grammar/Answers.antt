@@ -1,5 +1,5 @@
-use Rattle.lapd_link_definition.proofs.KeptByStep.{step_is_spoken, step_is_short}
+use Rattle.lapd_link_definition.proofs.PreservedByStep.{step_is_well_formed, step_is_short}
 use Rattle.lapd_link_definition.proofs.laws.sent_frames_are_in_the_grammar.Goals as goal
 
 pub returns : goal.returns
-returns c = record { sent = step_is_spoken; short = step_is_short }
+returns c = record { sent = step_is_well_formed; short = step_is_short }

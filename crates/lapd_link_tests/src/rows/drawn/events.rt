@@ -130,7 +130,7 @@ impl EventDraws {
         let number = self.number_for(plain);
         let (event, rest) = split(self.line_of(events(number)), " | ");
         let (then, words) = split(rest, " | ");
-        self.hear(plain, number > 0, words.ends_with("L"));
+        self.receive(plain, number > 0, words.ends_with("L"));
         plain.put_words(words);
         (event, then)
     }
@@ -163,7 +163,7 @@ impl EventDraws {
 
     /// Draws the numbers, bits and information of a frame. In a calm frame N(R) is valid, and N(S)
     /// mostly the expected one.
-    fn hear(&mut self, plain: &mut Plain, calm: bool, long: bool) {
+    fn receive(&mut self, plain: &mut Plain, calm: bool, long: bool) {
         let mut ns = self.octet_below(128);
         let mut nr = self.octet_below(128);
         let valid = self.octet_below(plain.outstanding().wrapping_add(1));
@@ -177,7 +177,7 @@ impl EventDraws {
         let command = 1u8.wrapping_sub(self.octet_below(2));
         let p = 1u8.wrapping_sub(self.octet_below(2));
         let info = INFORMATION.get(usize::from(self.octet_below(4)));
-        plain.hear(
+        plain.receive(
             [ns, nr, p, command, u8::from(long)],
             info.copied().unwrap_or(""),
         );

@@ -157,8 +157,8 @@ impl Plain {
 
     /// Sets the received N(S), N(R), P, whether the frame is a command and whether it is long, and
     /// its information.
-    pub(super) fn hear(&mut self, heard: [u8; 5], info: &'static str) {
-        let [ns, nr, p, command, long] = heard;
+    pub(super) fn receive(&mut self, received: [u8; 5], info: &'static str) {
+        let [ns, nr, p, command, long] = received;
         self.values[NS] = ns;
         self.values[NR] = nr;
         self.values[P] = p;

@@ -5,8 +5,8 @@ pub returns : goal.returns
 returns c = record {
   nothing_to_deliver = schedules.nothing_to_deliver;
   nothing_to_lose = schedules.nothing_to_lose;
-  t200_stands = schedules.t200_stands;
-  t203_stands = schedules.t203_stands;
+  t200_is_stopped = schedules.t200_is_stopped;
+  t203_is_stopped = schedules.t203_is_stopped;
   enquiry_under_way = schedules.enquiry_under_way;
   enquiry_behind_message = schedules.enquiry_behind_message;
   answer_under_way = schedules.answer_under_way;

@@ -1,7 +1,7 @@
 use Rattle.std.proofs.Common.{rules, ap, ◌∙◌, arith}
 use Rattle.std.proofs.lemmas.Grind.{common_steps}
 use Rattle.lapd_port.specs.Device.{failures_after}
-use Rattle.lapd_port.proofs.Pieces.{IsLeft, left_after, left_kept}
+use Rattle.lapd_port.proofs.Pieces.{IsLeft, left_after, left_preserved}
 use Rattle.lapd_port.proofs.Turning.{made_some, with_turn}
 use Rattle.lapd_port.proofs.writing.write_all.Goals as goal
 use Rattle.lapd_port.proofs.writing.write_all.Goals.{in-Ok+else-is_empty, in-Err-Interrupted}
@@ -17,7 +17,7 @@ loop-turn-preserved g c =
     let before : IsLeft _ _ _ _ = (c.loop-turn.invariant.written, c.loop-turn.invariant.some_left) in
     let after : IsLeft c.args.octets.now c.match-write.rest.now (g.W.Sink.written c.args.sink.now) (g.W.Sink.written c.write.new.self) = elim c.match-write.branch [
       | in-Ok+else-is_empty w ↦ rw w.rest-is (left_after _ _ _ _ _ _ before w.in-Ok.ensures.octets (search rules))
-      | in-Err-Interrupted w ↦ rw w.rest-is (left_kept _ _ _ _ _ before w.in-Err-Interrupted.ensures.octets)
+      | in-Err-Interrupted w ↦ rw w.rest-is (left_preserved _ _ _ _ _ before w.in-Err-Interrupted.ensures.octets)
     ] in
     record {
       written = after.0;

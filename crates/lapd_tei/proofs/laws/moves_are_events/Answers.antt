@@ -1,5 +1,5 @@
 use Rattle.std.proofs.Common.{refl}
-use Rattle.lapd_tei.proofs.EventsKeep.{moves_are_events, premises_are_local}
+use Rattle.lapd_tei.proofs.EventsPreserve.{moves_are_events, premises_are_local}
 use Rattle.lapd_tei.proofs.laws.moves_are_events.Goals as goal
 
 pub returns : goal.returns

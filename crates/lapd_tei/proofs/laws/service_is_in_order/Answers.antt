@@ -1,4 +1,4 @@
-use Rattle.lapd_tei.proofs.EventsKeep.{in_order, teis_are_held, held_until_freed}
+use Rattle.lapd_tei.proofs.EventsPreserve.{in_order, teis_are_held, held_until_freed}
 use Rattle.lapd_tei.proofs.laws.service_is_in_order.Goals as goal
 
 pub returns : goal.returns

@@ -1,4 +1,4 @@
-use Rattle.lapd_tei.proofs.RunKeeps.{law_of_teis}
+use Rattle.lapd_tei.proofs.RunPreserves.{law_of_teis}
 use Rattle.lapd_tei.proofs.laws.terminals_are_single.Goals as goal
 
 pub returns : goal.returns

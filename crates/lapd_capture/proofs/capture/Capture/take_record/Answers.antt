@@ -2,8 +2,8 @@ use Rattle.std.proofs.Common.{arith}
 use Rattle.std.proofs.lemmas.Grind.{common_steps}
 use Rattle.lapd_capture.proofs.capture.Capture.take_record.Goals as goal
 
-pub found_on-found-requires-clause-within : goal.found_on-found-requires-clause-within
-found_on-found-requires-clause-within c = grind (arith, common_steps)
+pub item_on-item-requires-clause-within : goal.item_on-item-requires-clause-within
+item_on-item-requires-clause-within c = grind (arith, common_steps)
 
 pub invariant_of-self : goal.invariant_of-self
 invariant_of-self c = grind (arith, common_steps)

@@ -2,7 +2,7 @@ use Rattle.std.proofs.Common.{◌≡◌, Option, Some, None, sym, subst, ◌∙�
 use Rattle.std.specs.Prelude.{Bool, true, false}
 use Rattle.lapd_cli_live.specs.Log.{state_of}
 use Rattle.lapd_cli_live.specs.Steps.{Looks, ended_by}
-use Rattle.lapd_cli_live.proofs.Steps.{ends_by_frame, more_taken, none_taken, takes_all, takes_most, taken_by, looked_in_vain, none_came, received_by}
+use Rattle.lapd_cli_live.proofs.Steps.{ends_by_frame, more_taken, none_taken, takes_all, takes_most, taken_by, looked_in_vain, none_ended, received_by}
 use Rattle.lapd_cli_live.proofs.live_side.LiveSide.receive_all.Goals as goal
 
 pub loop-frame-init : goal.loop-frame-init
@@ -14,13 +14,13 @@ returns-then-not-branch g c =
 
 pub returns-then-is_some : goal.returns-then-is_some
 returns-then-is_some g c =
-    received_by c.args.until c.loop-frame._frame c.ended_by-came.result _ _ _ c.loop-frame.invariant (taken_by _ _ _ c.if-not-branch.false c.in_ok-look.ensures)
-    (c.ended_by-came.ensures ∙ ap (ended_by c.args.until true) c.is_found.ensures) (sym c.is_some.ensures ∙ c.if-is_some.true)
+    received_by c.args.until c.loop-frame._frame c.ended_by-end_reason.result _ _ _ c.loop-frame.invariant (taken_by _ _ _ c.if-not-branch.false c.in_ok-look.ensures)
+    (c.ended_by-end_reason.ensures ∙ ap (ended_by c.args.until true) c.is_matched.ensures) (sym c.is_some.ensures ∙ c.if-is_some.true)
 
 pub loop-frame-preserved : goal.loop-frame-preserved
 loop-frame-preserved g c =
     more_taken _ c.loop-frame._frame _ _ _ c.loop-frame.invariant (taken_by _ _ _ c.if-not-branch.false c.in_ok-look.ensures)
-    (none_came c.ended_by-came.result _ (c.ended_by-came.ensures ∙ ap (ended_by c.args.until true) c.is_found.ensures) (sym c.is_some.ensures ∙ c.if-is_some.false))
+    (none_ended c.ended_by-end_reason.result _ (c.ended_by-end_reason.ensures ∙ ap (ended_by c.args.until true) c.is_matched.ensures) (sym c.is_some.ensures ∙ c.if-is_some.false))
 
 pub returns : goal.returns
 returns g c = takes_most _ c.loop-frame._frame _ _ c.loop-frame.invariant (omega arith)

@@ -3,4 +3,4 @@ use Rattle.lapd_cli_outside.proofs.impaired.ImpairedOutside.wait.Given as goal
 
 abbrev pub invariant-loop-sleep : goal.invariant-loop-sleep
 invariant-loop-sleep g l =
-    SomeRounds l.until l.initial.self.delays l.self.delays (g.O.Outside.deeds l.initial.self.inner) (g.O.Outside.deeds l.self.inner)
+    SomeRounds l.until l.initial.self.delays l.self.delays (g.O.Outside.io_events l.initial.self.inner) (g.O.Outside.io_events l.self.inner)

@@ -7,5 +7,5 @@ returns-clause-sent c = search rules
 pub returns-clause-traced : goal.returns-clause-traced
 returns-clause-traced c = search rules
 
-pub returns-clause-told : goal.returns-clause-told
-returns-clause-told c = search rules
+pub returns-clause-delivered : goal.returns-clause-delivered
+returns-clause-delivered c = search rules

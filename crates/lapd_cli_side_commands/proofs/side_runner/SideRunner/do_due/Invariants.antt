@@ -1,6 +1,6 @@
 use Rattle.std.proofs.Common.{◌≡◌}
 use Rattle.lapd_sides.specs.Either.{side_of}
-use Rattle.lapd_cli_side_commands.specs.LineOutputs.{sent_of, told_of, traced_of}
+use Rattle.lapd_cli_side_commands.specs.LineOutputs.{sent_of, primitives_text_of, traced_of}
 use Rattle.lapd_cli_side_commands.proofs.Serving.{ExpiresSome}
 use Rattle.lapd_cli_side_commands.proofs.side_runner.SideRunner.do_due.Given as goal
 
@@ -12,5 +12,5 @@ invariant-loop-tick g l = record {
   port : l.self.port ≡ l.initial.self.port;
   out : l.self.out ≡ l.initial.self.out;
   some : ExpiresSome l.initial.self.style l.initial.self.now (side_of l.initial.self.side) l.initial.self.side l.self.side (sent_of l.self.output)
-      (traced_of l.self.output) (told_of l.self.output);
+      (traced_of l.self.output) (primitives_text_of l.self.output);
 }

@@ -37,7 +37,7 @@ returns-in-Ok-clause-frames c = frames_of_machine (setup_of c.args.self.now) c.a
 
 pub returns-in-Err-clause-err : goal.returns-in-Err-clause-err
 returns-in-Err-clause-err c = (
-  c.in-Err.ensures.handed_back,
+  c.in-Err.ensures.returned,
   λ e h.
       let message = c.args.message.items in
       step_refused (Give message) e _ (is_full _ _ (c.in_default.ensures message e (sym (c.len.ensures ∙ c.args.message.ok.0)) h) (sym c.in-Err.ensures.full)),

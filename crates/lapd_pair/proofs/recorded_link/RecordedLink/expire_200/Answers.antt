@@ -6,11 +6,11 @@ use Rattle.lapd_mod128.specs.Counting.{Tagged}
 use Rattle.lapd_link_definition.specs.Input.{Expiry}
 use Rattle.lapd_pair_laws.specs.Move.{NotYet, takes, expires_200}
 use Rattle.lapd_pair.specs.Line.{IsOn}
-use Rattle.lapd_pair.proofs.Views.{Refuses, stands_200, polls_200, finals_200, runs_200, side_shown, sender_shown, request_takes_none, acts_in_view, refuses_in_view, shows_view, seen_alike, acts_as_seen, shows_as_seen, acts_as_in_view, refuses_as_in_view}
+use Rattle.lapd_pair.proofs.Views.{Refuses, stopped_200, polls_200, finals_200, runs_200, side_shown, sender_shown, request_takes_none, acts_in_view, refuses_in_view, shows_view, seen_alike, acts_as_seen, shows_as_seen, acts_as_in_view, refuses_as_in_view}
 use Rattle.lapd_pair.proofs.recorded_link.RecordedLink.expire_200.Goals as goal
 
 pub returns-then-not-running-clause-err : goal.returns-then-not-running-clause-err
-returns-then-not-running-clause-err c = λ side v shown. stands_200 side v (sym (c.running.ensures v.station.end shown.station.link) ∙ c.if-not-running.true)
+returns-then-not-running-clause-err c = λ side v shown. stopped_200 side v (sym (c.running.ensures v.station.end shown.station.link) ∙ c.if-not-running.true)
 
 pub returns-in-Some-clause-err : goal.returns-in-Some-clause-err
 returns-in-Some-clause-err c = λ side v shown.

@@ -1,5 +1,5 @@
 use Rattle.std.proofs.Common.{sym, ◌∙◌}
-use Rattle.lapd_pair.proofs.Telling.{sent_on, sent_nothing}
+use Rattle.lapd_pair.proofs.Recording.{sent_on, sent_nothing}
 use Rattle.lapd_pair.proofs.recorded_link.RecordedLink.put_sent.Goals as goal
 
 pub returns-in-Some-clause-shows : goal.returns-in-Some-clause-shows

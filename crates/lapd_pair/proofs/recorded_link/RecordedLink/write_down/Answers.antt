@@ -1,5 +1,5 @@
 use Rattle.std.proofs.Common.{rules, sym, ◌∙◌}
-use Rattle.lapd_pair.proofs.Telling.{written_message, written_acknowledged, written_dropped, written_receipt}
+use Rattle.lapd_pair.proofs.Recording.{written_message, written_acknowledged, written_dropped, written_receipt}
 use Rattle.lapd_pair.proofs.recorded_link.RecordedLink.write_down.Goals as goal
 
 pub returns-in-SendMessage-clause-shows : goal.returns-in-SendMessage-clause-shows

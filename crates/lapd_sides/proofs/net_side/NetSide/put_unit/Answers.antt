@@ -2,7 +2,7 @@ use Rattle.std.proofs.Common.{ap, ◌∙◌}
 use Rattle.lapd_frame.specs.declared.Side.TheVariants as side
 use Rattle.lapd_sides.specs.Network.{link_of_network, among_links}
 use Rattle.lapd_sides.proofs.Calling.{granted_as}
-use Rattle.lapd_sides.proofs.Networking.{granted, kept, not_to_group}
+use Rattle.lapd_sides.proofs.Networking.{granted, pending, not_to_group}
 use Rattle.lapd_sides_links.proofs.Outcomes.{ok_gives, err_gives, each_err}
 use Rattle.lapd_sides.proofs.net_side.NetSide.put_unit.Goals as goal
 
@@ -20,4 +20,4 @@ returns-else-serves_group-clause-err c = each_err c.send_unit.result _ _
     ∙ ap (among_links s) (f side.Network s.served.links shown.served.links)) c.send_unit.ensures.err
 
 pub returns-else-serves_group-clause-unchanged : goal.returns-else-serves_group-clause-unchanged
-returns-else-serves_group-clause-unchanged c = err_gives c.send_unit.result _ _ (λ f config s shown. kept _ config s shown.configured shown.assigner shown.discarded shown.served.timers (f side.Network s.served.links shown.served.links)) c.send_unit.ensures.unchanged
+returns-else-serves_group-clause-unchanged c = err_gives c.send_unit.result _ _ (λ f config s shown. pending _ config s shown.configured shown.assigner shown.discarded shown.served.timers (f side.Network s.served.links shown.served.links)) c.send_unit.ensures.unchanged

@@ -4,7 +4,7 @@ use Rattle.lapd_frame.specs.declared.Side.TheVariants as side
 use Rattle.lapd_sides_links.specs.Effects.{stopped}
 use Rattle.lapd_sides.specs.Network.{Network, network_expires}
 use Rattle.lapd_sides.proofs.Calling.{due_so, expired_so}
-use Rattle.lapd_sides.proofs.Networking.{kept}
+use Rattle.lapd_sides.proofs.Networking.{pending}
 use Rattle.lapd_sides.proofs.net_side.NetSide.tick.Goals as goal
 
 pub returns-in_default-clause-none : goal.returns-in_default-clause-none
@@ -20,7 +20,7 @@ returns-in-None-clause-due c = λ is config s shown.
     let due = due_so c.args.now s.served c.args.self.now.served.timers c.due.result _ shown.served.timers c.in-Some.is (c.due.ensures.due side.Network s.served.links shown.served.links) in
     let after : Network = record s { served = record { links = s.served.links; timers = stopped e.timer s.served.timers } } in
     expired_so _ config c.manage.new.acts c.args.now s e _ due c.in-None.is
-    (c.manage.ensures config after (kept _ config after shown.configured shown.assigner shown.discarded (c.stop.ensures ∙ ap (λ (t : Timers). stopped e.timer t) shown.served.timers) shown.served.links))
+    (c.manage.ensures config after (pending _ config after shown.configured shown.assigner shown.discarded (c.stop.ensures ∙ ap (λ (t : Timers). stopped e.timer t) shown.served.timers) shown.served.links))
 
 pub returns-in-Some-of-clause-due : goal.returns-in-Some-of-clause-due
 returns-in-Some-of-clause-due c = λ is config s shown.

@@ -15,7 +15,7 @@ returns-in-Some c = answers_as c.act.result _ _ _ _ _ _ (λ config s shown.
 pub returns-in-None : goal.returns-in-None
 returns-in-None c = record {
   kind = λ config s shown. is_none c.args.self.now config s c.tei.result c.args.now c.args.sapi (input_of c.args.event) [] (Err NoLink) shown c.tei.ensures c.in-None.is ∙ ap (λ (f : SideFault). Err f.kind) (sym c.without_message.ensures);
-  handed_back = ap (λ (f : SideFault). f.message) c.without_message.ensures;
+  returned = ap (λ (f : SideFault). f.message) c.without_message.ensures;
   unchanged = λ config s shown. shown;
   nothing = c.requires.empty;
 }

@@ -5,7 +5,7 @@ use Rattle.lapd_sides_links.specs.declared.side_fault.SideKind.TheVariants.{NoLi
 use Rattle.lapd_sides.specs.ShowsUser.{HasGranted}
 use Rattle.lapd_sides.specs.User.{with_tei_or}
 use Rattle.lapd_sides.proofs.Calling.{granted_as}
-use Rattle.lapd_sides.proofs.Using.{relinked, is_own, link_granted, link_refused, links_kept}
+use Rattle.lapd_sides.proofs.Using.{relinked, is_own, link_granted, link_refused, links_shown}
 use Rattle.lapd_sides.proofs.user_side.UserSide.send_unit.Goals as goal
 
 pub returns-in-Ok : goal.returns-in-Ok
@@ -23,7 +23,7 @@ returns-in-Err c =
       kind = λ config s shown. subst (λ (o : List _). with_tei_or c.args.now s.terminal c.args.sapi (UnitData (length o)) o (Err NoLink) s ≡ Err c.refused-in-Err.result.kind) c.as_slice.ensures.value
           (is_own c.args.self.now config s c.tei.result c.in-Some.tei c.args.now c.args.sapi c.name.result (UnitData (length octets)) octets (Err NoLink) shown (record { of = c.tei.ensures; is = c.in-Some.is; named = c.name.ensures })
           ∙ link_refused s c.args.now c.name.result (UnitData (length octets)) octets c.in-Err.kind (c.in-Err.ensures.err side.User s.served.links shown.served.links) ∙ ap Err (sym c.refused-in-Err.ensures.kind));
-      handed_back = c.refused-in-Err.ensures.message;
-      unchanged = λ config s shown. links_kept c.args.self.now c.send_unit-sent.new.self config s shown (c.in-Err.ensures.unchanged side.User s.served.links shown.served.links);
+      returned = c.refused-in-Err.ensures.message;
+      unchanged = λ config s shown. links_shown c.args.self.now c.send_unit-sent.new.self config s shown (c.in-Err.ensures.unchanged side.User s.served.links shown.served.links);
       nothing = c.in-Err.ensures.nothing ∙ c.requires.empty;
     }

@@ -3,7 +3,7 @@ use Rattle.std.proofs.Common.{OnOk, IfErr, length, subst}
 use Rattle.lapd_link_definition.specs.Input.{UnitData}
 use Rattle.lapd_table.specs.declared.link_id.LinkId.{LinkId}
 use Rattle.lapd_sides_links.specs.Links.{in_links, link_acts}
-use Rattle.lapd_sides_links.specs.Shown.{Does, RefusesAs}
+use Rattle.lapd_sides_links.specs.Shown.{LinksDo, LinksRefuseAs}
 use Rattle.lapd_sides_links.proofs.Acting.{no_link}
 use Rattle.lapd_sides_links.proofs.Units.{long_is_refused}
 use Rattle.lapd_sides_links.proofs.link_set.LinkSet.send_unit.Goals as goal
@@ -16,9 +16,9 @@ returns-then-octets-gt-N201-clause-err c = λ side links shown. long_is_refused 
     c.in-Some.key c.args.now c.args.octets.now c.in-Some.ensures.found c.if-octets-gt-N201.true shown
 
 pub returns-clause-ok : goal.returns-clause-ok
-returns-clause-ok c = subst (λ (id : LinkId). OnOk c.act_at.result (Does c.args.self.now c.act_at.new.self c.args.acts.now c.act_at.new.acts
+returns-clause-ok c = subst (λ (id : LinkId). OnOk c.act_at.result (LinksDo c.args.self.now c.act_at.new.self c.args.acts.now c.act_at.new.acts
     (λ side. in_links id (link_acts side id c.args.now (UnitData (length c.args.octets.now)) c.args.octets.now)))) c.in-Some.ensures.found.0 c.act_at.ensures.ok
 
 pub returns-clause-err : goal.returns-clause-err
-returns-clause-err c = subst (λ (id : LinkId). IfErr c.act_at.result (RefusesAs c.args.self.now
+returns-clause-err c = subst (λ (id : LinkId). IfErr c.act_at.result (LinksRefuseAs c.args.self.now
     (λ side. in_links id (link_acts side id c.args.now (UnitData (length c.args.octets.now)) c.args.octets.now)))) c.in-Some.ensures.found.0 c.act_at.ensures.err

@@ -4,7 +4,7 @@ use Rattle.std.specs.Prelude.{None}
 use Rattle.std.specs.Vec.{with_items}
 use Rattle.lapd_sides_links.specs.declared.running_timer.RunningTimer.{RunningTimer}
 use Rattle.lapd_sides_links.specs.Tournament.{entry, IsEntered}
-use Rattle.lapd_sides_links.proofs.Tournaments.{own_entry, other_entry, places_kept, read_entry, size_of, alone_anew, none_first, first_of_all}
+use Rattle.lapd_sides_links.proofs.Tournaments.{own_entry, other_entry, places_preserved, read_entry, size_of, alone_anew, none_first, first_of_all}
 use Rattle.lapd_sides_links.proofs.tournament.Tournament.enter.Goals.{After-settle}
 use Rattle.lapd_sides_links.proofs.tournament.Tournament.enter.Goals as goal
 
@@ -53,6 +53,6 @@ returns-clause-own c = ap (λ (nodes : List (Option RunningTimer)). entry (drop 
 pub returns-clause-others : goal.returns-clause-others
 returns-clause-others c = λ other differ. ap (λ (nodes : List (Option RunningTimer)). entry (drop 256 nodes) other) (settled (goal.at.returns-clause-others c).After-settle)
     ∙ (other_entry c.win_all.new.nodes c.settle.new.nodes c.args.place other c.args.expiry differ c.settle.ensures.places
-    ∙ (places_kept c.as_mut_slice-nodes.result.now c.win_all.new.nodes other c.win_all.ensures.places
+    ∙ (places_preserved c.as_mut_slice-nodes.result.now c.win_all.new.nodes other c.win_all.ensures.places
     ∙ (ap (λ (nodes : List (Option RunningTimer)). entry (drop 256 nodes) other) c.as_mut_slice-nodes.ensures.value
     ∙ ap (λ (entries : List (Option RunningTimer)). entry entries other) c.self.view_is)))

@@ -20,5 +20,5 @@ returns-clause-err c = if_err c.give_into.result _ _ (λ refused h. refuses_at c
 pub returns-clause-unchanged : goal.returns-clause-unchanged
 returns-clause-unchanged c = on_err c.give_into.result _ _ (λ same. unchanged_by c.args.self.now c.args.id c.args.key c.requires _ c.index_mut.ensures.value _ same _ refl refl refl) c.give_into.ensures.unchanged
 
-pub returns-clause-handed_back : goal.returns-clause-handed_back
-returns-clause-handed_back c = search rules
+pub returns-clause-returned : goal.returns-clause-returned
+returns-clause-returned c = search rules

@@ -1,6 +1,6 @@
 use Rattle.std.proofs.Common.{◌≡◌, ◌<◌, length, sym, ◌∙◌, arith}
 use Rattle.lapd_tei.specs.declared.bus_move.BusFault.TheVariants.{NothingThere, HeardBefore, Memory}
-use Rattle.lapd_tei.proofs.RunKeeps.{more_done, more_refused, single_at, in_order_at}
+use Rattle.lapd_tei.proofs.RunPreserves.{more_done, more_refused, single_at, in_order_at}
 use Rattle.lapd_tei.proofs.bus.Bus.run.Goals as goal
 use Rattle.lapd_tei.proofs.bus.Bus.run.Goals.{in-Ok, in-Err-NothingThere, in-Err-HeardBefore}
 

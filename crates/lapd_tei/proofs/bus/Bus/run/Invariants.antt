@@ -1,4 +1,4 @@
-use Rattle.lapd_tei.proofs.RunKeeps.{RunSoFar}
+use Rattle.lapd_tei.proofs.RunPreserves.{RunSoFar}
 use Rattle.lapd_tei.proofs.bus.Bus.run.Given as goal
 
 abbrev pub invariant-loop-place : goal.invariant-loop-place

@@ -1,0 +1,43 @@
+use lapd_field::Side;
+use thiserror::Error;
+
+/// The place of a frame in a capture, and who sent it.
+#[derive(Clone, Copy, Debug, PartialEq, Eq)]
+pub struct Span {
+    /// Who sent it, if the capture says so.
+    pub from: Option<Side>,
+    /// The place of its first octet.
+    pub start: usize,
+    /// The place after its last octet.
+    pub end: usize,
+}
+
+/// The next item in a capture.
+#[derive(Clone, Copy, Debug, PartialEq, Eq)]
+pub enum CaptureItem {
+    /// A frame.
+    Frame(Span),
+    /// A packet or block without a LAPD frame.
+    Other,
+    /// A packet that can't be read. Reading can continue after it.
+    Unreadable(PacketFault),
+    /// The end of the capture.
+    End,
+}
+
+/// Why a packet can't be read.
+#[derive(Clone, Copy, Debug, PartialEq, Eq, Error)]
+pub enum PacketFault {
+    /// A length in it is greater than the octets that are left, or it is shorter than its headers.
+    #[error("packet: bad length")]
+    BadLength,
+    /// Its header of link type 177 has a protocol other than LAPD.
+    #[error("packet: not LAPD")]
+    BadHeader,
+    /// No block describes its interface.
+    #[error("packet: unknown interface")]
+    NoInterface,
+    /// It was captured in part.
+    #[error("packet: captured in part")]
+    Partial,
+}

@@ -1,5 +1,0 @@
-use Rattle.std.proofs.Common.{rules}
-use Rattle.lapd_cli_side_lines.proofs.side_texts.push_told.Goals as goal
-
-pub returns-in-Text : goal.returns-in-Text
-returns-in-Text c = search rules

@@ -1,0 +1,19 @@
+use Rattle.std.proofs.Common.{sym, subst, ◌∙◌, Result}
+use Rattle.lapd_frame.specs.Frame.{Fields}
+use Rattle.lapd_frame.proofs.Lengths.{content_is_short}
+use Rattle.lapd_frame.specs.declared.frame_fault.FrameFault.{FrameFault}
+use Rattle.lapd_sides.specs.User.{user_takes, received, got_for, got_for_frame}
+use Rattle.lapd_sides.specs.ShowsUser.{HasDone, UserReceives}
+use Rattle.lapd_sides.proofs.user_side.UserSide.receive_octets.Goals as goal
+
+pub receive-requires-clause-fits : goal.receive-requires-clause-fits
+receive-requires-clause-fits c = let is = (c.in-Ok.ensures.found).0 in content_is_short _ _ _ is.content
+
+pub returns-in-Ok : goal.returns-in-Ok
+unfolding user_takes got_for
+returns-in-Ok c = subst (λ (r : Result Fields FrameFault). UserReceives c.receive.result c.args.self.now c.receive.new.self c.receive.new.acts (λ s. got_for_frame s r) (λ config. received config c.args.now r)) (sym c.in-Ok.is ∙ c.read.ensures.exact) c.receive.ensures
+
+pub returns-in-Err : goal.returns-in-Err
+unfolding user_takes
+returns-in-Err c = λ config s shown.
+    subst (λ (r : Result Fields FrameFault). HasDone c.receive_fault.new.self config c.receive_fault.new.acts (received config c.args.now r s)) (sym c.in-Err.is ∙ c.read.ensures.exact) (c.receive_fault.ensures config s shown)

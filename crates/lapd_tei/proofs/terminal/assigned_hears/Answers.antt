@@ -1,5 +1,0 @@
-use Rattle.std.proofs.Common.{rules}
-use Rattle.lapd_tei.proofs.terminal.assigned_hears.Goals as goal
-
-pub returns-in-Assigned-clause-now : goal.returns-in-Assigned-clause-now
-returns-in-Assigned-clause-now c = search rules
