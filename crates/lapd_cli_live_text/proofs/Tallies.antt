@@ -1,4 +1,4 @@
--- Counters that stop at 2^64 - 1: what each of them, and their sum, comes to over a list.
+-- Counters that stop at 2^64 - 1: the value of each of them, and of their sum, over a list.
 use Rattle.std.proofs.Common.{◌≡◌, ◌≢◌, ℕ, ◌+◌, ◌<◌, ◌≤◌, ◌==◌, ◌⊎◌, inl, inr, true, false, cond, List, [], ◌∷◌, length, get_or, suc, refl, sym, ap, ◌∙◌, arith}
 use Rattle.std.specs.List.{count_by, sum}
 use Rattle.std.proofs.Math.Dec.{eqb}
