@@ -128,8 +128,8 @@ pub fn the_invariant_gives_safe()
 {}
 
 /// Each premise on the moves is needed: without it, a run of about ten moves ends in histories that
-/// are not safe. `t200`: T200 expires while the answer it waits for is in transit. `restart`: frames
-/// in transit survive a restart. `order`: one frame overtakes another.
+/// are not safe. `t200`: T200 expires while the answer it waits for is in transit. `restart`:
+/// frames in transit survive a restart. `order`: one frame overtakes another.
 pub fn each_premise_is_needed()
     ensures t200 { AreSafe (run_freely hasty worked.start) → ⊥ }
     ensures restart { AreSafe (run_freely stale worked.start) → ⊥ }

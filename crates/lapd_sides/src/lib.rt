@@ -48,8 +48,8 @@
 //! - The link's TEI is not assigned again after it was removed. If it is, its links are new ones.
 //!
 //! When a TEI is removed, each of its links reports at most its release (`Released` or
-//! `ReleaseConfirm`). Messages that still waited are not reported as `Dropped`. A caller that has to
-//! know counts, for each link, the messages accepted less those acknowledged or dropped.
+//! `ReleaseConfirm`). Messages that still waited are not reported as `Dropped`. A caller that has
+//! to know counts, for each link, the messages accepted less those acknowledged or dropped.
 #![tactic(auto)]
 
 mod either_side;

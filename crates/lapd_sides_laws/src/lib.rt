@@ -27,8 +27,8 @@
 //!   primitives are right (`IsSafeAt`).
 //! - `Owed`: what each event of a side may do to one of its links (`ServesLink`).
 //! - `ExactTimers`, for all links and without premises: each timer of a link runs exactly when the
-//!   link's end requires it. In a `SideStep` octets arrive at one side from anyone, and then an event
-//!   of that side follows. `ManagementTimers`: T201 and T202 run exactly while TEI management
+//!   link's end requires it. In a `SideStep` octets arrive at one side from anyone, and then an
+//!   event of that side follows. `ManagementTimers`: T201 and T202 run exactly while TEI management
 //!   waits.
 //! - `Calls`: which event a call of a side in code is. `Schedule`: worked runs.
 //!
