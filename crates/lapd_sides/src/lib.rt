@@ -25,15 +25,15 @@
 //! let mut side = EitherSide::User(UserSide::new(alloc, config, Some(tei))?);
 //! let mut acts = Acts::new(alloc)?;
 //! side.request(Request::Establish(id), clock(), &mut acts)?;
-//! send_and_tell(&acts);
+//! send_and_report(&acts);
 //! loop {
 //!     let mut now = clock();
 //!     while let Some(octets) = octets_arrived() {
 //!         side.take(octets, now, &mut acts)?;
-//!         send_and_tell(&acts);
+//!         send_and_report(&acts);
 //!         now = clock();
 //!     }
-//!     while side.tick(now, &mut acts) { send_and_tell(&acts); }
+//!     while side.tick(now, &mut acts) { send_and_report(&acts); }
 //!     sleep_until(side.next_deadline());
 //! }
 //! ```
