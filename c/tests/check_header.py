@@ -15,7 +15,7 @@ NUMBERS = {
 }
 STRUCTS = {"Handle": "lapd_side", "Settings": "lapd_settings", "FlatPrimitive": "lapd_primitive", "LinkState": "lapd_link_state"}
 # Parameters with another name in C, because the crate's name would be less clear.
-NAMES = {"handle": "side", "known": "teis", "fixed": "tei", "told": "primitive"}
+NAMES = {"handle": "side", "known": "teis", "fixed": "tei", "delivered": "primitive"}
 # The symbols that the archive may require of the program that it is linked into.
 ASKED = {"memcpy", "memmove", "memset", "memcmp", "bcmp", "malloc", "realloc", "free"}
 HEAP = {"rattle_alloc", "rattle_realloc", "rattle_dealloc"}
