@@ -5,20 +5,23 @@ use Rattle.std.specs.Io.KnownBytes.{Appends, Consumes}
 use Rattle.std.proofs.lemmas.Nat.{div-add-mod'}
 use Rattle.std.proofs.lemmas.List.{append_cancel_left, append_cancel_right}
 use Rattle.std.proofs.Math.Seq.{take-append_seam, drop-append_seam}
-use Rattle.rand_pcg.specs.Lcg.{Lcg}
 use Rattle.lapd_frame.specs.declared.Side.{Side}
 use Rattle.lapd_frame.specs.declared.Side.TheVariants as side
+use Rattle.lapd_frame.specs.Address.{other_side}
 use Rattle.lapd_port.specs.SocketText.{frame_text, socket_text}
-use Rattle.lapd_sides.specs.Network.{Network, new_network}
-use Rattle.lapd_sides.specs.User.{User, new_user}
-use Rattle.lapd_sides_laws.specs.Interface.{Configs, Interface, Move, network_behaviour, user_behaviour, by_network, by_user, with_network, with_user, new_interface, happens, run}
+use Rattle.lapd_table.specs.declared.link_id.LinkId.{LinkId}
+use Rattle.lapd_sides_links.specs.declared.primitive.Primitive.{Primitive}
+use Rattle.lapd_sides.specs.Network.{Network}
+use Rattle.lapd_sides.specs.User.{User}
+use Rattle.lapd_sides_laws.specs.Interface.{Configs, Interface, Move, own_link, network_behaviour, user_behaviour, by_network, by_user, with_network, with_user, happens, run}
 use Rattle.lapd_sides_laws.specs.SideView.{SideView, SideEvent}
-use Rattle.lapd_sides_laws.proofs.AsMade.{made_link_safe}
 use Rattle.lapd_cli_side_commands.specs.Served.{AtWork, LinesDo}
 use Rattle.lapd_cli_side_lines.specs.LineRequests.{LineRequest}
 use Rattle.lapd_cli_side_laws.specs.SideEvents.{AreFor, ShowsNetwork, ShowsUser, does_all, moves_of}
-use Rattle.lapd_cli_side_laws.specs.Joined.{Programs, ProgramLine, WritesTo, ProgramDoes, ProgramsDo, AreAt, AreMovesFor, AreRun, AreRunSafely, clock_of, network_clock, user_clock, requests_behind, requests_of_side}
-use Rattle.lapd_cli_side_laws.proofs.Lines.{moment_is, network_line, network_moves, text_of_both, user_line, user_moves}
+use Rattle.lapd_cli_side_laws.specs.Joined.{Programs, ProgramLine, WritesTo, ProgramDoes, ProgramsDo, AreAt, AreMovesFor, AreRun, clock_of, network_clock, user_clock, requests_behind, requests_of_side}
+use Rattle.lapd_cli_side_laws.specs.Transcripts.{PrintedLine, is_refused, lines_text, primitives_in, submitted_in}
+use Rattle.lapd_cli_side_laws.proofs.Lines.{moment_is, network_moves, text_of_both, user_moves}
+use Rattle.lapd_cli_side_laws.proofs.Prints.{network_prints, user_prints}
 
 -- ---- The octets of frames determine the frames.
 
@@ -72,12 +75,12 @@ rest_left old (Some ys) xs heard left later is ends taken =
 
 -- ---- What is written.
 
-same_text : (old new : Option (List ℕ)) (one two : List ℕ) → IsSome old → Appends old new one → Appends old new two → one ≡ two
+pub same_text : (old new : Option (List ℕ)) (one two : List ℕ) → IsSome old → Appends old new one → Appends old new two → one ≡ two
 same_text None new one two known p q = let no : ⊥ = cc in absurd no
 same_text (Some x) None one two known p q = absurd p
 same_text (Some x) (Some y) one two known p q = append_cancel_left x one two (sym p ∙ q)
 
-still_known : (old new : Option (List ℕ)) (text : List ℕ) → IsSome old → Appends old new text → IsSome new
+pub still_known : (old new : Option (List ℕ)) (text : List ℕ) → IsSome old → Appends old new text → IsSome new
 still_known None new text known p = let no : ⊥ = cc in absurd no
 still_known (Some x) None text known p = absurd p
 still_known (Some x) (Some y) text known p = refl
@@ -92,20 +95,53 @@ grows rest after line sent octets before later stays is comes same =
 
 -- ---- A line of one program.
 
-record IsStepped (c : Configs) (s : Side) (line_request : LineRequest) (a b : Programs) (i : Interface) : Type 0 where
-  events : List SideEvent
-  asked : AreFor line_request (clock_of s a.network.at.now a.user.at.now) events
-  are : AreAt c b (run c (moves_of s events) i)
-  network_now : network_clock s line_request a.network.at.now ≡ b.network.at.now
-  user_now : user_clock s line_request a.user.at.now ≡ b.user.at.now
+-- the program of this side; and the link that a request of this side refers to
+abbrev pub program_of : Side → Programs → AtWork
+program_of side.Network a = a.network.at
+program_of side.User a = a.user.at
+
+abbrev pub meant_by : Side → Interface → LinkId → LinkId
+meant_by side.Network i id = id
+meant_by side.User i id = own_link i.user.terminal id
+
+-- the primitives that this side delivered, and the messages that it accepted
+abbrev pub delivered_by : Side → Interface → List Primitive
+delivered_by side.Network i = i.delivered_to_network
+delivered_by side.User i = i.delivered_to_user
+
+abbrev pub given_by : Side → Interface → List (LinkId × List ℕ)
+given_by side.Network i = i.given_to_network
+given_by side.User i = i.given_to_user
+
+-- what a line of one side printed, and that the other side delivered and accepted nothing
+pub record IsTold (s : Side) (line_request : LineRequest) (printed : List PrintedLine) (i j : Interface) : Type 0 where
+  pub delivered : delivered_by s j ≡ delivered_by s i ++ primitives_in printed
+  pub given : given_by s j ≡ given_by s i ++ submitted_in (meant_by s i) line_request (is_refused printed)
+  pub others_delivered : delivered_by (other_side s) j ≡ delivered_by (other_side s) i
+  pub others_given : given_by (other_side s) j ≡ given_by (other_side s) i
+
+pub record IsStepped (c : Configs) (s : Side) (line_request : LineRequest) (a b : Programs) (i : Interface) : Type 0 where
+  pub events : List SideEvent
+  pub asked : AreFor line_request (clock_of s a.network.at.now a.user.at.now) events
+  pub are : AreAt c b (run c (moves_of s events) i)
+  pub network_now : network_clock s line_request a.network.at.now ≡ b.network.at.now
+  pub user_now : user_clock s line_request a.user.at.now ≡ b.user.at.now
+  pub printed : List PrintedLine
+  pub style : (program_of s b).around.style ≡ (program_of s a).around.style
+  pub text : Appends (program_of s a).around.printed (program_of s b).around.printed (lines_text (program_of s a).around.style printed)
+  pub other : program_of (other_side s) b ≡ program_of (other_side s) a
+  pub told : IsTold s line_request printed i (run c (moves_of s events) i)
 
 network_steps : (c : Configs) (line_request : LineRequest) (a b : Programs) (i : Interface) → AreAt c a i → WritesTo line_request a.network b.network a.user b.user → IsStepped c side.Network line_request a b i
 network_steps c line_request a b i at w =
     let before : AtWork = a.network.at in
     let after : AtWork = b.network.at in
-    let x = network_line c.network line_request before after w.does in
+    let pr = network_prints c.network line_request before after w.does in
+    let x = pr.by_events in
     let r = rest_left before.around.rest after.around.rest i.to_network x.heard w.left a.network.later at.to_network w.reads x.read in
     let d = x.are (by_network i) r.0 at.network r.1 in
+    let t = pr.told (by_network i) r.0 at.network r.1 in
+    let moved = network_moves c d.0 i in
     let u : SideView Network = does_all (network_behaviour c.network) d.0 (by_network i) in
     let same : w.octets ≡ socket_text x.sent = same_text before.around.written after.around.written w.octets (socket_text x.sent) at.by_network w.wrote x.written in
     let now : AreAt c b (with_network u i) = record {
@@ -121,18 +157,31 @@ network_steps c line_request a b i at w =
     record {
       events = d.0;
       asked = d.1;
-      are = subst (AreAt c b) (sym (network_moves c d.0 i)) now;
+      are = subst (AreAt c b) (sym moved) now;
       network_now = sym (moment_is line_request before after w.does);
       user_now = sym (ap (λ (p : AtWork). p.now) w.stays);
+      printed = pr.printed;
+      style = pr.style;
+      text = pr.text;
+      other = w.stays;
+      told = record {
+        delivered = ap (λ (j : Interface). j.delivered_to_network) moved ∙ t.delivered;
+        given = ap (λ (j : Interface). j.given_to_network) moved ∙ t.given;
+        others_delivered = ap (λ (j : Interface). j.delivered_to_user) moved;
+        others_given = ap (λ (j : Interface). j.given_to_user) moved;
+      };
     }
 
 user_steps : (c : Configs) (line_request : LineRequest) (a b : Programs) (i : Interface) → AreAt c a i → WritesTo line_request a.user b.user a.network b.network → IsStepped c side.User line_request a b i
 user_steps c line_request a b i at w =
     let before : AtWork = a.user.at in
     let after : AtWork = b.user.at in
-    let x = user_line c.user line_request before after w.does in
+    let pr = user_prints c.user line_request before after w.does in
+    let x = pr.by_events in
     let r = rest_left before.around.rest after.around.rest i.to_user x.heard w.left a.user.later at.to_user w.reads x.read in
     let d = x.are (by_user i) r.0 at.user r.1 in
+    let t = pr.told (by_user i) r.0 at.user r.1 in
+    let moved = user_moves c d.0 i in
     let u : SideView User = does_all (user_behaviour c.user) d.0 (by_user i) in
     let same : w.octets ≡ socket_text x.sent = same_text before.around.written after.around.written w.octets (socket_text x.sent) at.by_user w.wrote x.written in
     let now : AreAt c b (with_user u i) = record {
@@ -148,26 +197,38 @@ user_steps c line_request a b i at w =
     record {
       events = d.0;
       asked = d.1;
-      are = subst (AreAt c b) (sym (user_moves c d.0 i)) now;
+      are = subst (AreAt c b) (sym moved) now;
       network_now = sym (ap (λ (p : AtWork). p.now) w.stays);
       user_now = sym (moment_is line_request before after w.does);
+      printed = pr.printed;
+      style = pr.style;
+      text = pr.text;
+      other = w.stays;
+      told = record {
+        delivered = ap (λ (j : Interface). j.delivered_to_user) moved ∙ t.delivered;
+        given = ap (λ (j : Interface). j.given_to_user) moved ∙ t.given;
+        others_delivered = ap (λ (j : Interface). j.delivered_to_network) moved;
+        others_given = ap (λ (j : Interface). j.given_to_network) moved;
+      };
     }
 
-steps_together : (c : Configs) (s : Side) (line_request : LineRequest) (a b : Programs) (i : Interface) → AreAt c a i → ProgramDoes s line_request a b → IsStepped c s line_request a b i
+pub steps_together : (c : Configs) (s : Side) (line_request : LineRequest) (a b : Programs) (i : Interface) → AreAt c a i → ProgramDoes s line_request a b → IsStepped c s line_request a b i
 steps_together c side.Network line_request a b i at w = network_steps c line_request a b i at w
 steps_together c side.User line_request a b i at w = user_steps c line_request a b i at w
 
 -- ---- All lines.
 
-run_of_both : (c : Configs) (xs ys : List Move) (i : Interface) → run c (xs ++ ys) i ≡ run c ys (run c xs i)
+pub run_of_both : (c : Configs) (xs ys : List Move) (i : Interface) → run c (xs ++ ys) i ≡ run c ys (run c xs i)
 run_of_both c [] ys i = refl
 run_of_both c (move ∷ xs) ys i = run_of_both c xs ys (happens c move i)
 
-pub both_run : (c : Configs) (lines : List ProgramLine) (a b : Programs) (i : Interface) → AreAt c a i → ProgramsDo lines a b → AreRun c lines a b i
-both_run c [] a b i at same = record { moves = []; asked = refl; are = subst (λ (p : Programs). AreAt c p i) (sym same) at }
-both_run c (line ∷ lines) a b i at h =
-    let t = steps_together c line.side line.line_request a h.0 i at h.1 in
-    let more = both_run c lines h.0 b (run c (moves_of line.side t.events) i) t.are h.2 in
+unfoldable pub no_line_runs : (c : Configs) (a b : Programs) (i : Interface) → AreAt c a i → b ≡ a → AreRun c [] a b i
+no_line_runs c a b i at same = record { moves = []; asked = refl; are = subst (λ (p : Programs). AreAt c p i) (sym same) at }
+
+-- a line, and then others
+unfoldable pub line_runs : (c : Configs) (line : ProgramLine) (lines : List ProgramLine) (a mid b : Programs) (i : Interface) (t : IsStepped c line.side line.line_request a mid i)
+    → AreRun c lines mid b (run c (moves_of line.side t.events) i) → AreRun c (line ∷ lines) a b i
+line_runs c line lines a mid b i t more =
     let Asked : ℕ → ℕ → Type 0 = λ network user. AreMovesFor lines network user more.moves in
     record {
       moves = moves_of line.side t.events ++ more.moves;
@@ -177,10 +238,16 @@ both_run c (line ∷ lines) a b i at h =
         both = refl;
         for_first = t.asked;
         for_others = subst (λ (network : ℕ). Asked network (user_clock line.side line.line_request a.user.at.now)) (sym t.network_now)
-            (subst (Asked h.0.network.at.now) (sym t.user_now) more.asked);
+            (subst (Asked mid.network.at.now) (sym t.user_now) more.asked);
       };
       are = subst (AreAt c b) (sym (run_of_both c (moves_of line.side t.events) more.moves i)) more.are;
     }
+
+pub both_run : (c : Configs) (lines : List ProgramLine) (a b : Programs) (i : Interface) → AreAt c a i → ProgramsDo lines a b → AreRun c lines a b i
+both_run c [] a b i at same = no_line_runs c a b i at same
+both_run c (line ∷ lines) a b i at h =
+    let t = steps_together c line.side line.line_request a h.0 i at h.1 in
+    line_runs c line lines a h.0 b i t (both_run c lines h.0 b (run c (moves_of line.side t.events) i) t.are h.2)
 
 -- the lines of one side are executed by its program alone
 network_first : (s : Side) (line_request : LineRequest) (line_requests : List LineRequest) (a mid : Programs) (b : AtWork) → ProgramDoes s line_request a mid → LinesDo line_requests mid.network.at b
@@ -202,12 +269,3 @@ pub lines_of_user : (lines : List ProgramLine) (a b : Programs) → ProgramsDo l
 lines_of_user [] a b same = ap (λ (p : Programs). p.user.at) same
 lines_of_user (line ∷ lines) a b h =
     user_first line.side line.line_request (requests_of_side side.User lines) a h.0 b.user.at h.1 (lines_of_user lines h.0 b h.2)
-
-pub run_safely : (c : Configs) (fixed : Option ℕ) (known : List ℕ) (random : Lcg) (lines : List ProgramLine) (a b : Programs)
-    → AreAt c a (new_interface (new_user c.user fixed random) (new_network c.network known)) → ProgramsDo lines a b
-    → AreRunSafely c lines a b (new_interface (new_user c.user fixed random) (new_network c.network known))
-run_safely c fixed known random lines a b at did =
-    let p = both_run c lines a b (new_interface (new_user c.user fixed random) (new_network c.network known)) at did in record {
-      run_together = p;
-      safe = λ id low few_u few_n. made_link_safe c id fixed known random low few_u few_n p.moves;
-    }

@@ -33,18 +33,18 @@ use Rattle.lapd_cli_side_laws.specs.SideEvents.{AreFor, AreForAll, ArePartedFor,
 
 -- the code shows the side after the event, and the call's output is what the event sent and
 -- reported
-record Did {S : Type 0} (w : Behaviour S) (IsSo : S → Type 0) (acts : Effects) (event : SideEvent) (v : SideView S) : Type 0 where
-  is_so : IsSo (does w event v).now
-  puts : Puts w acts event v
+pub record Did {S : Type 0} (w : Behaviour S) (IsSo : S → Type 0) (acts : Effects) (event : SideEvent) (v : SideView S) : Type 0 where
+  pub is_so : IsSo (does w event v).now
+  pub puts : Puts w acts event v
 
 -- the calls of a side are events of this behaviour
 pub record HasEvents {S : Type 0} (w : Behaviour S) (Shows : EitherSide → S → Type 0) : Type 0 where
-  takes : (octets : List ℕ) (now : ℕ) (old new : EitherSide) (acts : Effects) → Takes octets now (Ok tt) old new acts
+  pub takes : (octets : List ℕ) (now : ℕ) (old new : EitherSide) (acts : Effects) → Takes octets now (Ok tt) old new acts
       → (v : SideView S) (rest : List (List ℕ)) → Shows old v.now → v.incoming ≡ octets ∷ rest → Did w (Shows new) acts (Take now) v
-  expires : (now : ℕ) (old new : EitherSide) (acts : Effects) → Expires now old new acts
+  pub expires : (now : ℕ) (old new : EitherSide) (acts : Effects) → Expires now old new acts
       → (v : SideView S) → Shows old v.now → (e : RunningTimer) × Did w (Shows new) acts (Expire e.timer e.of now) v
-  stays_idle : (now : ℕ) (old new : EitherSide) → StaysIdle now old new → (v : SideView S) → Shows old v.now → Shows new v.now
-  asks : (request : Request) (now : ℕ) (result : Result ⊤ SideFault) (old new : EitherSide) (acts : Effects) → Answers request now result old new acts
+  pub stays_idle : (now : ℕ) (old new : EitherSide) → StaysIdle now old new → (v : SideView S) → Shows old v.now → Shows new v.now
+  pub asks : (request : Request) (now : ℕ) (result : Result ⊤ SideFault) (old new : EitherSide) (acts : Effects) → Answers request now result old new acts
       → (v : SideView S) → Shows old v.now → Did w (Shows new) acts (Ask request now) v
 
 network_takes : (config : Config) (octets : List ℕ) (now : ℕ) (old new : EitherSide) (acts : Effects) → Takes octets now (Ok tt) old new acts
@@ -79,7 +79,7 @@ network_asks config request now (Err fault) (either.User old) new acts h v shown
 network_asks config request now (Ok done) (either.Network old) (either.User new) acts h v shown = absurd h
 network_asks config request now (Err fault) (either.Network old) (either.User new) acts h v shown = absurd h
 
-network_has : (config : Config) → HasEvents (network_behaviour config) (ShowsNetwork config)
+pub network_has : (config : Config) → HasEvents (network_behaviour config) (ShowsNetwork config)
 network_has config = record {
   takes = network_takes config;
   expires = network_expires config;
@@ -119,7 +119,7 @@ user_asks config request now (Err fault) (either.Network old) new acts h v shown
 user_asks config request now (Ok done) (either.User old) (either.Network new) acts h v shown = absurd h
 user_asks config request now (Err fault) (either.User old) (either.Network new) acts h v shown = absurd h
 
-user_has : (config : Config) → HasEvents (user_behaviour config) (ShowsUser config)
+pub user_has : (config : Config) → HasEvents (user_behaviour config) (ShowsUser config)
 user_has config = record {
   takes = user_takes config;
   expires = user_expires config;
@@ -130,21 +130,21 @@ user_has config = record {
 -- ---- One line.
 
 -- no event, or one
-none_lead : {S : Type 0} (w : Behaviour S) (IsSo : S → Type 0) (left : List (List ℕ)) (v : SideView S) → IsSo v.now → v.incoming ≡ left → LeadTo w IsSo left [] [] v
+pub none_lead : {S : Type 0} (w : Behaviour S) (IsSo : S → Type 0) (left : List (List ℕ)) (v : SideView S) → IsSo v.now → v.incoming ≡ left → LeadTo w IsSo left [] [] v
 none_lead w IsSo left v is are = record { is_so = is; incoming = are; outgoing = sym (append-nil v.outgoing) }
 
-take_leads : {S : Type 0} (w : Behaviour S) (IsSo : S → Type 0) (acts : Effects) (now : ℕ) (v : SideView S) (octets : List ℕ) (left : List (List ℕ)) → v.incoming ≡ octets ∷ left
+pub take_leads : {S : Type 0} (w : Behaviour S) (IsSo : S → Type 0) (acts : Effects) (now : ℕ) (v : SideView S) (octets : List ℕ) (left : List (List ℕ)) → v.incoming ≡ octets ∷ left
     → Did w IsSo acts (Take now) v → LeadTo w IsSo left acts.frames (Take now ∷ []) v
 unfolding does
 take_leads w IsSo acts now v octets left are d = record { is_so = d.is_so; incoming = ap (drop 1) are; outgoing = d.puts.sent }
 
-ask_leads : {S : Type 0} (w : Behaviour S) (IsSo : S → Type 0) (acts : Effects) (request : Request) (now : ℕ) (v : SideView S) (left : List (List ℕ)) → v.incoming ≡ left
+pub ask_leads : {S : Type 0} (w : Behaviour S) (IsSo : S → Type 0) (acts : Effects) (request : Request) (now : ℕ) (v : SideView S) (left : List (List ℕ)) → v.incoming ≡ left
     → Did w IsSo acts (Ask request now) v → LeadTo w IsSo left acts.frames (Ask request now ∷ []) v
 unfolding does
 ask_leads w IsSo acts request now v left are d = record { is_so = d.is_so; incoming = are; outgoing = d.puts.sent }
 
 -- an expiry, and then other events
-expiry_leads : {S : Type 0} (w : Behaviour S) (IsSo Mid : S → Type 0) (acts : Effects) (timer : Timer) (of : Option LinkId) (now : ℕ) (v : SideView S) (left sent : List (List ℕ))
+pub expiry_leads : {S : Type 0} (w : Behaviour S) (IsSo Mid : S → Type 0) (acts : Effects) (timer : Timer) (of : Option LinkId) (now : ℕ) (v : SideView S) (left sent : List (List ℕ))
     (events : List SideEvent) → Did w Mid acts (Expire timer of now) v → LeadTo w IsSo left sent events (does w (Expire timer of now) v)
     → LeadTo w IsSo left (acts.frames ++ sent) (Expire timer of now ∷ events) v
 expiry_leads w IsSo Mid acts timer of now v left sent events d more = record {
@@ -153,11 +153,11 @@ expiry_leads w IsSo Mid acts timer of now v left sent events d more = record {
   outgoing = more.outgoing ∙ ap (λ (line : List (List ℕ)). line ++ sent) d.puts.sent ∙ append_assoc v.outgoing acts.frames sent;
 }
 
-expiry_leaves : {S : Type 0} (w : Behaviour S) (timer : Timer) (of : Option LinkId) (now : ℕ) (v : SideView S) → (does w (Expire timer of now) v).incoming ≡ v.incoming
+pub expiry_leaves : {S : Type 0} (w : Behaviour S) (timer : Timer) (of : Option LinkId) (now : ℕ) (v : SideView S) → (does w (Expire timer of now) v).incoming ≡ v.incoming
 unfolding does
 expiry_leaves w timer of now v = refl
 
-all_expire : {S : Type 0} (w : Behaviour S) (Shows : EitherSide → S → Type 0) → HasEvents w Shows → (now : ℕ) (calls : List Effects) (old new : EitherSide) → ExpireInOrder now calls old new
+unfoldable pub all_expire : {S : Type 0} (w : Behaviour S) (Shows : EitherSide → S → Type 0) → HasEvents w Shows → (now : ℕ) (calls : List Effects) (old new : EitherSide) → ExpireInOrder now calls old new
     → (v : SideView S) (left : List (List ℕ)) → Shows old v.now → v.incoming ≡ left
     → (events : List SideEvent) × AllByRecursion (IsExpiryAt now) events × LeadTo w (Shows new) left (frames_given calls) events v
 all_expire {S} w Shows has now [] old new h v left shown are = ([], tt, none_lead w (Shows new) left v (has.stays_idle now old new h v shown) are)
@@ -171,7 +171,7 @@ all_expire {S} w Shows has now (acts ∷ calls) old new h v left shown are =
       expiry_leads w (Shows new) (Shows h.0) acts e.timer e.of now v left (frames_given calls) more.0 x.1 more.2,
     )
 
-takes_next : {S : Type 0} (w : Behaviour S) (Shows : EitherSide → S → Type 0) → HasEvents w Shows → (a b : AtWork) → TakesNext a b → IsByEvents w Shows (AreFor Read a.now) a b
+unfoldable pub takes_next : {S : Type 0} (w : Behaviour S) (Shows : EitherSide → S → Type 0) → HasEvents w Shows → (a b : AtWork) → TakesNext a b → IsByEvents w Shows (AreFor Read a.now) a b
 takes_next w Shows has a b h = record {
   heard = h.frame ∷ [];
   sent = h.takes.acts.frames;
@@ -184,7 +184,7 @@ takes_next w Shows has a b h = record {
   );
 }
 
-finds_none : {S : Type 0} (w : Behaviour S) (Shows : EitherSide → S → Type 0) → HasEvents w Shows → (a b : AtWork) → FindsNone a b → IsByEvents w Shows (AreFor Read a.now) a b
+unfoldable pub finds_none : {S : Type 0} (w : Behaviour S) (Shows : EitherSide → S → Type 0) → HasEvents w Shows → (a b : AtWork) → FindsNone a b → IsByEvents w Shows (AreFor Read a.now) a b
 finds_none {S} w Shows has a b h = record {
   heard = [];
   sent = [];
@@ -193,7 +193,7 @@ finds_none {S} w Shows has a b h = record {
   are = λ v left shown are. ([], inl refl, none_lead w (Shows b.side) left v (subst (λ (side : EitherSide). Shows side v.now) (sym h.side) shown) are);
 }
 
-ticks : {S : Type 0} (w : Behaviour S) (Shows : EitherSide → S → Type 0) → HasEvents w Shows → (ms : ℕ) (a b : AtWork) → Ticks ms a b → IsByEvents w Shows (AreFor (Tick ms) a.now) a b
+unfoldable pub ticks : {S : Type 0} (w : Behaviour S) (Shows : EitherSide → S → Type 0) → HasEvents w Shows → (ms : ℕ) (a b : AtWork) → Ticks ms a b → IsByEvents w Shows (AreFor (Tick ms) a.now) a b
 ticks w Shows has ms a b h = record {
   heard = [];
   sent = frames_given h.due.calls;
@@ -203,10 +203,10 @@ ticks w Shows has ms a b h = record {
 }
 
 -- exactly one request: the one the line names
-abbrev IsOneRequest : LineRequest → ℕ → List SideEvent → Type 0
+abbrev pub IsOneRequest : LineRequest → ℕ → List SideEvent → Type 0
 IsOneRequest line_request now events = (request : Request) × (line_request_of request ≡ line_request) × (events ≡ Ask request now ∷ [])
 
-asks_one : {S : Type 0} (w : Behaviour S) (Shows : EitherSide → S → Type 0) → HasEvents w Shows → (line_request : LineRequest) (a b : AtWork) → Asks line_request a b → IsByEvents w Shows (IsOneRequest line_request a.now) a b
+unfoldable pub asks_one : {S : Type 0} (w : Behaviour S) (Shows : EitherSide → S → Type 0) → HasEvents w Shows → (line_request : LineRequest) (a b : AtWork) → Asks line_request a b → IsByEvents w Shows (IsOneRequest line_request a.now) a b
 asks_one w Shows has line_request a b h = record {
   heard = [];
   sent = h.acts.frames;

@@ -1,2 +1,5 @@
 pub mod SideEvents
+pub mod Transcripts
+pub mod Printed
 pub mod Joined
+pub mod JoinedRuns

@@ -1,16 +1,23 @@
 //! Laws of the programs. The functions do nothing when they are called.
 
-ghost use Rattle.std.specs.Prelude.{◌≡◌, List, Option, ℕ};
+ghost use Rattle.std.specs.Prelude.{◌≡◌, ◌<◌, ◌≤◌, List, Option, ℕ};
 ghost use Rattle.rand_pcg.specs.Lcg.{Lcg};
+ghost use Rattle.lapd_frame.specs.declared.Side.{Side};
 ghost use Rattle.lapd_frame.specs.declared.Side.TheVariants as side;
+ghost use Rattle.lapd_table.specs.declared.link_id.LinkId.{LinkId};
 ghost use Rattle.lapd_sides_links.specs.declared.config.Config.{Config};
+ghost use Rattle.lapd_sides_links.specs.Links.{parameters_for};
 ghost use Rattle.lapd_sides.specs.Network.{new_network};
 ghost use Rattle.lapd_sides.specs.User.{new_user};
 ghost use Rattle.lapd_sides_laws.specs.Interface.{Configs, Interface, by_network, by_user, network_behaviour, new_interface, run, user_behaviour, with_network, with_user};
+ghost use Rattle.lapd_sides_laws.specs.Premises.{SatisfyPremisesAsMade};
 ghost use Rattle.lapd_sides_laws.specs.SideView.{SideEvent};
-ghost use Rattle.lapd_cli_side_commands.specs.Served.{AtWork, LineDoes, LinesDo};
+ghost use Rattle.lapd_sides.specs.declared.either_side.EitherSide.TheVariants as either;
+ghost use Rattle.lapd_cli_side_commands.specs.Served.{AtWork, Devices, LineDoes, LinesDo, NetHasServed, UserHasServed};
 ghost use Rattle.lapd_cli_side_lines.specs.LineRequests.{LineRequest};
 ghost use Rattle.lapd_cli_side_laws.specs.Joined.{AreAt, AreRun, AreRunSafely, ProgramLine, Programs, ProgramsDo, requests_of_side};
+ghost use Rattle.lapd_cli_side_laws.specs.JoinedRuns.{AreJoined, AreMovesInPrint, AreServedInOrder, IsSafeInPrint, lines_in, sides_at_first};
+ghost use Rattle.lapd_cli_side_laws.specs.Printed.{IsPrinted};
 ghost use Rattle.lapd_cli_side_laws.specs.SideEvents.{AreFor, AreForAll, IsByEvents, ShowsNetwork, ShowsUser, does_all, moves_of};
 
 /// A line of `net` or `user`, and so a whole script, performs exactly the side events that it
@@ -42,6 +49,23 @@ pub fn lines_are_events()
         ≡ with_user (does_all (user_behaviour c.user) events (by_user i)) i }
 {}
 
+/// A line of `net` or `user` prints exactly what its side events deliver, and submits its message
+/// unless it prints a refusal.
+///
+/// The printed text is that of a list of lines: frames, primitives, a refusal, or the end of the
+/// input. The primitives among them are those that the events of the line deliver, in order. The
+/// side accepts a message exactly if the line is `give` and prints no refusal.
+pub fn lines_are_printed()
+    ensures network { (config : Config) (line_request : LineRequest) (a b : AtWork)
+        → LineDoes line_request a b
+        → IsPrinted (network_behaviour config) (ShowsNetwork config)
+        (AreFor line_request a.now) line_request a b }
+    ensures user { (config : Config) (line_request : LineRequest) (a b : AtWork)
+        → LineDoes line_request a b
+        → IsPrinted (user_behaviour config) (ShowsUser config)
+        (AreFor line_request a.now) line_request a b }
+{}
+
 /// If `net` and `user` are joined by a lossless line, whatever their lines do, in any order, is a
 /// sequence of moves of an interface. Lossless means: each source delivers the octets that the
 /// other program writes, and each program reads only what was written. So each link of the
@@ -62,4 +86,46 @@ pub fn joined_programs_are_safe()
         → LinesDo (requests_of_side side.Network lines) a.network.at b.network.at }
     ensures user_lines { (lines : List ProgramLine) (a b : Programs) → ProgramsDo lines a b
         → LinesDo (requests_of_side side.User lines) a.user.at b.user.at }
+{}
+
+/// A run of `net` and a run of `user` over a lossless line print what their sides deliver and accept.
+///
+/// Both runs are those of the contracts of `net` and `user` (`NetHasServed`, `UserHasServed`). The
+/// premises: each source has the octets that the other's sink gets, and the lines of both have an
+/// order in which each reads only what lines before it wrote. Then both runs have transcripts: the
+/// lines of the script, each with what it printed, and together exactly the text printed. Both runs
+/// are moves of an interface. Its primitives are those in the transcripts, and its messages are
+/// those of the `give` lines that were not refused.
+pub fn joined_runs_are_printed()
+    ensures { (c : Configs) (fixed : Option ℕ) (known : List ℕ)
+        (network_lines user_lines : List LineRequest)
+        (network_before network_after user_before user_after : Devices)
+        (network : NetHasServed c.network known network_lines network_before network_after)
+        (user : UserHasServed c.user fixed user_lines user_before user_after) (order : List Side)
+        → AreJoined network_before network_after user_before user_after
+        → AreServedInOrder order (either.Network network.began) (either.User user.began)
+        network_lines user_lines network_before network_after user_before user_after
+        network.served user.served
+        → AreMovesInPrint c fixed known (lines_in order network_lines user_lines) network_lines
+        user_lines network_before network_after user_before user_after }
+{}
+
+/// What such runs print of a link is right, in both directions, if the moves keep the link's
+/// premises.
+///
+/// The messages in the `data` lines that one program prints are, in order and once each, among
+/// those of the other program's `give` lines that were not refused. Each message that the counts of
+/// its `acknowledged` lines report was received. No error but F, G, H and I is printed. And the link
+/// is safe in the interface, as `each_link_is_safe` of `lapd_sides_laws` says.
+pub fn joined_runs_are_right()
+    ensures { (c : Configs) (fixed : Option ℕ) (known : List ℕ) (lines : List ProgramLine)
+        (network_lines user_lines : List LineRequest)
+        (network_before network_after user_before user_after : Devices)
+        (runs : AreMovesInPrint c fixed known lines network_lines user_lines network_before
+        network_after user_before user_after)
+        (id : LinkId) → id.tei < 127
+        → (parameters_for c.user id.sapi).k ≤ 127 → (parameters_for c.network id.sapi).k ≤ 127
+        → SatisfyPremisesAsMade c id runs.moves (sides_at_first c fixed known)
+        → IsSafeInPrint c id fixed runs.network runs.user
+        (run c runs.moves (sides_at_first c fixed known)) }
 {}

@@ -18,4 +18,7 @@
 
 mod laws;
 
-pub use laws::{joined_programs_are_safe, lines_are_events};
+pub use laws::{
+    joined_programs_are_safe, joined_runs_are_printed, joined_runs_are_right, lines_are_events,
+    lines_are_printed,
+};

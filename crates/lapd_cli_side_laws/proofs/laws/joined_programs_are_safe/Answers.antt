@@ -1,4 +1,5 @@
-use Rattle.lapd_cli_side_laws.proofs.Joins.{both_run, lines_of_network, lines_of_user, run_safely}
+use Rattle.lapd_cli_side_laws.proofs.Joins.{both_run, lines_of_network, lines_of_user}
+use Rattle.lapd_cli_side_laws.proofs.SafeRuns.{run_safely}
 use Rattle.lapd_cli_side_laws.proofs.laws.joined_programs_are_safe.Goals as goal
 
 pub returns : goal.returns
