@@ -17,6 +17,9 @@ pub else_row : (m : Machine) (outs : List Out) (test : Bool) (x y : StepState) �
 else_row m outs true x y q h = cc
 else_row m outs false x y q h = h
 
+-- a row with a test, either way
+pub ruleset rows = (then_row, else_row)
+
 -- RC is below N200, or is N200
 pub is_below : (rc_there rc n200_there n200 : ℕ) → rc_there ≡ rc → n200_there ≡ n200 → rc < n200 → nat_lt rc_there n200_there ≡ true
 is_below rc_there rc n200_there n200 p q h = let test : nat_lt rc n200 ≡ true = grind (arith, nat_tests) in rw (p, q) test

@@ -70,3 +70,6 @@ on_ok (Err y) P Q h f = h
 -- the place of the last sent message
 pub tail_last_place : (given : List (List ℕ)) (first next : ℕ) (q : Waiting) → IsTail given first next q → next - 1 - first ≡ q.sent - 1
 tail_last_place given first next q t = omega (arith, t.next_is)
+
+-- how each action leaves the I queue the tail of the accepted messages
+pub ruleset tails = (tail_waiting, tail_place, tail_emptied, tail_acknowledged, tail_gone_back, tail_sent, tail_given, room_sent, room_gone_back)

@@ -21,11 +21,11 @@ fn release_primitive(asked: bool) -> Out
     }
 }
 
-#[tactic(auto, using(crate::proofs::Rows::then_row, crate::proofs::Rows::else_row), unfolding(lapd_link_definition::specs::AwaitingEstablishment::end_establishment, lapd_link_definition::specs::AwaitingEstablishment::confirm_or_indicate, lapd_link_definition::specs::AwaitingEstablishment::ua_final, lapd_link_definition::specs::AwaitingEstablishment::awaiting_establishment_t200, lapd_link_definition::specs::AwaitingEstablishment::awaiting_establishment))]
 impl Machine {
     ghost use Rattle.lapd_link_machine.specs.Represents.{MachineDoes, HasOutputRoom, Grows};
 
     /// Receives a frame (Figure B.5).
+    #[tactic(auto, using(crate::proofs::Rows::rows), unfolding(lapd_link_definition::specs::AwaitingEstablishment::awaiting_establishment))]
     pub(crate) fn awaiting_establishment_frame(
         &mut self,
         control: Control,
@@ -57,6 +57,7 @@ impl Machine {
 
     /// DL-ESTABLISH request, not refused: layer 3 establishes, instead of the data link itself
     /// (Figure B.5).
+    #[tactic(auto, using(crate::proofs::Rows::rows), unfolding(lapd_link_definition::specs::AwaitingEstablishment::awaiting_establishment))]
     pub(crate) fn awaiting_establishment_establish(&mut self, outs: &mut Outs)
         requires room { HasOutputRoom 1 outs.old }
         ensures step { MachineDoes self.old outs.old self.new outs.new
@@ -69,6 +70,7 @@ impl Machine {
     }
 
     /// DL-RELEASE request: the release is pending until the response to the SABME (Figure B.5).
+    #[tactic(auto, using(crate::proofs::Rows::rows), unfolding(lapd_link_definition::specs::AwaitingEstablishment::awaiting_establishment))]
     pub(crate) fn awaiting_establishment_release(&mut self, outs: &mut Outs)
         requires room { HasOutputRoom 1 outs.old }
         ensures step { MachineDoes self.old outs.old self.new outs.new
@@ -80,6 +82,7 @@ impl Machine {
     }
 
     /// Receives a UA with F=1 (Figure B.5).
+    #[tactic(auto, using(crate::proofs::Rows::rows), unfolding(lapd_link_definition::specs::AwaitingEstablishment::ua_final))]
     fn ua_final(&mut self, outs: &mut Outs)
         requires room { HasOutputRoom 4 outs.old }
         ensures step { MachineDoes self.old outs.old self.new outs.new ua_final }
@@ -102,6 +105,7 @@ impl Machine {
 
     /// Confirms to layer 3 the establishment that it requested. Otherwise, if messages are lost,
     /// indicates to it that the link was re-established (Figure B.5).
+    #[tactic(auto, using(crate::proofs::Rows::rows), unfolding(lapd_link_definition::specs::AwaitingEstablishment::confirm_or_indicate))]
     fn confirm_or_indicate(&mut self, outs: &mut Outs)
         requires room { HasOutputRoom 2 outs.old }
         ensures step { MachineDoes self.old outs.old self.new outs.new confirm_or_indicate }
@@ -115,6 +119,7 @@ impl Machine {
     }
 
     /// T200 expires: the SABME is retransmitted, N200 times at most (Figure B.5).
+    #[tactic(auto, using(crate::proofs::Rows::rows), unfolding(lapd_link_definition::specs::AwaitingEstablishment::awaiting_establishment_t200))]
     pub(crate) fn awaiting_establishment_t200(&mut self, outs: &mut Outs)
         requires room { HasOutputRoom 3 outs.old }
         ensures step { MachineDoes self.old outs.old self.new outs.new awaiting_establishment_t200 }
@@ -134,6 +139,7 @@ impl Machine {
     }
 
     /// The SABME was refused, or never answered (Figure B.5).
+    #[tactic(auto, using(crate::proofs::Rows::rows), unfolding(lapd_link_definition::specs::AwaitingEstablishment::end_establishment))]
     fn end_establishment(&mut self, outs: &mut Outs)
         requires room { HasOutputRoom 1 outs.old }
         ensures step { MachineDoes self.old outs.old self.new outs.new end_establishment }

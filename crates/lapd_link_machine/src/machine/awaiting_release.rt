@@ -8,7 +8,7 @@ use crate::machine::Machine;
 use lapd_frame::{Control, Role};
 use lapd_link_definition::{Letter, Out, State};
 
-#[tactic(auto, using(crate::proofs::Rows::then_row, crate::proofs::Rows::else_row), unfolding(lapd_link_definition::specs::AwaitingRelease::confirm_release, lapd_link_definition::specs::AwaitingRelease::awaiting_release_t200, lapd_link_definition::specs::AwaitingRelease::awaiting_release))]
+#[tactic(auto, using(crate::proofs::Rows::rows), unfolding(lapd_link_definition::specs::AwaitingRelease::confirm_release, lapd_link_definition::specs::AwaitingRelease::awaiting_release_t200, lapd_link_definition::specs::AwaitingRelease::awaiting_release))]
 impl Machine {
     ghost use Rattle.lapd_link_machine.specs.Represents.{MachineDoes, HasOutputRoom, Grows};
 

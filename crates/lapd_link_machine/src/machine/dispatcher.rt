@@ -34,7 +34,7 @@ fn is_unit_data(control: &Control, role: Role) -> bool
     }
 }
 
-#[tactic(auto, using(crate::proofs::Rows::then_row, crate::proofs::Rows::else_row), unfolding(lapd_link_definition::specs::TeiAssigned::tei_assigned, lapd_link_definition::specs::AwaitingEstablishment::awaiting_establishment, lapd_link_definition::specs::AwaitingRelease::awaiting_release, lapd_link_definition::specs::Established::multiple_frame_established, lapd_link_definition::specs::TimerRecovery::timer_recovery, lapd_link_definition::specs::Established::in_7_and_8, lapd_link_definition::specs::Table::report_fault, lapd_link_definition::specs::Table::by_state, lapd_link_definition::specs::Table::row))]
+#[tactic(auto, using(crate::proofs::Rows::rows), unfolding(lapd_link_definition::specs::TeiAssigned::tei_assigned, lapd_link_definition::specs::AwaitingEstablishment::awaiting_establishment, lapd_link_definition::specs::AwaitingRelease::awaiting_release, lapd_link_definition::specs::Established::multiple_frame_established, lapd_link_definition::specs::TimerRecovery::timer_recovery, lapd_link_definition::specs::Established::in_7_and_8, lapd_link_definition::specs::Table::report_fault, lapd_link_definition::specs::Table::by_state, lapd_link_definition::specs::Table::row))]
 impl Machine {
     ghost use Rattle.lapd_link_machine.specs.Sent.{IsBetweenSteps};
     ghost use Rattle.lapd_link_machine.specs.Represents.{MachineDoes, HasOutputRoom, Grows};

@@ -13,7 +13,7 @@ use crate::machine::Machine;
 use crate::{MOST_OUTPUTS, Outs};
 use lapd_link_definition::State;
 
-#[tactic(auto, using(crate::proofs::Rows::then_row, crate::proofs::Rows::else_row), unfolding(lapd_link_definition::specs::EndOfStep::acknowledge_pending, lapd_link_definition::specs::EndOfStep::end_step))]
+#[tactic(auto, using(crate::proofs::Rows::rows), unfolding(lapd_link_definition::specs::EndOfStep::acknowledge_pending, lapd_link_definition::specs::EndOfStep::end_step))]
 impl Machine {
     ghost use Rattle.lapd_link_definition.specs.EndOfStep.{send_all};
     ghost use Rattle.lapd_link_machine.specs.Bounds.{primitive_count};

@@ -16,7 +16,7 @@ use lapd_supervision::{Advance, Window};
 use lapd_timers::Timer;
 
 /// The rows that states 7 and 8 share.
-#[tactic(auto, using(crate::proofs::Rows::then_row, crate::proofs::Rows::else_row), unfolding(lapd_link_definition::specs::Established::in_7_and_8, lapd_link_definition::specs::Established::busy_on, lapd_link_definition::specs::Established::busy_off))]
+#[tactic(auto, using(crate::proofs::Rows::rows), unfolding(lapd_link_definition::specs::Established::in_7_and_8, lapd_link_definition::specs::Established::busy_on, lapd_link_definition::specs::Established::busy_off))]
 impl Machine {
     ghost use Rattle.lapd_link_machine.specs.Represents.{MachineDoes, HasOutputRoom, Grows};
 
@@ -125,12 +125,12 @@ impl Machine {
 }
 
 /// State 7, a frame or an expired timer.
-#[tactic(auto, using(crate::proofs::Rows::then_row, crate::proofs::Rows::else_row), unfolding(lapd_link_definition::specs::Established::poll_or_final, lapd_link_definition::specs::Established::established_t200, lapd_link_definition::specs::Established::multiple_frame_established, lapd_link_definition::specs::Established::in_7_and_8))]
 impl Machine {
     ghost use Rattle.lapd_link_machine.specs.Sent.{SentAreOutstanding};
     ghost use Rattle.lapd_link_machine.specs.Represents.{MachineDoes, HasOutputRoom, Grows};
 
     /// Receives a frame (Figure B.7).
+    #[tactic(auto, using(crate::proofs::Rows::rows), unfolding(lapd_link_definition::specs::Established::multiple_frame_established))]
     #[inline(always)]
     pub(crate) fn established_frame(&mut self, control: Control, role: Role, outs: &mut Outs)
         requires room { HasOutputRoom 6 outs.old }
@@ -167,6 +167,7 @@ impl Machine {
     }
 
     /// Receives an I frame (Figure B.7).
+    #[tactic(auto, using(crate::proofs::Rows::rows), unfolding(lapd_link_definition::specs::Established::multiple_frame_established, lapd_link_definition::specs::Established::in_7_and_8))]
     #[inline(always)]
     fn established_i_frame(&mut self, ns: Number, nr: Number, p: bool, role: Role, outs: &mut Outs)
         requires room { HasOutputRoom 6 outs.old }
@@ -185,6 +186,7 @@ impl Machine {
     }
 
     /// Receives a DM (Figure B.7).
+    #[tactic(auto, using(crate::proofs::Rows::rows), unfolding(lapd_link_definition::specs::Established::multiple_frame_established, lapd_link_definition::specs::Established::in_7_and_8))]
     fn established_dm(&mut self, f: bool, role: Role, outs: &mut Outs)
         requires room { HasOutputRoom 4 outs.old }
         ensures step { MachineDoes self.old outs.old self.new outs.new
@@ -202,6 +204,7 @@ impl Machine {
     }
 
     /// A command with P=1 is answered, and a response with F=1 is unsolicited (Figure B.7).
+    #[tactic(auto, using(crate::proofs::Rows::rows), unfolding(lapd_link_definition::specs::Established::poll_or_final))]
     fn poll_or_final(&mut self, role: Role, pf: bool, outs: &mut Outs)
         requires room { HasOutputRoom 1 outs.old }
         ensures step { MachineDoes self.old outs.old self.new outs.new (poll_or_final role pf) }
@@ -216,6 +219,7 @@ impl Machine {
     }
 
     /// T203 expires: an enquiry is sent (Figure B.7).
+    #[tactic(auto, using(crate::proofs::Rows::rows), unfolding(lapd_link_definition::specs::Established::multiple_frame_established))]
     pub(crate) fn established_t203(&mut self, outs: &mut Outs)
         requires room { HasOutputRoom 2 outs.old }
         ensures step { MachineDoes self.old outs.old self.new outs.new
@@ -229,6 +233,7 @@ impl Machine {
     }
 
     /// T200 expires: the last I frame is retransmitted, or an enquiry is sent (Figure B.7).
+    #[tactic(auto, using(crate::proofs::Rows::rows), unfolding(lapd_link_definition::specs::Established::established_t200))]
     pub(crate) fn established_t200(&mut self, outs: &mut Outs)
         requires room { HasOutputRoom 2 outs.old }
         requires counted { SentAreOutstanding self.old }
@@ -268,7 +273,6 @@ impl Machine {
 }
 
 /// State 7, the effect of an N(R).
-#[tactic(auto, using(crate::proofs::Rows::then_row, crate::proofs::Rows::else_row), unfolding(lapd_link_definition::specs::Established::acknowledge_with_timers, lapd_link_definition::specs::Established::i_frame_nr, lapd_link_definition::specs::Established::rr_nr, lapd_link_definition::specs::Established::rej_nr, lapd_link_definition::specs::Established::rnr_nr))]
 impl Machine {
     ghost use Rattle.lapd_link_machine.specs.Sent.{SentAreOutstanding, IsTaken};
     ghost use Rattle.lapd_link_machine.specs.Represents.{MachineDoes, HasOutputRoom, Grows};
@@ -290,6 +294,7 @@ impl Machine {
     }
 
     /// Processes the N(R) of an I frame; while the peer is busy, T200 keeps running (Figure B.7).
+    #[tactic(auto, using(crate::proofs::Rows::rows), unfolding(lapd_link_definition::specs::Established::i_frame_nr))]
     #[inline(always)]
     fn i_frame_nr(&mut self, nr: Number, outs: &mut Outs)
         requires room { HasOutputRoom 4 outs.old }
@@ -310,6 +315,7 @@ impl Machine {
     }
 
     /// Processes the N(R) of an RR frame (Figure B.7).
+    #[tactic(auto, using(crate::proofs::Rows::rows), unfolding(lapd_link_definition::specs::Established::rr_nr))]
     #[inline(always)]
     fn rr_nr(&mut self, nr: Number, outs: &mut Outs)
         requires room { HasOutputRoom 4 outs.old }
@@ -325,6 +331,7 @@ impl Machine {
 
     /// Processes a valid N(R), and T200 and T203 by whether it acknowledges all, nothing new, or
     /// some (Figure B.7).
+    #[tactic(auto, using(crate::proofs::Rows::rows), unfolding(lapd_link_definition::specs::Established::acknowledge_with_timers))]
     #[inline(always)]
     fn acknowledge_with_timers(&mut self, nr: Number, taken: (Window, Advance), outs: &mut Outs)
         requires room { HasOutputRoom 3 outs.old }
@@ -345,6 +352,7 @@ impl Machine {
     }
 
     /// Processes the N(R) of a REJ frame (Figure B.7).
+    #[tactic(auto, using(crate::proofs::Rows::rows), unfolding(lapd_link_definition::specs::Established::rej_nr))]
     fn rej_nr(&mut self, nr: Number, outs: &mut Outs)
         requires room { HasOutputRoom 4 outs.old }
         requires counted { SentAreOutstanding self.old }
@@ -363,6 +371,7 @@ impl Machine {
     }
 
     /// Processes the N(R) of an RNR frame (Figure B.7).
+    #[tactic(auto, using(crate::proofs::Rows::rows), unfolding(lapd_link_definition::specs::Established::rnr_nr))]
     fn rnr_nr(&mut self, nr: Number, outs: &mut Outs)
         requires room { HasOutputRoom 4 outs.old }
         requires counted { SentAreOutstanding self.old }

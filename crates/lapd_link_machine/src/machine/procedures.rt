@@ -16,13 +16,13 @@ use lapd_supervision::{Advance, Window};
 use lapd_timers::Timer;
 
 /// Actions that set one value.
-#[tactic(auto, unfolding(lapd_link_definition::specs::Procedures::put, lapd_link_definition::specs::Procedures::state_to, lapd_link_definition::specs::Procedures::rc_to, lapd_link_definition::specs::Procedures::increment_rc, lapd_link_definition::specs::Procedures::layer3_initiated_to, lapd_link_definition::specs::Procedures::release_pending_to, lapd_link_definition::specs::Procedures::start, lapd_link_definition::specs::Procedures::stop, lapd_link_definition::specs::Procedures::expired))]
 impl Machine {
     ghost use Rattle.lapd_link_machine.specs.Sent.{SentAreOutstanding, IsTaken};
     ghost use Rattle.lapd_link_machine.specs.Bounds.{primitive_count};
     ghost use Rattle.lapd_link_machine.specs.Represents.{MachineDoes, DoesQuietly, HasOutputRoom, Grows};
 
     /// Adds an output.
+    #[tactic(auto, unfolding(lapd_link_definition::specs::Procedures::put))]
     pub(crate) fn put(&mut self, out: Out, outs: &mut Outs)
         requires room { HasOutputRoom 1 outs.old }
         ensures step { MachineDoes self.old outs.old self.new outs.new (put out) }
@@ -33,6 +33,7 @@ impl Machine {
     }
 
     /// Sets the state.
+    #[tactic(auto, unfolding(lapd_link_definition::specs::Procedures::state_to))]
     pub(crate) fn state_to(&mut self, state: State)
         ensures step { DoesQuietly self.old self.new (state_to state) }
         ensures state { self.new.state ≡ state }
@@ -41,6 +42,7 @@ impl Machine {
     }
 
     /// Sets RC.
+    #[tactic(auto, unfolding(lapd_link_definition::specs::Procedures::rc_to))]
     pub(crate) fn rc_to(&mut self, rc: u8)
         ensures step { DoesQuietly self.old self.new (rc_to rc) }
     {
@@ -48,6 +50,7 @@ impl Machine {
     }
 
     /// Increments RC.
+    #[tactic(auto, unfolding(lapd_link_definition::specs::Procedures::increment_rc))]
     pub(crate) fn increment_rc(&mut self)
         requires { self.old.rc < 255 }
         ensures step { DoesQuietly self.old self.new increment_rc }
@@ -56,6 +59,7 @@ impl Machine {
     }
 
     /// Sets whether layer 3 initiated the establishment.
+    #[tactic(auto, unfolding(lapd_link_definition::specs::Procedures::layer3_initiated_to))]
     pub(crate) fn layer3_initiated_to(&mut self, on: bool)
         ensures step { DoesQuietly self.old self.new (layer3_initiated_to on) }
         ensures state { self.new.state ≡ self.old.state }
@@ -64,6 +68,7 @@ impl Machine {
     }
 
     /// Sets whether a release is pending.
+    #[tactic(auto, unfolding(lapd_link_definition::specs::Procedures::release_pending_to))]
     pub(crate) fn release_pending_to(&mut self, on: bool)
         ensures step { DoesQuietly self.old self.new (release_pending_to on) }
     {
@@ -71,6 +76,7 @@ impl Machine {
     }
 
     /// START T200: it is started or restarted.
+    #[tactic(auto, unfolding(lapd_link_definition::specs::Procedures::start))]
     pub(crate) fn start_t200(&mut self, outs: &mut Outs)
         requires room { HasOutputRoom 1 outs.old }
         ensures step { MachineDoes self.old outs.old self.new outs.new (start Timer.T200) }
@@ -84,6 +90,7 @@ impl Machine {
     }
 
     /// STOP T200: it is stopped if it runs.
+    #[tactic(auto, unfolding(lapd_link_definition::specs::Procedures::stop))]
     pub(crate) fn stop_t200(&mut self, outs: &mut Outs)
         requires room { HasOutputRoom 1 outs.old }
         ensures step { MachineDoes self.old outs.old self.new outs.new (stop Timer.T200) }
@@ -96,6 +103,7 @@ impl Machine {
     }
 
     /// T200 has expired, so it no longer runs.
+    #[tactic(auto, unfolding(lapd_link_definition::specs::Procedures::expired))]
     pub(crate) fn expired_t200(&mut self)
         ensures queue { self.new.queue ≡ self.old.queue }
         ensures step { DoesQuietly self.old self.new (expired Timer.T200) }
@@ -104,6 +112,7 @@ impl Machine {
     }
 
     /// START T203: it is started or restarted.
+    #[tactic(auto, unfolding(lapd_link_definition::specs::Procedures::start))]
     pub(crate) fn start_t203(&mut self, outs: &mut Outs)
         requires room { HasOutputRoom 1 outs.old }
         ensures step { MachineDoes self.old outs.old self.new outs.new (start Timer.T203) }
@@ -114,6 +123,7 @@ impl Machine {
     }
 
     /// STOP T203: it is stopped if it runs.
+    #[tactic(auto, unfolding(lapd_link_definition::specs::Procedures::stop))]
     pub(crate) fn stop_t203(&mut self, outs: &mut Outs)
         requires room { HasOutputRoom 1 outs.old }
         ensures step { MachineDoes self.old outs.old self.new outs.new (stop Timer.T203) }
@@ -128,6 +138,7 @@ impl Machine {
     }
 
     /// T203 has expired, so it no longer runs.
+    #[tactic(auto, unfolding(lapd_link_definition::specs::Procedures::expired))]
     pub(crate) fn expired_t203(&mut self)
         ensures step { DoesQuietly self.old self.new (expired Timer.T203) }
     {
@@ -136,13 +147,13 @@ impl Machine {
 }
 
 /// Actions of the state variables and conditions.
-#[tactic(auto, unfolding(lapd_link_definition::specs::Procedures::clear_exception_conditions, lapd_link_definition::specs::Procedures::zero_state_variables, lapd_link_definition::specs::Procedures::set_peer_busy, lapd_link_definition::specs::Procedures::set_own_busy, lapd_link_definition::specs::Procedures::enquiry_response, lapd_link_definition::specs::Procedures::transmit_enquiry, lapd_link_definition::specs::Procedures::transmit_rr, lapd_link_definition::specs::Procedures::i_frame_ns))]
 impl Machine {
     ghost use Rattle.lapd_link_machine.specs.Sent.{SentAreOutstanding, IsTaken};
     ghost use Rattle.lapd_link_machine.specs.Bounds.{primitive_count};
     ghost use Rattle.lapd_link_machine.specs.Represents.{MachineDoes, DoesQuietly, HasOutputRoom, Grows};
 
     /// CLEAR EXCEPTION CONDITIONS: clears busy, rejecting and a pending acknowledgement.
+    #[tactic(auto, unfolding(lapd_link_definition::specs::Procedures::clear_exception_conditions))]
     pub(crate) fn clear_exception_conditions(&mut self)
         ensures step { DoesQuietly self.old self.new clear_exception_conditions }
     {
@@ -150,6 +161,7 @@ impl Machine {
     }
 
     /// V(S), V(A) and V(R) become 0, and an establishment begins.
+    #[tactic(auto, unfolding(lapd_link_definition::specs::Procedures::zero_state_variables))]
     pub(crate) fn zero_state_variables(&mut self)
         ensures step { DoesQuietly self.old self.new zero_state_variables }
     {
@@ -157,6 +169,7 @@ impl Machine {
     }
 
     /// SET or CLEAR PEER RECEIVER BUSY.
+    #[tactic(auto, unfolding(lapd_link_definition::specs::Procedures::set_peer_busy))]
     pub(crate) fn set_peer_busy(&mut self, on: bool)
         ensures step { DoesQuietly self.old self.new (set_peer_busy on) }
         ensures counted { SentAreOutstanding self.old → SentAreOutstanding self.new }
@@ -165,6 +178,7 @@ impl Machine {
     }
 
     /// SET or CLEAR OWN RECEIVER BUSY, and report it to the peer.
+    #[tactic(auto, unfolding(lapd_link_definition::specs::Procedures::set_own_busy))]
     pub(crate) fn set_own_busy(&mut self, on: bool, outs: &mut Outs)
         requires room { HasOutputRoom 1 outs.old }
         ensures step { MachineDoes self.old outs.old self.new outs.new (set_own_busy on) }
@@ -176,6 +190,7 @@ impl Machine {
     }
 
     /// ENQUIRY RESPONSE: a poll is answered.
+    #[tactic(auto, unfolding(lapd_link_definition::specs::Procedures::enquiry_response))]
     pub(crate) fn enquiry_response(&mut self, outs: &mut Outs)
         requires room { HasOutputRoom 1 outs.old }
         ensures step { MachineDoes self.old outs.old self.new outs.new enquiry_response }
@@ -188,6 +203,7 @@ impl Machine {
     }
 
     /// TRANSMIT ENQUIRY: polls the peer, and starts T200.
+    #[tactic(auto, unfolding(lapd_link_definition::specs::Procedures::transmit_enquiry))]
     pub(crate) fn transmit_enquiry(&mut self, outs: &mut Outs)
         requires room { HasOutputRoom 2 outs.old }
         ensures step { MachineDoes self.old outs.old self.new outs.new transmit_enquiry }
@@ -201,6 +217,7 @@ impl Machine {
     }
 
     /// Sends the pending acknowledgement.
+    #[tactic(auto, unfolding(lapd_link_definition::specs::Procedures::transmit_rr))]
     pub(crate) fn transmit_rr(&mut self, outs: &mut Outs)
         requires room { HasOutputRoom 1 outs.old }
         ensures step { MachineDoes self.old outs.old self.new outs.new transmit_rr }
@@ -213,6 +230,7 @@ impl Machine {
     }
 
     /// Processes the N(S) and P of an I frame.
+    #[tactic(auto, unfolding(lapd_link_definition::specs::Procedures::i_frame_ns))]
     #[inline(always)]
     pub(crate) fn i_frame_ns(&mut self, ns: Number, p: bool, outs: &mut Outs)
         requires room { HasOutputRoom 2 outs.old }
@@ -232,13 +250,13 @@ impl Machine {
 }
 
 /// Actions of the I queue.
-#[tactic(auto, using(crate::proofs::Tails::tail_waiting, crate::proofs::Tails::tail_place, crate::proofs::Tails::tail_emptied, crate::proofs::Tails::tail_acknowledged, crate::proofs::Tails::tail_gone_back, crate::proofs::Tails::tail_sent, crate::proofs::Tails::tail_given, crate::proofs::Tails::room_sent, crate::proofs::Tails::room_gone_back), unfolding(lapd_link_definition::specs::Procedures::queue_up, lapd_link_definition::specs::Procedures::discard_i_queue, lapd_link_definition::specs::Procedures::acknowledge, lapd_link_definition::specs::Procedures::invoke_retransmission, lapd_link_definition::specs::Procedures::discard_unacknowledged, lapd_link_definition::specs::Procedures::transmit_i_frame))]
 impl Machine {
     ghost use Rattle.lapd_link_machine.specs.Sent.{SentAreOutstanding, IsTaken};
     ghost use Rattle.lapd_link_machine.specs.Bounds.{primitive_count};
     ghost use Rattle.lapd_link_machine.specs.Represents.{MachineDoes, DoesQuietly, HasOutputRoom, Grows};
 
     /// Queues a message, or returns it if the queue is full.
+    #[tactic(auto, using(crate::proofs::Tails::tails), unfolding(lapd_link_definition::specs::Procedures::queue_up))]
     #[inline(always)]
     pub fn queue_up(&mut self, message: Vec<u8>) -> Result<(), Vec<u8>>
         ensures full { is_err result ≡ (length self.old.queue.messages == self.old.queue.room) }
@@ -250,6 +268,7 @@ impl Machine {
     }
 
     /// DISCARD I QUEUE: the whole queue is dropped.
+    #[tactic(auto, using(crate::proofs::Tails::tails), unfolding(lapd_link_definition::specs::Procedures::discard_i_queue))]
     pub(crate) fn discard_i_queue(&mut self, outs: &mut Outs)
         requires room { HasOutputRoom 1 outs.old }
         ensures step { MachineDoes self.old outs.old self.new outs.new discard_i_queue }
@@ -263,6 +282,7 @@ impl Machine {
     }
 
     /// V(A) = N(R): the messages before a valid N(R) are acknowledged and removed from the queue.
+    #[tactic(auto, using(crate::proofs::Tails::tails), unfolding(lapd_link_definition::specs::Procedures::acknowledge))]
     #[inline(always)]
     pub(crate) fn acknowledge(&mut self, nr: Number, taken: (Window, Advance), outs: &mut Outs)
         requires room { HasOutputRoom 1 outs.old }
@@ -280,6 +300,7 @@ impl Machine {
     }
 
     /// INVOKE RETRANSMISSION: the remaining messages are to be retransmitted, from this number on.
+    #[tactic(auto, using(crate::proofs::Tails::tails), unfolding(lapd_link_definition::specs::Procedures::invoke_retransmission))]
     pub(crate) fn invoke_retransmission(&mut self, nr: Number)
         ensures step { DoesQuietly self.old self.new (invoke_retransmission nr) }
     {
@@ -289,6 +310,7 @@ impl Machine {
 
     /// DISCARD I QUEUE and an indication of the establishment, if messages were sent and not
     /// acknowledged.
+    #[tactic(auto, using(crate::proofs::Tails::tails), unfolding(lapd_link_definition::specs::Procedures::discard_unacknowledged, lapd_link_definition::specs::Procedures::discard_i_queue))]
     pub(crate) fn discard_unacknowledged(&mut self, outs: &mut Outs)
         requires room { HasOutputRoom 2 outs.old }
         ensures step { MachineDoes self.old outs.old self.new outs.new discard_unacknowledged }
@@ -301,6 +323,7 @@ impl Machine {
     }
 
     /// Sends the first unsent message.
+    #[tactic(auto, using(crate::proofs::Tails::tails), unfolding(lapd_link_definition::specs::Procedures::transmit_i_frame))]
     pub(crate) fn transmit_i_frame(&mut self, outs: &mut Outs)
         requires room { HasOutputRoom 1 outs.old }
         requires unsent { self.old.queue.sent < length self.old.queue.messages }

@@ -20,12 +20,12 @@ fn is_final(role: Role, pf: bool) -> bool
     }
 }
 
-#[tactic(auto, using(crate::proofs::Rows::then_row, crate::proofs::Rows::else_row), unfolding(lapd_link_definition::specs::TimerRecovery::i_frame_nr_in_recovery, lapd_link_definition::specs::TimerRecovery::poll, lapd_link_definition::specs::TimerRecovery::rr_nr_in_recovery, lapd_link_definition::specs::TimerRecovery::rnr_nr_in_recovery, lapd_link_definition::specs::TimerRecovery::timer_recovery_t200, lapd_link_definition::specs::TimerRecovery::timer_recovery, lapd_link_definition::specs::Established::in_7_and_8))]
 impl Machine {
     ghost use Rattle.lapd_link_machine.specs.Sent.{SentAreOutstanding};
     ghost use Rattle.lapd_link_machine.specs.Represents.{MachineDoes, HasOutputRoom, Grows};
 
     /// Receives a frame (Figure B.8).
+    #[tactic(auto, using(crate::proofs::Rows::rows), unfolding(lapd_link_definition::specs::TimerRecovery::timer_recovery))]
     pub(crate) fn timer_recovery_frame(&mut self, control: Control, role: Role, outs: &mut Outs)
         requires room { HasOutputRoom 6 outs.old }
         requires counted { SentAreOutstanding self.old }
@@ -61,6 +61,7 @@ impl Machine {
     }
 
     /// Receives an I frame (Figure B.8).
+    #[tactic(auto, using(crate::proofs::Rows::rows), unfolding(lapd_link_definition::specs::TimerRecovery::timer_recovery, lapd_link_definition::specs::Established::in_7_and_8))]
     fn timer_recovery_i_frame(
         &mut self,
         ns: Number,
@@ -85,6 +86,7 @@ impl Machine {
     }
 
     /// Receives a DM (Figure B.8).
+    #[tactic(auto, using(crate::proofs::Rows::rows), unfolding(lapd_link_definition::specs::TimerRecovery::timer_recovery, lapd_link_definition::specs::Established::in_7_and_8))]
     fn timer_recovery_dm(&mut self, f: bool, role: Role, outs: &mut Outs)
         requires room { HasOutputRoom 4 outs.old }
         ensures step { MachineDoes self.old outs.old self.new outs.new
@@ -105,6 +107,7 @@ impl Machine {
     }
 
     /// Answers a command with P=1 (Figure B.8).
+    #[tactic(auto, using(crate::proofs::Rows::rows), unfolding(lapd_link_definition::specs::TimerRecovery::poll))]
     fn poll(&mut self, role: Role, pf: bool, outs: &mut Outs)
         requires room { HasOutputRoom 1 outs.old }
         ensures step { MachineDoes self.old outs.old self.new outs.new (poll role pf) }
@@ -118,6 +121,7 @@ impl Machine {
     }
 
     /// Processes the N(R) of an I frame (Figure B.8).
+    #[tactic(auto, using(crate::proofs::Rows::rows), unfolding(lapd_link_definition::specs::TimerRecovery::i_frame_nr_in_recovery))]
     fn i_frame_nr_in_recovery(&mut self, nr: Number, outs: &mut Outs)
         requires room { HasOutputRoom 4 outs.old }
         requires counted { SentAreOutstanding self.old }
@@ -132,6 +136,7 @@ impl Machine {
     }
 
     /// Processes the N(R) of an RR or REJ frame; a final ends the recovery (Figure B.8).
+    #[tactic(auto, using(crate::proofs::Rows::rows), unfolding(lapd_link_definition::specs::TimerRecovery::rr_nr_in_recovery))]
     fn rr_nr_in_recovery(&mut self, last: bool, nr: Number, outs: &mut Outs)
         requires room { HasOutputRoom 4 outs.old }
         requires counted { SentAreOutstanding self.old }
@@ -156,6 +161,7 @@ impl Machine {
     }
 
     /// Processes the N(R) of an RNR frame; a final ends the recovery (Figure B.8).
+    #[tactic(auto, using(crate::proofs::Rows::rows), unfolding(lapd_link_definition::specs::TimerRecovery::rnr_nr_in_recovery))]
     fn rnr_nr_in_recovery(&mut self, last: bool, nr: Number, outs: &mut Outs)
         requires room { HasOutputRoom 4 outs.old }
         requires counted { SentAreOutstanding self.old }
@@ -179,6 +185,7 @@ impl Machine {
     }
 
     /// T200 expires: the enquiry is retransmitted, N200 times at most (Figure B.8).
+    #[tactic(auto, using(crate::proofs::Rows::rows), unfolding(lapd_link_definition::specs::TimerRecovery::timer_recovery_t200))]
     pub(crate) fn timer_recovery_t200(&mut self, outs: &mut Outs)
         requires room { HasOutputRoom 4 outs.old }
         ensures step { MachineDoes self.old outs.old self.new outs.new timer_recovery_t200 }
