@@ -31,7 +31,9 @@ impl Machine {
     {
         self.send_all(outs);
         self.acknowledge_pending(outs);
-        self.counts_by_tags();
+        prove!(self.window.vs().value() < 128);
+        prove!(self.window.va().value() < 128);
+        prove!(self.window.vr().value() < 128);
     }
 
     /// Sends messages, in state 7, while the window is open.
@@ -74,14 +76,6 @@ impl Machine {
         if self.is_7_or_8() && self.window.ack_pending() {
             self.transmit_rr(outs);
         }
-    }
-
-    /// V(S), V(A) and V(R) are tags (Q.921 3.5.2.1), as their type says. Calling it has no effect.
-    #[inline(always)]
-    fn counts_by_tags(&self)
-        ensures { AreTags self.now.window }
-    {
-        let _tags = (self.window.vs(), self.window.va(), self.window.vr());
     }
 
     fn is_established(&self) -> bool
