@@ -2,7 +2,7 @@ ghost use Rattle.std.specs.Prelude.{◌≡◌, ◌<◌, ◌≢◌, [], IfOk, IfE
 ghost use Rattle.lapd_link_machine.specs.Sent.{IsBetweenSteps};
 
 use lapd_frame::{Address, Sapi, Side, Tei};
-use lapd_link_definition::{Event, LinkFault, Params, Refused};
+use lapd_link_definition::{Event, LinkFault, Params, Refused, State};
 use lapd_link_machine::{Machine, Outs};
 use lapd_queue::IQueue;
 use lapd_supervision::Window;
@@ -225,6 +225,13 @@ impl Link {
         ensures { (e : End) → LinkRepresents self.now e → result ≡ state_number e.state }
     {
         self.machine.state.number()
+    }
+
+    /// Its state, by its name in the standard.
+    pub fn named_state(&self) -> State
+        ensures { (e : End) → LinkRepresents self.now e → result ≡ e.state }
+    {
+        self.machine.state
     }
 
     /// V(S), V(A), V(R) and the conditions.

@@ -7,8 +7,8 @@ use crate::draws::{MoveDraws, moves};
 use crate::made::new_pair;
 use crate::safe::are_safe;
 use lapd_frame::Side;
-use lapd_link::Recovery;
 use lapd_link::Recovery::{Enquiry, LastMessage};
+use lapd_link::{Recovery, State};
 use lapd_pair::{Move, Pair};
 use std::alloc::Global;
 use std::test::Fail;
@@ -129,7 +129,9 @@ fn is_quiet(pair: &Pair) -> bool {
 
 fn is_quiet_at(pair: &Pair, side: Side) -> bool {
     let link = pair.link(side);
-    link.state() == 7 && !link.window().own_busy() && pair.line(side).is_empty()
+    link.named_state() == State::MultipleFrameEstablished
+        && !link.window().own_busy()
+        && pair.line(side).is_empty()
 }
 
 /// Whether the line settles within its bound and is then safe. A quiet pair is counted; it must

@@ -7,8 +7,6 @@ ghost use Rattle.lapd_link.specs.Link.{LinkRepresents};
 ghost use Rattle.lapd_link.specs.declared.link.Link.{Link};
 ghost use Rattle.lapd_link_machine.specs.Bounds.{primitive_count};
 ghost use Rattle.lapd_link_definition.specs.End.{End};
-ghost use Rattle.lapd_link_definition.specs.State.{state_number};
-ghost use Rattle.lapd_link_definition.specs.declared.state.State.{State};
 ghost use Rattle.lapd_link_definition.specs.Input.{input_of, Give, UnitData};
 ghost use Rattle.lapd_link_definition.specs.Input as input;
 ghost use Rattle.lapd_table.specs.declared.link_id.LinkId.{LinkId};
@@ -26,7 +24,7 @@ use crate::link_timers::LinkTimers;
 use crate::side_fault::refused;
 use crate::{Acts, Config, Primitive, RunningTimer, SideFault, SideKind, What};
 use lapd_frame::N201;
-use lapd_link::{Event, Link, LinkFault, Outs, Params, Sapi, Side, Tei};
+use lapd_link::{Event, Link, LinkFault, Outs, Params, Sapi, Side, State, Tei};
 use lapd_table::{LinkId, LinkKey, LinkTable};
 use lapd_tei::Assigner;
 use lapd_timers::{Durations, Timer, TimerSet};
@@ -439,19 +437,19 @@ fn deliver_removal(id: &LinkId, link: &Link, acts: &mut Acts)
     ensures frames { acts.new.frames ≡ acts.old.frames }
     ensures room { length acts.new.primitives ≤ length acts.old.primitives + 1 }
 {
-    if let Some(what) = release_at_removal(link.state(), link.release_pending()) {
+    if let Some(what) = release_at_removal(link.named_state(), link.release_pending()) {
         acts.deliver(Primitive::Of(*id, what));
     }
 }
 
-/// The release that is reported to layer 3 if a link is removed in the state with this number.
-fn release_at_removal(state: u8, release_pending: bool) -> Option<What>
-    ensures { (s : State) → state ≡ state_number s → result ≡ release_at_removal s release_pending }
+/// The release that is reported to layer 3 if a link is removed in this state.
+fn release_at_removal(state: State, release_pending: bool) -> Option<What>
+    ensures { result ≡ release_at_removal state release_pending }
 {
     match state {
-        4 => None,
-        5 if !release_pending => Some(What::Released),
-        5 | 6 => Some(What::ReleaseConfirm),
-        _ => Some(What::Released),
+        State::TeiAssigned => None,
+        State::AwaitingEstablishment if !release_pending => Some(What::Released),
+        State::AwaitingEstablishment | State::AwaitingRelease => Some(What::ReleaseConfirm),
+        State::MultipleFrameEstablished | State::TimerRecovery => Some(What::Released),
     }
 }
