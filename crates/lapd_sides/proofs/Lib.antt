@@ -3,3 +3,4 @@ pub mod Calling
 pub mod Using
 pub mod Managing
 pub mod Networking
+pub mod Receiving

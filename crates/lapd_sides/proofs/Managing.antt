@@ -17,13 +17,13 @@ use Rattle.lapd_sides.specs.Shows.{HaveServed}
 use Rattle.lapd_sides_links.proofs.Acting.{same_effects}
 
 -- the links of a freed TEI are removed, and the primitives are in order
-pub carried_out : (side : Side) (config : Config) (now : ℕ) (outs : List TeiOut) (s : Served) (links : LinkSet) (timers : Timers) (acts : Effects)
+pub carried_out : (side : Side) (config : Config) (now : ℕ) (outs : List TeiOut) (s : Served) (links : LinkSet) (timers : Timers) (count : ℕ) (acts : Effects)
     → ShowLinks side links (links_without (tei_freed outs) (links_with config (tei_given outs) s.links)) → timers ≡ managed now outs s.timers
     → acts.frames ≡ filter_map (message_sent side) outs
     → acts.primitives ≡ filter_map outcome_of outs ++ removal_primitives (tei_freed outs) (links_with config (tei_given outs) s.links)
-    → HaveServed side (record { links = links; timers = timers }) acts (manages side config now outs s)
+    → HaveServed side (record { links = links; timers = timers; discarded = count }) acts (manages side config now outs s)
 unfolding manages
-carried_out side config now outs s links timers acts shown timed frames primitives = record {
+carried_out side config now outs s links timers count acts shown timed frames primitives = record {
   shown = record { links = shown; timers = timed };
   given = same_effects acts _ _ frames primitives;
 }

@@ -12,8 +12,8 @@ use Rattle.lapd_frame.specs.declared.Side.TheVariants as side
 use Rattle.lapd_frame.specs.declared.Address.{Address}
 use Rattle.lapd_frame.specs.declared.fault_kind.FaultKind.{FaultKind}
 use Rattle.lapd_frame.specs.Frame.{Fields}
-use Rattle.lapd_link_definition.specs.Input.{Input, Faulty, Heard}
-use Rattle.lapd_timers.specs.Due.{Timers, all_stopped}
+use Rattle.lapd_link_definition.specs.Input.{Input, Heard}
+use Rattle.lapd_timers.specs.Due.{all_stopped}
 use Rattle.lapd_tei.specs.declared.out.TeiOut.{TeiOut}
 use Rattle.lapd_tei.specs.declared.phase.Phase.{Phase}
 use Rattle.lapd_tei.specs.declared.phase.Phase.TheVariants.{Unassigned, Awaiting, Assigned}
@@ -25,7 +25,6 @@ use Rattle.lapd_tei.specs.declared.message.TeiMessage.{TeiMessage}
 use Rattle.lapd_tei.specs.declared.fault.TeiFault.{TeiFault}
 use Rattle.lapd_tei.specs.Out.{tei_given}
 use Rattle.lapd_table.specs.declared.link_id.LinkId.{LinkId}
-use Rattle.lapd_table.specs.LinkId.{id_of_address}
 use Rattle.lapd_sides_links.specs.declared.config.Config.{Config}
 use Rattle.lapd_sides_links.specs.declared.link_set.LinkSet.{LinkSet}
 use Rattle.lapd_sides_links.specs.declared.primitive.Primitive.TheVariants.{Of}
@@ -37,14 +36,14 @@ use Rattle.lapd_sides_links.specs.declared.side_fault.SideFault.{SideFault}
 use Rattle.lapd_sides_links.specs.declared.side_fault.SideKind.{SideKind}
 use Rattle.lapd_sides_links.specs.declared.side_fault.SideKind.TheVariants.{NoLink}
 use Rattle.lapd_sides_links.specs.Effects.{Effects, no_effects, and_then}
-use Rattle.lapd_sides_links.specs.Links.{Links, Reaction, is_served, in_links, link_acts, of_sapi, no_links, with_tei}
+use Rattle.lapd_sides_links.specs.Links.{Links, Reaction, Served, is_served, in_links, link_acts, link_expires, of_sapi, no_links, with_tei}
 use Rattle.lapd_sides.specs.Management.{carries_message, links_with, manages, one_more}
-use Rattle.lapd_sides.specs.User.{User, PendingEstablishments, nothing_pending, among_links, or_discarded, or_unmoved, next, link_of_user, with_tei_or, establishes, establishes_pending, terminal_acts, assigned, pending_after, fault_received, for_layer_3, data_received, message_received, frame_received, got_for_message, got_for_frame, unit_from_group, user_requested, wants, with_pending, is_pending, forgets, sends_message, next_reference, advanced, drawn, links_of_fixed}
+use Rattle.lapd_sides.specs.User.{User, PendingEstablishments, nothing_pending, among_links, or_discarded, or_unmoved, next, link_of_user, with_tei_or, establishes, establishes_pending, terminal_acts, assigned, pending_after, fault_received, for_layer_3, data_received, message_received, frame_received, got_for_message, got_for_frame, unit_from_group, user_requested, wants, with_pending, is_pending, forgets, sends_message, next_reference, advanced, drawn, links_of_fixed, user_expires}
 use Rattle.lapd_sides.specs.Requests.{message_of}
 use Rattle.lapd_sides_links.specs.Shown.{ShowLinks, HaveActed}
-use Rattle.lapd_sides.specs.Shows.{ShowServed, HaveServed, RequestOutcome}
+use Rattle.lapd_sides.specs.Shows.{ShowServed, HaveServed, HaveReceived, LinkHasExpired, RequestOutcome, effects_after, fault_on_links, frame_on_links, links_after}
 use Rattle.lapd_sides.proofs.Calling.{granted_as}
-use Rattle.lapd_sides.specs.ShowsUser.{ShowUser, ShowReferences, HasDone, HasFollowed, HasGranted, UserReceives, Answers, admitted}
+use Rattle.lapd_sides.specs.ShowsUser.{ShowUser, ShowReferences, HasDone, HasExpired, HasFollowed, HasGranted, UserReceives, Answers, admitted}
 
 -- the side with its links after a step
 abbrev pub relinked : UserSide → LinkSet → UserSide
@@ -115,25 +114,59 @@ step_follows (Err k) code links config s before acts does shown ok err same noth
     subst (λ (o : Result (Reaction Links) SideKind). HasFollowed (relinked code links) config before acts (or_unmoved s (among_links s o))) (sym (err side.User s.served.links shown.served.links))
     (record { shown = links_shown code links config s shown (same side.User s.served.links shown.served.links); given = nothing ∙ behind before })
 
--- a link processes a frame
-pub received_so : (code : UserSide) (config : Config) (s : User) (acts : Effects) (outcome : Result (Reaction User) SideKind) → HasGranted code config acts outcome → HasDone code config acts (or_discarded s outcome)
-received_so code config s acts outcome h = subst (λ (o : Result (Reaction User) SideKind). HasDone code config acts (or_discarded s o)) (sym h.is) h.done
+-- a link processes a frame, or the frame is discarded and counted
+pub received_so : (code : UserSide) (served : LinksAndTimer) (config : Config) (s : User) (acts : Effects) (outcome : Result (Reaction Links) SideKind) → ShowUser code config s
+    → HaveReceived side.User code.served served acts s.served.links outcome → HasDone (record code { served = served }) config acts (or_discarded s (among_links s outcome))
+received_so code served config s acts (Ok a) shown h = record {
+  shown = record {
+    configured = shown.configured;
+    served = record { links = h.shown; timers = h.timers ∙ shown.served.timers };
+    terminal = shown.terminal;
+    pending = shown.pending;
+    random = shown.random;
+    discarded = h.counted ∙ shown.discarded;
+  };
+  given = h.given;
+}
+received_so code served config s acts (Err kind) shown h = record {
+  shown = record {
+    configured = shown.configured;
+    served = record { links = h.shown; timers = h.timers ∙ shown.served.timers };
+    terminal = shown.terminal;
+    pending = shown.pending;
+    random = shown.random;
+    discarded = h.counted ∙ ap (λ (n : ℕ). one_more n) shown.discarded;
+  };
+  given = h.given;
+}
 
--- or the frame is discarded, and counted
-pub discarded_so : (code : UserSide) (links : LinkSet) (count : ℕ) (config : Config) (s : User) (before acts : Effects) (outcome : Result (Reaction Links) SideKind) (kind : SideKind) → ShowUser code config s → before ≡ no_effects
-    → outcome ≡ Err kind → ShowLinks side.User links s.served.links → acts ≡ before → count ≡ one_more code.discarded → HasDone (record (relinked code links) { discarded = count }) config acts (or_discarded s (among_links s outcome))
-discarded_so code links count config s before acts outcome kind shown empty err l nothing counted =
-    subst (λ (o : Result (Reaction Links) SideKind). HasDone (record (relinked code links) { discarded = count }) config acts (or_discarded s (among_links s o))) (sym err) (record {
-      shown = record {
-        configured = shown.configured;
-        served = record { links = l; timers = shown.served.timers };
-        terminal = shown.terminal;
-        pending = shown.pending;
-        random = shown.random;
-        discarded = counted ∙ ap (λ (n : ℕ). one_more n) shown.discarded;
-      };
-      given = nothing ∙ empty;
-    })
+-- a fault is for a link, or is discarded and counted
+pub fault_so : (code : UserSide) (served : LinksAndTimer) (config : Config) (s : User) (acts : Effects) (now : ℕ) (kind : FaultKind) (found : Option Address) → ShowUser code config s
+    → HaveReceived side.User code.served served acts s.served.links (fault_on_links now kind found side.User s.served.links) → HasDone (record code { served = served }) config acts (fault_received now kind found s)
+unfolding link_of_user
+fault_so code served config s acts now kind None shown h = received_so code served config s acts _ shown h
+fault_so code served config s acts now kind (Some address) shown h = received_so code served config s acts _ shown h
+
+-- the side with its common part after a step
+pub reserved : (code : UserSide) (served : LinksAndTimer) (config : Config) (s : User) (own : Served) → ShowUser code config s → served.discarded ≡ code.served.discarded → ShowServed side.User served own
+    → ShowUser (record code { served = served }) config (record s { served = own })
+reserved code served config s own shown counted h = record { configured = shown.configured; served = h; terminal = shown.terminal; pending = shown.pending; random = shown.random; discarded = counted ∙ shown.discarded }
+
+-- a timer of a link that exists has expired in it
+expired_as : (code : UserSide) (served : LinksAndTimer) (config : Config) (s : User) (acts : Effects) (outcome : Result (Reaction Links) SideKind) → ShowUser code config s → served.discarded ≡ code.served.discarded
+    → ShowLinks side.User served.links (links_after s.served.links outcome) → acts ≡ effects_after outcome → served.timers ≡ s.served.timers → HasDone (record code { served = served }) config acts (or_unmoved s (among_links s outcome))
+expired_as code served config s acts (Ok a) shown counted links given timers = record { shown = reserved code served config s (record { links = a.after; timers = s.served.timers }) shown counted (record { links = links; timers = timers }); given = given }
+expired_as code served config s acts (Err kind) shown counted links given timers = record { shown = reserved code served config s s.served shown counted (record { links = links; timers = timers }); given = given }
+
+pub link_expired : (code : UserSide) (served : LinksAndTimer) (config : Config) (s : User) (acts : Effects) (now : ℕ) → ShowUser code config s → served.discarded ≡ code.served.discarded
+    → LinkHasExpired side.User served acts now s.served → HasExpired (record code { served = served }) config acts now s
+unfolding user_expires
+link_expired code served config s acts now shown counted h = record {
+  expiry = h.expiry;
+  due = h.due;
+  done = subst (λ (of : Option LinkId). HasDone (record code { served = served }) config acts (user_expires config now h.expiry.timer of s)) (sym h.of)
+      (expired_as code served config s acts (in_links h.id (link_expires side.User h.id now h.expiry.timer) s.served.links) shown counted h.shown h.given h.timers);
+}
 
 -- appended to no effects
 pub done_first : (code : UserSide) (config : Config) (before acts : Effects) (a : Reaction User) → before ≡ no_effects → HasFollowed code config before acts a → HasDone code config acts a
@@ -214,7 +247,7 @@ settles code after config now i outs item out s before last a below is_item is s
 
 -- the outputs of the terminal have been carried out, then the kept establishments have been settled
 pub carried : (code after : UserSide) (config : Config) (now : ℕ) (s : User) (step : TerminalStep) (outs : List TeiOut) (sent : Bool) (acts last : Effects) → step.outs ≡ outs → sent ≡ sends_message outs
-    → code.config ≡ config → code.discarded ≡ s.discarded → code.terminal ≡ step.now → code.pending ≡ s.pending → ShowReferences code.references (if sent then advanced (pcg32 s.random) else s.random)
+    → code.config ≡ config → code.served.discarded ≡ s.discarded → code.terminal ≡ step.now → code.pending ≡ s.pending → ShowReferences code.references (if sent then advanced (pcg32 s.random) else s.random)
     → HaveServed side.User code.served acts (manages side.User config now outs s.served)
     → ((k : Config) (t : User) → ShowUser code k t → HasFollowed after k acts last (pending_after now outs t))
     → HasDone after config last (assigned config now step s)
@@ -286,18 +319,10 @@ pub without_fixed : (served after : LinksAndTimer) (config : Config) (fixed : Op
     → ShowServed side.User after (record { links = links_of_fixed config fixed; timers = all_stopped config.durations })
 without_fixed served after config fixed none same shown = rw (same, none) shown
 
-pub with_fixed : (served after : LinksAndTimer) (links : LinkSet) (config : Config) (fixed : Option ℕ) (tei : ℕ) → fixed ≡ Some tei → after ≡ record { links = links; timers = served.timers }
+pub with_fixed : (served after : LinksAndTimer) (links : LinkSet) (config : Config) (fixed : Option ℕ) (tei : ℕ) → fixed ≡ Some tei → after ≡ record { links = links; timers = served.timers; discarded = served.discarded }
     → ShowServed side.User served (record { links = no_links; timers = all_stopped config.durations }) → ShowLinks side.User links (with_tei config tei no_links)
     → ShowServed side.User after (record { links = links_of_fixed config fixed; timers = all_stopped config.durations })
 with_fixed served after links config fixed tei some same shown added = rw (same, some) (record { links = added; timers = shown.timers })
-
--- ---- A fault.
-
-pub faulty : (after : UserSide) (config : Config) (acts : Effects) (now : ℕ) (kind : FaultKind) (found : Option Address) (address : Address) (id : LinkId) (s : User) → found ≡ Some address → id ≡ id_of_address address
-    → HasDone after config acts (or_discarded s (link_of_user now id (Faulty kind) [] s)) → HasDone after config acts (fault_received now kind found s)
-faulty after config acts now kind found address id s is named h =
-    subst (λ (f : Option Address). HasDone after config acts (fault_received now kind f s)) (sym is)
-    (subst (λ (i : LinkId). HasDone after config acts (or_discarded s (link_of_user now i (Faulty kind) [] s))) named h)
 
 -- ---- A frame.
 
@@ -332,18 +357,10 @@ unit_delivered code config now frame s test address octets acts t is_address is_
     })
 
 -- or a link processes the frame
-pub data_for_link : (code after : UserSide) (config : Config) (now : ℕ) (frame : Fields) (s : User) (test : Bool) (id : LinkId) (octets : List ℕ) (acts : Effects) → IsTested code frame test false → id ≡ of_sapi frame.address.sapi frame.address.tei → octets ≡ frame.info
-    → ShowUser code config s → HasDone after config acts (or_discarded s (link_of_user now id (Heard frame.control frame.address.role) octets s)) → HasDone after config acts (data_received config now frame s)
-data_for_link code after config now frame s test id octets acts t named is_octets shown h =
-    subst (λ (a : Reaction User). HasDone after config acts a) (sym (data_as code config now frame s test false shown t))
-    (subst (λ (o : List ℕ). HasDone after config acts (or_discarded s (link_of_user now (of_sapi frame.address.sapi frame.address.tei) (Heard frame.control frame.address.role) o s))) is_octets
-    (subst (λ (i : LinkId). HasDone after config acts (or_discarded s (link_of_user now i (Heard frame.control frame.address.role) octets s))) named h))
-
--- ---- The due timer.
-
-pub reshown_after : (code : UserSide) (links : LinkSet) (timers : Timers) (config : Config) (s : User) (own : Timers) → ShowUser code config s → timers ≡ own → ShowLinks side.User links s.served.links
-    → ShowUser (record code { served = record { links = links; timers = timers } }) config (record s { served = record { links = s.served.links; timers = own } })
-reshown_after code links timers config s own shown is l = record { configured = shown.configured; served = record { links = l; timers = is }; terminal = shown.terminal; pending = shown.pending; random = shown.random; discarded = shown.discarded }
+pub data_for_link : (code after : UserSide) (config : Config) (now : ℕ) (frame : Fields) (s : User) (test : Bool) (acts : Effects) → IsTested code frame test false
+    → ShowUser code config s → HasDone after config acts (or_discarded s (among_links s (frame_on_links now frame side.User s.served.links))) → HasDone after config acts (data_received config now frame s)
+unfolding link_of_user
+data_for_link code after config now frame s test acts t shown h = subst (λ (a : Reaction User). HasDone after config acts a) (sym (data_as code config now frame s test false shown t)) h
 
 -- ---- An establishment without a TEI.
 

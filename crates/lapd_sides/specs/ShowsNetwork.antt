@@ -17,7 +17,7 @@ pub record ShowNetwork (code : NetSide) (config : Config) (s : Network) : Type 0
   pub configured : code.config ≡ config
   pub served : ShowServed side.Network code.served s.served
   pub assigner : code.assigner ≡ s.assigner
-  pub discarded : code.discarded ≡ s.discarded
+  pub discarded : code.served.discarded ≡ s.discarded
 
 -- ---- The result of a call.
 

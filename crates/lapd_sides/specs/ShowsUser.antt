@@ -32,7 +32,7 @@ pub record ShowUser (code : UserSide) (config : Config) (s : User) : Type 0 wher
   pub terminal : code.terminal ≡ s.terminal
   pub pending : code.pending ≡ s.pending
   pub random : ShowReferences code.references s.random
-  pub discarded : code.discarded ≡ s.discarded
+  pub discarded : code.served.discarded ≡ s.discarded
 
 -- ---- The result of a call.
 

@@ -1,46 +1,68 @@
-//! The common part of both sides: the links, and the timer of TEI management.
+//! The common part of both sides: the links, the timer of TEI management, and discarded frames.
 
-ghost use Rattle.std.specs.Prelude.{◌≡◌, ◌≤◌, ◌<◌, ◌+◌, ◌++◌, length, Some, None, OnOk, OnErr, IfOk, IfSome, IsSome};
+ghost use Rattle.std.specs.Prelude.{◌≡◌, ◌≤◌, ◌<◌, ◌+◌, ◌++◌, true, length, Some, None, OnOk, OnErr, IfOk, IfSome, IsSome};
 ghost use Rattle.std.specs.List.{All, filter_map};
 ghost use Rattle.lapd_timers.specs.Due.{all_stopped};
+ghost use Rattle.lapd_frame.specs.Fault.{is_for_link};
+ghost use Rattle.lapd_link_definition.specs.Input.{input_of};
+ghost use Rattle.lapd_table.specs.LinkTable.{IsFor};
 ghost use Rattle.lapd_tei.specs.Out.{IsInRange, tei_given, tei_freed};
 ghost use Rattle.lapd_sides_links.specs.declared.acts.TheConstants.{MOST_FRAMES, MOST_PRIMITIVES};
-ghost use Rattle.lapd_sides_links.specs.Effects.{managed, message_sent, outcome_of, no_effects};
-ghost use Rattle.lapd_sides_links.specs.Links.{no_links};
+ghost use Rattle.lapd_sides_links.specs.Effects.{managed, message_sent, outcome_of};
+ghost use Rattle.lapd_sides_links.specs.Links.{IsOfLink, in_links, link_acts, link_expires, no_links};
+ghost use Rattle.lapd_sides_links.specs.Rooms.{IsEmpty};
 ghost use Rattle.lapd_sides.specs.Management.{carries_message, is_unit_to_group, one_more};
 ghost use Rattle.lapd_sides.specs.Requests.{without_message};
-ghost use Rattle.lapd_sides.specs.Shows.{ShowServed, Become, ShowAsBefore, CarryOut, with_given_links};
+ghost use Rattle.lapd_sides.specs.Shows.{ShowServed, Become, ShowAsBefore, CarryOut, Receive, StepLinks, ExpireFirst, frame_on_links, fault_on_links, with_given_links};
 
-use crate::{Acts, Config, Primitive, SideFault, SideKind};
-use lapd_frame::{Control, Frame, Sapi, Side, Tei};
-use lapd_sides_links::LinkSet;
+use crate::{Acts, Config, Primitive, RunningTimer, SideFault, SideKind};
+use lapd_frame::{Control, Frame, FrameFault, N201, Sapi, Side, Tei};
+use lapd_link::Event;
+use lapd_sides_links::{LinkSet, due};
+use lapd_table::LinkId;
 use lapd_tei::TeiOut;
-use lapd_timers::{Durations, TimerSet};
+use lapd_timers::{Durations, Timer, TimerSet};
 use std::alloc::{AllocError, Global};
 
 /// The maximum number of outputs of one step of TEI management.
 pub const MOST_TEI_OUTPUTS: usize = 6;
 
-/// The links of a side with their timers, and the timer of TEI management, T201 or T202.
+/// The links of a side with their timers, the timer of TEI management, T201 or T202, and the number
+/// of frames for no link.
 #[derive(Drop)]
 pub struct LinksAndTimer {
     pub links: LinkSet,
     pub timers: TimerSet,
+    /// The number of discarded frames, up to `u64::MAX`.
+    pub discarded: u64,
+}
+
+/// The timer that has expired, by its owner.
+#[derive(Clone, Copy)]
+pub enum Expired {
+    /// No timer was due.
+    Nothing,
+    /// A timer of a link, which has processed the expiry.
+    Link,
+    /// The timer of TEI management. It is stopped, and the side has still to process the expiry.
+    Management,
 }
 
 impl LinksAndTimer {
-    /// Creates a set without links, with no timer running.
+    /// Creates a set without links, with no timer running and no frame discarded.
     ///
     /// # Errors
     ///
     /// `AllocError` if an allocation failed.
     pub fn new(alloc: Global, side: Side, durations: Durations) -> Result<LinksAndTimer, AllocError>
-        ensures { IfOk result (λ s. ShowServed side s
+        ensures shown { IfOk result (λ s. ShowServed side s
             (record { links = no_links; timers = all_stopped durations })) }
+        ensures none { IfOk result (λ s. s.discarded ≡ 0) }
     {
         Ok(LinksAndTimer {
             links: LinkSet::new(alloc, side)?,
             timers: TimerSet::new(durations),
+            discarded: 0,
         })
     }
 
@@ -59,6 +81,7 @@ impl LinksAndTimer {
         ensures ok { OnOk result (Become self.old self.new (with_given_links config.now outs.now)) }
         ensures unchanged { OnErr result (ShowAsBefore self.old self.new) }
         ensures only { OnErr result (IsSome (tei_given outs.now)) }
+        ensures discarded { self.new.discarded ≡ self.old.discarded }
     {
         if let Some(tei) = given(outs) {
             self.links.add_tei(alloc, config, tei)?;
@@ -72,10 +95,11 @@ impl LinksAndTimer {
     pub fn carry_out(&mut self, side: Side, outs: &[TeiOut], now: u64, acts: &mut Acts)
         requires in_range { All IsInRange outs.now }
         requires at_most { length outs.now ≤ MOST_TEI_OUTPUTS }
-        requires empty { acts.old ≡ no_effects }
+        requires empty { IsEmpty acts.old }
         ensures done { CarryOut side self.old self.new acts.new now outs.now }
         ensures most_frames { length acts.new.frames ≤ MOST_TEI_OUTPUTS }
         ensures most_primitives { length acts.new.primitives ≤ MOST_TEI_OUTPUTS + 2 }
+        ensures discarded { self.new.discarded ≡ self.old.discarded }
     {
         put_messages(side, outs, acts);
         deliver_outcomes(outs, acts);
@@ -83,6 +107,90 @@ impl LinksAndTimer {
         if let Some(tei) = freed(outs) {
             self.links.remove_tei(tei, acts);
         }
+    }
+
+    /// Passes a frame to the link that it is addressed to. A frame for no link is discarded and
+    /// counted.
+    pub fn receive_frame(&mut self, frame: &Frame<'_>, now: u64, acts: &mut Acts)
+        requires empty { IsEmpty acts.old }
+        requires fits { length frame.now.info ≤ N201 }
+        ensures { Receive self.old self.new acts.new (frame_on_links now frame.now) }
+    {
+        let id = LinkId::of_address(&frame.address());
+        self.act_or_discard(&id, Event::Heard(frame), frame.info(), now, acts);
+    }
+
+    /// Passes a fault of a frame to the link that the frame is addressed to. Octets for no link are
+    /// discarded and counted.
+    pub fn receive_fault(&mut self, fault: &FrameFault, now: u64, acts: &mut Acts)
+        requires empty { IsEmpty acts.old }
+        requires of_link { IfSome fault.now.address (λ address. is_for_link fault.now.kind ≡ true) }
+        ensures { Receive self.old self.new acts.new
+            (fault_on_links now fault.now.kind fault.now.address) }
+    {
+        match fault.address {
+            Some(address) => {
+                let id = LinkId::of_address(&address);
+                self.act_or_discard(&id, Event::Fault(fault.kind), &[], now, acts);
+            }
+            None => self.discarded = one_more(self.discarded),
+        }
+    }
+
+    /// Passes an event to the link with this id, or discards it if there is none.
+    fn act_or_discard(
+        &mut self,
+        id: &LinkId,
+        event: Event,
+        octets: &[u8],
+        now: u64,
+        acts: &mut Acts,
+    )
+        requires empty { IsEmpty acts.old }
+        requires for_link { IsFor id.now event }
+        requires fits { length octets.now ≤ N201 }
+        ensures { Receive self.old self.new acts.new (λ side. in_links id.now
+            (link_acts side id.now now (input_of event.entry) octets.now)) }
+    {
+        match self.links.act(id, event, octets, now, acts) {
+            Ok(()) => {}
+            Err(_) => self.discarded = one_more(self.discarded),
+        }
+    }
+
+    /// Expires the first timer that is due at `now`.
+    pub fn expire_first(&mut self, now: u64, acts: &mut Acts) -> Expired
+        requires empty { IsEmpty acts.old }
+        ensures expired { ExpireFirst result self.old self.new acts.new now }
+        ensures nothing { result ≡ Expired.Nothing → IsEmpty acts.new }
+        ensures management { result ≡ Expired.Management → IsEmpty acts.new }
+        ensures discarded { self.new.discarded ≡ self.old.discarded }
+    {
+        let Some(RunningTimer { timer, of, .. }) = due(&self.timers, &self.links, now) else {
+            return Expired::Nothing;
+        };
+        match of {
+            Some(id) => {
+                self.expire(id, timer, now, acts);
+                Expired::Link
+            }
+            None => {
+                self.timers.stop(timer);
+                Expired::Management
+            }
+        }
+    }
+
+    /// Expires this timer of the link with this id.
+    fn expire(&mut self, id: LinkId, timer: Timer, now: u64, acts: &mut Acts)
+        requires empty { IsEmpty acts.old }
+        requires of_link { IsOfLink timer }
+        ensures step { StepLinks self.old self.new acts.new
+            (λ side. in_links id (link_expires side id now timer)) }
+        ensures timers { self.new.timers ≡ self.old.timers }
+        ensures discarded { self.new.discarded ≡ self.old.discarded }
+    {
+        let _ = self.links.expire(&id, timer, now, acts);
     }
 }
 

@@ -1,29 +1,26 @@
 //! The network side.
 
-ghost use Rattle.std.specs.Prelude.{◌≡◌, ◌≤◌, ◌<◌, true, false, length, [], Some, None, Ok, Err, OnOk, OnErr, IfOk, IfErr, IfSome, option_copied};
+ghost use Rattle.std.specs.Prelude.{◌≡◌, ◌≤◌, ◌<◌, true, false, length, [], Some, None, Ok, Err, OnOk, OnErr, IfOk, IfErr, option_copied};
 ghost use Rattle.std.specs.List.{All};
 ghost use Rattle.lapd_link_definition.specs.Input.{input_of, Give};
 ghost use Rattle.lapd_tei.specs.Assigner.{AssignerState, assigner_step};
 ghost use Rattle.lapd_tei.specs.Out.{tei_given};
 ghost use Rattle.lapd_table.specs.LinkTable.{IsFor};
-ghost use Rattle.lapd_frame.specs.Fault.{is_for_link};
 ghost use Rattle.lapd_sides_links.specs.Effects.{no_effects};
+ghost use Rattle.lapd_sides_links.specs.Rooms.{IsEmpty};
 ghost use Rattle.lapd_sides_links.specs.Expiries.{IsNextDeadline, of_served};
 ghost use Rattle.lapd_sides.specs.Requests.{message_of, without_message};
 ghost use Rattle.lapd_sides.specs.Shows.{ShowEnds};
-ghost use Rattle.lapd_sides_links.specs.Links.{IsOfLink};
-ghost use Rattle.lapd_sides.specs.Network.{Network, new_network, network_takes, network_expires, network_requested, assigner_acts, link_of_network, or_discarded, frame_received, fault_received, unit_requested, unit_to_group, given_for, given_for_frame, given_for_message};
+ghost use Rattle.lapd_sides.specs.Network.{Network, new_network, network_takes, network_requested, assigner_acts, link_of_network, frame_received, unit_requested, unit_to_group, given_for, given_for_frame, given_for_message};
 
-use crate::links_and_timer::{LinksAndTimer, carries_message, one_more, without_message};
-use crate::{Acts, Config, Request, RunningTimer, SideFault, SideKind};
-use lapd_frame::{
-    Address, Control, FaultKind, Frame, FrameFault, N201, Role, Sapi, Side, Tei, read,
-};
+use crate::links_and_timer::{Expired, LinksAndTimer, carries_message, without_message};
+use crate::{Acts, Config, Request, SideFault, SideKind};
+use lapd_frame::{Address, Control, Frame, N201, Role, Sapi, Side, Tei, read};
 use lapd_link::{Event, LinkFault};
-use lapd_sides_links::{due, next_deadline, refused};
+use lapd_sides_links::{next_deadline, refused};
 use lapd_table::{LinkId, LinkTable};
 use lapd_tei::{Assigner, AssignerEvent, TeiMessage};
-use lapd_timers::{Timer, TimerSet};
+use lapd_timers::TimerSet;
 use std::alloc::{AllocError, Global};
 
 /// The network side of an interface: its links, the assigner of its TEIs, and their timers.
@@ -37,8 +34,6 @@ pub struct NetSide {
     config: Config,
     served: LinksAndTimer,
     assigner: Assigner,
-    /// The number of discarded frames, up to `u64::MAX`.
-    discarded: u64,
 }
 
 impl NetSide {
@@ -61,7 +56,6 @@ impl NetSide {
             config,
             served,
             assigner,
-            discarded: 0,
         })
     }
 
@@ -87,14 +81,14 @@ impl NetSide {
 
     /// Processes octets of the user side: a frame, or a fault.
     fn receive_octets(&mut self, bytes: &[u8], now: u64, acts: &mut Acts) -> Result<(), AllocError>
-        requires empty { acts.old ≡ no_effects }
+        requires empty { IsEmpty acts.old }
         ensures { NetworkReceives result self.old self.new acts.new
             (λ s. given_for s.assigner bytes.now) (λ config. network_takes config bytes.now now) }
     {
         match read(bytes, Side::User) {
             Ok(frame) => self.receive(&frame, now, acts),
             Err(fault) => {
-                self.receive_fault(&fault, now, acts);
+                self.served.receive_fault(&fault, now, acts);
                 Ok(())
             }
         }
@@ -103,7 +97,7 @@ impl NetSide {
     /// Processes a frame: a TEI message, or a frame for the link that it is addressed to.
     fn receive(&mut self, frame: &Frame<'_>, now: u64, acts: &mut Acts) -> Result<(), AllocError>
         requires fits { length frame.now.info ≤ N201 }
-        requires empty { acts.old ≡ no_effects }
+        requires empty { IsEmpty acts.old }
         ensures { NetworkReceives result self.old self.new acts.new
             (λ s. given_for_frame s.assigner (Ok frame.now))
             (λ config. frame_received config now frame.now) }
@@ -114,25 +108,8 @@ impl NetSide {
                 Err(_) => Ok(()),
             }
         } else {
-            let id = LinkId::of_address(&frame.address());
-            self.act_or_discard(id, Event::Heard(frame), frame.info(), now, acts);
+            self.served.receive_frame(frame, now, acts);
             Ok(())
-        }
-    }
-
-    /// Processes a fault: of a frame for a link, or of octets for none, which are discarded.
-    fn receive_fault(&mut self, fault: &FrameFault, now: u64, acts: &mut Acts)
-        requires empty { acts.old ≡ no_effects }
-        requires of_link { IfSome fault.now.address (λ address. is_for_link fault.now.kind ≡ true) }
-        ensures { NetworkDoes self.old self.new acts.new
-            (λ _. fault_received now fault.now.kind fault.now.address) }
-    {
-        match fault.address {
-            Some(address) => {
-                let id = LinkId::of_address(&address);
-                self.act_or_discard(id, Event::Fault(fault.kind), &[], now, acts);
-            }
-            None => self.discarded = one_more(self.discarded),
         }
     }
 
@@ -144,7 +121,7 @@ impl NetSide {
         now: u64,
         acts: &mut Acts,
     ) -> Result<(), AllocError>
-        requires empty { acts.old ≡ no_effects }
+        requires empty { IsEmpty acts.old }
         ensures { NetworkReceives result self.old self.new acts.new
             (λ s. given_for_message s.assigner (Ok message))
             (λ config. assigner_acts config now (AssignerEvent.Heard message)) }
@@ -161,7 +138,7 @@ impl NetSide {
 
     /// Passes the assigner an event that assigns no TEI.
     fn manage(&mut self, event: AssignerEvent, now: u64, acts: &mut Acts)
-        requires empty { acts.old ≡ no_effects }
+        requires empty { IsEmpty acts.old }
         requires gives_none { (a : AssignerState) → tei_given (assigner_step a event).outs ≡ None }
         ensures { NetworkDoes self.old self.new acts.new
             (λ config. assigner_acts config now event) }
@@ -169,20 +146,6 @@ impl NetSide {
         let outs = self.assigner.handle(event);
         self.served
             .carry_out(Side::Network, outs.as_slice(), now, acts);
-    }
-
-    /// Passes an event to the link with this id, or discards it if there is none.
-    fn act_or_discard(&mut self, id: LinkId, event: Event, octets: &[u8], now: u64, acts: &mut Acts)
-        requires empty { acts.old ≡ no_effects }
-        requires for_link { IsFor id event }
-        requires fits { length octets.now ≤ N201 }
-        ensures { NetworkDoes self.old self.new acts.new
-            (λ _ s. or_discarded s (link_of_network now id (input_of event.entry) octets.now s)) }
-    {
-        match self.served.links.act(&id, event, octets, now, acts) {
-            Ok(()) => {}
-            Err(_) => self.discarded = one_more(self.discarded),
-        }
     }
 
     /// Expires the first timer that is due at `now`, in milliseconds. Returns `false` if none is
@@ -194,18 +157,14 @@ impl NetSide {
         ensures nothing { result ≡ false → acts.new ≡ no_effects }
     {
         acts.clear();
-        let Some(RunningTimer { timer, of, .. }) = due(&self.served.timers, &self.served.links, now)
-        else {
-            return false;
-        };
-        match of {
-            None => {
-                self.served.timers.stop(timer);
+        match self.served.expire_first(now, acts) {
+            Expired::Nothing => false,
+            Expired::Link => true,
+            Expired::Management => {
                 self.manage(AssignerEvent::T201, now, acts);
+                true
             }
-            Some(id) => self.expire(id, timer, now, acts),
         }
-        true
     }
 
     /// The next moment at which [`NetSide::tick`] has something to do, in milliseconds; before it,
@@ -215,16 +174,6 @@ impl NetSide {
         ensures { EachShown self.now (λ s. IsNextDeadline s.served result) }
     {
         next_deadline(&self.served.timers, &self.served.links)
-    }
-
-    /// Expires this timer of the link with this id.
-    fn expire(&mut self, id: LinkId, timer: Timer, now: u64, acts: &mut Acts)
-        requires empty { acts.old ≡ no_effects }
-        requires of_link { IsOfLink timer }
-        ensures { NetworkDoes self.old self.new acts.new
-            (λ config. network_expires config now timer (Some id)) }
-    {
-        let _ = self.served.links.expire(&id, timer, now, acts);
     }
 
     /// Executes a request at the time `now`. Does not allocate.
@@ -260,7 +209,7 @@ impl NetSide {
 
     /// Passes an event to the link with this id.
     fn act(&mut self, id: LinkId, event: Event, now: u64, acts: &mut Acts) -> Result<(), SideFault>
-        requires empty { acts.old ≡ no_effects }
+        requires empty { IsEmpty acts.old }
         requires for_link { IsFor id event }
         ensures { Answers result self.old self.new acts.new None
             (λ _. link_of_network now id (input_of event.entry) []) }
@@ -279,7 +228,7 @@ impl NetSide {
         now: u64,
         acts: &mut Acts,
     ) -> Result<(), SideFault>
-        requires empty { acts.old ≡ no_effects }
+        requires empty { IsEmpty acts.old }
         ensures { Answers result self.old self.new acts.new (Some octets)
             (λ config. unit_requested config now id octets.items) }
     {
@@ -297,7 +246,7 @@ impl NetSide {
         now: u64,
         acts: &mut Acts,
     ) -> Result<(), SideKind>
-        requires empty { acts.old ≡ no_effects }
+        requires empty { IsEmpty acts.old }
         ensures ok { OnOk result (Grants self.old self.new acts.new
             (λ config. unit_requested config now id octets.now)) }
         ensures err { IfErr result (λ kind. NetworkRefusesAs self.old kind
@@ -320,7 +269,7 @@ impl NetSide {
         now: u64,
         acts: &mut Acts,
     ) -> Result<(), SideFault>
-        requires empty { acts.old ≡ no_effects }
+        requires empty { IsEmpty acts.old }
         ensures { Answers result self.old self.new acts.new (Some message)
             (λ _. link_of_network now id (Give message.items) []) }
     {
@@ -357,7 +306,7 @@ impl NetSide {
     pub fn discarded(&self) -> u64
         ensures { EachShown self.now (λ s. result ≡ s.discarded) }
     {
-        self.discarded
+        self.served.discarded
     }
 }
 
@@ -367,7 +316,7 @@ impl NetSide {
 ///
 /// L3 for more than 260 octets.
 fn put_group_unit(sapi: Sapi, octets: &[u8], acts: &mut Acts) -> Result<(), SideKind>
-    requires empty { acts.old ≡ no_effects }
+    requires empty { IsEmpty acts.old }
     ensures ok { OnOk result ((s : Network)
         → unit_to_group sapi octets.now s ≡ Ok (record { after = s; effects = acts.new })) }
     ensures err { IfErr result (λ kind. (s : Network)

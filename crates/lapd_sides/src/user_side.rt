@@ -8,29 +8,28 @@ ghost use Rattle.lapd_tei.specs.Out.{IsInRange, tei_given};
 ghost use Rattle.lapd_tei.specs.Terminal.{terminal_step};
 ghost use Rattle.lapd_tei.specs.declared.phase.Phase.{Phase};
 ghost use Rattle.lapd_table.specs.LinkTable.{IsFor};
-ghost use Rattle.lapd_frame.specs.Fault.{is_for_link};
 ghost use Rattle.lapd_sides_links.specs.declared.side_fault.SideKind.TheVariants.{NoLink, Link};
 ghost use Rattle.lapd_sides_links.specs.declared.acts.TheConstants.{MOST_PRIMITIVES};
 ghost use Rattle.lapd_sides_links.specs.Effects.{no_effects};
 ghost use Rattle.lapd_sides_links.specs.Expiries.{IsNextDeadline, of_served};
-ghost use Rattle.lapd_sides_links.specs.Links.{IsOfLink, of_sapi};
-ghost use Rattle.lapd_sides_links.specs.Rooms.{HasRoomFor, AddsAtMost};
+ghost use Rattle.lapd_sides_links.specs.Links.{of_sapi};
+ghost use Rattle.lapd_sides_links.specs.Rooms.{HasRoomFor, AddsAtMost, IsEmpty};
 ghost use Rattle.lapd_sides.specs.Requests.{message_of, without_message};
 ghost use Rattle.lapd_sides.specs.Shows.{ShowEnds};
-ghost use Rattle.lapd_sides.specs.User.{User, seeded, sends_message, new_user, user_takes, user_expires, user_requested, terminal_acts, assigned, pending_after, establishes_pending, establishes, gives_up_pending, primitive_of_group, primitive_of_sapi, link_of_user, or_discarded, frame_received, data_received, for_layer_3, fault_received, got_for, got_for_frame, got_for_message, wants, forgets, with_tei_or};
+ghost use Rattle.lapd_sides.specs.User.{User, seeded, sends_message, new_user, user_takes, user_requested, terminal_acts, assigned, pending_after, establishes_pending, establishes, gives_up_pending, primitive_of_group, primitive_of_sapi, link_of_user, frame_received, data_received, for_layer_3, got_for, got_for_frame, got_for_message, wants, forgets, with_tei_or};
 
 use crate::links_and_timer::{
-    LinksAndTimer, MOST_TEI_OUTPUTS, carries_message, is_unit_to_group, one_more, without_message,
+    Expired, LinksAndTimer, MOST_TEI_OUTPUTS, carries_message, is_unit_to_group, without_message,
 };
 use crate::pending_establishments::PendingEstablishments;
 use crate::references::References;
-use crate::{Acts, Config, Octets, Primitive, Request, RunningTimer, SideFault, SideKind, What};
-use lapd_frame::{FaultKind, Frame, FrameFault, N201, Sapi, Side, Tei, read};
+use crate::{Acts, Config, Octets, Primitive, Request, SideFault, SideKind, What};
+use lapd_frame::{Frame, N201, Sapi, Side, Tei, read};
 use lapd_link::{Event, LinkFault};
-use lapd_sides_links::{due, next_deadline, refused};
+use lapd_sides_links::{next_deadline, refused};
 use lapd_table::{LinkId, LinkTable};
 use lapd_tei::{TeiMessage, TeiOut, Terminal, TerminalEvent};
-use lapd_timers::{Timer, TimerSet};
+use lapd_timers::TimerSet;
 use std::alloc::{AllocError, Global};
 
 /// The user side of an interface: a terminal, the links of its TEI, and their timers.
@@ -46,8 +45,6 @@ pub struct UserSide {
     terminal: Terminal,
     pending: PendingEstablishments,
     references: References,
-    /// The number of discarded frames, up to `u64::MAX`.
-    discarded: u64,
 }
 
 impl UserSide {
@@ -75,7 +72,6 @@ impl UserSide {
             terminal: Terminal::new(fixed),
             pending: PendingEstablishments::nothing(),
             references: References::new(config.seed),
-            discarded: 0,
         })
     }
 
@@ -102,14 +98,14 @@ impl UserSide {
 
     /// Processes octets of the network side: a frame, or a fault.
     fn receive_octets(&mut self, bytes: &[u8], now: u64, acts: &mut Acts) -> Result<(), AllocError>
-        requires empty { acts.old ≡ no_effects }
+        requires empty { IsEmpty acts.old }
         ensures { UserReceives result self.old self.new acts.new
             (λ s. got_for s bytes.now) (λ config. user_takes config bytes.now now) }
     {
         match read(bytes, Side::Network) {
             Ok(frame) => self.receive(&frame, now, acts),
             Err(fault) => {
-                self.receive_fault(&fault, now, acts);
+                self.served.receive_fault(&fault, now, acts);
                 Ok(())
             }
         }
@@ -117,7 +113,7 @@ impl UserSide {
 
     /// Processes a frame, which may be a TEI message.
     fn receive(&mut self, frame: &Frame<'_>, now: u64, acts: &mut Acts) -> Result<(), AllocError>
-        requires empty { acts.old ≡ no_effects }
+        requires empty { IsEmpty acts.old }
         requires fits { length frame.now.info ≤ N201 }
         ensures { UserReceives result self.old self.new acts.new
             (λ s. got_for_frame s (Ok frame.now)) (λ config. frame_received config now frame.now) }
@@ -136,33 +132,15 @@ impl UserSide {
     /// Processes a frame that is not a TEI message: unit data to all terminals, or a frame for the
     /// link that it is addressed to.
     fn receive_data(&mut self, frame: &Frame<'_>, now: u64, acts: &mut Acts)
-        requires empty { acts.old ≡ no_effects }
+        requires empty { IsEmpty acts.old }
         requires fits { length frame.now.info ≤ N201 }
         ensures { UserDoes self.old self.new acts.new
             (λ config. data_received config now frame.now) }
     {
-        let address = frame.address();
         if is_for_layer_3(&self.config, frame) {
-            deliver_unit(address.sapi, frame.info(), acts);
+            deliver_unit(frame.address().sapi, frame.info(), acts);
         } else {
-            let id = LinkId::of_address(&address);
-            self.act_or_discard(id, Event::Heard(frame), frame.info(), now, acts);
-        }
-    }
-
-    /// Processes a fault: of a frame for a link, or of octets for none, which are discarded.
-    fn receive_fault(&mut self, fault: &FrameFault, now: u64, acts: &mut Acts)
-        requires empty { acts.old ≡ no_effects }
-        requires of_link { IfSome fault.now.address (λ address. is_for_link fault.now.kind ≡ true) }
-        ensures { UserDoes self.old self.new acts.new
-            (λ _. fault_received now fault.now.kind fault.now.address) }
-    {
-        match fault.address {
-            Some(address) => {
-                let id = LinkId::of_address(&address);
-                self.act_or_discard(id, Event::Fault(fault.kind), &[], now, acts);
-            }
-            None => self.discarded = one_more(self.discarded),
+            self.served.receive_frame(frame, now, acts);
         }
     }
 
@@ -174,7 +152,7 @@ impl UserSide {
         now: u64,
         acts: &mut Acts,
     ) -> Result<(), AllocError>
-        requires empty { acts.old ≡ no_effects }
+        requires empty { IsEmpty acts.old }
         ensures { UserReceives result self.old self.new acts.new
             (λ s. got_for_message s (Ok message))
             (λ config. terminal_acts config now (TerminalEvent.Heard message)) }
@@ -189,20 +167,6 @@ impl UserSide {
         Ok(())
     }
 
-    /// Passes an event to the link with this id, or discards it if there is none.
-    fn act_or_discard(&mut self, id: LinkId, event: Event, octets: &[u8], now: u64, acts: &mut Acts)
-        requires empty { acts.old ≡ no_effects }
-        requires for_link { IsFor id event }
-        requires fits { length octets.now ≤ N201 }
-        ensures { UserDoes self.old self.new acts.new
-            (λ _ s. or_discarded s (link_of_user now id (input_of event.entry) octets.now s)) }
-    {
-        match self.served.links.act(&id, event, octets, now, acts) {
-            Ok(()) => {}
-            Err(_) => self.discarded = one_more(self.discarded),
-        }
-    }
-
     /// Expires the first timer that is due at `now`, in milliseconds. Returns `false` if none is
     /// due; call it until then. Before you expire timers for a moment, pass in every frame that had
     /// arrived by then. Does not allocate.
@@ -212,18 +176,14 @@ impl UserSide {
         ensures nothing { result ≡ false → acts.new ≡ no_effects }
     {
         acts.clear();
-        let Some(RunningTimer { timer, of, .. }) = due(&self.served.timers, &self.served.links, now)
-        else {
-            return false;
-        };
-        match of {
-            None => {
-                self.served.timers.stop(timer);
+        match self.served.expire_first(now, acts) {
+            Expired::Nothing => false,
+            Expired::Link => true,
+            Expired::Management => {
                 self.ask_again(now, acts);
+                true
             }
-            Some(id) => self.expire(id, timer, now, acts),
         }
-        true
     }
 
     /// The next moment at which [`UserSide::tick`] has something to do, in milliseconds; before it,
@@ -233,16 +193,6 @@ impl UserSide {
         ensures { EachShown self.now (λ s. IsNextDeadline s.served result) }
     {
         next_deadline(&self.served.timers, &self.served.links)
-    }
-
-    /// Expires this timer of the link with this id.
-    fn expire(&mut self, id: LinkId, timer: Timer, now: u64, acts: &mut Acts)
-        requires empty { acts.old ≡ no_effects }
-        requires of_link { IsOfLink timer }
-        ensures { UserDoes self.old self.new acts.new
-            (λ config. user_expires config now timer (Some id)) }
-    {
-        let _ = self.served.links.expire(&id, timer, now, acts);
     }
 
     /// Executes a request at the time `now`. Only the SAPI of a link id is used: the TEI is the
@@ -305,7 +255,7 @@ impl UserSide {
     pub fn discarded(&self) -> u64
         ensures { EachShown self.now (λ s. result ≡ s.discarded) }
     {
-        self.discarded
+        self.served.discarded
     }
 }
 
@@ -315,7 +265,7 @@ impl UserSide {
 
     /// Establishes the link of this SAPI; without a TEI, the request is kept.
     fn establish(&mut self, sapi: Sapi, now: u64, acts: &mut Acts) -> Result<(), SideFault>
-        requires empty { acts.old ≡ no_effects }
+        requires empty { IsEmpty acts.old }
         ensures { Answers result self.old self.new acts.new None
             (λ config s. with_tei_or now s.terminal sapi Establish []
             (wants config now sapi s) s) }
@@ -328,7 +278,7 @@ impl UserSide {
 
     /// Keeps an establishment without a TEI for its SAPI, if that is served, and requests a TEI.
     fn want(&mut self, sapi: Sapi, now: u64, acts: &mut Acts) -> Result<(), SideFault>
-        requires empty { acts.old ≡ no_effects }
+        requires empty { IsEmpty acts.old }
         ensures { Answers result self.old self.new acts.new None (λ config. wants config now sapi) }
     {
         if !self.config.serves(sapi) {
@@ -342,7 +292,7 @@ impl UserSide {
 
     /// Releases the link of this SAPI; without a TEI, forgets a kept establishment.
     fn release(&mut self, sapi: Sapi, now: u64, acts: &mut Acts) -> Result<(), SideFault>
-        requires empty { acts.old ≡ no_effects }
+        requires empty { IsEmpty acts.old }
         ensures { Answers result self.old self.new acts.new None
             (λ _ s. with_tei_or now s.terminal sapi Release [] (forgets sapi s) s) }
     {
@@ -354,7 +304,7 @@ impl UserSide {
 
     /// Forgets a kept establishment. The terminal continues to request a TEI.
     fn forget(&mut self, sapi: Sapi, acts: &mut Acts) -> Result<(), SideFault>
-        requires empty { acts.old ≡ no_effects }
+        requires empty { IsEmpty acts.old }
         ensures { Answers result self.old self.new acts.new None (λ _. forgets sapi) }
     {
         if !self.pending.has(sapi) {
@@ -373,7 +323,7 @@ impl UserSide {
         now: u64,
         acts: &mut Acts,
     ) -> Result<(), SideFault>
-        requires empty { acts.old ≡ no_effects }
+        requires empty { IsEmpty acts.old }
         requires for_link { (id : LinkId) → IsFor id event }
         ensures { Answers result self.old self.new acts.new None
             (λ _ s. with_tei_or now s.terminal sapi (input_of event.entry) [] (Err NoLink) s) }
@@ -392,7 +342,7 @@ impl UserSide {
         now: u64,
         acts: &mut Acts,
     ) -> Result<(), SideFault>
-        requires empty { acts.old ≡ no_effects }
+        requires empty { IsEmpty acts.old }
         ensures { Answers result self.old self.new acts.new (Some octets)
             (λ _ s. with_tei_or now s.terminal sapi (UnitData (length octets.items)) octets.items
             (Err NoLink) s) }
@@ -418,7 +368,7 @@ impl UserSide {
         now: u64,
         acts: &mut Acts,
     ) -> Result<(), SideFault>
-        requires empty { acts.old ≡ no_effects }
+        requires empty { IsEmpty acts.old }
         ensures { Answers result self.old self.new acts.new (Some message)
             (λ _ s. with_tei_or now s.terminal sapi (Give message.items) []
             (Err (Link NotEstablished)) s) }
@@ -431,7 +381,7 @@ impl UserSide {
 
     /// Passes an event to the link with this id.
     fn act(&mut self, id: LinkId, event: Event, now: u64, acts: &mut Acts) -> Result<(), SideFault>
-        requires empty { acts.old ≡ no_effects }
+        requires empty { IsEmpty acts.old }
         requires for_link { IsFor id event }
         ensures { Answers result self.old self.new acts.new None
             (λ _. link_of_user now id (input_of event.entry) []) }
@@ -449,7 +399,7 @@ impl UserSide {
 
     /// Requests a TEI.
     fn ask(&mut self, now: u64, acts: &mut Acts)
-        requires { acts.old ≡ no_effects }
+        requires { IsEmpty acts.old }
         ensures { UserDoes self.old self.new acts.new
             (λ config. terminal_acts config now TerminalEvent.Ask) }
     {
@@ -459,7 +409,7 @@ impl UserSide {
 
     /// Stops T202, which has expired, and processes its expiry.
     fn ask_again(&mut self, now: u64, acts: &mut Acts)
-        requires { acts.old ≡ no_effects }
+        requires { IsEmpty acts.old }
         ensures { UserDoes self.old self.new acts.new
             (λ config. terminal_acts config now TerminalEvent.T202) }
     {
@@ -469,7 +419,7 @@ impl UserSide {
 
     /// Passes the terminal an event by which it obtains no TEI.
     fn manage(&mut self, event: TerminalEvent, now: u64, acts: &mut Acts)
-        requires empty { acts.old ≡ no_effects }
+        requires empty { IsEmpty acts.old }
         requires gets_none { (phase : Phase) → tei_given (terminal_step phase event).outs ≡ None }
         ensures { UserDoes self.old self.new acts.new
             (λ config s. assigned config now (terminal_step s.terminal event) s) }
@@ -483,7 +433,7 @@ impl UserSide {
     fn carry_out(&mut self, outs: &[TeiOut], now: u64, acts: &mut Acts)
         requires in_range { All IsInRange outs.now }
         requires at_most { length outs.now ≤ MOST_TEI_OUTPUTS }
-        requires empty { acts.old ≡ no_effects }
+        requires empty { IsEmpty acts.old }
         ensures { CarriesOut self.old self.new acts.new now outs.now }
     {
         self.references.advance_if(sends_message(outs));
@@ -570,7 +520,7 @@ fn sends_message(outs: &[TeiOut]) -> bool
 
 /// Reports unit data to all terminals, of this SAPI, to layer 3 (Q.921 5.2).
 fn deliver_unit(sapi: Sapi, octets: &[u8], acts: &mut Acts)
-    requires empty { acts.old ≡ no_effects }
+    requires empty { IsEmpty acts.old }
     requires fits { length octets.now ≤ N201 }
     ensures { acts.new ≡ record no_effects {
       primitives = primitive_of_group sapi (What.UnitUp octets.now);

@@ -1,9 +1,13 @@
 -- The maximum results of a step of a link, and the room that must be free for them before it.
-use Rattle.std.specs.Prelude.{◌≤◌, ◌+◌, length}
+use Rattle.std.specs.Prelude.{◌≡◌, ◌≤◌, ◌+◌, length}
 use Rattle.lapd_link_definition.specs.Input.{Input}
 use Rattle.lapd_link_machine.specs.Bounds.{most_outputs}
 use Rattle.lapd_sides_links.specs.declared.acts.TheConstants.{MOST_PRIMITIVES_OF_STEP, MOST_FRAMES, MOST_PRIMITIVES}
-use Rattle.lapd_sides_links.specs.Effects.{Effects}
+use Rattle.lapd_sides_links.specs.Effects.{Effects, no_effects}
+
+-- no frame and no primitive yet, so that there is room for the results of any call
+abbrev pub IsEmpty : Effects → Type 0
+IsEmpty acts = acts ≡ no_effects
 
 -- there is room for everything that a step may produce for this input
 pub record HasRoomFor (input : Input) (acts : Effects) : Type 0 where

@@ -10,9 +10,9 @@ returns c = record {
   configured = refl;
   served = record {
     links = subst (λ (assigner : AssignerState). ShowLinks side.Network c.add_held.new.self (links_of_held c.args.config assigner.held)) c.new-assigner.ensures
-        (c.in_ok-add_held.ensures side.Network c.in_ok-served.ensures.links);
-    timers = c.in_ok-served.ensures.timers;
+        (c.in_ok-add_held.ensures side.Network c.in_ok-served.ensures.shown.links);
+    timers = c.in_ok-served.ensures.shown.timers;
   };
   assigner = c.new-assigner.ensures;
-  discarded = refl;
+  discarded = c.in_ok-served.ensures.none;
 }

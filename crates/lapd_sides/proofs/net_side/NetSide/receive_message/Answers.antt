@@ -21,7 +21,7 @@ returns-in_err-admit c =
         configured = shown.configured;
         served = c.in_err-admit.ensures.unchanged side.Network s.served shown.served;
         assigner = shown.assigner;
-        discarded = shown.discarded;
+        discarded = c.in_err-admit.ensures.discarded ∙ shown.discarded;
       };
       nothing = c.requires.empty;
     })
@@ -31,7 +31,7 @@ returns c = λ config s shown.
     let outs = c.as_slice-2.result.now in
     let received = event.Heard c.args.message in
     let are = c.as_slice-2.ensures.value ∙ c.handle-outs.ensures.outs in
-    assigned_so _ config c.args.now received s outs c.carry_out.new.acts shown.configured shown.discarded
+    assigned_so _ config c.args.now received s outs c.carry_out.new.acts shown.configured (c.carry_out.ensures.discarded ∙ c.in_ok-admit.ensures.discarded ∙ shown.discarded)
     (are ∙ ap (λ (a : AssignerState). (assigner_step a received).outs) shown.assigner)
     (c.handle-outs.ensures.now ∙ ap (λ (a : AssignerState). (assigner_step a received).now) shown.assigner)
     (c.carry_out.ensures.done config s.served

@@ -1,9 +1,11 @@
 use Rattle.std.proofs.Common.{sym, subst, ◌∙◌, Result}
 use Rattle.lapd_frame.specs.Frame.{Fields}
+use Rattle.lapd_frame.specs.declared.Side.TheVariants as side
 use Rattle.lapd_frame.proofs.Lengths.{content_is_short}
 use Rattle.lapd_frame.specs.declared.frame_fault.FrameFault.{FrameFault}
 use Rattle.lapd_sides.specs.Network.{network_takes, received, given_for, given_for_frame}
 use Rattle.lapd_sides.specs.ShowsNetwork.{HasDone, NetworkReceives}
+use Rattle.lapd_sides.proofs.Networking.{fault_so}
 use Rattle.lapd_sides.proofs.net_side.NetSide.receive_octets.Goals as goal
 
 pub receive-requires-clause-fits : goal.receive-requires-clause-fits
@@ -16,4 +18,5 @@ returns-in-Ok c = subst (λ (r : Result Fields FrameFault). NetworkReceives c.re
 pub returns-in-Err : goal.returns-in-Err
 unfolding network_takes
 returns-in-Err c = λ config s shown.
-    subst (λ (r : Result Fields FrameFault). HasDone c.receive_fault.new.self config c.receive_fault.new.acts (received config c.args.now r s)) (sym c.in-Err.is ∙ c.read.ensures.exact) (c.receive_fault.ensures config s shown)
+    subst (λ (r : Result Fields FrameFault). HasDone (record c.args.self.now { served = c.receive_fault.new.self }) config c.receive_fault.new.acts (received config c.args.now r s)) (sym c.in-Err.is ∙ c.read.ensures.exact)
+    (fault_so c.args.self.now c.receive_fault.new.self config s c.receive_fault.new.acts c.args.now c.in-Err.fault.kind c.in-Err.fault.address shown (c.receive_fault.ensures side.Network s.served.links shown.served.links))

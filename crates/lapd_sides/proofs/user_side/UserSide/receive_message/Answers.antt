@@ -25,7 +25,7 @@ returns-in_err-admit c =
         terminal = shown.terminal;
         pending = shown.pending;
         random = shown.random;
-        discarded = shown.discarded;
+        discarded = c.in_err-admit.ensures.discarded ∙ shown.discarded;
       };
       nothing = c.requires.empty;
     })
@@ -45,5 +45,5 @@ returns c = λ config s shown.
       terminal = c.handle-outs.ensures.now ∙ ap (λ (p : Phase). (terminal_step p received).now) shown.terminal;
       pending = shown.pending;
       random = shown.random;
-      discarded = shown.discarded;
+      discarded = c.in_ok-admit.ensures.discarded ∙ shown.discarded;
     }))
