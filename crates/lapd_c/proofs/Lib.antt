@@ -1,1 +1,2 @@
+pub mod CodeOrder
 pub mod HandleValues

@@ -1,5 +1,6 @@
 pub mod Border
 pub mod Calls
+pub mod CodeOrder
 pub mod Codes
 pub mod FlatPrimitives
 pub mod LinkStates

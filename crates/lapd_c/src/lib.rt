@@ -2,8 +2,9 @@
 //! word.
 //!
 //! Each exported function calls the function of [`lapd_sides::EitherSide`] that it is named after,
-//! and repeats its contract. For a handle that owns no side, new or freed, it returns code 1; the
-//! codes are those of `codes`. The results of calls wait, in order, until [`lapd_side_frame`] and
+//! and repeats its contract. It returns a code of `codes`: 3 if a number is out of range, otherwise 1
+//! if the handle owns no side, new or freed, otherwise 2 if too many results wait
+//! ([`codes_are_in_order`]). The results of calls wait, in order, until [`lapd_side_frame`] and
 //! [`lapd_side_primitive`] fetch them. `c/lapd.h` is the header, and docs/C.md lists the duties of
 //! a program.
 #![tactic(auto)]
@@ -23,6 +24,7 @@ mod codes;
 mod flat_primitive;
 mod handle;
 mod held_side;
+mod laws;
 mod link_state;
 mod making;
 mod settings;
@@ -33,6 +35,7 @@ use handle::{Handle, opened, shut};
 use held_side::{HeldSide, overwrite};
 use lapd_sides::{Request, Side, Tei};
 use lapd_trace::line;
+pub use laws::codes_are_in_order;
 use link_state::LinkState;
 use making::{make_network, make_user};
 use settings::Settings;
