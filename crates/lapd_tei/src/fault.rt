@@ -16,7 +16,7 @@ pub enum TeiFault {
     #[error("M3 BadKind")]
     BadKind,
     /// M4: the extension bit of the action indicator is 0, or the action indicator is the group TEI
-    /// where a single terminal must be named (Q.921 5.3.6.5).
+    /// in a message that must name one terminal (Q.921 5.3.6.5).
     #[error("M4 BadAi")]
     BadAi,
 }
