@@ -62,7 +62,7 @@ same_octets x y h = cc
 
 -- If a source holds frames on their way and then later octets, it can only lose the first of these
 -- frames, and the octets of the others are left.
-rest_left : (old new : Option (List ℕ)) (xs heard : List (List ℕ)) (left later : List ℕ) → old ≡ Some (socket_text xs ++ later) → new ≡ Some (left ++ later) → Consumes old new (socket_text heard)
+pub rest_left : (old new : Option (List ℕ)) (xs heard : List (List ℕ)) (left later : List ℕ) → old ≡ Some (socket_text xs ++ later) → new ≡ Some (left ++ later) → Consumes old new (socket_text heard)
     → (others : List (List ℕ)) × (xs ≡ heard ++ others) × (new ≡ Some (socket_text others ++ later))
 rest_left old None xs heard left later is ends taken = let no : ⊥ = cc in absurd no
 rest_left old (Some ys) xs heard left later is ends taken =

@@ -5,3 +5,4 @@ pub mod Joins
 pub mod Transcribed
 pub mod Orders
 pub mod SafeRuns
+pub mod WorkedRuns

@@ -1,5 +1,5 @@
 -- Two runs whose lines are in order are lines of two programs that are joined by a line.
-use Rattle.std.proofs.Common.{◌≡◌, ℕ, List, [], ◌∷◌, ◌++◌, Option, Some, None, refl, sym, ap, subst, ◌∙◌, append-nil}
+use Rattle.std.proofs.Common.{◌≡◌, ℕ, List, [], ◌∷◌, ◌++◌, Option, Some, refl, sym, ap, subst, ◌∙◌}
 use Rattle.std.specs.Prelude.{IsSome}
 use Rattle.std.specs.Io.KnownBytes.{Appends}
 use Rattle.std.proofs.KnownBytes.{Appends-nil, Appends-trans}
@@ -9,15 +9,14 @@ use Rattle.lapd_port.specs.SocketText.{socket_text}
 use Rattle.lapd_sides.specs.declared.either_side.EitherSide.TheVariants as either
 use Rattle.lapd_sides.specs.User.{seeded}
 use Rattle.lapd_sides_links.specs.declared.config.Config.{Config}
-use Rattle.lapd_sides_laws.specs.Interface.{Configs, Interface, by_user, run}
-use Rattle.lapd_cli_side_commands.specs.Served.{AtWork, Devices, HasServed, LineDoes, LinesDo, NetHasServed, UserHasServed, at_work}
+use Rattle.lapd_sides_laws.specs.Interface.{Configs, by_user}
+use Rattle.lapd_cli_side_commands.specs.Served.{AtWork, Devices, LineDoes, LinesDo, NetHasServed, UserHasServed, at_work}
 use Rattle.lapd_cli_side_lines.specs.LineRequests.{LineRequest}
-use Rattle.lapd_cli_side_laws.specs.SideEvents.{IsByEvents}
-use Rattle.lapd_cli_side_laws.specs.Joined.{AreAt, Program, ProgramLine, Programs, ProgramsDo, WritesTo, requests_of_side}
+use Rattle.lapd_cli_side_laws.specs.Joined.{AreAt, Program, Programs, ProgramsDo, WritesTo, requests_of_side}
 use Rattle.lapd_cli_side_laws.specs.JoinedRuns.{AreInOrder, AreJoined, AreMovesInPrint, AreServedInOrder, ReadsOnlyWritten, lines_in, sides_at_first}
 use Rattle.lapd_cli_side_laws.proofs.Joins.{same_text, still_known}
 use Rattle.lapd_cli_side_laws.proofs.Lines.{network_line, network_lines}
-use Rattle.lapd_cli_side_laws.proofs.Transcribed.{AreTranscribed, new_knows, transcribed}
+use Rattle.lapd_cli_side_laws.proofs.Transcribed.{new_knows, transcribed}
 
 -- ---- The octets that lines write.
 

@@ -2,13 +2,10 @@
 -- is removed.
 use Rattle.std.proofs.Common.{◌≡◌, ℕ, ◌+◌, ◌==◌, ◌&&◌, not, nat_lt, List, [], ◌∷◌, ◌++◌, length, map, Bool, true, false, if◌then◌else◌, Option, Some, None, Result, Ok, Err, refl, sym, ap, subst, ◌∙◌}
 use Rattle.std.specs.List.{filter_map}
-use Rattle.rand_pcg.specs.Lcg.{Lcg}
 use Rattle.lapd_timers.specs.declared.timer.Timer.{Timer}
-use Rattle.lapd_timers.specs.declared.timer.Timer.TheVariants.{T202}
 use Rattle.lapd_timers.specs.Due.{Timers}
 use Rattle.lapd_frame.specs.declared.Sapi.{Sapi}
 use Rattle.lapd_frame.specs.declared.Sapi.TheVariants as sapi
-use Rattle.lapd_frame.specs.declared.Side.{Side}
 use Rattle.lapd_frame.specs.declared.Side.TheVariants as side
 use Rattle.lapd_frame.specs.declared.Address.{Address}
 use Rattle.lapd_frame.specs.declared.fault_kind.FaultKind.{FaultKind}
@@ -34,8 +31,8 @@ use Rattle.lapd_tei.specs.declared.phase.Purpose.{Purpose}
 use Rattle.lapd_tei.specs.declared.terminal.TerminalEvent.{TerminalEvent}
 use Rattle.lapd_tei.specs.declared.terminal.TerminalEvent.TheVariants as event
 use Rattle.lapd_tei.specs.Message.{message_at}
-use Rattle.lapd_tei.specs.Out.{request, check_response, tei_given, tei_freed}
-use Rattle.lapd_tei.specs.Terminal.{TerminalStep, n202, is_automatic, names, is_got_by, moves_to, asks_again, awaiting_receives, assigned_receives, terminal_step, tei_of}
+use Rattle.lapd_tei.specs.Out.{request, tei_given, tei_freed}
+use Rattle.lapd_tei.specs.Terminal.{TerminalStep, n202, is_automatic, names, is_got_by, asks_again, awaiting_receives, assigned_receives, terminal_step, tei_of}
 use Rattle.lapd_table.specs.declared.link_id.LinkId.{LinkId}
 use Rattle.lapd_sides_links.specs.declared.config.Config.{Config}
 use Rattle.lapd_sides_links.specs.declared.primitive.Primitive.{Primitive}

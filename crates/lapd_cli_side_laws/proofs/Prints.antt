@@ -1,6 +1,6 @@
 -- What a line of `net` or `user` prints tells the events of the line.
 use Rattle.std.proofs.Common.{◌≡◌, ℕ, ◌+◌, List, [], ◌∷◌, ◌++◌, false, map, Option, Result, Ok, Err, inl, inr, refl, sym, ap, subst, ◌∙◌, append_assoc}
-use Rattle.std.specs.Prelude.{⊤, flat_map}
+use Rattle.std.specs.Prelude.{⊤}
 use Rattle.std.specs.Io.KnownBytes.{Appends}
 use Rattle.std.proofs.lemmas.Grind.{flat_map-append}
 use Rattle.std.proofs.lemmas.List.{append-nil}
@@ -19,8 +19,6 @@ use Rattle.lapd_sides.specs.declared.request.Request.TheVariants as request
 use Rattle.lapd_sides.specs.declared.either_side.EitherSide.{EitherSide}
 use Rattle.lapd_sides.specs.declared.either_side.EitherSide.TheVariants as either
 use Rattle.lapd_sides.specs.Either.{side_of, Answers}
-use Rattle.lapd_sides.specs.Network.{Network}
-use Rattle.lapd_sides.specs.User.{User}
 use Rattle.lapd_sides_laws.specs.Interface.{network_behaviour, user_behaviour}
 use Rattle.lapd_sides_laws.specs.SideView.{Behaviour, SideView, SideEvent, Take, Expire, Ask, if_granted, or_unmoved, does}
 use Rattle.lapd_cli_side_lines.specs.declared.line_style.LineStyle.{LineStyle}
@@ -29,9 +27,9 @@ use Rattle.lapd_cli_side_lines.specs.LineRequests.{LineRequest, Read, Tick, Esta
 use Rattle.lapd_cli_side_lines.specs.SideTexts.{acts_text, answer_text, frame_text_line, frames_text, primitive_line, primitives_text, refusal_line}
 use Rattle.lapd_cli_side_commands.specs.Served.{AtWork, Asks, FindsNone, Ticks, LineDoes, TakesNext}
 use Rattle.lapd_cli_side_laws.specs.SideEvents.{AreFor, ShowsNetwork, ShowsUser, does_all}
-use Rattle.lapd_cli_side_laws.specs.Printed.{AreTold, IsPrinted}
+use Rattle.lapd_cli_side_laws.specs.Printed.{IsPrinted}
 use Rattle.lapd_cli_side_laws.specs.Transcripts.{PrintedLine, Frame, Delivered, Refusal, InputEnd, is_refused, lines_text, line_text, primitives_in, submitted_in}
-use Rattle.lapd_cli_side_laws.proofs.Lines.{Did, HasEvents, IsOneRequest, all_expire, asks_one, expiry_leaves, finds_none, network_has, takes_next, ticks, user_has}
+use Rattle.lapd_cli_side_laws.proofs.Lines.{HasEvents, IsOneRequest, all_expire, asks_one, expiry_leaves, finds_none, network_has, takes_next, ticks, user_has}
 
 -- ---- The lines of a call's output.
 

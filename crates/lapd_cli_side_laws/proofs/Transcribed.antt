@@ -12,10 +12,9 @@ use Rattle.lapd_tei.specs.Terminal.{tei_of}
 use Rattle.lapd_table.specs.declared.link_id.LinkId.{LinkId}
 use Rattle.lapd_sides_links.specs.declared.config.Config.{Config}
 use Rattle.lapd_sides_links.specs.declared.primitive.Primitive.{Primitive}
-use Rattle.lapd_sides.specs.Network.{Network}
 use Rattle.lapd_sides.specs.User.{User, new_user}
 use Rattle.lapd_sides_laws.specs.Interface as interface
-use Rattle.lapd_sides_laws.specs.Interface.{Configs, Interface, Move, user_behaviour, by_user, with_user, with_network, by_network, network_behaviour, run}
+use Rattle.lapd_sides_laws.specs.Interface.{Configs, Interface, user_behaviour, by_user, run}
 use Rattle.lapd_sides_laws.specs.SideView.{SideView, SideEvent, does}
 use Rattle.lapd_cli_side_commands.specs.Served.{AtWork}
 use Rattle.lapd_cli_side_lines.specs.declared.line_style.LineStyle.{LineStyle}
@@ -23,7 +22,7 @@ use Rattle.lapd_cli_side_lines.specs.LineRequests.{LineRequest, Read, Tick, Esta
 use Rattle.lapd_cli_side_laws.specs.SideEvents.{does_all, moves_of}
 use Rattle.lapd_cli_side_laws.specs.Joined.{AreAt, AreRun, ProgramLine, Programs, ProgramsDo, requests_of_side}
 use Rattle.lapd_cli_side_laws.specs.Transcripts.{ExecutedLine, PrintedLine, is_refused, lines_text, named_link, own_link, own_tei, primitives_in, primitives_of, submitted_after, submitted_in, transcript_text, with_own_tei}
-use Rattle.lapd_cli_side_laws.proofs.Joins.{IsStepped, IsTold, delivered_by, given_by, line_runs, no_line_runs, program_of, run_of_both, steps_together}
+use Rattle.lapd_cli_side_laws.proofs.Joins.{IsStepped, line_runs, no_line_runs, program_of, run_of_both, steps_together}
 use Rattle.lapd_cli_side_laws.proofs.Lines.{network_moves, user_moves}
 use Rattle.lapd_cli_side_laws.proofs.OwnTei.{KnowsTei, event_tells}
 
@@ -89,15 +88,12 @@ pub record AreTranscribed (c : Configs) (fixed : Option ℕ) (lines : List Progr
 grows_twice : {X : Type 0} (i mid j more others : List X) → mid ≡ i ++ more → j ≡ mid ++ others → j ≡ i ++ (more ++ others)
 grows_twice i mid j more others first second = second ∙ ap (λ (xs : List _). xs ++ others) first ∙ append_assoc i more others
 
-executed : LineRequest → List PrintedLine → ExecutedLine
-executed line_request printed = record { line_request = line_request; printed = printed }
-
 -- the program whose line it was; and the other one
-one_more_line : (s : Side) (line_request : LineRequest) (printed : List PrintedLine) (transcript : List ExecutedLine) (others : List LineRequest) (a mid b : AtWork)
+one_more_line : (line_request : LineRequest) (printed : List PrintedLine) (transcript : List ExecutedLine) (a mid b : AtWork)
     → Appends a.around.printed mid.around.printed (lines_text a.around.style printed) → mid.around.style ≡ a.around.style
     → Appends mid.around.printed b.around.printed (transcript_text mid.around.style transcript)
     → Appends a.around.printed b.around.printed (transcript_text a.around.style (record { line_request = line_request; printed = printed } ∷ transcript))
-one_more_line s line_request printed transcript others a mid b first style more =
+one_more_line line_request printed transcript a mid b first style more =
     Appends-trans a.around.printed mid.around.printed b.around.printed (lines_text a.around.style printed) (transcript_text a.around.style transcript) first
     (subst (λ (st : LineStyle). Appends mid.around.printed b.around.printed (transcript_text st transcript)) style more)
 
@@ -117,7 +113,7 @@ adds c fixed side.Network line_request lines a mid b i t known more =
       user = more.user;
       of_network = record {
         lines_are = ap (λ (rs : List LineRequest). line_request ∷ rs) more.of_network.lines_are;
-        text = one_more_line side.Network line_request t.printed more.network (requests_of_side side.Network lines) a.network.at mid.network.at b.network.at t.text t.style more.of_network.text;
+        text = one_more_line line_request t.printed more.network a.network.at mid.network.at b.network.at t.text t.style more.of_network.text;
       };
       of_user = record {
         lines_are = more.of_user.lines_are;
@@ -145,7 +141,7 @@ adds c fixed side.User line_request lines a mid b i t known more =
       };
       of_user = record {
         lines_are = ap (λ (rs : List LineRequest). line_request ∷ rs) more.of_user.lines_are;
-        text = one_more_line side.User line_request t.printed more.user (requests_of_side side.User lines) a.user.at mid.user.at b.user.at t.text t.style more.of_user.text;
+        text = one_more_line line_request t.printed more.user a.user.at mid.user.at b.user.at t.text t.style more.of_user.text;
       };
       told = subst (Tell fixed more.network (e ∷ more.user) i) (sym (run_of_both c (moves_of side.User t.events) more.runs.moves i)) (record {
         delivered_to_user = grows_twice i.delivered_to_user m.delivered_to_user _ (primitives_in t.printed) (primitives_of more.user) t.told.delivered more.told.delivered_to_user;

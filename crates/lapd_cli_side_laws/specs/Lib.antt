@@ -3,3 +3,4 @@ pub mod Transcripts
 pub mod Printed
 pub mod Joined
 pub mod JoinedRuns
+pub mod WorkedRuns

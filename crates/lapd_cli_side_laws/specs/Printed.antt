@@ -22,10 +22,10 @@ pub record AreTold {S : Type 0} (w : Behaviour S) (line_request : LineRequest)
 pub record IsPrinted {S : Type 0} (w : Behaviour S) (Shows : EitherSide → S → Type 0)
     (AreAskedFor : List SideEvent → Type 0) (line_request : LineRequest) (a b : AtWork) : Type 0
   where
-  pub by_events : IsByEvents w Shows AreAskedFor a b
-  pub printed : List PrintedLine
-  pub style : b.around.style ≡ a.around.style
-  pub text : Appends a.around.printed b.around.printed (lines_text a.around.style printed)
-  pub told : (v : SideView S) (left : List (List ℕ)) (shown : Shows a.side v.now)
-      (are : v.incoming ≡ by_events.heard ++ left)
-      → AreTold w line_request printed (by_events.are v left shown are).0 v
+    pub by_events : IsByEvents w Shows AreAskedFor a b
+    pub printed : List PrintedLine
+    pub style : b.around.style ≡ a.around.style
+    pub text : Appends a.around.printed b.around.printed (lines_text a.around.style printed)
+    pub told : (v : SideView S) (left : List (List ℕ)) (shown : Shows a.side v.now)
+        (are : v.incoming ≡ by_events.heard ++ left)
+        → AreTold w line_request printed (by_events.are v left shown are).0 v

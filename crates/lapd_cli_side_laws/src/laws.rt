@@ -1,6 +1,6 @@
 //! Laws of the programs. The functions do nothing when they are called.
 
-ghost use Rattle.std.specs.Prelude.{◌≡◌, ◌<◌, ◌≤◌, List, Option, ℕ};
+ghost use Rattle.std.specs.Prelude.{◌≡◌, ◌<◌, ◌≤◌, [], ◌∷◌, List, Option, Some, ℕ};
 ghost use Rattle.rand_pcg.specs.Lcg.{Lcg};
 ghost use Rattle.lapd_frame.specs.declared.Side.{Side};
 ghost use Rattle.lapd_frame.specs.declared.Side.TheVariants as side;
@@ -11,6 +11,7 @@ ghost use Rattle.lapd_sides.specs.Network.{new_network};
 ghost use Rattle.lapd_sides.specs.User.{new_user};
 ghost use Rattle.lapd_sides_laws.specs.Interface.{Configs, Interface, by_network, by_user, network_behaviour, new_interface, run, user_behaviour, with_network, with_user};
 ghost use Rattle.lapd_sides_laws.specs.Premises.{SatisfyPremisesAsMade};
+ghost use Rattle.lapd_sides_laws.specs.Schedule.{configs};
 ghost use Rattle.lapd_sides_laws.specs.SideView.{SideEvent};
 ghost use Rattle.lapd_sides.specs.declared.either_side.EitherSide.TheVariants as either;
 ghost use Rattle.lapd_cli_side_commands.specs.Served.{AtWork, Devices, LineDoes, LinesDo, NetHasServed, UserHasServed};
@@ -19,6 +20,7 @@ ghost use Rattle.lapd_cli_side_laws.specs.Joined.{AreAt, AreRun, AreRunSafely, P
 ghost use Rattle.lapd_cli_side_laws.specs.JoinedRuns.{AreJoined, AreMovesInPrint, AreServedInOrder, IsSafeInPrint, lines_in, sides_at_first};
 ghost use Rattle.lapd_cli_side_laws.specs.Printed.{IsPrinted};
 ghost use Rattle.lapd_cli_side_laws.specs.SideEvents.{AreFor, AreForAll, IsByEvents, ShowsNetwork, ShowsUser, does_all, moves_of};
+ghost use Rattle.lapd_cli_side_laws.specs.WorkedRuns.{AreOverWorkedOctets, MeetPremises, network_script, user_script};
 
 /// A line of `net` or `user`, and so a whole script, performs exactly the side events that it
 /// requests. The side receives the frames read from the source, in order, and all frames that it
@@ -128,4 +130,19 @@ pub fn joined_runs_are_right()
         → SatisfyPremisesAsMade c id runs.moves (sides_at_first c fixed known)
         → IsSafeInPrint c id fixed runs.network runs.user
         (run c runs.moves (sides_at_first c fixed known)) }
+{}
+
+/// The premises of joined runs can be met.
+///
+/// Let `net` and `user` have executed these scripts over these octets: the user side establishes a
+/// link and submits a message, which the network side receives and acknowledges. By their contracts
+/// alone, each then wrote what the other's source has, each read only what was written, and all
+/// moves that the lines request keep the premises of the link.
+pub fn worked_runs_meet_premises()
+    ensures { (network_before network_after user_before user_after : Devices)
+        (network : NetHasServed configs.network (64 ∷ []) network_script network_before
+        network_after)
+        (user : UserHasServed configs.user (Some 64) user_script user_before user_after)
+        → AreOverWorkedOctets network_before user_before
+        → MeetPremises network_before network_after user_before user_after network user }
 {}
