@@ -85,6 +85,17 @@ hasty first second = by_user (Ask (request.Establish call) 0) ∷ by_network (Ta
     ∷ by_network (Ask (request.Give call second) 1000)
     ∷ by_user (Take 1000) ∷ by_network (Take 1000) ∷ []
 
+-- The same of packet communication, whose window is wider, but the acknowledgement of the first
+-- message is lost, and the network submits two more. The user rejects the second message, which
+-- carries the number of the first, and receives the third, all in its first establishment.
+abbrev pub skipping : Vec ℕ Global → Vec ℕ Global → Vec ℕ Global → List Move
+skipping first second third = by_user (Ask (request.Establish packet) 0) ∷ by_network (Take 0)
+    ∷ by_network (Ask (request.Give packet first) 0) ∷ by_user (Expire T200 (Some packet) 1000)
+    ∷ by_network (Take 1000) ∷ by_user (Take 1000) ∷ by_user (Take 1000) ∷ by_network (Lose 0)
+    ∷ by_user (Take 1000) ∷ by_network (Ask (request.Give packet second) 1000)
+    ∷ by_network (Ask (request.Give packet third) 1000) ∷ by_user (Take 1000)
+    ∷ by_user (Take 1000) ∷ []
+
 -- The first message is lost. The network checks the TEI. The answer arrives only after T201
 -- expired, so the second round counts two answers, and the TEI is removed.
 abbrev pub removed : Vec ℕ Global → List Move
