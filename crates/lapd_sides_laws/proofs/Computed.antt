@@ -23,8 +23,8 @@ use Rattle.lapd_sides.specs.User.{link_of_user, terminal_acts, user_takes, user_
 use Rattle.lapd_sides_laws.specs.Establishments.{records_of, AreNeighbours, IsReceivedUnskipped}
 use Rattle.lapd_sides_laws.specs.Interface.{run}
 use Rattle.lapd_sides_laws.specs.Premises.{AreTimely, GiveTeiOnce, SatisfyPremises}
-use Rattle.lapd_sides_laws.specs.Projects.{IsReceivedByNetwork, IsReceivedByUser, IsUnskippedByUser}
-use Rattle.lapd_sides_laws.specs.Schedule.{configs, call, packet, at_first, unassigned, IsMessage, both_links, assigned, removed, hasty, skipping, regained, with_old_frames, answered_before}
+use Rattle.lapd_sides_laws.specs.Projects.{IsReceivedByNetwork, IsReceivedByUser, IsUnskippedByNetwork, IsUnskippedByUser}
+use Rattle.lapd_sides_laws.specs.Schedule.{configs, call, packet, at_first, unassigned, IsMessage, both_links, assigned, removed, hasty, skipping, regained, skipping_regained, with_old_frames, answered_before}
 use Rattle.lapd_sides_laws.specs.SideView.{does}
 use Rattle.lapd_sides_laws.specs.Primitives.{link_primitives, given_to, known_of, IsReceived}
 
@@ -247,6 +247,40 @@ regained_is_not_right first second one two right =
     let h = regained_so first second one two in
     let plain : IsReceived two_messages (0 ∷ []) ((2 ∷ []) ∷ []) = received_as _ two_messages _ (0 ∷ []) _ ((2 ∷ []) ∷ []) (sym h.given) (sym h.acked) (sym h.received) right in
     differ (one_of (λ place. slice_get two_messages place) (Some (2 ∷ [])) plain.places 0 plain.same (plain.acknowledged 0 (inl refl)))
+
+-- ---- The premise on the TEI again: a message is skipped.
+
+pub record SkippingRegained (first second third : Vec ℕ Global) : Type 0 where
+  pub timely : AreTimely configs packet (skipping_regained first second third) at_first
+  pub given : given_to packet (run configs (skipping_regained first second third) at_first).given_to_user ≡ three_messages
+  pub acked : (known_of packet (run configs (skipping_regained first second third) at_first).delivered_to_user).acked ≡ []
+  pub received : (known_of packet (run configs (skipping_regained first second third) at_first).delivered_to_network).received ≡ (1 ∷ []) ∷ (3 ∷ []) ∷ []
+  pub numbers : (records_of configs packet (skipping_regained first second third) at_first).network.received_in ≡ 1 ∷ 1 ∷ []
+
+skipping_regained_holds : (u v w : Vec ℕ Global) (x : Fits u (1 ∷ [])) (y : Fits v (2 ∷ [])) (z : Fits w (3 ∷ [])) → SkippingRegained (holding u (1 ∷ []) x) (holding v (2 ∷ []) y) (holding w (3 ∷ []) z)
+unfolding link_acts link_expires in_links with_tei without_tei primitive_of_tei manages assigner_acts link_of_network network_takes network_expires network_requested begin put state_to rc_to increment_rc layer3_initiated_to release_pending_to start stop expired clear_exception_conditions zero_state_variables set_peer_busy set_own_busy enquiry_response transmit_enquiry queue_up discard_i_queue acknowledge invoke_retransmission i_frame_ns discard_unacknowledged transmit_i_frame ensure_t200 transmit_rr establish_data_link reestablish_data_link end_establishment tei_assigned confirm_or_indicate ua_final awaiting_establishment_t200 awaiting_establishment confirm_release awaiting_release_t200 awaiting_release acknowledge_with_timers nr_error_recovery i_frame_nr i_frame_nr_in_recovery poll_or_final poll rr_nr rej_nr rnr_nr rr_nr_in_recovery rnr_nr_in_recovery timer_recovery_t200 busy_on busy_off in_7_and_8 established_t200 multiple_frame_established timer_recovery by_state report_fault row send_all acknowledge_pending end_step step initial_variables without_exceptions with_zero_counters status_frame acknowledgement without_ack_pending poll_response is_accepted is_rejected after_i_frame i_frame_response is_valid_nr with_va acknowledged_count acknowledges_all with_vs may_send next_i_frame after_sending with_own_busy with_peer_busy after steps lies_within link_of_user terminal_acts user_takes user_expires user_requested links_below does
+skipping_regained_holds u v w x y z = record {
+  timely = (tt, (tt, (tt, (tt, (tt, (tt, (tt, (tt, (tt, (tt, (λ t o. (refl, refl), (tt, (tt, (tt, (λ t o. (refl, refl), (tt, (tt, (tt, (tt, (tt, (tt, (tt, (tt, (tt, (tt, tt)))))))))))))))))))))))));
+  given = refl;
+  acked = refl;
+  received = refl;
+  numbers = refl;
+}
+
+pub skipping_regained_so : (first second third : Vec ℕ Global) → IsMessage 1 first → IsMessage 2 second → IsMessage 3 third → SkippingRegained first second third
+skipping_regained_so first second third one two three = with_octets (λ u. SkippingRegained u second third) (1 ∷ [])
+    (λ u x. with_both (λ v w. SkippingRegained (holding u (1 ∷ []) x) v w) (2 ∷ []) (3 ∷ []) (λ v w y z. skipping_regained_holds u v w x y z) second third two three) first one
+
+pub skipping_regained_is_received : (first second third : Vec ℕ Global) → IsMessage 1 first → IsMessage 2 second → IsMessage 3 third → IsReceivedByNetwork packet (run configs (skipping_regained first second third) at_first)
+skipping_regained_is_received first second third one two three =
+    let h = skipping_regained_so first second third one two three in
+    received_as three_messages _ [] _ ((1 ∷ []) ∷ (3 ∷ []) ∷ []) _ h.given h.acked h.received
+    (record { places = 0 ∷ 2 ∷ []; rising = (omega arith, (omega arith, tt)); same = refl; acknowledged = λ place among. absurd among })
+
+pub skipping_regained_skips : (first second third : Vec ℕ Global) → IsMessage 1 first → IsMessage 2 second → IsMessage 3 third → IsUnskippedByNetwork configs packet (skipping_regained first second third) at_first → ⊥
+skipping_regained_skips first second third one two three h =
+    let x = skipping_regained_so first second third one two three in
+    skipped_as _ _ _ _ _ x.given x.received x.numbers h
 
 -- ---- The premise on the line.
 

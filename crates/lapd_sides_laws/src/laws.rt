@@ -33,8 +33,8 @@ ghost use Rattle.lapd_sides_laws.specs.Interface.{user_behaviour, network_behavi
 ghost use Rattle.lapd_sides_laws.specs.ManagementTimers.{HasTimerOfTerminal, HasTimerOfAssigner, HaveTimersOfManagement, IsAwaited};
 ghost use Rattle.lapd_sides_laws.specs.Owed.{ServesLink};
 ghost use Rattle.lapd_sides_laws.specs.Premises.{AreTimely, GiveTeiOnce, SatisfyPremises, SatisfyPremisesAsMade};
-ghost use Rattle.lapd_sides_laws.specs.Projects.{IsReceivedByNetwork, IsReceivedByUser, IsUnskippedByUser, IsSafeAt};
-ghost use Rattle.lapd_sides_laws.specs.Schedule.{configs, call, packet, at_first, unassigned, IsMessage, both_links, assigned, removed, hasty, skipping, regained, with_old_frames, answered_before};
+ghost use Rattle.lapd_sides_laws.specs.Projects.{IsReceivedByNetwork, IsReceivedByUser, IsUnskippedByNetwork, IsUnskippedByUser, IsSafeAt};
+ghost use Rattle.lapd_sides_laws.specs.Schedule.{configs, call, packet, at_first, unassigned, IsMessage, both_links, assigned, removed, hasty, skipping, regained, skipping_regained, with_old_frames, answered_before};
 ghost use Rattle.lapd_sides_laws.specs.SideView.{SideView, SideEvent, Expire, Ask, does};
 ghost use Rattle.lapd_sides_laws.specs.Primitives.{link_primitives};
 
@@ -196,14 +196,15 @@ pub fn schedule_is_computed()
 
 /// Each premise is needed, and for the link itself.
 ///
-/// Each of these short runs violates one premise. All but `t200_skips` end with a message that
-/// counts as acknowledged but never arrived:
+/// Each of these short runs violates one premise. All but `t200_skips` and `tei_skips` end with a
+/// message that counts as acknowledged but never arrived:
 ///
 /// - `t200`: T200 of the link expires while the answer that it waits for is in transit.
 ///   `of_that_link`: this run keeps the premises of another link.
 /// - `t200_skips`: likewise, but in this run all messages received are right, and one is skipped
 ///   within an establishment.
-/// - `tei`: the TEI of the link is removed and assigned again.
+/// - `tei`: the TEI of the link is removed and assigned again. `tei_skips`: likewise, and a message
+///   is skipped.
 /// - `line`: frames from before are in transit.
 pub fn each_premise_is_needed()
     ensures t200 { (first second : Vec ℕ Global) → IsMessage 1 first → IsMessage 2 second
@@ -220,6 +221,12 @@ pub fn each_premise_is_needed()
     ensures tei { (first second : Vec ℕ Global) → IsMessage 1 first → IsMessage 2 second
         → AreTimely configs call (regained first second) at_first
         × (IsReceivedByNetwork call (run configs (regained first second) at_first) → ⊥) }
+    ensures tei_skips { (first second third : Vec ℕ Global) → IsMessage 1 first
+        → IsMessage 2 second → IsMessage 3 third
+        → AreTimely configs packet (skipping_regained first second third) at_first
+        × IsReceivedByNetwork packet (run configs (skipping_regained first second third) at_first)
+        × (IsUnskippedByNetwork configs packet (skipping_regained first second third) at_first
+        → ⊥) }
     ensures line { (message : Vec ℕ Global) → IsMessage 1 message
         → SatisfyPremises configs call (answered_before message) with_old_frames
         × (IsReceivedByNetwork call (run configs (answered_before message) with_old_frames) → ⊥) }
