@@ -6,9 +6,10 @@ use Rattle.lapd_sides_links.specs.declared.primitive.Primitive.{Primitive}
 use Rattle.lapd_sides_links.specs.Links.{parameters_for}
 use Rattle.lapd_sides.specs.Network.{new_network}
 use Rattle.lapd_sides.specs.User.{new_user, seeded}
-use Rattle.lapd_sides_laws.specs.Interface.{Configs, Interface, new_interface, run}
+use Rattle.lapd_sides_laws.specs.Establishments.{IsReceivedUnskipped}
+use Rattle.lapd_sides_laws.specs.Interface.{Configs, Interface, Move, new_interface, run}
 use Rattle.lapd_sides_laws.specs.Premises.{SatisfyPremisesAsMade}
-use Rattle.lapd_sides_laws.specs.Primitives.{AreExpectedOfLink, IsReceived, given_to, known_of, link_primitives}
+use Rattle.lapd_sides_laws.specs.Primitives.{AreExpectedOfLink, given_to, known_of, link_primitives}
 use Rattle.lapd_sides_laws.specs.Projects.{IsRight}
 use Rattle.lapd_sides_laws.proofs.AsMade.{made_link_safe}
 use Rattle.lapd_cli_side_commands.specs.Served.{Devices}
@@ -29,26 +30,26 @@ run_safely c fixed known random lines a b at did =
 
 -- ---- What is printed.
 
-received_so : (id : LinkId) (given gave : List (LinkId × List ℕ)) (own owned other others : List Primitive) → given ≡ gave → own ≡ owned → other ≡ others
-    → IsReceived (given_to id given) (known_of id own).acked (known_of id other).received → IsReceived (given_to id gave) (known_of id owned).acked (known_of id others).received
-received_so id given gave own owned other others same_given same_own same_other h =
-    subst (λ (xs : List (LinkId × List ℕ)). IsReceived (given_to id xs) (known_of id owned).acked (known_of id others).received) same_given
-    (subst (λ (ps : List Primitive). IsReceived (given_to id given) (known_of id ps).acked (known_of id others).received) same_own
-    (subst (λ (ps : List Primitive). IsReceived (given_to id given) (known_of id own).acked (known_of id ps).received) same_other h))
+received_so : (id : LinkId) (given gave : List (LinkId × List ℕ)) (sent_in : ℕ → Option ℕ) (own owned other others : List Primitive) (numbers : List ℕ) → given ≡ gave → own ≡ owned → other ≡ others
+    → IsReceivedUnskipped (given_to id given) sent_in (known_of id own).acked (known_of id other).received numbers → IsReceivedUnskipped (given_to id gave) sent_in (known_of id owned).acked (known_of id others).received numbers
+received_so id given gave sent_in own owned other others numbers same_given same_own same_other h =
+    subst (λ (xs : List (LinkId × List ℕ)). IsReceivedUnskipped (given_to id xs) sent_in (known_of id owned).acked (known_of id others).received numbers) same_given
+    (subst (λ (ps : List Primitive). IsReceivedUnskipped (given_to id given) sent_in (known_of id ps).acked (known_of id others).received numbers) same_own
+    (subst (λ (ps : List Primitive). IsReceivedUnskipped (given_to id given) sent_in (known_of id own).acked (known_of id ps).received numbers) same_other h))
 
-in_print : (id : LinkId) (fixed : Option ℕ) (network user : List ExecutedLine) (i : Interface) → ArePrinted fixed network user i → IsRight id i → IsRightInPrint id fixed network user
-in_print id fixed network user i told right = record {
-  to_network = received_so id _ _ _ _ _ _ told.given_to_user told.delivered_to_user told.delivered_to_network right.to_network;
-  to_user = received_so id _ _ _ _ _ _ told.given_to_network told.delivered_to_network told.delivered_to_user right.to_user;
+in_print : (c : Configs) (id : LinkId) (fixed : Option ℕ) (network user : List ExecutedLine) (moves : List Move) (i : Interface) → ArePrinted fixed network user (run c moves i) → IsRight c id moves i → IsRightInPrint c id fixed network user moves i
+in_print c id fixed network user moves i told right = record {
+  to_network = received_so id _ _ _ _ _ _ _ _ told.given_to_user told.delivered_to_user told.delivered_to_network right.to_network;
+  to_user = received_so id _ _ _ _ _ _ _ _ told.given_to_network told.delivered_to_network told.delivered_to_user right.to_user;
   reports_to_user = subst (λ (ps : List Primitive). AreExpectedOfLink (link_primitives id ps)) told.delivered_to_user right.reports_to_user;
   reports_to_network = subst (λ (ps : List Primitive). AreExpectedOfLink (link_primitives id ps)) told.delivered_to_network right.reports_to_network;
 }
 
 pub right_in_print : (c : Configs) (fixed : Option ℕ) (known : List ℕ) (lines : List ProgramLine) (ns us : List LineRequest) (nb na ub ua : Devices) (runs : AreMovesInPrint c fixed known lines ns us nb na ub ua)
     (id : LinkId) → id.tei < 127 → (parameters_for c.user id.sapi).k ≤ 127 → (parameters_for c.network id.sapi).k ≤ 127 → SatisfyPremisesAsMade c id runs.moves (sides_at_first c fixed known)
-    → IsSafeInPrint c id fixed runs.network runs.user (run c runs.moves (sides_at_first c fixed known))
+    → IsSafeInPrint c id fixed runs.network runs.user runs.moves (sides_at_first c fixed known)
 right_in_print c fixed known lines ns us nb na ub ua runs id low few_u few_n kept =
     let safe = made_link_safe c id fixed known (seeded c.user.seed) low few_u few_n runs.moves kept in record {
       safe = safe;
-      in_print = in_print id fixed runs.network runs.user (run c runs.moves (sides_at_first c fixed known)) runs.told safe.right;
+      in_print = in_print c id fixed runs.network runs.user runs.moves (sides_at_first c fixed known) runs.told safe.right;
     }

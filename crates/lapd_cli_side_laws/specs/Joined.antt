@@ -125,4 +125,4 @@ pub record AreRunSafely (c : Configs) (lines : List ProgramLine) (a b : Programs
   pub run_together : AreRun c lines a b i
   pub safe : (id : LinkId) → id.tei < 127 → (parameters_for c.user id.sapi).k ≤ 127
       → (parameters_for c.network id.sapi).k ≤ 127 → SatisfyPremisesAsMade c id run_together.moves i
-      → IsSafeAt c id (run c run_together.moves i)
+      → IsSafeAt c id run_together.moves i

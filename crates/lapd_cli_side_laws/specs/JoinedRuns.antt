@@ -7,8 +7,9 @@ use Rattle.lapd_table.specs.declared.link_id.LinkId.{LinkId}
 use Rattle.lapd_sides.specs.declared.either_side.EitherSide.{EitherSide}
 use Rattle.lapd_sides.specs.Network.{new_network}
 use Rattle.lapd_sides.specs.User.{new_user, seeded}
+use Rattle.lapd_sides_laws.specs.Establishments.{records_of, IsReceivedUnskipped}
 use Rattle.lapd_sides_laws.specs.Interface.{Configs, Interface, Move, new_interface, run}
-use Rattle.lapd_sides_laws.specs.Primitives.{AreExpectedOfLink, IsReceived, given_to, known_of, link_primitives}
+use Rattle.lapd_sides_laws.specs.Primitives.{AreExpectedOfLink, given_to, known_of, link_primitives}
 use Rattle.lapd_sides_laws.specs.Projects.{IsSafeAt}
 use Rattle.lapd_cli_side_commands.specs.Served.{AtWork, Devices, HasServed, LinesDo, at_work}
 use Rattle.lapd_cli_side_lines.specs.LineRequests.{LineRequest}
@@ -93,23 +94,29 @@ pub record ArePrinted (fixed : Option ℕ) (network user : List ExecutedLine) (i
   pub given_to_user : i.given_to_user ≡ submitted_by_user fixed user
 
 -- Of one link, in both directions: the messages in the `data` lines that one program prints are, in
--- order and once each, among those of the other program's `give` lines that were not refused. The
--- messages that the counts of its `acknowledged` lines report were received. No error but F, G, H
--- and I is printed.
-pub record IsRightInPrint (id : LinkId) (fixed : Option ℕ) (network user : List ExecutedLine)
-    : Type 0 where
-  pub to_network : IsReceived (given_to id (submitted_by_user fixed user))
+-- order and once each, among those of the other program's `give` lines that were not refused.
+-- Within one establishment none is skipped. The messages that the counts of its `acknowledged`
+-- lines report were received. No error but F, G, H and I is printed. The establishments are not
+-- printed: they are those of the interface that these moves lead to.
+pub record IsRightInPrint (c : Configs) (id : LinkId) (fixed : Option ℕ)
+    (network user : List ExecutedLine) (moves : List Move) (i : Interface) : Type 0 where
+  pub to_network : IsReceivedUnskipped (given_to id (submitted_by_user fixed user))
+      (records_of c id moves i).user.sent_in
       (known_of id (primitives_of user)).acked (known_of id (primitives_of network)).received
-  pub to_user : IsReceived (given_to id (submitted_by_network network))
+      (records_of c id moves i).network.received_in
+  pub to_user : IsReceivedUnskipped (given_to id (submitted_by_network network))
+      (records_of c id moves i).network.sent_in
       (known_of id (primitives_of network)).acked (known_of id (primitives_of user)).received
+      (records_of c id moves i).user.received_in
   pub reports_to_user : AreExpectedOfLink (link_primitives id (primitives_of user))
   pub reports_to_network : AreExpectedOfLink (link_primitives id (primitives_of network))
 
--- the link is safe in the interface, and what both programs printed of it is right
+-- the link is safe in the interface after these moves, and what both programs printed of it is
+-- right
 pub record IsSafeInPrint (c : Configs) (id : LinkId) (fixed : Option ℕ)
-    (network user : List ExecutedLine) (i : Interface) : Type 0 where
-  pub safe : IsSafeAt c id i
-  pub in_print : IsRightInPrint id fixed network user
+    (network user : List ExecutedLine) (moves : List Move) (i : Interface) : Type 0 where
+  pub safe : IsSafeAt c id moves i
+  pub in_print : IsRightInPrint c id fixed network user moves i
 
 -- Both runs have transcripts, and are moves of an interface whose primitives and messages the
 -- transcripts tell.

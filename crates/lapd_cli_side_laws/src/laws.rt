@@ -116,9 +116,11 @@ pub fn joined_runs_are_printed()
 /// premises.
 ///
 /// The messages in the `data` lines that one program prints are, in order and once each, among
-/// those of the other program's `give` lines that were not refused. Each message that the counts of
-/// its `acknowledged` lines report was received. No error but F, G, H and I is printed. And the link
-/// is safe in the interface, as `each_link_is_safe` of `lapd_sides_laws` says.
+/// those of the other program's `give` lines that were not refused. Within one establishment none
+/// is skipped; the establishments are those of the interface, since they are not printed. Each
+/// message that the counts of its `acknowledged` lines report was received. No error but F, G, H
+/// and I is printed. And the link is safe in the interface, as `each_link_is_safe` of
+/// `lapd_sides_laws` says.
 pub fn joined_runs_are_right()
     ensures { (c : Configs) (fixed : Option ℕ) (known : List ℕ) (lines : List ProgramLine)
         (network_lines user_lines : List LineRequest)
@@ -128,8 +130,8 @@ pub fn joined_runs_are_right()
         (id : LinkId) → id.tei < 127
         → (parameters_for c.user id.sapi).k ≤ 127 → (parameters_for c.network id.sapi).k ≤ 127
         → SatisfyPremisesAsMade c id runs.moves (sides_at_first c fixed known)
-        → IsSafeInPrint c id fixed runs.network runs.user
-        (run c runs.moves (sides_at_first c fixed known)) }
+        → IsSafeInPrint c id fixed runs.network runs.user runs.moves
+        (sides_at_first c fixed known) }
 {}
 
 /// The premises of joined runs can be met.

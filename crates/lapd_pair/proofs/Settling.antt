@@ -171,11 +171,15 @@ pub stopped_at : (before now after : Pair) (n : ℕ) (m : Move) (why : PairFault
 stopped_at before now after n m why made next refuses same w s few =
     let u = run Tagged (settling Tagged n w) w in
     let su = made.representation w s in
+    let admitted = first_is_admitted tried u m (sym (next u su)) in
     record {
-      memory = by_fault why (happens Tagged m u) (refuses u su) (first_is_admitted tried u m (sym (next u su)));
+      memory = by_fault why (happens Tagged m u) (refuses u su) admitted;
       made = n;
       few = few;
       representation = same u su;
+      move = m;
+      next = sym (next u su);
+      admitted = admitted;
     }
   where
     by_fault : (why : PairFault) (outcome : Result Happened Refusal) → IsRefusedAs why outcome → is_ok outcome ≡ true → why ≡ fault.Memory

@@ -1,7 +1,7 @@
 -- The results of the calls of a pair, by the moves of the world.
 use Rattle.std.specs.Prelude.{◌≡◌, ◌+◌, ℕ, true, List, [], ◌∷◌, take, map, slice_get, Some, Result, Ok, Err, is_ok}
-use Rattle.lapd_pair_laws.specs.Reports.{AllReportsExpected}
-use Rattle.lapd_mod128.specs.Counting.{Whole, Tagged}
+use Rattle.lapd_pair_laws.specs.Reports.{AllReportsExpected, AreFirstDue}
+use Rattle.lapd_mod128.specs.Counting.{Reading, Whole, Tagged}
 use Rattle.lapd_link_definition.specs.declared.out.Out.{Out}
 use Rattle.lapd_link_definition.specs.Parameters.{Parameters}
 use Rattle.lapd_pair_laws.specs.Move as world
@@ -48,12 +48,22 @@ abbrev pub moves_made : Result ℕ RunFault → List world.Move → List world.M
 moves_made (Ok refused) moves = moves
 moves_made (Err fault) moves = take fault.at moves
 
+-- Before each of these moves and after the last, the first frame on its way to each side is due: in
+-- states 7 and 8 its N(R) is valid, and it is no unsolicited response. So each frame that one of
+-- the moves delivers was due.
+abbrev pub AreDueThroughout : Reading → List world.Move → World → Type 0
+AreDueThroughout r [] w = AreFirstDue r w
+AreDueThroughout r (move ∷ moves) w = AreFirstDue r w
+    × AreDueThroughout r moves (world_after w (happens r move w))
+
 -- Every pair is the result of some moves from a new pair, such that:
 --   `representation`         it represents the world after these moves, with tags as sequence numbers;
 --   `same`           the same moves over whole numbers lead to the same world, up to the tags;
 --   `same_outcomes`  and each move has the same result there, up to the tags;
 --   `safe`           the histories are safe in both directions;
---   `reports`        no error report other than F, G, H and I ever arose.
+--   `reports`        no error report other than F, G, H and I ever arose;
+--   `due`            every N(R) that arrived in states 7 and 8 was valid, and no response arrived
+--                    unsolicited.
 pub record IsSafePair (p : Pair) : Type 0 where
   pub user : Parameters
   pub network : Parameters
@@ -65,3 +75,4 @@ pub record IsSafePair (p : Pair) : Type 0 where
       ≡ map tag_outcome (outcomes Whole moves (new_world user network))
   pub safe : AreSafe (run Tagged moves (new_world user network))
   pub reports : AllReportsExpected (outcomes Tagged moves (new_world user network))
+  pub due : AreDueThroughout Tagged moves (new_world user network)

@@ -1,11 +1,11 @@
 -- The result of settling a pair.
-use Rattle.std.specs.Prelude.{◌≡◌, ◌<◌, ◌≤◌, ℕ, true, List, length, is_none}
+use Rattle.std.specs.Prelude.{◌≡◌, ◌<◌, ◌≤◌, ℕ, true, List, length, Some, is_none, is_ok}
 use Rattle.lapd_pair_laws.specs.Drained.{IsDrained}
 use Rattle.lapd_pair_laws.specs.Settle.{IsQuiet, next_move, settling, bound, most_moves}
 use Rattle.lapd_mod128.specs.Counting.{Tagged}
 use Rattle.lapd_link_definition.specs.Parameters.{Parameters}
 use Rattle.lapd_pair_laws.specs.Move as world
-use Rattle.lapd_pair_laws.specs.World.{World, new_world, run, left}
+use Rattle.lapd_pair_laws.specs.World.{World, new_world, happens, run, left}
 use Rattle.lapd_pair.specs.Runs.{PairRepresents}
 use Rattle.lapd_pair.specs.declared.pair.Pair.{Pair}
 use Rattle.lapd_pair.specs.declared.pair_fault.PairFault.{PairFault}
@@ -25,12 +25,15 @@ pub record HasSettled (p : Pair) (done : Settled) (w : World) : Type 0 where
 abbrev pub Settles : Pair → Pair → Settled → Type 0
 Settles old new done = (w : World) → PairRepresents old w → HasSettled new done w
 
--- an allocation failed for a move; the moves before it were made
+-- An allocation failed for the next move, which is admitted. The moves before it were made.
 pub record HasStoppedSettling (fault : PairFault) (p : Pair) (w : World) : Type 0 where
   pub memory : fault ≡ Memory
   pub made : ℕ
   pub few : made < bound w
   pub representation : PairRepresents p (run Tagged (settling Tagged made w) w)
+  pub move : world.Move
+  pub next : next_move Tagged (run Tagged (settling Tagged made w) w) ≡ Some move
+  pub admitted : is_ok (happens Tagged move (run Tagged (settling Tagged made w) w)) ≡ true
 
 abbrev pub StopsSettling : Pair → Pair → PairFault → Type 0
 StopsSettling old new fault = (w : World) → PairRepresents old w → HasStoppedSettling fault new w

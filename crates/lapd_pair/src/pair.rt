@@ -65,7 +65,8 @@ impl Pair {
     /// establishment it skipped none; and each message that the sender counts as acknowledged was
     /// received. `readers` states this for the results of [`Pair::given`], [`Pair::fates`],
     /// [`Pair::received`] and [`Pair::begun`]. The outputs contain no error report other than F, G,
-    /// H and I.
+    /// H and I. Every N(R) that ever arrived in states 7 and 8 was valid, and no response arrived
+    /// unsolicited (`IsSafePair`).
     ///
     /// # Errors
     ///
@@ -302,7 +303,8 @@ impl Pair {
     ///
     /// # Errors
     ///
-    /// P5 if an allocation failed. The moves made before it remain in effect.
+    /// P5 if an allocation failed for the next move, which is possible. The moves made before it
+    /// remain in effect.
     pub fn settle(&mut self) -> Result<Settled, PairFault>
         ensures ok { IfOk result (λ done. Settles self.old self.new done) }
         ensures err { IfErr result (λ fault. StopsSettling self.old self.new fault) }

@@ -13,7 +13,7 @@ use Rattle.lapd_sides_links.specs.declared.config.Config.{Config}
 use Rattle.lapd_sides_links.specs.Links.{Linked, is_served, is_link_of, with_tei, is_held_below, links_below, Links, parameters_for}
 use Rattle.lapd_sides.specs.Network.{new_network}
 use Rattle.lapd_sides.specs.User.{new_user}
-use Rattle.lapd_sides_laws.specs.Interface.{Configs, Interface, Move, fresh_link, by_user, by_network, side_does, happens, new_interface, run}
+use Rattle.lapd_sides_laws.specs.Interface.{Configs, Interface, Move, fresh_link, by_user, by_network, side_does, happens, new_interface}
 use Rattle.lapd_sides_laws.specs.Premises.{is_removal, IsMoveGivingTeiOnce, IsMoveLeavingTeiTaken, GiveTeiOnce, LeaveTeiTaken, SatisfyPremisesAsMade}
 use Rattle.lapd_sides_laws.specs.SideView.{SideEvent, does}
 use Rattle.lapd_sides_laws.specs.Projects.{IsSafeAt}
@@ -89,7 +89,7 @@ new_of_network config id known = new_by config id _ (is_served config id.sapi &&
 
 pub made_link_safe : (c : Configs) (id : LinkId) (fixed : Option ℕ) (known : List ℕ) (random : Lcg) → id.tei < 127 → (parameters_for c.user id.sapi).k ≤ 127 → (parameters_for c.network id.sapi).k ≤ 127
     → (moves : List Move) → SatisfyPremisesAsMade c id moves (new_interface (new_user c.user fixed random) (new_network c.network known))
-    → IsSafeAt c id (run c moves (new_interface (new_user c.user fixed random) (new_network c.network known)))
+    → IsSafeAt c id moves (new_interface (new_user c.user fixed random) (new_network c.network known))
 made_link_safe c id fixed known random low few_u few_n moves premises =
     let i = new_interface (new_user c.user fixed random) (new_network c.network known) in
     link_safe_as c id low (parameters_for c.user id.sapi) (parameters_for c.network id.sapi) few_u few_n i

@@ -5,7 +5,10 @@ pub mod Users
 pub mod Timed
 pub mod Frames
 pub mod Lines
+pub mod Sendings
+pub mod Recorded
 pub mod SideEvents
+pub mod Unskipped
 pub mod Asked
 pub mod Whole
 pub mod Called

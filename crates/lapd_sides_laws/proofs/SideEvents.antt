@@ -33,6 +33,7 @@ use Rattle.lapd_sides_links.specs.Effects.{what_of, stopped, timed}
 use Rattle.lapd_sides_links.specs.Links.{Links, Linked, Reaction, with_link}
 use Rattle.lapd_sides.specs.declared.request.Request.{Request}
 use Rattle.lapd_sides.specs.declared.request.Request.TheVariants as request
+use Rattle.lapd_sides_laws.specs.Establishments.{establishments_of, number_each}
 use Rattle.lapd_sides_laws.specs.Addressed.{is_for, those_for, spelled, all_spelled}
 use Rattle.lapd_sides_laws.specs.Primitives.{nothing_known, learns_all, what_for, link_primitives, message_for, given_to, known_of, AreExpectedOfLink}
 use Rattle.lapd_sides_laws.specs.Premises.{is_removal, IsTimely, IsGivenOnce, GivesTeiOnce}
@@ -42,6 +43,8 @@ use Rattle.lapd_sides_laws.proofs.Frames.{delivered_frames, delivered_is_known}
 use Rattle.lapd_sides_laws.specs.Owed.{PassesBy, IsStep, IsRemoval, IsUnmovedBy, IsRequest, ServesLink}
 use Rattle.lapd_sides_laws.proofs.LinkParts.{now_there, passes_by_nothing, any_more, any_behind, learns_both, expected_both}
 use Rattle.lapd_sides_laws.proofs.Lines.{where_lost, removed_spelled, IsFirst, first_of, no_poll, no_final}
+use Rattle.lapd_sides_laws.proofs.Recorded.{numbers_of, step_numbers, AreKeptOrSent, kept_or_sent}
+use Rattle.lapd_sides_laws.proofs.Sendings.{step_sends}
 use Rattle.lapd_sides_laws.proofs.Timed.{Agree, is_on, timed_by_step, link_timed, timed_link, stopped_is_off, stopped_agrees}
 
 same_linked : (a b : Linked) (o : Option Linked) → o ≡ Some a → o ≡ Some b → a ≡ b
@@ -105,6 +108,9 @@ module _ (S : Type 0) (w : Behaviour S) (side : Side) (id : LinkId) where
     pub is : step Tagged input view.station.end ≡ Ok done
     pub shows : Projects w side id v (view_after octets place view done)
     pub tells : link_primitives id v.delivered ≡ link_primitives id before.delivered ++ filter_map (what_of octets) done.outs
+    pub numbers : numbers_of (view_after octets place view done).station.history.received
+        ≡ numbers_of view.station.history.received ++ number_each (establishments_of ((w.served v.now).links id)) (filter_map (what_of octets) done.outs)
+    pub sends : AreKeptOrSent ((w.served v.now).links id) view.station.history.sent_in (view_after octets place view done).station.history.sent_in
 
   projected_step : (v : SideView S) (view : View) (a : Reaction S) (more : List (LinkId × List ℕ)) (line : List (List ℕ)) (frames : List Flight) (now : ℕ) (input : Input) (octets : List ℕ) (place : ℕ) (change : Timers → Timers)
       → Projects w side id v view → IsConsistent Tagged view.station → (links : Links) → HasLink links id view.station.end
@@ -127,6 +133,10 @@ module _ (S : Type 0) (w : Behaviour S) (side : Side) (id : LinkId) where
         done = d;
         is = is;
         tells = tells;
+        numbers = step_numbers octets place (record view { incoming = frames }) d
+            ∙ ap (λ n. numbers_of view.station.history.received ++ number_each n (filter_map (what_of octets) d.outs)) (sym (ap establishments_of x.links));
+        sends = kept_or_sent ((w.served a.after).links id) d.end view.station.history.sent_in _ (record { end = d.end; timers = timed now d.outs (change x.linked.timers) }) x.links refl
+            (step_sends Tagged input octets place (record view { incoming = frames }) d kept is);
         shows = record {
           link = inl (record {
             linked = record { end = d.end; timers = timed now d.outs (change x.linked.timers) };
@@ -157,6 +167,9 @@ module _ (S : Type 0) (w : Behaviour S) (side : Side) (id : LinkId) where
     pub shows : Projects w side id v side_step.view
     pub octets : List ℕ
     pub tells : link_primitives id v.delivered ≡ link_primitives id before.delivered ++ filter_map (what_of octets) side_step.outs
+    pub numbers : numbers_of side_step.view.station.history.received
+        ≡ numbers_of view.station.history.received ++ number_each (establishments_of ((w.served v.now).links id)) (filter_map (what_of octets) side_step.outs)
+    pub sends : AreKeptOrSent ((w.served v.now).links id) view.station.history.sent_in side_step.view.station.history.sent_in
 
   pub record IsNothing (before v : SideView S) (view : View) : Type 0 where
     pub shows : Projects w side id v view
@@ -211,6 +224,8 @@ module _ (S : Type 0) (w : Behaviour S) (side : Side) (id : LinkId) where
         side_step = record { view = view_after [] 0 view x.done; outs = x.done.outs };
         octets = [];
         tells = x.tells;
+        numbers = x.numbers;
+        sends = x.sends;
         is = ap (stepped [] 0 view) x.is;
         shows = x.shows;
       })
@@ -275,6 +290,8 @@ module _ (S : Type 0) (w : Behaviour S) (side : Side) (id : LinkId) where
         side_step = record { view = view_after frame.info frame.place left x.done; outs = x.done.outs };
         octets = frame.info;
         tells = x.tells;
+        numbers = x.numbers;
+        sends = x.sends;
         is = ap (λ frames. delivers Tagged frames view) first.are ∙ ap (stepped frame.info frame.place left) x.is;
         shows = x.shows;
       })
@@ -299,6 +316,8 @@ module _ (S : Type 0) (w : Behaviour S) (side : Side) (id : LinkId) where
         side_step = record { view = record view { incoming = remove view.incoming 0 }; outs = [] };
         octets = [];
         tells = still_delivered v (w.takes octets now v.now) _ passes ∙ sym (append-nil (link_primitives id v.delivered));
+        numbers = sym (append-nil (numbers_of view.station.history.received));
+        sends = λ place. inl refl;
         is = ap (λ (b : Bool). if b then quietly (record view { incoming = remove view.incoming 0 }) else Err world.NothingThere) within;
         shows = projected_pass v view (w.takes octets now v.now) [] rest (remove view.incoming 0) p passes refl
             (first.tail ∙ ap (λ (frames : List Flight). all_spelled (other_side side) id (remove frames 0)) (sym first.are));
@@ -339,6 +358,8 @@ module _ (S : Type 0) (w : Behaviour S) (side : Side) (id : LinkId) where
           side_step = record { view = record view { incoming = remove view.incoming lost.place }; outs = [] };
           octets = [];
           tells = still_delivered v (unmoved v.now) _ (no_effect v) ∙ sym (append-nil (link_primitives id v.delivered));
+          numbers = sym (append-nil (numbers_of view.station.history.received));
+          sends = λ place. inl refl;
           is = ap (λ (b : Bool). if b then quietly (record view { incoming = remove view.incoming lost.place }) else Err world.NothingThere) within;
           shows = projected_pass v view (unmoved v.now) [] (remove v.incoming at) (remove view.incoming lost.place) p (no_effect v) refl
               (lost.left ∙ ap (λ l. remove l lost.place) p.incoming ∙ removed_spelled (spelled (other_side side) id) view.incoming lost.place);
@@ -360,6 +381,8 @@ module _ (S : Type 0) (w : Behaviour S) (side : Side) (id : LinkId) where
         side_step = record { view = view_after [] 0 view x.done; outs = x.done.outs };
         octets = [];
         tells = x.tells;
+        numbers = x.numbers;
+        sends = x.sends;
         is = is_event ∙ ap (stepped [] 0 view) x.is;
         shows = x.shows;
       })
@@ -455,6 +478,8 @@ module _ (S : Type 0) (w : Behaviour S) (side : Side) (id : LinkId) where
         side_step = record { view = view_after asked.octets 0 view x.done; outs = x.done.outs };
         octets = asked.octets;
         tells = x.tells;
+        numbers = x.numbers;
+        sends = x.sends;
         is = asked.is_event view ∙ ap (stepped asked.octets 0 view) x.is;
         shows = x.shows;
       })

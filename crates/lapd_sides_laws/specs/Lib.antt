@@ -2,6 +2,7 @@ pub mod Addressed
 pub mod Primitives
 pub mod SideView
 pub mod Interface
+pub mod Establishments
 pub mod Premises
 pub mod Projects
 pub mod Owed

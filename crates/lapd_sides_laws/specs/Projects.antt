@@ -1,6 +1,6 @@
 -- How a side's view represents, for one link, the view of a side in a world of two ends; and that
 -- the link is safe.
-use Rattle.std.specs.Prelude.{◌≡◌, ◌⊎◌, true, List, map, Some, None, is_some}
+use Rattle.std.specs.Prelude.{◌≡◌, ◌⊎◌, ℕ, true, List, map, Some, None, is_some}
 use Rattle.std.specs.List.{list_any}
 use Rattle.lapd_timers.specs.declared.timer.Timer.TheVariants.{T200, T203}
 use Rattle.lapd_timers.specs.Due.{deadline_of}
@@ -13,12 +13,14 @@ use Rattle.lapd_link_definition.specs.Parameters.{Parameters}
 use Rattle.lapd_pair_laws.specs.Histories.{History, Receipt}
 use Rattle.lapd_pair_laws.specs.Move as world
 use Rattle.lapd_pair_laws.specs.Safe.{AreSafe}
-use Rattle.lapd_pair_laws.specs.World.{World, view_of, new_world, run}
+use Rattle.lapd_pair_laws.specs.World as world_of
+use Rattle.lapd_pair_laws.specs.World.{World, view_of, new_world}
 use Rattle.lapd_table.specs.declared.link_id.LinkId.{LinkId}
 use Rattle.lapd_sides_links.specs.declared.primitive.Primitive.{Primitive}
 use Rattle.lapd_sides_links.specs.Links.{Links, Linked}
 use Rattle.lapd_sides_laws.specs.Addressed.{those_for, all_spelled}
-use Rattle.lapd_sides_laws.specs.Interface.{Configs, Interface, user_behaviour, network_behaviour, by_user, by_network}
+use Rattle.lapd_sides_laws.specs.Establishments.{LinkRecord, LinkRecords, records_of, IsReceivedUnskipped}
+use Rattle.lapd_sides_laws.specs.Interface.{Configs, Interface, Move, user_behaviour, network_behaviour, by_user, by_network, run}
 use Rattle.lapd_sides_laws.specs.Premises.{is_removal}
 use Rattle.lapd_sides_laws.specs.SideView.{Behaviour, SideView}
 use Rattle.lapd_sides_laws.specs.Primitives.{Known, link_primitives, given_to, known_of, IsReceived, AreExpectedOfLink}
@@ -77,24 +79,61 @@ pub record ProjectsTo (c : Configs) (id : LinkId) (i : Interface) (w : World) : 
   pub network : Projects (network_behaviour c.network) side.Network id (by_network i)
       (view_of side.Network w)
 
--- The link's primitives and messages are right, in both directions: the messages received are, in
--- order and once each, among those submitted; each message that counts as acknowledged was
--- received; and no error but F, G, H and I was reported.
-pub record IsRight (id : LinkId) (i : Interface) : Type 0 where
-  pub to_network : IsReceived (given_to id i.given_to_user) (known_of id i.delivered_to_user).acked
-      (known_of id i.delivered_to_network).received
-  pub to_user : IsReceived (given_to id i.given_to_network)
-      (known_of id i.delivered_to_network).acked
-      (known_of id i.delivered_to_user).received
-  pub reports_to_user : AreExpectedOfLink (link_primitives id i.delivered_to_user)
-  pub reports_to_network : AreExpectedOfLink (link_primitives id i.delivered_to_network)
+-- what is recorded of a link at one side is what a history records of establishments
+pub record ShowsRecord (r : LinkRecord) (h : History) : Type 0 where
+  pub received_in : r.received_in ≡ map (λ (message : Receipt). message.establishment) h.received
+  pub sent_in : (place : ℕ) → r.sent_in place ≡ h.sent_in place
 
--- The interface represents, for the link, a world of two ends that some moves lead to from a new
--- world. That world is safe in both directions, so the link's primitives are right.
-pub record IsSafeAt (c : Configs) (id : LinkId) (i : Interface) : Type 0 where
-  pub user : Parameters
-  pub network : Parameters
-  pub moves : List world.Move
-  pub shows : ProjectsTo c id i (run Tagged moves (new_world user network))
-  pub safe : AreSafe (run Tagged moves (new_world user network))
-  pub right : IsRight id i
+-- on both sides
+pub record ShowRecords (r : LinkRecords) (w : World) : Type 0 where
+  pub user : ShowsRecord r.user w.user.history
+  pub network : ShowsRecord r.network w.network.history
+
+-- The messages received at one side are right: in order and once each, among those submitted at the
+-- other; and each message that counts as acknowledged was received.
+abbrev pub IsReceivedByNetwork : LinkId → Interface → Type 0
+IsReceivedByNetwork id i = IsReceived (given_to id i.given_to_user)
+    (known_of id i.delivered_to_user).acked (known_of id i.delivered_to_network).received
+
+abbrev pub IsReceivedByUser : LinkId → Interface → Type 0
+IsReceivedByUser id i = IsReceived (given_to id i.given_to_network)
+    (known_of id i.delivered_to_network).acked (known_of id i.delivered_to_user).received
+
+-- and within one establishment none is skipped; of the interface after these moves
+abbrev pub IsUnskippedByNetwork : Configs → LinkId → List Move → Interface → Type 0
+IsUnskippedByNetwork c id moves i = IsReceivedUnskipped (given_to id (run c moves i).given_to_user)
+    (records_of c id moves i).user.sent_in
+    (known_of id (run c moves i).delivered_to_user).acked
+    (known_of id (run c moves i).delivered_to_network).received
+    (records_of c id moves i).network.received_in
+
+abbrev pub IsUnskippedByUser : Configs → LinkId → List Move → Interface → Type 0
+IsUnskippedByUser c id moves i = IsReceivedUnskipped (given_to id (run c moves i).given_to_network)
+    (records_of c id moves i).network.sent_in
+    (known_of id (run c moves i).delivered_to_network).acked
+    (known_of id (run c moves i).delivered_to_user).received
+    (records_of c id moves i).user.received_in
+
+-- After these moves the link's primitives and messages are right, in both directions, and no error
+-- but F, G, H and I was reported.
+pub record IsRight (c : Configs) (id : LinkId) (moves : List Move) (i : Interface) : Type 0 where
+  pub to_network : IsUnskippedByNetwork c id moves i
+  pub to_user : IsUnskippedByUser c id moves i
+  pub reports_to_user : AreExpectedOfLink (link_primitives id (run c moves i).delivered_to_user)
+  pub reports_to_network : AreExpectedOfLink
+      (link_primitives id (run c moves i).delivered_to_network)
+
+-- After these moves of the sides the interface represents, for the link, a world of two ends that
+-- some moves lead to from a new world, and what is recorded of establishments is that world's. The
+-- world is safe in both directions, so the link's primitives are right.
+pub record IsSafeAt (c : Configs) (id : LinkId) (side_moves : List Move) (i : Interface) : Type 0
+  where
+    pub user : Parameters
+    pub network : Parameters
+    pub moves : List world.Move
+    pub shows : ProjectsTo c id (run c side_moves i)
+        (world_of.run Tagged moves (new_world user network))
+    pub recorded : ShowRecords (records_of c id side_moves i)
+        (world_of.run Tagged moves (new_world user network))
+    pub safe : AreSafe (world_of.run Tagged moves (new_world user network))
+    pub right : IsRight c id side_moves i

@@ -85,6 +85,17 @@ hasty first second = by_user (Ask (request.Establish call) 0) ∷ by_network (Ta
     ∷ by_network (Ask (request.Give call second) 1000)
     ∷ by_user (Take 1000) ∷ by_network (Take 1000) ∷ []
 
+-- The same of packet communication, whose window is wider, but the acknowledgement of the first
+-- message is lost, and the network submits two more. The user rejects the second message, which
+-- carries the number of the first, and receives the third, all in its first establishment.
+abbrev pub skipping : Vec ℕ Global → Vec ℕ Global → Vec ℕ Global → List Move
+skipping first second third = by_user (Ask (request.Establish packet) 0) ∷ by_network (Take 0)
+    ∷ by_network (Ask (request.Give packet first) 0) ∷ by_user (Expire T200 (Some packet) 1000)
+    ∷ by_network (Take 1000) ∷ by_user (Take 1000) ∷ by_user (Take 1000) ∷ by_network (Lose 0)
+    ∷ by_user (Take 1000) ∷ by_network (Ask (request.Give packet second) 1000)
+    ∷ by_network (Ask (request.Give packet third) 1000) ∷ by_user (Take 1000)
+    ∷ by_user (Take 1000) ∷ []
+
 -- The first message is lost. The network checks the TEI. The answer arrives only after T201
 -- expired, so the second round counts two answers, and the TEI is removed.
 abbrev pub removed : Vec ℕ Global → List Move
@@ -103,6 +114,22 @@ regained first second = removed first ++ by_user (Ask request.AskTei 2000)
     ∷ by_user (Ask (request.Establish call) 2000) ∷ by_network (Take 2000) ∷ by_user (Take 2000)
     ∷ by_user (Ask (request.Give call second) 2000)
     ∷ by_network (Take 2000) ∷ by_user (Take 2000) ∷ []
+
+-- Of packet communication, the network receives the first message, and the second is lost. The TEI
+-- is removed and assigned again, and the network receives the third message. Both were received in
+-- the first establishment of a link, but of two links.
+abbrev pub skipping_regained : Vec ℕ Global → Vec ℕ Global → Vec ℕ Global → List Move
+skipping_regained first second third = by_user (Ask (request.Establish packet) 0)
+    ∷ by_network (Take 0) ∷ by_user (Take 0) ∷ by_user (Ask (request.Give packet first) 0)
+    ∷ by_network (Take 0) ∷ by_user (Lose 0) ∷ by_user (Ask (request.Give packet second) 0)
+    ∷ by_network (Lose 0) ∷ by_network (Ask (request.Check 64) 0) ∷ by_user (Take 0)
+    ∷ by_network (Expire T201 None 1000) ∷ by_user (Take 1000)
+    ∷ by_network (Take 1000) ∷ by_network (Take 1000)
+    ∷ by_network (Expire T201 None 2000) ∷ by_user (Take 2000) ∷ by_user (Take 2000)
+    ∷ by_user (Ask request.AskTei 2000) ∷ by_network (Take 2000) ∷ by_user (Take 2000)
+    ∷ by_user (Ask (request.Establish packet) 2000) ∷ by_network (Take 2000)
+    ∷ by_user (Take 2000) ∷ by_user (Ask (request.Give packet third) 2000)
+    ∷ by_network (Take 2000) ∷ []
 
 -- The user's link is new, and a UA and an RR with N(R)=1 from before are in transit to it.
 abbrev pub with_old_frames : Interface

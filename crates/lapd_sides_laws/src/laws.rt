@@ -27,13 +27,14 @@ ghost use Rattle.lapd_sides.specs.ShowsUser as usr;
 ghost use Rattle.lapd_sides.specs.User.{User, new_user, got_for, user_takes, user_requested};
 ghost use Rattle.lapd_sides_laws.specs.Addressed.{those_for};
 ghost use Rattle.lapd_sides_laws.specs.Calls.{NetworkDoes, UserDoes, take_of};
+ghost use Rattle.lapd_sides_laws.specs.Establishments.{records_of};
 ghost use Rattle.lapd_sides_laws.specs.ExactTimers.{HasExactTimers, HaveExactTimers, BothHaveExactTimers, RunByState, IsWoken, AreOctets, BringsOctets, SideStep, stepped_by_all, new_view};
 ghost use Rattle.lapd_sides_laws.specs.Interface.{user_behaviour, network_behaviour, Configs, Move, Interface, new_interface, from_here, run};
 ghost use Rattle.lapd_sides_laws.specs.ManagementTimers.{HasTimerOfTerminal, HasTimerOfAssigner, HaveTimersOfManagement, IsAwaited};
 ghost use Rattle.lapd_sides_laws.specs.Owed.{ServesLink};
 ghost use Rattle.lapd_sides_laws.specs.Premises.{AreTimely, GiveTeiOnce, SatisfyPremises, SatisfyPremisesAsMade};
-ghost use Rattle.lapd_sides_laws.specs.Projects.{IsRight, IsSafeAt};
-ghost use Rattle.lapd_sides_laws.specs.Schedule.{configs, call, packet, at_first, unassigned, IsMessage, both_links, assigned, removed, hasty, regained, with_old_frames, answered_before};
+ghost use Rattle.lapd_sides_laws.specs.Projects.{IsReceivedByNetwork, IsReceivedByUser, IsUnskippedByNetwork, IsUnskippedByUser, IsSafeAt};
+ghost use Rattle.lapd_sides_laws.specs.Schedule.{configs, call, packet, at_first, unassigned, IsMessage, both_links, assigned, removed, hasty, skipping, regained, skipping_regained, with_old_frames, answered_before};
 ghost use Rattle.lapd_sides_laws.specs.SideView.{SideView, SideEvent, Expire, Ask, does};
 ghost use Rattle.lapd_sides_laws.specs.Primitives.{link_primitives};
 
@@ -44,6 +45,11 @@ ghost use Rattle.lapd_sides_laws.specs.Primitives.{link_primitives};
 /// order and once each. Within one establishment no message is skipped. Every message that counts
 /// as acknowledged was received. No error but F, G, H and I is reported for the link. Other links
 /// and TEI management may do anything meanwhile.
+///
+/// `IsRight` states this of the primitives and of the messages submitted, with the establishment in
+/// which each message was received, and the one in which it was last sent. A side shows neither
+/// number in what it delivers and sends, so both are read from the link's end after each event
+/// (`Establishments`).
 ///
 /// - `as_made`: any link of two newly created sides: the user with a fixed TEI or without one, the
 ///   network with any TEIs that it knows. At first the link may exist on one side, on both or on
@@ -59,22 +65,22 @@ pub fn each_link_is_safe()
         → user.served.links id ≡ Some (new_linked p m)
         → network.served.links id ≡ Some (new_linked q n)
         → (moves : List Move) → SatisfyPremises c id moves (new_interface user network)
-        → IsSafeAt c id (run c moves (new_interface user network)) }
+        → IsSafeAt c id moves (new_interface user network) }
     ensures as_made { (c : Configs) (id : LinkId) (fixed : Option ℕ) (known : List ℕ)
         (random : Lcg) → id.tei < 127
         → (parameters_for c.user id.sapi).k ≤ 127 → (parameters_for c.network id.sapi).k ≤ 127
         → (moves : List Move)
         → SatisfyPremisesAsMade c id moves
         (new_interface (new_user c.user fixed random) (new_network c.network known))
-        → IsSafeAt c id (run c moves
-        (new_interface (new_user c.user fixed random) (new_network c.network known))) }
+        → IsSafeAt c id moves
+        (new_interface (new_user c.user fixed random) (new_network c.network known)) }
     ensures from_here { (c : Configs) (id : LinkId) (i : Interface)
         (p q : Parameters) (m n : Lengths) → id.tei < 127 → p.k ≤ 127 → q.k ≤ 127
         → i.user.served.links id ≡ Some (new_linked p m)
         → i.network.served.links id ≡ Some (new_linked q n)
         → those_for side.Network id i.to_user ≡ [] → those_for side.User id i.to_network ≡ []
         → (moves : List Move) → SatisfyPremises c id moves (from_here i)
-        → IsSafeAt c id (run c moves (from_here i)) }
+        → IsSafeAt c id moves (from_here i) }
 {}
 
 /// A side changes a link only by the link's own octets, timers and requests, or when its TEI is
@@ -137,7 +143,8 @@ pub fn calls_are_events()
 ///
 /// In the first run both links meet them, with a message on each, in opposite directions, and a
 /// loss on each: a SABME and a message are lost, T200 expires on each link, and both messages are
-/// received and acknowledged. In another run the user has no TEI when its layer 3 requests the
+/// received and acknowledged. The message of call control is sent and received in the first
+/// establishment of both ends. In another run the user has no TEI when its layer 3 requests the
 /// link, and obtains one. In a third the answers to a TEI check arrive late and count as two, and
 /// the TEI is removed.
 pub fn schedule_is_computed()
@@ -164,6 +171,14 @@ pub fn schedule_is_computed()
         → link_primitives packet
         (run configs (both_links message answer) at_first).delivered_to_network
         ≡ what.Established ∷ what.Acknowledged 1 ∷ [] }
+    ensures call_received_in { (message answer : Vec ℕ Global) → IsMessage 1 message
+        → IsMessage 2 answer
+        → (records_of configs call (both_links message answer) at_first).network.received_in
+        ≡ 1 ∷ [] }
+    ensures call_sent_in { (message answer : Vec ℕ Global) → IsMessage 1 message
+        → IsMessage 2 answer
+        → (records_of configs call (both_links message answer) at_first).user.sent_in 0
+        ≡ Some 1 }
     ensures removed_premises { (first : Vec ℕ Global) → IsMessage 1 first
         → SatisfyPremises configs call (removed first) at_first }
     ensures removed_to_user { (first : Vec ℕ Global) → IsMessage 1 first
@@ -181,26 +196,40 @@ pub fn schedule_is_computed()
 
 /// Each premise is needed, and for the link itself.
 ///
-/// Each of three short runs violates one premise, and what it reports of the link is not right
-/// (`IsRight`):
+/// Each of these short runs violates one premise. All but `t200_skips` and `tei_skips` end with a
+/// message that counts as acknowledged but never arrived:
 ///
 /// - `t200`: T200 of the link expires while the answer that it waits for is in transit.
 ///   `of_that_link`: this run keeps the premises of another link.
-/// - `tei`: the TEI of the link is removed and assigned again.
+/// - `t200_skips`: likewise, but in this run all messages received are right, and one is skipped
+///   within an establishment.
+/// - `tei`: the TEI of the link is removed and assigned again. `tei_skips`: likewise, and a message
+///   is skipped.
 /// - `line`: frames from before are in transit.
 pub fn each_premise_is_needed()
     ensures t200 { (first second : Vec ℕ Global) → IsMessage 1 first → IsMessage 2 second
         → GiveTeiOnce configs call (hasty first second) at_first
-        × (IsRight call (run configs (hasty first second) at_first) → ⊥) }
+        × (IsReceivedByUser call (run configs (hasty first second) at_first) → ⊥) }
     ensures of_that_link { (first second : Vec ℕ Global) → IsMessage 1 first → IsMessage 2 second
         → SatisfyPremises configs packet (hasty first second) at_first
-        × (IsRight call (run configs (hasty first second) at_first) → ⊥) }
+        × (IsReceivedByUser call (run configs (hasty first second) at_first) → ⊥) }
+    ensures t200_skips { (first second third : Vec ℕ Global) → IsMessage 1 first
+        → IsMessage 2 second → IsMessage 3 third
+        → GiveTeiOnce configs packet (skipping first second third) at_first
+        × IsReceivedByUser packet (run configs (skipping first second third) at_first)
+        × (IsUnskippedByUser configs packet (skipping first second third) at_first → ⊥) }
     ensures tei { (first second : Vec ℕ Global) → IsMessage 1 first → IsMessage 2 second
         → AreTimely configs call (regained first second) at_first
-        × (IsRight call (run configs (regained first second) at_first) → ⊥) }
+        × (IsReceivedByNetwork call (run configs (regained first second) at_first) → ⊥) }
+    ensures tei_skips { (first second third : Vec ℕ Global) → IsMessage 1 first
+        → IsMessage 2 second → IsMessage 3 third
+        → AreTimely configs packet (skipping_regained first second third) at_first
+        × IsReceivedByNetwork packet (run configs (skipping_regained first second third) at_first)
+        × (IsUnskippedByNetwork configs packet (skipping_regained first second third) at_first
+        → ⊥) }
     ensures line { (message : Vec ℕ Global) → IsMessage 1 message
         → SatisfyPremises configs call (answered_before message) with_old_frames
-        × (IsRight call (run configs (answered_before message) with_old_frames) → ⊥) }
+        × (IsReceivedByNetwork call (run configs (answered_before message) with_old_frames) → ⊥) }
 {}
 
 /// On every link that a side ever has, each timer runs exactly when the link's end requires it.

@@ -18,13 +18,16 @@
 //!   run is a list of moves. The line keeps order, and repeats and alters nothing; nobody else
 //!   sends on it. All else is open: which octets are lost, when timers expire, and which requests
 //!   are made when.
+//! - `Establishments`: in which establishment each message of a link was received and last sent, by
+//!   the link's end after each event, and when no message is skipped within one
+//!   (`IsReceivedUnskipped`). Neither the primitives nor the frames of a side show these numbers.
 //! - `Premises`, for one link. Its T200 does not expire while a command with P=1 from that side, or
 //!   a response with F=1 to it, is in transit. Its TEI is assigned once: not while the link exists,
 //!   and not after it was removed. For newly created sides it is enough that the TEI is not
 //!   assigned again, since they assign no TEI whose links exist. Other links may do anything.
 //! - `Projects`: what both sides show of one link, which may not exist yet or no longer, represents
 //!   a world of two ends that some moves lead to (`ProjectsTo`). That world is safe, and the link's
-//!   primitives are right (`IsSafeAt`).
+//!   primitives are right (`IsRight`, `IsSafeAt`).
 //! - `Owed`: what each event of a side may do to one of its links (`ServesLink`).
 //! - `ExactTimers`, for all links and without premises: each timer of a link runs exactly when the
 //!   link's end requires it. In a `SideStep` octets arrive at one side from anyone, and then an

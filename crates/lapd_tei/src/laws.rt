@@ -103,10 +103,19 @@ pub fn premises_are_needed()
 {}
 
 /// On a bus in service no two terminals ever hold the same TEI. The network side holds each TEI of
-/// 64 to 126 that a terminal holds or an assignment in transit carries. The premises: no terminal
-/// requests by another terminal's last reference, and no TEI in use is lost. For `held` the second
-/// premise is enough. By `until`, the network side gives up a TEI only if a check frees it, or if
-/// it restarts without it.
+/// 64 to 126 that a terminal holds or an assignment in transit carries. By `until`, the network
+/// side gives up a TEI only if a check frees it, or if it restarts without it.
+///
+/// The premises are of each event (`MeetsInService`). A TEI is in use while a terminal holds it or
+/// an assignment in transit carries it.
+///
+/// - A terminal requests only by a reference that is not another terminal's last one.
+/// - A check frees no TEI in use.
+/// - A network side that restarts knows the TEIs in use, from 64 on.
+/// - A terminal joins with a fixed TEI only if that TEI is not in use and, from 64 on, the network
+///   side knows it.
+///
+/// For `held` all but the first are enough.
 pub fn service_is_in_order()
     ensures in_order { (terminals : ℕ) (known : List ℕ) (events : List BusEvent)
         → MeetsInService (in_service terminals known) events
