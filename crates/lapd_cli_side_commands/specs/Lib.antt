@@ -1,3 +1,4 @@
 pub mod Clocks
 pub mod LineOutputs
+pub mod Runners
 pub mod Served

@@ -79,15 +79,14 @@ pub(crate) fn run_side<R: Read, W: Write, S: Source, K: Sink>(
 
 impl<W: Write, S: Source, K: Sink> Command for SideRunner<W, S, K> {
     ghost use Rattle.lapd_sides.specs.Either.{side_of};
-    ghost use Rattle.lapd_cli_side_commands.specs.Served.{Progress, HasReached, at_work, devices, side_step};
+    ghost use Rattle.lapd_cli_side_commands.specs.Served.{Progress, HasReached, side_step};
+    ghost use Rattle.lapd_cli_side_commands.specs.Runners.{work_of};
 
     ghost State = { Progress };
 
     ghost step = { side_step };
 
-    ghost represents = { λ runner s. HasReached s (at_work runner.side runner.now
-        (devices runner.style (S.rest runner.port.source) (K.written runner.port.sink)
-        (W.contents runner.out))) };
+    ghost represents = { λ runner s. HasReached s (work_of S.rest K.written W.contents runner) };
 
     fn run<V: Write>(&mut self, line: &[u8], _out: &mut V) -> Result<(), LineFault> {
         let asked = read_line(self.alloc, self.side.side(), line)?;
@@ -103,7 +102,8 @@ impl<W: Write, S: Source, K: Sink> SideRunner<W, S, K> {
     ghost use Rattle.lapd_port.specs.SocketText.{socket_text};
     ghost use Rattle.lapd_cli_side_commands.specs.LineOutputs.{sent_of, primitives_text_of, traced_of};
     ghost use Rattle.lapd_cli_side_lines.specs.SideTexts.{refusal_line};
-    ghost use Rattle.lapd_cli_side_commands.specs.Served.{Asks, ExpiresAll, Ticks, LineDoes, TakesNow, at_work, devices};
+    ghost use Rattle.lapd_cli_side_commands.specs.Served.{Asks, ExpiresAll, Ticks, LineDoes, TakesNow};
+    ghost use Rattle.lapd_cli_side_commands.specs.Runners.{Between};
     ghost use Rattle.lapd_cli_side_commands.specs.Clocks.{Moves, moment_after};
     ghost use Rattle.lapd_cli_side_lines.specs.LineRequests.{IsGood, Read, request_of, line_request_of};
 
@@ -177,13 +177,8 @@ impl<W: Write, S: Source, K: Sink> SideRunner<W, S, K> {
     fn obey(&mut self, line: SideLine) -> Result<(), LineFault>
         ensures side { side_of self.new.side ≡ side_of self.old.side }
         ensures clock { Moves (moment_after self.old.now (request_of line)) result self.new.now }
-        ensures does { OnOk result (LineDoes (request_of line)
-            (at_work self.old.side self.old.now (devices self.old.style
-            (S.rest self.old.port.source) (K.written self.old.port.sink)
-            (W.contents self.old.out)))
-            (at_work self.new.side self.new.now (devices self.new.style
-            (S.rest self.new.port.source) (K.written self.new.port.sink)
-            (W.contents self.new.out)))) }
+        ensures does { OnOk result (Between S.rest K.written W.contents self.old self.new
+            (LineDoes (request_of line))) }
     {
         match line {
             SideLine::Read => self.read(),
@@ -197,13 +192,8 @@ impl<W: Write, S: Source, K: Sink> SideRunner<W, S, K> {
         ensures side { side_of self.new.side ≡ side_of self.old.side }
         ensures clock { self.new.now ≡ self.old.now }
         ensures good { IsGood result }
-        ensures does { OnOk result (LineDoes Read
-            (at_work self.old.side self.old.now (devices self.old.style
-            (S.rest self.old.port.source) (K.written self.old.port.sink)
-            (W.contents self.old.out)))
-            (at_work self.new.side self.new.now (devices self.new.style
-            (S.rest self.new.port.source) (K.written self.new.port.sink)
-            (W.contents self.new.out)))) }
+        ensures does { OnOk result (Between S.rest K.written W.contents self.old self.new
+            (LineDoes Read)) }
     {
         let mut frame = [0; MOST_OCTETS];
         match self.port.read_frame(&mut frame) {
@@ -218,11 +208,8 @@ impl<W: Write, S: Source, K: Sink> SideRunner<W, S, K> {
         ensures side { side_of self.new.side ≡ side_of self.old.side }
         ensures clock { self.new.now ≡ self.old.now }
         ensures good { IsGood result }
-        ensures takes { OnOk result (TakesNow frame.now self.old.now self.old.side self.new.side
-            (devices self.old.style (S.rest self.old.port.source)
-            (K.written self.old.port.sink) (W.contents self.old.out))
-            (devices self.new.style (S.rest self.new.port.source)
-            (K.written self.new.port.sink) (W.contents self.new.out))) }
+        ensures takes { OnOk result (Between S.rest K.written W.contents self.old self.new
+            (λ a b. TakesNow frame.now a.now a.side b.side a.around b.around)) }
         ensures source { self.new.port.source ≡ self.old.port.source }
     {
         let side = self.side.side();
@@ -249,13 +236,8 @@ impl<W: Write, S: Source, K: Sink> SideRunner<W, S, K> {
     fn tick(&mut self, ms: u64) -> Result<(), LineFault>
         ensures side { side_of self.new.side ≡ side_of self.old.side }
         ensures clock { Moves (moment_at (self.old.now + ms)) result self.new.now }
-        ensures does { OnOk result (Ticks ms
-            (at_work self.old.side self.old.now (devices self.old.style
-            (S.rest self.old.port.source) (K.written self.old.port.sink)
-            (W.contents self.old.out)))
-            (at_work self.new.side self.new.now (devices self.new.style
-            (S.rest self.new.port.source) (K.written self.new.port.sink)
-            (W.contents self.new.out)))) }
+        ensures does { OnOk result (Between S.rest K.written W.contents self.old self.new
+            (Ticks ms)) }
     {
         match moment_behind(self.now, ms) {
             Some(now) => {
@@ -273,11 +255,8 @@ impl<W: Write, S: Source, K: Sink> SideRunner<W, S, K> {
         ensures side { side_of self.new.side ≡ side_of self.old.side }
         ensures clock { self.new.now ≡ self.old.now }
         ensures good { IsGood result }
-        ensures does { OnOk result (ExpiresAll self.old.now self.old.side self.new.side
-            (devices self.old.style (S.rest self.old.port.source)
-            (K.written self.old.port.sink) (W.contents self.old.out))
-            (devices self.new.style (S.rest self.new.port.source)
-            (K.written self.new.port.sink) (W.contents self.new.out))) }
+        ensures does { OnOk result (Between S.rest K.written W.contents self.old self.new
+            (λ a b. ExpiresAll a.now a.side b.side a.around b.around)) }
         ensures source { self.new.port.source ≡ self.old.port.source }
     {
         let side = self.side.side();
@@ -296,13 +275,8 @@ impl<W: Write, S: Source, K: Sink> SideRunner<W, S, K> {
         ensures side { side_of self.new.side ≡ side_of self.old.side }
         ensures clock { self.new.now ≡ self.old.now }
         ensures good { IsGood result }
-        ensures does { OnOk result (Asks (line_request_of request)
-            (at_work self.old.side self.old.now (devices self.old.style
-            (S.rest self.old.port.source) (K.written self.old.port.sink)
-            (W.contents self.old.out)))
-            (at_work self.new.side self.new.now (devices self.new.style
-            (S.rest self.new.port.source) (K.written self.new.port.sink)
-            (W.contents self.new.out)))) }
+        ensures does { OnOk result (Between S.rest K.written W.contents self.old self.new
+            (Asks (line_request_of request))) }
     {
         let side = self.side.side();
         match self.side.request(request, self.now, &mut self.acts) {
