@@ -92,6 +92,24 @@ def program_of(words):
     return program
 
 
+def rows_below(name):
+    """The rows of crates.txt of a crate and of those below it, lowest first."""
+    with open(f"{TOP}/crates.txt", encoding="utf-8") as file:
+        lines = [it.partition("#")[0].strip() for it in file]
+    rows, found = {it.partition(":")[0].split()[0]: it for it in lines if it}, {}
+
+    def add(name):
+        for it in rows[name].partition(":")[2].split():
+            if it in rows and it not in found:
+                add(it)
+        found[name] = rows[name]
+
+    if name not in rows:
+        raise Failed(f"crates.txt has no crate {name}")
+    add(name)
+    return found
+
+
 def free_port():
     with socket.socket() as it:
         it.bind(("127.0.0.1", 0))
