@@ -153,7 +153,8 @@ def send(peer, *frames):
 
 
 def receive(peer, seconds=SECONDS):
-    """The next frame in hexadecimal: empty if the other side has closed the connection, `None` if no octets arrive in time."""
+    """The next frame in hexadecimal: empty if the other side has closed the connection, `None` if no octets arrive in
+    time."""
     octets, count = b"", 2
     while len(octets) < count:
         if not select.select([peer], [], [], seconds)[0]:

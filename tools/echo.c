@@ -1,5 +1,6 @@
-/* An echo over a TCP connection of this machine, as plain as it can be: `echo MESSAGES ASKED ANSWERED` sends so many octets so often,
-   and waits each time for so many octets that a second process answers. It prints how many nanoseconds each took. */
+/* An echo over a TCP connection of this machine, as plain as it can be: `echo MESSAGES ASKED ANSWERED` sends so many
+   octets so often, and waits each time for so many octets that a second process answers. It prints how many
+   nanoseconds each took. */
 
 #include <arpa/inet.h>
 #include <netinet/tcp.h>
@@ -51,7 +52,8 @@ int main(int count, char **words)
     struct sockaddr_in address = {.sin_family = AF_INET, .sin_addr.s_addr = htonl(INADDR_LOOPBACK)};
     socklen_t length = sizeof address;
     int listener = socket(AF_INET, SOCK_STREAM, 0);
-    long messages = count == 4 ? atol(words[1]) : 0, asked = messages ? atol(words[2]) : 0, answered = messages ? atol(words[3]) : 0;
+    long messages = count == 4 ? atol(words[1]) : 0, asked = count == 4 ? atol(words[2]) : 0;
+    long answered = count == 4 ? atol(words[3]) : 0;
 
     if (messages < 1 || asked < 1 || answered < 1 || asked > (long)sizeof octets || answered > (long)sizeof octets) {
         fprintf(stderr, "usage: echo MESSAGES ASKED ANSWERED\n");
