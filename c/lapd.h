@@ -29,9 +29,11 @@
  *   - Only one call at a time uses a side. Calls may be made by several threads if locks, or the
  *     start or join of a thread, put them in order. Sides share nothing. No call is made from a
  *     signal handler.
- * If it does, every call is safe for all numbers, octets and moments: no call aborts, blocks, calls
- * back or writes outside the buffers. For a handle that owns no side, new or freed, a call returns
- * LAPD_NO_SIDE.
+ * If it does, every call is safe for all numbers, octets and moments: it returns, does not block or
+ * call back, and writes nothing outside the buffers. Three things are trusted for this, not proved:
+ * the stack suffices; the C compiler and the library agree on the calling convention; and malloc,
+ * realloc and free, or the heap of your own in their place, do what they promise. For a handle that
+ * owns no side, new or freed, a call returns LAPD_NO_SIDE, unless a number is out of range.
  *
  * A side owns its memory, and lapd_side_free frees all of it. A side keeps no pointer that is
  * passed in, so buffers and settings need to exist only during the call. No result has to be
@@ -63,7 +65,14 @@ typedef struct lapd_side {
 /* The result of a call. If it is not LAPD_DONE, the side is unchanged, with no new frames or
  * primitives. Each call that passes something in can return LAPD_NO_SIDE and LAPD_PENDING, and
  * LAPD_NO_MEMORY if frames or primitives wait to be fetched. The description of a call names the
- * other codes that it can return. */
+ * other codes that it can return. If several codes apply, the first of this list is returned:
+ *   1. LAPD_OUT_OF_RANGE: a SAPI, a TEI or a setting is out of range;
+ *   2. LAPD_NO_MEMORY: the octets of lapd_side_give or lapd_side_unit cannot be copied, or a side
+ *      cannot be created;
+ *   3. LAPD_NO_SIDE;
+ *   4. LAPD_PENDING;
+ *   5. LAPD_NO_MEMORY: what the last call left to be fetched cannot be queued;
+ *   6. the other codes, and LAPD_OUT_OF_RANGE for a buffer that is too small. */
 enum lapd_code {
 	LAPD_DONE = 0,
 	LAPD_NO_SIDE = 1,              /* the handle owns no side */
@@ -79,7 +88,14 @@ enum lapd_code {
 };
 
 /* The primitives for layer 3 and management. Each comment begins with the fields that the primitive
- * uses besides kind, sapi and tei, if any. */
+ * uses besides kind, sapi and tei, if any.
+ *
+ * When a TEI is removed, each of its links delivers at most LAPD_RELEASE_IND, or LAPD_RELEASE_CONF
+ * if a release was requested. Messages that still waited are not reported by LAPD_DROPPED. Before a
+ * call of yours that removes the TEI, read `waiting` by lapd_side_state. A frame or a timer may
+ * remove it too, so in general count, for each link, the messages that were accepted, less those
+ * acknowledged or dropped: each of the rest was lost, or was received without an
+ * acknowledgement. */
 enum lapd_kind {
 	LAPD_NOTHING = 0,           /* no primitive is left */
 	LAPD_DATA_IND = 1,          /* octets: a message, 0 to 260 (DL-DATA indication) */
@@ -89,7 +105,8 @@ enum lapd_kind {
 	LAPD_RELEASE_IND = 5,       /* the link is released; tei is 127 if a user side got no TEI */
 	LAPD_RELEASE_CONF = 6,      /* the link is released, as requested */
 	LAPD_ACKNOWLEDGED = 7,      /* count: messages acknowledged, 1 to 127, the oldest waiting ones */
-	LAPD_DROPPED = 8,           /* count: messages dropped, 1 to 1024; some may have arrived */
+	LAPD_DROPPED = 8,           /* count: messages dropped, 1 to 1024; some may have arrived; not
+	                             * reported when the link is removed with its TEI */
 	LAPD_MDL_ERROR = 9,         /* letter: 'A' to 'O' (Q.921 Appendix II) */
 	LAPD_TEI_GOT = 16,          /* user side: it has been assigned tei */
 	LAPD_TEI_GONE = 17,         /* user side: it no longer has tei; its links are removed */
@@ -177,8 +194,8 @@ void lapd_side_free(lapd_side *side);
 uint32_t lapd_side_take(lapd_side *side, const uint8_t *frame, size_t length, uint64_t now);
 
 /* Requests of layer 3, for the link with a SAPI, 0, 16 or 63, and a TEI, 0 to 127. A user side uses
- * only the SAPI: the TEI is its own, and any number from 0 to 127 is accepted. LAPD_OUT_OF_RANGE
- * takes precedence over all other codes. */
+ * only the SAPI: the TEI is its own, and any number from 0 to 127 is accepted; other numbers return
+ * LAPD_OUT_OF_RANGE. */
 
 /* Establishes the link (DL-ESTABLISH request). LAPD_NO_LINK, LAPD_RELEASING. */
 uint32_t lapd_side_establish(lapd_side *side, uint8_t sapi, uint8_t tei, uint64_t now);

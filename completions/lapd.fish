@@ -12,7 +12,7 @@ complete -c lapd -n __lapd_runs -a "answer bus pair loop net user decode help"
 complete -c lapd -n "__lapd_runs help" -a "answer bus pair loop net user decode"
 complete -c lapd -n __lapd_runs -s V -l version -d "Print the version"
 complete -c lapd -n "not __lapd_runs help" -s h -l help -d "Print help"
-__lapd_option "answer bus pair loop net user decode" strict -d "End with status 5 if a request was refused"
+__lapd_option "answer bus pair loop net user decode" strict -d "End with status 5 if a line was refused"
 
 __lapd_option answer side -x -a "net user" -d "Side of the link"
 __lapd_option answer sapi -x -a "0 16" -d "SAPI of the link"
@@ -32,7 +32,7 @@ __lapd_option "net user" sapi16 -d "With --pri, serve SAPI 16 too"
 for timer in t200 t201 t202 t203
     __lapd_option "net user" $timer -x -d "Duration in milliseconds"
 end
-__lapd_option "net user" seed -x -d "Where references begin"
+__lapd_option "net user" seed -x -d "Seed of the references"
 __lapd_option "net user decode" json -d "Print JSON objects"
 __lapd_option "net user" clock -x -a "script real" -d "Clock"
 __lapd_option "net user" time -d "Begin lines with the time"

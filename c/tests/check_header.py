@@ -14,8 +14,8 @@ NUMBERS = {
     "u8": "uint8_t", "u16": "uint16_t", "u32": "uint32_t", "u64": "uint64_t", "usize": "size_t", "bool": "bool",
 }
 STRUCTS = {"Handle": "lapd_side", "Settings": "lapd_settings", "FlatPrimitive": "lapd_primitive", "LinkState": "lapd_link_state"}
-# Parameters with another name in C, where the crate's name would be less clear.
-NAMES = {"handle": "side", "known": "teis", "fixed": "tei", "told": "primitive"}
+# Parameters with another name in C, because the crate's name would be less clear.
+NAMES = {"handle": "side", "known": "teis", "fixed": "tei", "delivered": "primitive"}
 # The symbols that the archive may require of the program that it is linked into.
 ASKED = {"memcpy", "memmove", "memset", "memcmp", "bcmp", "malloc", "realloc", "free"}
 HEAP = {"rattle_alloc", "rattle_realloc", "rattle_dealloc"}

@@ -1,4 +1,5 @@
-//! The codes that calls return to C.
+//! The codes that calls return to C, as in c/lapd.h: 0 to 3 of the call itself, 11 and 13 for B1 and
+//! B3, and 21 to 25 for L1 to L5.
 
 ghost use Rattle.std.specs.Prelude.{◌≡◌};
 ghost use Rattle.lapd_c.specs.Codes.{code_of, code_of_kind, code_of_link_fault};
@@ -8,7 +9,7 @@ use lapd_sides::{LinkFault, SideFault, SideKind};
 /// The call succeeded.
 pub(crate) const DONE: u32 = 0;
 
-/// The handle owns no side.
+/// The handle owns no side: it is new or freed.
 pub(crate) const NO_SIDE: u32 = 1;
 
 /// Too many frames or primitives wait to be fetched.

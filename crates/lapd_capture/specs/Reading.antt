@@ -41,7 +41,7 @@ most_packet = 262144
 abbrev pub left_of : Reading → ℕ
 left_of reading = length reading.octets - reading.place
 
--- the number of this many octets, at this distance from the place
+-- the number in `count` octets, the first of which is `behind` octets after the place
 abbrev pub number_in : Order → ℕ → ℕ → Reading → ℕ
 number_in order count behind reading = number_at order count (reading.place + behind) reading.octets
 

@@ -96,8 +96,8 @@ fn status_of(fault: Option<ScriptFault>, strict: bool, is_refused: bool) -> u8
 // Reports which line was refused first, under `--strict`.
 fn print_refusal(rt: &HostRuntime, ending: &Ending<'_>) {
     if ending.strict && !ending.refusal.is_empty() {
-        let _ = eprintln!(rt; "a request was refused");
-        let _ = eprintln!(rt; "the first: {}", text_of(ending.refusal));
+        let _ = eprintln!(rt; "a line of the script was refused");
+        let _ = eprintln!(rt; "first refusal: {}", text_of(ending.refusal));
     }
 }
 
@@ -171,7 +171,7 @@ fn print_device(rt: &HostRuntime, ending: &Ending<'_>) {
         (Some(kind), _, _) => eprintln!(rt; "standard input: {}", KindReason(kind)),
         (None, Some(kind), _) => eprintln!(rt; "standard output: {}", KindReason(kind)),
         (None, None, Script::Loop) => eprintln!(rt;
-            "a frame was not received back over the connection to itself, or 1,000,000 reads did not reach the script's end"
+            "a frame did not return over the program's connection to itself, or 1,000,000 reads did not reach the script's end"
         ),
         (None, None, _) => eprintln!(rt; "1,000,000 reads did not reach the script's end"),
     };

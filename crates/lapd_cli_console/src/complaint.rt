@@ -77,7 +77,7 @@ fn put_no_line<W: fmt::Write>(
 }
 
 /// Why the real clock has no `tick`.
-const PASSES: &str = "is not valid with --clock real, where time passes by itself";
+const PASSES: &str = "is not valid with --clock real, which runs by itself";
 
 /// Whether only the same command with the real clock has lines that begin with this word.
 fn needs_real_clock(script: Script, word: &[u8]) -> bool {
@@ -96,7 +96,7 @@ fn put_out_of_range<W: fmt::Write>(
 ) -> fmt::Result {
     let range = argument.range();
     let word = Shown(word);
-    write!(f, "{form}: {argument} is {range}, not {word}")
+    write!(f, "{form}: {argument} must be {range}, not {word}")
 }
 
 /// Says which octet is not a hexadecimal digit.
@@ -111,5 +111,5 @@ fn put_no_digit<W: fmt::Write>(form: &Form, octet: u8, f: &mut fmt::Formatter<W>
 /// Says which word follows a line that is complete without it.
 fn put_behind<W: fmt::Write>(form: &Form, word: &[u8], f: &mut fmt::Formatter<W>) -> fmt::Result {
     let word = Shown(word);
-    write!(f, "{form}: unexpected {word} after it")
+    write!(f, "{form}: unexpected extra word {word}")
 }

@@ -36,11 +36,11 @@ impl Style {
         }
     }
 
-    /// Writes the text for octets that `from` sent into `line`, in place of what that was. So one text serves for many lines.
+    /// Replaces `line` with the text for octets that `from` sent, so that one text serves many lines.
     ///
     /// # Errors
     ///
-    /// `AllocError` where there was no memory for the text.
+    /// `AllocError` if an allocation fails.
     pub(crate) fn write(
         self,
         alloc: Global,

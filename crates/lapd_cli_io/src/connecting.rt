@@ -40,7 +40,8 @@ pub fn connect_side<'a>(
     }
 }
 
-/// Accepts the first connection to the address of a network side, and later ones of several terminals, or with `--keep`.
+/// Accepts the first connection to the address of a network side. With `--keep`, or with several
+/// terminals, later connections are accepted too.
 fn accepted<'a>(
     rt: &'a HostRuntime,
     notes: &'a Notes<'a>,
@@ -74,7 +75,7 @@ fn made<'a>(
     Ok(connections)
 }
 
-/// Adds a connection, which from now on does not wait in its calls.
+/// Makes a connection non-blocking, and adds it.
 fn add(
     connections: &mut Connections<'_>,
     stream: net::TcpStream,

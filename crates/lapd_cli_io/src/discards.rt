@@ -62,11 +62,11 @@ fn place_of(id: &LinkId) -> usize
 impl fmt::Display for Discard {
     fn fmt<W: fmt::Write>(&self, f: &mut fmt::Formatter<W>) -> fmt::Result {
         let (sapi, tei) = (self.id.sapi, self.id.tei);
-        write!(f, "discarded: no link with SAPI {sapi} TEI {tei}")?;
+        write!(f, "frame discarded: no link with SAPI {sapi} TEI {tei}")?;
         // TEI 0 is the usual TEI at primary rate.
         match (tei.value(), self.is_primary) {
-            (0, false) => f.write_str("; is the other side --pri and this one not?"),
-            (1.., true) => f.write_str("; is this side --pri and the other one not?"),
+            (0, false) => f.write_str("; does this side need --pri?"),
+            (1.., true) => f.write_str("; does the other side need --pri?"),
             _ => Ok(()),
         }
     }

@@ -94,7 +94,7 @@ impl Further {
             Further::Door(door) => {
                 door.retry();
                 if is_alone {
-                    notes.print(format_args!("connection lost: {why}; waiting for the next"));
+                    notes.print(format_args!("connection lost: {why}; waiting for the next one"));
                 } else {
                     notes.print(format_args!("{peer}: {why}"));
                 }

@@ -47,7 +47,8 @@ impl Input {
         *self = Input::Ready;
     }
 
-    /// Requests a report of input that the last read has left.
+    /// If the input was read since the last report, requests another report: the read may have left
+    /// octets.
     ///
     /// # Errors
     ///
@@ -67,7 +68,7 @@ impl Input {
         matches!(self, Input::Free | Input::Ready)
     }
 
-    /// Records that the caller reads once.
+    /// Records that the caller will read once.
     pub fn pass_on(&mut self) {
         if *self == Input::Ready {
             *self = Input::Read;

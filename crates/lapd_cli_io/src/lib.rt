@@ -1,8 +1,9 @@
-//! The program's connections: TCP streams of frames with one wait for all of them, standard input and the clock; captures and
-//! GSMTAP; and notes on standard error.
+//! The program's connections: TCP streams of frames, one wait for all streams, standard input and
+//! the clock, captures and GSMTAP, and notes on standard error.
 //!
-//! Begin with [`Connections`], which is what is around a side with the real clock, and [`connect_side`], which makes it. The
-//! functions of [`connection`] are for a side with the script's clock, which reads and writes one stream.
+//! Begin with [`connect_side`]. It makes the [`Connections`] of a side with the real clock, by which
+//! the side sends and receives frames, reads the clock and waits. The functions of [`connection`]
+//! make the one stream of a side with the script's clock.
 #![tactic(auto)]
 
 mod clock;

@@ -26,7 +26,7 @@ impl fmt::Display for Lost {
     fn fmt<W: fmt::Write>(&self, f: &mut fmt::Formatter<W>) -> fmt::Result {
         match self {
             Lost::Port(fault) => f.write_str(words_of(*fault)),
-            Lost::NotTaken => f.write_str("the peer did not accept a frame in time"),
+            Lost::NotTaken => f.write_str("the other side did not accept a whole frame at once"),
             Lost::Idle(limit) => write!(f, "no complete frame was received for {limit} ms"),
         }
     }

@@ -107,7 +107,7 @@ impl Taps<'_> {
         };
         if let Err(error) = gsmtap.send(from, frame) {
             self.notes
-                .print(format_args!("GSMTAP ends here: {}", Reason(&error)));
+                .print(format_args!("GSMTAP stopped: {}", Reason(&error)));
             self.gsmtap = None;
         }
     }

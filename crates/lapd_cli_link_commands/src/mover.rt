@@ -107,7 +107,8 @@ impl Mover {
         }
     }
 
-    /// Makes the moves that settle the line, and prints their number.
+    /// Makes moves until none is possible, within the bound of [`Pair::settle`], and prints their
+    /// number.
     pub(crate) fn settle<W: Write>(&mut self, out: &mut W) -> Result<(), LineFault>
         ensures { (w : World) → IsMover self.old w
             → LineEndsAs IsMover (Some (settle_made w)) result self.new
@@ -213,7 +214,7 @@ fn put_settled<W: Write>(settled: Settled, out: &mut W) -> Result<(), LineFault>
     Ok(())
 }
 
-/// The unit data that a move sends.
+/// The unit data that a move sends; empty for another move.
 fn unit_of(mv: &Move) -> &[u8]
     ensures { result.now ≡ unit_data_of (move_of mv.now).event }
 {

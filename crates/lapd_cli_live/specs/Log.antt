@@ -71,7 +71,7 @@ pub record HappenBeside (events : List LiveEvent) (a b : LiveState) : Type 0 whe
 
 -- ---- The clock.
 
--- the clock is read: it has not gone back, and lines have this moment from here on
+-- the clock is read: it shows no earlier moment than before, and later lines have this moment
 abbrev pub read_at : ℕ → List LiveEvent
 read_at now = Around (Reads now) ∷ Shows (Dated now) ∷ []
 

@@ -77,7 +77,7 @@ impl<O: Outside, W: Write> LiveSide<O, W> {
         (outside, out, flushed)
     }
 
-    /// Reads the clock. It is a fault if the clock has gone back.
+    /// Reads the clock. A moment earlier than the last one is a fault.
     pub(crate) fn read_clock(&mut self) -> Result<u64, LiveFault>
         ensures { IfOk result (λ now.
             Between O.io_events W.contents self.old self.new (ReadsClock now)) }
@@ -211,8 +211,8 @@ impl<O: Outside, W: Write> LiveSide<O, W> {
         }
     }
 
-    /// Waits once, until the next deadline or the end of the service, whichever comes first. Then
-    /// it reads the clock, so that the next lines have the moment at which the wait ended.
+    /// Waits once, until the next deadline or the end of the service, whichever is first. Then it
+    /// reads the clock, so that the next lines have the moment at which the wait ended.
     fn wait(&mut self, service: Service) -> Result<Option<EndReason>, LiveFault>
         ensures { IfOk result (λ end_reason. Between O.io_events W.contents self.old self.new
             (WaitsFor service end_reason)) }

@@ -1,12 +1,13 @@
 -- The words up to the last one, of octets that are cut at their last space.
-use Rattle.std.proofs.Common.{◌≡◌, ℕ, ◌==◌, Bool, true, false, List, [], ◌∷◌, ◌++◌, refl, sym, ap, ◌∙◌, None, Option, Some, option_and_then, drop, if◌then◌else◌, subst}
+use Rattle.std.proofs.Common.{◌≡◌, ℕ, suc, ◌+◌, ◌-◌, ◌<◌, ◌≤◌, ◌==◌, Bool, true, false, List, [], ◌∷◌, ◌++◌, length, take, drop, refl, sym, ap, ◌∙◌, None, Option, Some, option_and_then, if◌then◌else◌, subst, arith}
 use Rattle.std.specs.List.{join_with_byte, slice_split, onto_first}
 use Rattle.std.specs.Str.{IsUtf8, is_utf8}
+use Rattle.std.proofs.lemmas.List.{length-drop, take_all}
 use Rattle.std.proofs.lemmas.List.Splits.{join_with_byte-slice_split}
 use Rattle.std.proofs.lemmas.Str.{IsUtf8-from_is_utf8, is_utf8-from_IsUtf8}
 use Rattle.lapd_cli_script.specs.Line.{HasNoSpace, words_of}
 use Rattle.lapd_cli_script.specs.Script.{with_first}
-use Rattle.lapd_cli_script.proofs.WordsOf.{one_word, words_behind}
+use Rattle.lapd_cli_script.proofs.WordsOf.{one_word}
 use Rattle.lapd_cli_live_text.specs.LiveRequests.{expect_request, expected, last_word, parsed_span, words_before}
 
 -- ---- Words are the parts between spaces, so that joined by spaces they are the octets again.
@@ -77,13 +78,59 @@ none_expected (Some ms) = refl
 pub expected_whole : (octets : List ℕ) → HasNoSpace octets → expect_request (words_of octets) ≡ None
 expected_whole octets h = ap expect_request (one_word octets h) ∙ none_expected (parsed_span octets)
 
--- ---- The words behind the first one.
+-- ---- The rest of a line whose first word is known begins after that word and a space.
 
-pub behind_first : (line word rest : List ℕ) → line ≡ word ++ 32 ∷ rest → HasNoSpace word → drop 1 (words_of line) ≡ words_of rest
-behind_first line word rest e h = ap (λ x. drop 1 (words_of x)) e ∙ ap (drop 1) (words_behind word rest h)
+first_is : (first word : List ℕ) (more words : List (List ℕ)) → first ∷ more ≡ word ∷ words → word ≡ first
+first_is first word more words e = cc
 
-pub none_behind : (line : List ℕ) → HasNoSpace line → drop 1 (words_of line) ≡ []
-none_behind line h = ap (drop 1) (one_word line h)
+more_is : (first word : List ℕ) (more words : List (List ℕ)) → first ∷ more ≡ word ∷ words → more ≡ words
+more_is first word more words e = cc
+
+shorter : (octet : ℕ) (first word line : List ℕ) → word ≡ octet ∷ first → length word < suc (length line) → length first < length line
+shorter octet first word line e within = omega (arith, ap length e)
+
+longer : (octet : ℕ) (first word line : List ℕ) → word ≡ octet ∷ first → suc (length line) ≤ length word → length line ≤ length first
+longer octet first word line e long = omega (arith, ap length e)
+
+behind_octet : (test : Bool) (octet : ℕ) (line word : List ℕ) (words : List (List ℕ)) (s : AreSome (words_of line))
+    → (length s.0 < length line → words_of (drop (length s.0 + 1) line) ≡ s.1)
+    → (if test then [] ∷ words_of line else with_first octet (words_of line)) ≡ word ∷ words
+    → length word < suc (length line) → words_of (drop (length word + 1) (octet ∷ line)) ≡ words
+behind_octet true octet line word words s next e within =
+    rw (first_is [] word (words_of line) words e) (more_is [] word (words_of line) words e)
+behind_octet false octet line word words s next e within =
+    let one : (octet ∷ s.0) ∷ s.1 ≡ word ∷ words = ap (with_first octet) (sym s.2) ∙ e in
+    let w : word ≡ octet ∷ s.0 = first_is (octet ∷ s.0) word s.1 words one in
+    let k : length word + 1 ≡ suc (length s.0 + 1) = omega (arith, ap length w) in
+    rw k (next (shorter octet s.0 word line w within) ∙ more_is (octet ∷ s.0) word s.1 words one)
+
+pub line_behind : (line word : List ℕ) (words : List (List ℕ)) → words_of line ≡ word ∷ words → length word < length line
+    → words_of (drop (length word + 1) line) ≡ words
+line_behind [] word words e within = absurd (omega arith)
+line_behind (octet ∷ line) word words e within =
+    let s : AreSome (words_of line) = some_words line in
+    behind_octet (octet == 32) octet line word words s (line_behind line s.0 s.1 s.2) e within
+
+nothing_behind_octet : (test : Bool) (octet : ℕ) (line word : List ℕ) (words : List (List ℕ)) (s : AreSome (words_of line))
+    → (length line ≤ length s.0 → s.1 ≡ [])
+    → (if test then [] ∷ words_of line else with_first octet (words_of line)) ≡ word ∷ words
+    → suc (length line) ≤ length word → words ≡ []
+nothing_behind_octet true octet line word words s next e long =
+    absurd (omega (arith, ap length (first_is [] word (words_of line) words e)))
+nothing_behind_octet false octet line word words s next e long =
+    let one : (octet ∷ s.0) ∷ s.1 ≡ word ∷ words = ap (with_first octet) (sym s.2) ∙ e in
+    let w : word ≡ octet ∷ s.0 = first_is (octet ∷ s.0) word s.1 words one in
+    sym (more_is (octet ∷ s.0) word s.1 words one) ∙ next (longer octet s.0 word line w long)
+
+pub nothing_behind : (line word : List ℕ) (words : List (List ℕ)) → words_of line ≡ word ∷ words → length line ≤ length word → words ≡ []
+nothing_behind [] word words e long = sym (more_is [] word [] words e)
+nothing_behind (octet ∷ line) word words e long =
+    let s : AreSome (words_of line) = some_words line in
+    nothing_behind_octet (octet == 32) octet line word words s (nothing_behind line s.0 s.1 s.2) e long
+
+-- the octets from a place on
+pub rest_is : (at : ℕ) (octets : List ℕ) → take (length octets - at) (drop at octets) ≡ drop at octets
+rest_is at octets = take_all (length octets - at) (drop at octets) (omega (arith, length-drop at octets))
 
 -- ---- UTF-8
 

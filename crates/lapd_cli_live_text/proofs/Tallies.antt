@@ -1,9 +1,9 @@
--- Counters that stop at 2^64 - 1: what each of them, and their sum, comes to over a list.
+-- Counters that stop at 2^64 - 1: the value of each of them, and of their sum, over a list.
 use Rattle.std.proofs.Common.{◌≡◌, ◌≢◌, ℕ, ◌+◌, ◌<◌, ◌≤◌, ◌==◌, ◌⊎◌, inl, inr, true, false, cond, List, [], ◌∷◌, length, get_or, suc, refl, sym, ap, ◌∙◌, arith}
 use Rattle.std.specs.List.{count_by, sum}
 use Rattle.std.proofs.Math.Dec.{eqb}
 use Rattle.std.proofs.Math.ListN.{length-set}
-use Rattle.std.proofs.lemmas.Bool.Decides.{eqb_implies}
+use Rattle.std.proofs.lemmas.Bool.Decides.{eqb_tells}
 use Rattle.std.proofs.lemmas.Grind.{get_or-set_at}
 use Rattle.std.proofs.lemmas.List.{get_or-set_other}
 use Rattle.std.proofs.lemmas.List.Sums.{sum_by-cons, sum_by-set}
@@ -34,7 +34,7 @@ step_at j k counts within fits (inr other) = get_or-set_other counts j k (up_to_
 
 step_fits : (j k : ℕ) (counts : List ℕ) → j < length counts → Fits (get_or counts k 0) → Fits (get_or (one_more_at j counts) k 0)
 step_fits j k counts within fits =
-    let one = step_at j k counts within fits (eqb_implies j k) in
+    let one = step_at j k counts within fits (eqb_tells j k) in
     omega (arith, one)
 
 still_within : {X : Type 0} (place : X → ℕ) (j : ℕ) (counts : List ℕ) → ((x : X) → place x < length counts) → (x : X) → place x < length (one_more_at j counts)
@@ -44,7 +44,7 @@ pub tally_at : {X : Type 0} (place : X → ℕ) (xs : List X) (counts : List ℕ
     → get_or (tally place xs counts) k 0 ≡ up_to_most (get_or counts k 0 + count_by (λ x. place x == k) xs)
 tally_at place [] counts k within fits = few (get_or counts k 0) fits
 tally_at {X} place (x ∷ xs) counts k within fits =
-    let one = step_at (place x) k counts (within x) fits (eqb_implies (place x) k) in
+    let one = step_at (place x) k counts (within x) fits (eqb_tells (place x) k) in
     let rest = tally_at place xs (one_more_at (place x) counts) k (still_within place (place x) counts within) (step_fits (place x) k counts (within x) fits) in
     rest ∙ more (get_or (one_more_at (place x) counts) k 0) (cond (place x == k) 1 0) (count_by (λ y. place y == k) xs) (get_or counts k 0) one
     ∙ ap (λ n. up_to_most (get_or counts k 0 + n)) (sym (sum_by-cons (λ (y : X). cond (place y == k) 1 0) x xs))

@@ -1,4 +1,4 @@
--- Lines of words and numbers as JSON objects (docs/SPECIFICATION.md, "With the real clock").
+-- Lines of words and numbers as JSON objects (docs/CLI.md, "With the real clock").
 use Rattle.std.specs.Prelude.{ℕ, ◌==◌, ◌+◌, if◌then◌else◌, List, [], ◌∷◌, ◌++◌, codes, Option, Some, None, option_and_then, option_map}
 use Rattle.serde_json.specs.Data.{Members, no_members}
 use Rattle.lapd_cli_render.specs.Json.{object_text, with_number, with_text}

@@ -1,4 +1,4 @@
--- Lines with the state of links and timers (docs/SPECIFICATION.md, "With the real clock").
+-- Lines with the state of links and timers (docs/CLI.md, "With the real clock").
 use Rattle.std.specs.Prelude.{ℕ, ◌-◌, ◌||◌, if◌then◌else◌, Bool, List, [], ◌∷◌, ◌++◌, codes, Option, Some, None, is_some}
 use Rattle.std.specs.Fmt.{decimal}
 use Rattle.lapd_timers.specs.Due.{Timers}

@@ -167,7 +167,7 @@ live_request_of_words side own [] = None
 live_request_of_words side own (word ∷ behind) = if bytes_eq word (codes "expect")
     then expect_request behind else live_request_of_word side own word behind
 
--- what a line of this side requests, where the user side has this TEI of its own
+-- what a line of this side requests; `own` is the user side's own TEI
 abbrev pub live_request_of_line : Side → ℕ → List ℕ → Option LiveRequest
 live_request_of_line side own octets = live_request_of_words side own (words_of octets)
 

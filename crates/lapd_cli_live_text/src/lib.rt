@@ -5,8 +5,9 @@
 //! (specs/Stats.antt). [`words_object`] makes a JSON object of such a line
 //! (specs/LineObjects.antt).
 //!
-//! [`read_live_line`] parses a line of such a side; `live_request_of_line` in specs/LiveWishes.antt
-//! defines its meaning. [`awaited_text`] shows what was awaited in vain (specs/AwaitedText.antt).
+//! [`read_live_line`] parses a line of such a side; `live_request_of_line` in
+//! specs/LiveRequests.antt defines its meaning. [`awaited_text`] shows what was awaited in vain
+//! (specs/AwaitedText.antt).
 #![tactic(auto)]
 
 mod awaited;

@@ -1,6 +1,6 @@
 //! The lines of a side that is served with the real clock.
 
-ghost use Rattle.std.specs.Prelude.{◌≡◌, ◌∷◌, ◌++◌, drop, option_and_then, option_map, IfNone, IfSome};
+ghost use Rattle.std.specs.Prelude.{◌≡◌, ◌∷◌, ◌++◌, List, ℕ, option_and_then, option_map, IfNone, IfSome};
 ghost use Rattle.std.specs.Str.{is_utf8 as is_utf8_octets};
 ghost use Rattle.lapd_cli_script.specs.Line.{HasNoSpace, Reads, words_left, words_of};
 ghost use Rattle.lapd_cli_side_lines.specs.LineRequests.{check_request};
@@ -11,7 +11,7 @@ use lapd_cli_script::{LineFault, Words, number_of};
 use lapd_cli_side_lines::{SideLine, link_line, sapi_of, tei_of};
 use lapd_frame::{Side, Tei};
 use lapd_sides::{LinkId, Request};
-use memchr::{memchr, memrchr};
+use memchr::memrchr;
 use std::alloc::Global;
 
 /// The longest time that a line names, in milliseconds: an hour.
@@ -60,7 +60,7 @@ pub fn read_live_line<'l>(
         return Err(LineFault::Bad);
     };
     if word == b"expect".as_slice() {
-        expect(line)
+        expect(line_after(line, word))
     } else {
         line_by(alloc, side, own, word, words)
     }
@@ -301,35 +301,28 @@ fn delay_if_any(mut behind: Words<'_>) -> Result<u64, LineFault>
     }
 }
 
-/// The request of a line that begins with the word `expect`.
-fn expect(line: &[u8]) -> Result<LiveLine<'_>, LineFault>
-    ensures { Reads live_request_of result (expect_request (drop 1 (words_of line.now))) }
+/// The rest of a line after its first word and a space, if it has a space.
+fn line_after<'l>(line: &'l [u8], word: &[u8]) -> Option<&'l [u8]>
+    ensures { (words : List (List ℕ)) → words_of line.now ≡ word.now ∷ words
+        → words_left (option_map (λ rest. rest.now) result) ≡ words }
 {
-    match behind_first_word(line) {
+    let end = word.len();
+    if end < line.len() {
+        Some(&line[end + 1..])
+    } else {
+        None
+    }
+}
+
+/// The request of a line that begins with the word `expect`, with the rest of the line after it.
+fn expect(behind: Option<&[u8]>) -> Result<LiveLine<'_>, LineFault>
+    ensures { Reads live_request_of result
+        (expect_request (words_left (option_map (λ rest. rest.now) behind.entry))) }
+{
+    match behind {
         Some(behind) => expect_of(behind),
         None => Err(LineFault::Bad),
     }
-}
-
-/// The octets after the first space.
-#[tactic(auto, using(crate::proofs::Expected::behind_first, crate::proofs::Expected::none_behind))]
-fn behind_first_word(line: &[u8]) -> Option<&[u8]>
-    ensures { drop 1 (words_of line.now) ≡ words_left (option_map (λ rest. rest.now) result) }
-{
-    match cut_at_first_space(line) {
-        Some((_word, behind)) => Some(behind),
-        None => None,
-    }
-}
-
-/// The octets before the first space, and those behind it.
-fn cut_at_first_space(octets: &[u8]) -> Option<(&[u8], &[u8])>
-    ensures none { IfNone result (HasNoSpace octets.now) }
-    ensures parts { IfSome result (λ parts. HasNoSpace parts.0.now
-        × (octets.now ≡ parts.0.now ++ 32 ∷ parts.1.now)) }
-{
-    let end = memchr(b' ', octets)?;
-    Some((&octets[..end], &octets[end + 1..]))
 }
 
 /// The expected words, up to the last space, and the time after it.

@@ -1,42 +1,44 @@
-//! The help texts. The parser inserts the usage, the commands and the options between a command's
-//! first line and the text after them. That text is short with `-h`, and complete with `--help`.
+//! The help texts. The parser prints a command's description, then the usage, the commands and the
+//! options, and then the text that ends the help: a short one with `-h`, the long one with `--help`.
 
 /// The description of the program.
 pub const ABOUT: &str = "LAPD, the data link layer of the ISDN D channel (ITU-T Q.921)";
 
 /// The description of the command `answer`.
 pub const ANSWER_ABOUT: &str =
-    "Answers a script as one end of a link, by default with SAPI 0 and TEI 64";
+    "Runs one end of a link from a script, by default with SAPI 0 and TEI 64";
 
 /// The description of the command `bus`.
-pub const BUS_ABOUT: &str = "Assigns TEIs to terminals on a bus, by a script of moves";
+pub const BUS_ABOUT: &str =
+    "Runs a bus of terminals that get TEIs from a network side, from a script";
 
 /// The description of the command `pair`.
-pub const PAIR_ABOUT: &str =
-    "Plays two ends of a link and the line between them, by a script of moves";
+pub const PAIR_ABOUT: &str = "Runs two ends of a link and the line between them, from a script";
 
 /// The description of the command `loop`.
-pub const LOOP_ABOUT: &str = "As `pair`, with each frame sent over TCP to the program itself";
+pub const LOOP_ABOUT: &str =
+    "The same as `pair`, with each frame sent over TCP to the program itself";
 
 /// The description of the command `net`.
-pub const NET_ABOUT: &str = "Is the network side of an interface, over TCP, by a script";
+pub const NET_ABOUT: &str = "Runs the network side of an interface over TCP, from a script";
 
 /// The description of the command `user`.
-pub const USER_ABOUT: &str = "Is the user side of an interface, over TCP, by a script";
+pub const USER_ABOUT: &str = "Runs the user side of an interface over TCP, from a script";
 
 /// The description of the command `decode`.
 pub const DECODE_ABOUT: &str = "Prints octets as trace lines";
 
 /// The help of `--recovery`.
-pub const RECOVERY: &str = "What T200 sends in state 7: an enquiry, or the last message again";
+pub const RECOVERY: &str =
+    "The frame that T200 sends in state 7: an enquiry, or the last I frame again";
 
 /// The help of `--recovery-user`, of `pair` and `loop`.
 pub const RECOVERY_USER: &str =
-    "What T200 of the user side sends in state 7: an enquiry, or the last message again";
+    "The frame that T200 of the user side sends in state 7: an enquiry, or the last I frame again";
 
 /// The help of `--recovery-net`, of `pair` and `loop`.
 pub const RECOVERY_NET: &str =
-    "What T200 of the network side sends in state 7: an enquiry, or the last message again";
+    "The frame that T200 of the network side sends in state 7: an enquiry, or the last I frame again";
 
 /// The help of `--sapi`, of `answer`.
 pub const SAPI: &str =
@@ -44,81 +46,79 @@ pub const SAPI: &str =
 
 /// The help of `--pri`.
 pub const PRI: &str =
-    "Primary rate: TEI 0 where --tei is not given, a window of 7, and SAPI 16 only with --sapi16";
+    "Primary rate: TEI 0 if --tei is absent, a window of 7, and SAPI 16 only with --sapi16";
 
 /// The help of `--sapi16`.
-pub const SAPI16: &str = "With --pri, serves SAPI 16 beside SAPI 0, as is done without --pri";
+pub const SAPI16: &str = "With --pri, serves SAPI 16 too; without --pri, SAPI 16 is always served";
 
 /// The help of the options of `decode`.
 pub const LOOSE: &str =
     "Allows spaces, colons and brackets among the digits, and libpri's own lines";
 
 pub const SENDER: &str =
-    "Who sent what is behind > in libpri's lines, and frames of which a capture does not tell";
+    "The side that printed libpri's lines, and that sent the frames of a capture that does not name it";
 
-pub const NAMES: &str = "Names the message of TEI management or of Q.931 behind the line";
+pub const NAMES: &str = "Adds the message of TEI management or of Q.931 to the line, in words";
 
-pub const JSON: &str = "Prints each frame as a JSON object, one a line";
+pub const JSON: &str = "Prints each frame as a JSON object, one per line";
 
-pub const KEEP_GOING: &str = "Tells a bad line or packet on standard error, and passes over it";
+pub const KEEP_GOING: &str = "Reports a bad line or packet on standard error, and skips it";
 
-pub const PCAP: &str = "Prints the frames of this pcap or pcapng file in place of a script";
+pub const PCAP: &str = "Prints the frames of this pcap or pcapng file; no script is read";
 
 /// The help of `--json`, of `net` and `user`.
 pub const SIDE_JSON: &str = "Prints each line as a JSON object";
 
 /// The help of the options of the clock.
 pub const CLOCK: &str =
-    "The clock: that of the script, which goes on by tick alone, or the real one";
+    "The clock: that of the script, which only `tick` advances, or the real one";
 
 pub const TIME: &str =
-    "With --clock real, begins each line with the moment, in milliseconds since the start";
+    "With --clock real, begins each line with the time, in milliseconds since the first connection";
 
 pub const QUIET: &str = "With --clock real, prints no trace lines of frames";
 
 pub const SERVE: &str =
-    "With --clock real, goes on after the end of the script, until the connection closes";
+    "With --clock real, continues after the end of the script, until the connection closes";
 
-pub const KEEP: &str =
-    "With --clock real, takes or makes the next connection when the other side has closed one";
+pub const KEEP: &str = "With --clock real, accepts or makes the next connection when one is lost";
 
 pub const LIVE_PCAP: &str =
-    "With --clock real, writes each frame into this file, as pcap of link type 177 (LINUX_LAPD)";
+    "With --clock real, writes each frame to this file, as pcap of link type 177 (LINUX_LAPD)";
 
 /// The help of `--strict`.
-pub const STRICT: &str = "Ends with exit status 5 where a line of the script was refused";
+pub const STRICT: &str = "Ends with exit status 5 if a line of the script was refused";
 
 /// The end of the program's short help.
 pub const SHORT_PROGRAM: &str = "\
-`lapd` alone is `lapd answer --side net`. A script comes on standard input, a line for each thing that
-happens, and is answered on standard output.
-`lapd help COMMAND` lists the lines of a command's script, with examples; `lapd --help` tells more of
-scripts, faults and the exit status.";
+`lapd` without words is `lapd answer --side net`. The program reads a script from standard input, a
+line for each event, and prints the output of each line.
+`lapd help COMMAND` lists the lines of a command's script and their output, with examples.
+`lapd --help` describes scripts, faults and exit statuses.";
 
 /// The end of each command's short help.
 pub const SHORT: &str = "\
-The script comes on standard input. `--help` lists its lines, and what is printed for them, with an example.";
+The script is read from standard input. `--help` lists its lines and their output, with an example.";
 
 /// The end of the program's long help.
 pub const PROGRAM: &str = "\
-`lapd` alone is `lapd answer --side net`. `lapd help answer`, or `lapd answer --help`, lists the lines
-of a script, and what is printed for them, with examples; so do those of `pair`, `bus`, `net`, `user`
-and `decode`. The lines of `lapd loop` are those of `lapd pair`, without `settle`.
+`lapd` without words is `lapd answer --side net`. `lapd help answer`, or `lapd answer --help`, lists
+the lines of the script and their output, with examples. So do those of `pair`, `bus`, `net`, `user`
+and `decode`. `lapd loop` has the lines of `lapd pair`, without `settle`.
 
 Scripts:
-  A script comes on standard input. Each line is answered on standard output before the next one is
-  waited for. A line ends with a line feed, which the last one may lack. Words are separated by one
-  space. Empty lines and lines that begin with # are passed over, but counted. The program ends where
-  its script ends.
+  The program reads a script from standard input. It prints the output of each line before it waits
+  for the next line, and ends at the end of the script. A line ends with a line feed, which the last
+  line may lack. Words are separated by one space. Empty lines and lines that begin with # are
+  skipped, but counted.
+
+  HEX is octets in hexadecimal digits, two for each octet, in upper or lower case. The octets of a
+  frame are those between its flags, without the frame check sequence. If there are no octets, HEX is
+  left out together with the space before it, in scripts and in output.
 
 At a terminal:
-  Where standard input is a terminal, a line that is not one of the command's is told, and the next
-  one is waited for. `help` lists the lines, and `quit`, or Ctrl-D at the beginning of a line, ends
-  the script.
-
-  HEX stands for octets, with two hexadecimal digits each, in upper or lower case. The octets of a
-  frame are those between its flags, without the frame check sequence. If there are no octets, HEX is
-  left out together with the space before it, in what is read and in what is printed.
+  If standard input is a terminal, a line that is not valid is reported, and the next one is read.
+  `help` lists the lines. `quit`, or Ctrl-D at the beginning of a line, ends the script.
 
 Faults of octets that do not form a valid frame:
   F1 TooShort          there are fewer than 3 octets, or the second control octet is missing
@@ -129,56 +129,57 @@ Faults of octets that do not form a valid frame:
   F6 WrongSize         an RR, RNR or REJ has more than 4 octets, or the information field of a FRMR
                        does not have 5
   F7 InfoTooLong       the information field of an I, UI or XID has more than 260 octets (N201)
-If there are several, the first is told, in this order: fewer than 3 octets (F1), F2, the missing
-control octet (F1), F3, F4, F5, F6, F7.
+If there are several, the first one in this order is reported: fewer than 3 octets (F1), F2, the
+missing control octet (F1), F3, F4, F5, F6, F7.
 
 Exit status:
-  0  the script was answered to its end
-  1  `line N: bad command`: line N, counted from 1, is not one of the command's lines; the lines
-     before it were answered
-  2  a fault of the command line
+  0  the script was executed to its end
+  1  `line N: bad command`: line N, counted from 1, is not valid for the command; the lines before it
+     were executed. With --pcap of `decode`: the capture could not be read to its end
+  2  the command line is not valid
   3  `device fault`: a read or a write failed, or 1,000,000 reads did not reach the script's end; in
-     `lapd loop`, `net` and `user` also where no connection can be had; in `net` and `user`
-     `port S3 Cut`, or another of S2 to S6, where the connection fails; with --pcap and --gsmtap where
-     the file or the socket can't be had
+     `lapd loop`, `net` and `user` also if no connection could be made; with --pcap and --gsmtap also
+     if the file or the socket could not be opened.
+     `port S3 Cut`, or another of S2 to S6: the connection of `net` or `user` failed
   4  `out of memory`
-  5  with --strict: the script was answered to its end, and `refused` was printed for a line; with
+  5  with --strict: the script was executed to its end, and `refused` was printed for a line; with
      --clock real: an expected line was not printed in time
-The text goes to standard error; of 1, 3 and 5 a second line tells why. Nothing is said where standard
-output is a pipe that nobody reads any more.";
+The text of a status is printed on standard error. For 1, 3 and 5 a second line has the reason. If
+standard output is a pipe that nobody reads any more, nothing is printed.";
 
 /// The end of the long help of `answer`.
 pub const ANSWER: &str = "\
-`lapd --help` tells what scripts and HEX are, and has the faults F1 to F7 and the exit status.
+`lapd --help` describes scripts and HEX, and lists the faults F1 to F7 and the exit statuses.
 
 Lines of the script:
   frame HEX          the other side sent these octets
   t200, t203         the timer expires; if it does not run, nothing happens
-  establish          layer 3 asks for the link to be established (DL-ESTABLISH request)
-  release            layer 3 asks for the link to be released (DL-RELEASE request)
-  give HEX           layer 3 gives a message of at most 260 octets (DL-DATA request)
-  unit HEX           layer 3 gives unit data of at most 260 octets (DL-UNIT DATA request)
-  busy on, busy off  this end becomes unable, or able again, to receive messages (own receiver busy)
-  state              the state is asked for
-There is no clock: a timer that was started expires where the script says so.
+  establish          layer 3 requests that the link is established (DL-ESTABLISH request)
+  release            layer 3 requests that the link is released (DL-RELEASE request)
+  give HEX           layer 3 submits a message of at most 260 octets (DL-DATA request)
+  unit HEX           layer 3 sends unit data of at most 260 octets (DL-UNIT DATA request)
+  busy on, busy off  this end can receive no more messages, or can receive them again (own receiver
+                     busy)
+  state              prints the state
+There is no clock: a timer that was started expires only if the script says so.
 
-What is printed for a line: nothing, or in this form each thing that it leads to, in order:
+Output of a line: nothing, or a line in one of these forms for each output, in order:
   send HEX           this frame is sent to the other side
   start T200         the timer T200, or T203, is started anew
-  stop T200          the timer T200, or T203, which was running, is stopped
+  stop T200          the timer T200, or T203, was running and is stopped
   established        the link is established (DL-ESTABLISH indication)
-  confirmed          the link is established, as layer 3 asked (DL-ESTABLISH confirm)
+  confirmed          the link is established, as layer 3 requested (DL-ESTABLISH confirm)
   released           the link is released (DL-RELEASE indication)
-  release-confirmed  the link is released, as layer 3 asked (DL-RELEASE confirm)
-  data HEX           layer 3 gets the message of the I frame (DL-DATA indication)
-  unit HEX           layer 3 gets the unit data of the UI frame (DL-UNIT DATA indication)
+  release-confirmed  the link is released, as layer 3 requested (DL-RELEASE confirm)
+  data HEX           layer 3 receives the message of the I frame (DL-DATA indication)
+  unit HEX           layer 3 receives the unit data of the UI frame (DL-UNIT DATA indication)
   acknowledged N     the other side has acknowledged N messages
   dropped N          N messages that were not acknowledged are discarded
-  report X           management gets error code X (MDL-ERROR indication)
+  report X           error code X is reported to management (MDL-ERROR indication)
   refused L1 NotEstablished
-                     the request is refused, by one of L1 to L5, and changes nothing
+                     the request is refused, with one of L1 to L5, and changes nothing
   discarded F1 TooShort
-                     the octets are discarded, by one of F1 to F3
+                     the octets are discarded, with one of F1 to F3
   not-mine           the octets have another SAPI or TEI than this link
   state N            the state is N
 
@@ -187,7 +188,7 @@ States:
   5  awaiting establishment: a SABME was sent
   6  awaiting release: a DISC was sent
   7  multiple frame established
-  8  timer recovery: the link is established, and the status of the other side was enquired
+  8  timer recovery: the link is established, and this end waits for a response with F=1
 
 Error codes:
   A  an unsolicited RR, RNR or REJ response with F=1
@@ -198,7 +199,7 @@ Error codes:
   F  re-establishment by the other side: a SABME in state 7 or 8
   G  a SABME and its N200 retransmissions were not answered
   H  a DISC and its N200 retransmissions were not answered
-  I  the enquiries of the other side's status were not answered
+  I  the enquiries to the other side were not answered
   J  an N(R) that is not valid
   K  a FRMR in state 7 or 8
   L  a control field that is not defined (F4)
@@ -208,21 +209,22 @@ Error codes:
 
 Refusals:
   L1 NotEstablished          a message in state 4
-  L2 QueueFull               a message while the I queue holds as many as --room allows
+  L2 QueueFull               a message, but the I queue already holds as many as --room allows
   L3 TooLong                 a message or unit data of more than 260 octets (N201)
   L4 Releasing               a message or `establish` while the link is being released
   L5 LayerThreeEstablishing  a message while the link is being established for layer 3
 
 A frame of this link begins with 0081 if it is a command of the user side or a response of the network
-side, and with 0281 otherwise; with --sapi and --tei the first octet is 4 * SAPI, or 2 more, and the
-second 2 * TEI + 1. The control field and the information field follow. In hexadecimal:
+side, and with 0281 otherwise. With other values of --sapi and --tei, the first octet is 4 * SAPI or
+4 * SAPI + 2, and the second is 2 * TEI + 1. The control field and the information field follow. The
+octets of a control field, in hexadecimal:
   SABME 6f, DM 0f, UI 03, DISC 43, UA 63, FRMR 87, XID af; 10 more for P=1 or F=1
   RR 01, RNR 05, REJ 09, and a second octet of 2 * N(R); 1 more for P=1 or F=1
   I 2 * N(S), and a second octet of 2 * N(R); 1 more for P=1
 
-Examples. A line of the script stands behind <, and what is printed for it stands behind >.
+Examples. A line after < is a line of the script, and a line after > is printed.
 
-The user side, `lapd answer --side user`, establishes the link and gives a message:
+The user side, `lapd answer --side user`, establishes the link and submits a message:
   < establish
   > send 00817f
   > start T200
@@ -260,63 +262,65 @@ The network side, `lapd answer --side net`, answers:
 
 /// The end of the long help of `bus`.
 pub const BUS: &str = "\
-`lapd --help` tells what scripts and HEX are, and has the exit status.
+`lapd --help` describes scripts and HEX, and lists the exit statuses.
 
-The terminals are numbered from 0, and none of them has a TEI at first. The network side assigns the
-TEIs 64 to 126. A message of the network side stays on its way until it is dropped, and each terminal
-hears it once at most. One of a terminal leaves when it is heard or dropped. Messages are numbered
-from 0 in the order of sending, among those on their way in the same direction.
+The terminals are numbered from 0. At the start none of them has a TEI. The network side assigns the
+TEIs 64 to 126. A message of the network side is in transit until it is dropped, and each terminal
+receives it at most once. A message of a terminal is in transit until the network side receives it or
+it is dropped. Messages are numbered from 0 in the order of sending, among those in transit in the
+same direction.
 
-Lines of the script. RI, four hexadecimal digits, is the reference of the message that may be sent:
-  ask T RI       terminal T asks for a TEI
-  t202 T RI      its timer T202 expires
-  hear I T RI    terminal T hears message I of the network side
-  drop I         message I of the network side is lost to all that have not heard it
-  hear-up I      the network side hears message I of a terminal
+Lines of the script. RI, four hexadecimal digits, is the reference of the message that the terminal may
+send:
+  ask T RI       terminal T requests a TEI
+  t202 T RI      the timer T202 of terminal T expires
+  hear I T RI    terminal T receives message I of the network side
+  drop I         message I of the network side is lost to the terminals that have not received it
+  hear-up I      the network side receives message I of a terminal
   drop-up I      message I of a terminal is lost
   check TEI      the network side checks a TEI, 0 to 126
-  t201           its timer T201 expires
-  leave T        terminal T leaves, and gives up its TEI without a word
-There is no clock: a timer that was started expires where the script says so.
+  t201           the timer T201 of the network side expires
+  leave T        terminal T leaves the bus without a message, and no longer has a TEI
+There is no clock: a timer that was started expires only if the script says so.
 
-What is printed for a line: nothing, or in this form each thing that it leads to, in order:
+Output of a line: nothing, or a line in one of these forms for each output, in order:
   up HEX            a terminal sends this frame
   down HEX          the network side sends this frame
-  terminal T got N  terminal T has got TEI N
+  terminal T got N  terminal T now has TEI N
   terminal T gone N
                     terminal T no longer has TEI N
   terminal T failed
-                    terminal T was not answered, and no longer asks
-  net free N        nobody answered for TEI N, which is free again
-  net in-use N      one terminal answered for TEI N
-  net doubled N     more than one terminal answered for TEI N, which is removed and free again
+                    terminal T got no answer, and no longer requests a TEI
+  net free N        no terminal answered the check of TEI N, which is free again
+  net in-use N      one terminal answered the check of TEI N
+  net doubled N     more than one terminal answered the check of TEI N, which is removed and free again
   refused U1 NothingThere
                     there is no such terminal or message, or the timer does not run
   refused U2 HeardBefore
-                    the terminal has heard this message before
-A refused request changes nothing.
+                    the terminal has received this message before
+A refused line changes nothing.
 
 States of a terminal:
-  1  TEI unassigned: it hears checks and removals, and does nothing
-  2  assign awaiting TEI: it asked for a TEI, up to three times (N202), and T202 runs
+  1  TEI unassigned: it receives checks and removals, and does nothing
+  2  assign awaiting TEI: it has requested a TEI, up to three times (N202), and T202 runs
   3  establish awaiting TEI: the same, in order to establish a link (not on this bus)
-  4  TEI assigned: it answers a check of its TEI, and gives it up where it is removed or assigned to
+  4  TEI assigned: it answers a check of its TEI, and loses the TEI if that is removed or assigned to
      another terminal
-A check ends when T201 expires. If nobody answered the first time, the terminals are asked once more.
+A check ends when T201 expires. If no terminal has answered by then, the check is sent a second time.
 
-Messages: 0f, two octets of reference, the kind, and 2 * TEI + 1, in a frame that begins with fcff03
-from a terminal and with feff03 from the network side. In hexadecimal the kinds are request 01,
-assigned 02, denied 03, check request 04, check response 05, remove 06 and verify 07.
+A message is 0f, two octets of reference, the kind, and 2 * TEI + 1. Its frame begins with fcff03 from
+a terminal and with feff03 from the network side. The kinds, in hexadecimal, are request 01, assigned
+02, denied 03, check request 04, check response 05, remove 06 and verify 07.
 
-Example. A line of the script stands behind <, and what is printed for it stands behind >.
-  < # terminal 0 asks; the network side assigns TEI 64, which terminal 0 takes
+Example. A line after < is a line of the script, and a line after > is printed.
+  < # terminal 0 requests a TEI, and the network side assigns TEI 64
   < ask 0 1234
   > up fcff030f123401ff
   < hear-up 0
   > down feff030f12340281
   < hear 0 0 0002
   > terminal 0 got 64
-  < # a check that terminal 0 does not hear
+  < # a check that terminal 0 does not receive
   < check 64
   > down feff030f00000481
   < t201
@@ -326,62 +330,62 @@ Example. A line of the script stands behind <, and what is printed for it stands
 
 /// The end of the long help of `pair`.
 pub const PAIR: &str = "\
-`lapd --help` tells what scripts and HEX are, and has the exit status. `lapd answer --help` has the
+`lapd --help` describes scripts and HEX, and lists the exit statuses. `lapd answer --help` lists the
 states, the error codes and the refusals L1 to L5.
 
 There are two ends, the user side and the network side, with SAPI 0 and TEI 64, and a line between
-them, which keeps frames in order in each direction. Nothing happens but by a line of the script,
-which makes one move, or by `settle` several. A frame stays on the line until a move delivers or
-loses it. SIDE is user or net, and --k, --n200 and --room hold for both sides.
+them, which keeps frames in order in each direction. Each line of the script makes one move, and
+`settle` makes several. Nothing else happens: a frame is in transit until a move delivers it or loses
+it. SIDE is user or net. --k, --n200 and --room hold for both sides.
 
 Lines of the script:
-  establish SIDE     its layer 3 asks for the link to be established (DL-ESTABLISH request)
-  release SIDE       its layer 3 asks for the link to be released (DL-RELEASE request)
-  give SIDE HEX      its layer 3 gives a message of at most 260 octets (DL-DATA request)
-  unit SIDE HEX      its layer 3 gives unit data of at most 260 octets (DL-UNIT DATA request)
+  establish SIDE     its layer 3 requests that the link is established (DL-ESTABLISH request)
+  release SIDE       its layer 3 requests that the link is released (DL-RELEASE request)
+  give SIDE HEX      its layer 3 submits a message of at most 260 octets (DL-DATA request)
+  unit SIDE HEX      its layer 3 sends unit data of at most 260 octets (DL-UNIT DATA request)
   deliver SIDE       the first frame on its way to this side arrives
   lose SIDE N        frame N of those on their way to this side is lost; the first is 0
   expire200 SIDE     its timer T200 expires
   expire203 SIDE     its timer T203 expires
-  busy SIDE on       it becomes unable to receive messages (own receiver busy)
-  busy SIDE off      it is able again
-  restart SIDE       it begins anew in state 4; its I queue is dropped, and the line is empty in both
+  busy SIDE on       it can receive no more messages (own receiver busy)
+  busy SIDE off      it can receive messages again
+  restart SIDE       it restarts in state 4; its I queue is dropped, and the line is empty in both
                      directions
-  settle             moves are made, each the first possible of deliver net, deliver user, expire200
-                     user and expire200 net, until none is possible: at most 8 for each message that
-                     is neither acknowledged nor dropped, and 32 more
+  settle             makes moves, each the first possible of deliver net, deliver user, expire200 user
+                     and expire200 net, until none is possible; at most 8 for each message that is
+                     neither acknowledged nor dropped, and 32 more
 
-What is printed for a line: nothing, or in this form each thing that it leads to, in order:
+Output of a line: nothing, or a line in one of these forms for each output, in order:
   U>N SAPI 0 TEI 64 C SABME P=1
-                     this frame goes on the line; `lapd decode --help` has the parts of the text
+                     this frame is sent; `lapd decode --help` describes the parts of the text
   SIDE established   the link is established (DL-ESTABLISH indication)
-  SIDE confirmed     the link is established, as layer 3 asked (DL-ESTABLISH confirm)
+  SIDE confirmed     the link is established, as layer 3 requested (DL-ESTABLISH confirm)
   SIDE released      the link is released (DL-RELEASE indication)
   SIDE release-confirmed
-                     the link is released, as layer 3 asked (DL-RELEASE confirm)
-  SIDE data HEX      layer 3 gets the message of the I frame (DL-DATA indication)
-  SIDE unit HEX      layer 3 gets the unit data of the UI frame (DL-UNIT DATA indication)
+                     the link is released, as layer 3 requested (DL-RELEASE confirm)
+  SIDE data HEX      layer 3 receives the message of the I frame (DL-DATA indication)
+  SIDE unit HEX      layer 3 receives the unit data of the UI frame (DL-UNIT DATA indication)
   SIDE acknowledged N
                      the other side has acknowledged N messages
   SIDE dropped N     N messages that were not acknowledged are discarded
-  SIDE report X      management gets error code X (MDL-ERROR indication)
+  SIDE report X      error code X is reported to management (MDL-ERROR indication)
   refused P1 NothingThere
                      the move is refused, and changes nothing
-  settled N rest     `settle` made N moves, of which nothing is printed, and no further is possible
-  settled N          it made N, as many as it makes at most, and a further one is possible
-Timers are not printed.
+  settled N rest     `settle` made N moves, and no move is possible any more
+  settled N          `settle` made N moves, the most it makes, and another is possible
+Timers are not printed, nor what the moves of `settle` do.
 
 Refusals:
-  P1 NothingThere    no such frame is on its way to that side
+  P1 NothingThere    no such frame is on its way to this side
   P2 NotRunning      the timer does not run
   P3 NotYet SIDE N   T200 may not expire yet: a command with P=1 of this end, or the response with F=1
-                     to one, is still on the line, as frame N on its way to SIDE
-  L1 to L5           the request is refused by the link
+                     to one, is still in transit, as frame N on its way to SIDE
+  L1 to L5           the link refuses the request
 
-When the script is done to its end, a line for each side is printed: its state, and how many messages
-it was given and received, and how many of those given are acknowledged or dropped.
+At the end of the script a line for each side is printed: its state, how many messages it submitted
+(given) and received, and how many of those submitted were acknowledged or dropped.
 
-Examples. A line of the script stands behind <, and what is printed for it stands behind >.
+Examples. A line after < is a line of the script, and a line after > is printed.
 
 A message is lost, and T200 recovers it, `lapd pair`:
   < establish user
@@ -394,7 +398,7 @@ A message is lost, and T200 recovers it, `lapd pair`:
   < give user 0801
   > U>N SAPI 0 TEI 64 C I N(S)=0 N(R)=0 P=0 info=0801
   < lose net 0
-  < # T200 enquires, and the answer tells that the message is missing
+  < # T200 sends an enquiry, and the answer shows that the message is missing
   < expire200 user
   > U>N SAPI 0 TEI 64 C RR N(R)=0 P=1
   < expire200 user
@@ -417,7 +421,7 @@ A message is lost, and T200 recovers it, `lapd pair`:
   > user: state 7, given 2, received 0, acknowledged 2, dropped 0
   > net: state 7, given 0, received 2, acknowledged 0, dropped 0
 
-The network side begins anew while the user side is still in state 7, `lapd pair`:
+The network side restarts while the user side is still in state 7, `lapd pair`:
   < establish user
   > U>N SAPI 0 TEI 64 C SABME P=1
   < deliver net
@@ -439,18 +443,18 @@ The network side begins anew while the user side is still in state 7, `lapd pair
 
 /// The end of the long help of `loop`.
 pub const LOOP: &str = "\
-`lapd --help` tells what scripts and HEX are, and has the exit status. `lapd pair --help` has the lines
-of the script, what is printed for them, and the refusals: they are the same here, without `settle`.
+`lapd --help` describes scripts and HEX, and lists the exit statuses. `lapd pair --help` lists the
+lines of the script, their output and the refusals: they are the same here, without `settle`.
 
-Before the script is read, the program connects to itself by TCP, at 127.0.0.1 and a port that the
-system chooses. Each frame that a line of the script puts on the line between the ends goes over this
-connection before the next line is waited for, and has to come back as it was. On the connection the
-octets of a frame stand behind their length, a number of two octets, the high one first.
+Before it reads the script, the program connects to itself by TCP, at 127.0.0.1 and a port that the
+system chooses. Each frame that a line of the script sends is written to this connection, and read
+back from it before the next line is executed. On the connection each frame follows its length, a
+number of two octets, the high one first.
 
-If the program can't connect to itself, or a frame doesn't come back, or comes back otherwise, the
-script ends with `device fault`, and exit status 3. What the line calls for is printed then.
+If the program can't connect to itself, or a frame does not return, or returns with other octets, the
+script ends with `device fault` and exit status 3. The output of the line is printed before that.
 
-Example. A line of the script stands behind <, and what is printed for it stands behind >.
+Example. A line after < is a line of the script, and a line after > is printed.
 
 A message is sent, `lapd loop`. The connection carries 0003 00817f, 0003 008173, 0006 008100000801 and
 0004 00810102:
@@ -473,56 +477,59 @@ A message is sent, `lapd loop`. The connection carries 0003 00817f, 0003 008173,
 
 /// The end of the long help of `net`.
 pub const NET: &str = "\
-`lapd --help` tells what scripts and HEX are, and has the faults F1 to F7 and the exit status.
-`lapd answer --help` has the states, the error codes and the refusals L1 to L5.
+`lapd --help` describes scripts and HEX, and lists the faults F1 to F7 and the exit statuses.
+`lapd answer --help` lists the states, the error codes and the refusals L1 to L5.
 
-The program waits for one connection, and then does the script. It tells on standard error where it
-listens, with the port that the system chose where 0 is given, who connected, and that the other side
-has closed the connection. Behind the connection are user sides, such as `lapd user`. No TEI is known
-at first: one is assigned to each terminal that asks, from 64 on, and its links with SAPI 0 and 16 are
-there from then on. With --tei, the links of that TEI are there from the start, and with --pri those of
-TEI 0. The clock begins at 0, and goes on only by `tick`: T200 takes 1000 ms, T201 1000 ms, T203 10000
-ms, or what --t200, --t201 and --t203 say.
+The program waits for one connection, and then executes the script. User sides, such as `lapd user`, are
+behind the connection. On standard error the program prints the address on which it listens, with the
+port that the system chose for port 0; the address that connected; and at the end of the script, that
+the other side has closed the connection, if it has.
 
-Lines of the script. SAPI is 0, 16 or 63, and TEI 0 to 127; 127 stands for all terminals:
-  read                  the next frame is waited for, and read from the connection
-  tick MS               the clock goes on by MS milliseconds, 1 to 3600000, and what is due is done
-  establish SAPI TEI    layer 3 asks for the link to be established (DL-ESTABLISH request)
-  release SAPI TEI      layer 3 asks for the link to be released (DL-RELEASE request)
-  give SAPI TEI HEX     layer 3 gives a message of at most 260 octets (DL-DATA request)
-  unit SAPI TEI HEX     layer 3 gives unit data of at most 260 octets (DL-UNIT DATA request)
-  check TEI             a TEI is checked: is it in use, and by one terminal?
+At the start no TEI is known. The network side assigns one to each terminal that requests one, from 64
+on, and adds its links with SAPI 0 and 16. With --tei, the links of that TEI exist from the start, and
+with --pri those of TEI 0. The clock begins at 0, and only `tick` advances it. T200 takes 1000 ms, T201
+1000 ms and T203 10000 ms, unless --t200, --t201 and --t203 set them.
 
-What is printed for a line, in this order: the frame that was read and the frames that are sent, and
-then what the layers above are told:
+Lines of the script. SAPI is 0, 16 or 63. TEI is 0 to 127; 127 means all terminals:
+  read                  waits for the next frame of the connection, and receives it
+  tick MS               advances the clock by MS milliseconds, 1 to 3600000, and expires what is due
+  establish SAPI TEI    layer 3 requests that the link is established (DL-ESTABLISH request)
+  release SAPI TEI      layer 3 requests that the link is released (DL-RELEASE request)
+  give SAPI TEI HEX     layer 3 submits a message of at most 260 octets (DL-DATA request)
+  unit SAPI TEI HEX     layer 3 sends unit data of at most 260 octets (DL-UNIT DATA request)
+  check TEI             checks whether a TEI is in use, and by one terminal alone
+
+Output of a line: the frame that was read, the frames that are sent, and then the reports to the layers
+above:
   U>N SAPI 0 TEI 64 C SABME P=1
-                        a frame; `lapd decode --help` has the parts of the text
+                        a frame; `lapd decode --help` describes the parts of the text
   tei given N           TEI N is assigned
-  tei free N            nobody answered for TEI N, which is free again, and its links are gone
-  tei in-use N          one terminal answered for TEI N
-  tei doubled N         more than one terminal answered for TEI N: it is removed, and its links gone
-  SAPI TEI established  the link is established; the other words are those of `lapd answer`
+  tei free N            no terminal answered the check of TEI N: it is free again, and its links are
+                        removed
+  tei in-use N          one terminal answered the check of TEI N
+  tei doubled N         more than one terminal answered the check of TEI N: it is removed with its links
+  SAPI TEI established  the link is established; `lapd answer --help` has the other words
   refused B1 NoLink     there is no such link; a TEI has to be assigned first
   refused L1 NotEstablished
-                        the link refuses, by one of L1 to L5
+                        the link refuses the request, with one of L1 to L5
   refused S1 End        `read`: the other side has closed the connection
-A refused request changes nothing. Octets with one of F1 to F3, and what is for no link, are printed and
-discarded. Octets with one of F4 to F7 are printed, and their link reports them.
+A refused request changes nothing. Octets with one of F1 to F3, and frames for no link, are printed and
+discarded. Octets with one of F4 to F7 are printed, and their link reports the fault.
 
-With --json each line is an object, with its members in the order of their names. A frame has those that
-`lapd decode --help` names. What is told has primitive, one of the words above, as \"established\" or
-\"tei given\"; sapi and tei, where it is of a link or a TEI; info, count or report, where octets, a number
-or a letter stand behind the word. What is refused has refused, as \"B1 NoLink\". With --strict it counts
-as ever.
+With --json each line is an object, with its members in the order of their names. The members of a
+frame are those of `lapd decode --help`. A report has `primitive`, which is one of the words above, such
+as \"established\" or \"tei given\"; `sapi` and `tei`, if it is about a link or a TEI; and `info`,
+`count` or `report`, if octets, a number or a letter follow the word. A refusal has `refused`, such as
+\"B1 NoLink\", and --strict counts it.
 
-On the connection the octets of a frame stand behind their length, a number of two octets, the high one
-first. A connection that fails ends the script: `port`, its fault and exit status 3. The faults are
-S2 BadLength (a length that is not from 3 to 264), S3 Cut (the end inside a frame), S4 Device,
-S5 TooManyTurns and S6 Failed.
+On the connection each frame follows its length, a number of two octets, the high one first. A fault of
+the connection ends the script: `port` and the fault are printed on standard error, and the exit status
+is 3. The faults are S2 BadLength (a length that is not from 3 to 264), S3 Cut (the end inside a frame),
+S4 Device, S5 TooManyTurns and S6 Failed.
 
-Example, with `lapd user --connect 127.0.0.1:4000` on the other side. `lapd user --help` has its lines. A
-line of the script stands behind <, and what is printed for it stands behind >.
-  < # a terminal asks for a TEI
+Example, with `lapd user --connect 127.0.0.1:4000` on the other side, whose lines `lapd user --help`
+has. A line after < is a line of the script, and a line after > is printed.
+  < # a terminal requests a TEI
   < read
   > U>N SAPI 63 TEI 127 C UI P=0 info=0f619901ff
   > N>U SAPI 63 TEI 127 C UI P=0 info=0f61990281
@@ -548,42 +555,50 @@ line of the script stands behind <, and what is printed for it stands behind >.
   > N>U SAPI 0 TEI 64 R UA F=1
   > 0 64 released
 
-With --clock real the clock goes on by itself. Moments are milliseconds since the first connection was
-made. The side is served whenever the program waits, also for the next line of a terminal or a pipe: frames
-are received when they arrive, and timers expire when they are due. A file is read as fast as its lines are
-done. These lines wait:
-  read [MS]             until the next frame, for MS milliseconds at most; then `nothing` is printed
+With --clock real the clock is that of the system. The side is served whenever the program waits, also
+for the next line of a terminal or a pipe: frames are received when they arrive, and timers expire when
+they are due. A script in a file is executed as fast as its lines allow. These lines wait:
+  read [MS]             until the next frame, for at most MS milliseconds; then `nothing` is printed
   run [MS]              for MS milliseconds, or until the other side closes the connection
   wait MS               for MS milliseconds
-  expect WORDS.. MS     until a line is printed that begins with WORDS, for MS milliseconds at most; then
+  expect WORDS.. MS     until a line is printed that begins with WORDS, for at most MS milliseconds; then
                         `expected WORDS..` is printed, and the script ends with exit status 5
-MS is 1 to 3600000. `tick` is not valid then; the other lines above are, and these:
-  busy SAPI TEI on      this side becomes unable to receive messages of the link (own receiver busy)
-  busy SAPI TEI off     it is able again
-  state [SAPI TEI]      the state of the link, or of each: state, V(S), V(A), V(R), RC, the messages in its
-                        queue, who is busy, and the timers that run with the milliseconds left of each
-  stats                 the frames of each kind that were sent and received, their octets, I frames sent
-                        again, frames discarded, and reports by their letters
-  impair LOSS% [MS]     from now on each frame of this side is lost with this chance, and else sent MS
-                        milliseconds later; `impair 0%` ends it
+MS is 1 to 3600000. `tick` is not valid; the other lines above are, and so are these:
+  busy SAPI TEI on      this side can receive no more messages of the link (own receiver busy)
+  busy SAPI TEI off     it can receive them again
+  state [SAPI TEI]      prints the state of the link, or of each link: the state, V(S), V(A), V(R), RC, the
+                        messages in its queue, who is busy, and each running timer with the milliseconds
+                        left
+  stats                 prints how many frames of each kind were sent and received, their octets, I frames
+                        sent again, discarded frames, and reports by their letters
+  impair LOSS% [MS]     from now on loses each frame that this side sends with this chance, and delays the
+                        others by MS milliseconds; `impair 0%` ends it
 
-A script that has ended ends the program; with --serve the side is served until the other side closes the
-connection, also with `</dev/null`. With --keep the program goes on when the other side closes the connection
-or breaks its framing: it takes the next connection, and the side goes on as over a line that was
-interrupted. Frames on the way are lost, and so is what is sent while there is no connection. Each of this is
-said on standard error. Notes there are given up if nobody reads them. Without --keep a connection that is
-closed ends `run`, and one that fails ends the script: `port`, its fault and exit status 3.
-With --terminals N up to N connections are taken, each of a terminal on the bus. Each frame of this side
-goes to all of them, and takes effect where its TEI is. A connection that closes, breaks the framing, does
-not take what it is sent, or sends no whole frame for --idle-limit MS loses its place, which is said on
-standard error, and the others go on. The script begins when the first one is made; `run` alone does not end
-then, and --keep changes nothing.
-The first frame that is discarded because this side has no such link is said on standard error, once for
-each SAPI and TEI.
-T200 has to be longer than the way there and back, or frames are sent again that were on their way.
-With --json and --time the moment is the last member, time. expect goes by the words that are printed
-without --json; one that does not come is \"expected\". nothing, state and stats have the words in line,
-and sapi, tei and each NAME=NUMBER as members of their own.
+The program ends at the end of the script. With --serve the side is then served until the other side
+closes the connection, also with `</dev/null`.
+
+With --keep the program accepts the next connection when one is lost: when the other side closes it or
+breaks its framing, or when it fails. The side continues as over a line that was interrupted: frames in
+transit are lost, and so are those that are sent while there is no connection. Standard error reports
+each lost connection.
+Without --keep a closed connection ends `run`, and a connection that fails ends the script with `port`,
+its fault and exit status 3.
+
+With --terminals N the program accepts up to N connections, each of a terminal on the bus. Each frame of
+this side is sent to all of them, and only terminals with its TEI use it. The script begins with the
+first connection. A connection is removed if it closes, breaks the framing, does not accept a frame, or
+sends no whole frame for --idle-limit MS. Standard error reports that, and the others continue. A closed
+connection does not end `run` then, and --keep changes nothing.
+
+If this side has no link for a frame, the frame is discarded. Standard error reports the first one of
+each SAPI and TEI. A report on standard error is dropped if nobody reads it.
+
+T200 has to be longer than the way to the other side and back. Otherwise frames are sent again whose
+answers are still on their way.
+
+With --json and --time the last member is `time`. `expect` compares the words that are printed without
+--json. Of a line that was not printed in time, the words are in the member `expected`. The words of
+`nothing`, `state` and `stats` are in `line`, and `sapi`, `tei` and each NAME=NUMBER are members.
 
 Example, with the real clock:
   $ printf 'expect 0 64 established 60000\\ngive 0 64 0807\\nexpect 0 64 acknowledged 5000\\nstate\\n' |
@@ -602,53 +617,55 @@ Example, with the real clock:
 
 /// The end of the long help of `user`.
 pub const USER: &str = "\
-`lapd --help` tells what scripts and HEX are, and has the faults F1 to F7 and the exit status.
-`lapd answer --help` has the states, the error codes and the refusals L1 to L5.
+`lapd --help` describes scripts and HEX, and lists the faults F1 to F7 and the exit statuses.
+`lapd answer --help` lists the states, the error codes and the refusals L1 to L5.
 
-The program connects, and then does the script. It tells on standard error that it is connected, and
-that the other side has closed the connection. Behind the connection is a network side, such as
-`lapd net`. This side is one terminal without a TEI: it asks for one by `ask`, or by `establish`, which
-is kept until it has one. With --tei it has that TEI from the start, and with --pri TEI 0, and asks for
-none. The clock begins at 0, and goes on only by `tick`: T200 takes 1000 ms, T202 2000 ms, T203 10000
-ms, or what --t200, --t202 and --t203 say.
+The program connects, and then executes the script. A network side, such as `lapd net`, is behind the
+connection. On standard error the program prints the address to which it is connected, and at the end
+of the script, that the other side has closed the connection, if it has.
 
-Lines of the script. SAPI is 0, 16 or 63. TEI is 0 to 127, and is not looked at: it is the terminal's own:
-  read                  the next frame is waited for, and read from the connection
-  tick MS               the clock goes on by MS milliseconds, 1 to 3600000, and what is due is done
-  establish SAPI TEI    layer 3 asks for the link to be established (DL-ESTABLISH request)
-  release SAPI TEI      layer 3 asks for the link to be released (DL-RELEASE request)
-  give SAPI TEI HEX     layer 3 gives a message of at most 260 octets (DL-DATA request)
-  unit SAPI TEI HEX     layer 3 gives unit data of at most 260 octets (DL-UNIT DATA request)
-  ask                   a TEI is asked for
+This side is one terminal, at the start without a TEI. The lines `ask` and `establish` request one, and
+`establish` takes effect once the TEI is assigned. With --tei the side has that TEI from the start, and
+with --pri TEI 0, and requests none. The clock begins at 0, and only `tick` advances it. T200 takes 1000
+ms, T202 2000 ms and T203 10000 ms, unless --t200, --t202 and --t203 set them.
 
-What is printed for a line, in this order: the frame that was read and the frames that are sent, and
-then what the layers above are told:
+Lines of the script. SAPI is 0, 16 or 63. TEI is 0 to 127 and ignored: the links have the terminal's own:
+  read                  waits for the next frame of the connection, and receives it
+  tick MS               advances the clock by MS milliseconds, 1 to 3600000, and expires what is due
+  establish SAPI TEI    layer 3 requests that the link is established (DL-ESTABLISH request)
+  release SAPI TEI      layer 3 requests that the link is released (DL-RELEASE request)
+  give SAPI TEI HEX     layer 3 submits a message of at most 260 octets (DL-DATA request)
+  unit SAPI TEI HEX     layer 3 sends unit data of at most 260 octets (DL-UNIT DATA request)
+  ask                   requests a TEI
+
+Output of a line: the frame that was read, the frames that are sent, and then the reports to the layers
+above:
   U>N SAPI 0 TEI 64 C SABME P=1
-                        a frame; `lapd decode --help` has the parts of the text
-  tei got N             the terminal has TEI N, and its links are there
-  tei gone N            it no longer has TEI N, and its links are gone
-  tei failed            it was not answered, and no longer asks
-  SAPI TEI established  the link is established; the other words are those of `lapd answer`
+                        a frame; `lapd decode --help` describes the parts of the text
+  tei got N             the terminal has TEI N now, and its links exist
+  tei gone N            it no longer has TEI N, and its links are removed
+  tei failed            it got no answer, and no longer requests a TEI
+  SAPI TEI established  the link is established; `lapd answer --help` has the other words
   refused B1 NoLink     there is no such link; the terminal has no TEI
   refused L1 NotEstablished
-                        the link refuses, by one of L1 to L5
+                        the link refuses the request, with one of L1 to L5
   refused S1 End        `read`: the other side has closed the connection
-A refused request changes nothing. Octets with one of F1 to F3, and what is for no link, are printed and
-discarded. Octets with one of F4 to F7 are printed, and their link reports them.
+A refused request changes nothing. Octets with one of F1 to F3, and frames for no link, are printed and
+discarded. Octets with one of F4 to F7 are printed, and their link reports the fault.
 
-With --json each line is an object, with its members in the order of their names. A frame has those that
-`lapd decode --help` names. What is told has primitive, one of the words above, as \"established\" or
-\"tei given\"; sapi and tei, where it is of a link or a TEI; info, count or report, where octets, a number
-or a letter stand behind the word. What is refused has refused, as \"B1 NoLink\". With --strict it counts
-as ever.
+With --json each line is an object, with its members in the order of their names. The members of a
+frame are those of `lapd decode --help`. A report has `primitive`, which is one of the words above, such
+as \"established\" or \"tei given\"; `sapi` and `tei`, if it is about a link or a TEI; and `info`,
+`count` or `report`, if octets, a number or a letter follow the word. A refusal has `refused`, such as
+\"B1 NoLink\", and --strict counts it.
 
-On the connection the octets of a frame stand behind their length, a number of two octets, the high one
-first. A connection that fails ends the script: `port`, its fault and exit status 3. The faults are
-S2 BadLength (a length that is not from 3 to 264), S3 Cut (the end inside a frame), S4 Device,
-S5 TooManyTurns and S6 Failed.
+On the connection each frame follows its length, a number of two octets, the high one first. A fault of
+the connection ends the script: `port` and the fault are printed on standard error, and the exit status
+is 3. The faults are S2 BadLength (a length that is not from 3 to 264), S3 Cut (the end inside a frame),
+S4 Device, S5 TooManyTurns and S6 Failed.
 
-Example, with `lapd net --listen 127.0.0.1:4000` on the other side. `lapd net --help` has its lines. A line
-of the script stands behind <, and what is printed for it stands behind >.
+Example, with `lapd net --listen 127.0.0.1:4000` on the other side, whose lines `lapd net --help` has.
+A line after < is a line of the script, and a line after > is printed.
   < establish 0 127
   > U>N SAPI 63 TEI 127 C UI P=0 info=0f619901ff
   < # it has a TEI now, and establishes its link
@@ -675,24 +692,30 @@ of the script stands behind <, and what is printed for it stands behind >.
   > N>U SAPI 0 TEI 64 R UA F=1
   > 0 64 release-confirmed
 
-With --clock real the clock goes on by itself. Moments are milliseconds since the connection was made. The
-side is served whenever the program waits, also for the next line of a terminal or a pipe: frames are received
-when they arrive, and timers expire when they are due. A file is read as fast as its lines are done. The lines:
+With --clock real the clock is that of the system. The side is served whenever the program waits, also
+for the next line of a terminal or a pipe: frames are received when they arrive, and timers expire when
+they are due. A script in a file is executed as fast as its lines allow. `tick` is not valid; the lines
+are:
   read [MS], run [MS], wait MS, expect WORDS.. MS, stats, impair LOSS% [MS]
-                        as `lapd net --help` says
+                        as in `lapd net --help`
   establish SAPI, release SAPI, give SAPI HEX, unit SAPI HEX, ask
-                        as above; no TEI is written, since it is the terminal's own
+                        as above, without a TEI: the links have the terminal's own
   busy SAPI on, busy SAPI off, state [SAPI]
-                        as `lapd net --help` says, without the TEI
-`tick` is not valid then. T200 has to be longer than the way there and back, or frames are sent again that
-were on their way. The references of TEI management begin at a number that the system draws, or at --seed.
-A script that has ended ends the program; with --serve the side is served until the other side closes the
-connection. With --keep the program connects again then, after 100 ms and, while that fails, after pauses that
-double up to 5 seconds. The side goes on as over a line that was interrupted: frames on the way are lost, and
-so is what is sent while there is no connection. Each of this is said on standard error.
-With --json and --time the moment is the last member, time. expect goes by the words that are printed
-without --json; one that does not come is \"expected\". nothing, state and stats have the words in line,
-and sapi, tei and each NAME=NUMBER as members of their own.
+                        as in `lapd net --help`, without the TEI
+The seed of the references of TEI management is --seed, or else a number that the system draws.
+
+The program ends at the end of the script. With --serve the side is then served until the other side
+closes the connection. With --keep the program connects again when the connection is lost: after 100 ms,
+and then after pauses that double up to 5 seconds. The side continues as over a line that was
+interrupted: frames in transit are lost, and so are those that are sent while there is no connection.
+Standard error reports each lost connection.
+
+T200 has to be longer than the way to the other side and back. Otherwise frames are sent again whose
+answers are still on their way.
+
+With --json and --time the last member is `time`. `expect` compares the words that are printed without
+--json. Of a line that was not printed in time, the words are in the member `expected`. The words of
+`nothing`, `state` and `stats` are in `line`, and `sapi`, `tei` and each NAME=NUMBER are members.
 
 Example, with the real clock and the `lapd net` of the example of `lapd net --help` on the other side:
   $ printf 'establish 0\\nexpect 0 64 confirmed 5000\\nread 1000\\n' |
@@ -709,21 +732,21 @@ Example, with the real clock and the `lapd net` of the example of `lapd net --he
 
 /// The end of the long help of `decode`.
 pub const DECODE: &str = "\
-`lapd --help` tells what scripts and HEX are, and has the faults F1 to F7 and the exit status.
+`lapd --help` describes scripts and HEX, and lists the faults F1 to F7 and the exit statuses.
 
 Lines of the script:
-  SIDE HEX  these octets were sent by this side, user or net
+  SIDE HEX  this side, user or net, sent these octets
 With --loose also:
-  user 00 81 7f, net 00:81:73   spaces, tabs, colons and brackets among the digits are passed over
-  > [ 00 81 7f ]                libpri's own line: sent by the side that --sender names
-  < [ 00 81 73 ]                the same: sent by the other side
+  user 00 81 7f, net 00:81:73   spaces, tabs, colons and brackets among the digits are ignored
+  > [ 00 81 7f ]                libpri's own line: the side that --sender names sent these octets
+  < [ 00 81 73 ]                the same: the other side sent these octets
 
 With --pcap no script is read. A capture is pcap or pcapng of link type 177 (LINUX_LAPD) or 203
-(LAPD), or GSMTAP over UDP in Ethernet or IPv4. Packets without LAPD are passed over. A fault is
-told with the place of its packet or block in the file, in octets from 0, and the exit status is 1.
+(LAPD), or GSMTAP over UDP in Ethernet or IPv4. Packets without LAPD are skipped. A fault is reported
+with the place of its packet or block in the file, in octets from 0, and the exit status is 1.
 
-What is printed for a frame, in one line:
-  U>N or N>U    it was sent by the user side, or by the network side
+Output for a frame, in one line:
+  U>N or N>U    the user side, or the network side, sent it
   SAPI n TEI n  its address
   C or R        it is a command, or a response
   NAME          it is a SABME, DM, UI, DISC, UA, FRMR, XID, RR, RNR, REJ or I frame
@@ -731,27 +754,27 @@ What is printed for a frame, in one line:
   N(R)=n        in an I, RR, RNR or REJ frame
   P=b or F=b    the P bit of a command, or the F bit of a response
   info=HEX      the information field, if it has octets
-What is printed for other octets: U>N or N>U, the fault, as F1 TooShort, and HEX.
-With --names there stands behind it, for a message of TEI management or of Q.931:
-  identity request Ri=6199 Ai=127   its kind, reference number and action indicator
-  SETUP cr=1 from origin            its name and call reference, and which way it goes: from the
-                                    side that the call began at, or to it; cr=dummy where it has none
+Output for octets that do not form a valid frame: U>N or N>U, the fault, such as F1 TooShort, and HEX.
+With --names a message of TEI management or of Q.931 follows, in words:
+  identity request Ri=6199 Ai=127   its type, reference number and action indicator
+  SETUP cr=1 from origin            its name and call reference, and whether it is from or to the
+                                    side at which the call began; cr=dummy if it has no reference
 
 With --json a line is an object with these members, in the order of their names:
   direction        \"U>N\" or \"N>U\"
   sapi, tei        numbers
   role             \"command\" or \"response\"
   frame            its name
-  ns, nr           numbers, where the frame has them
+  ns, nr           numbers, if the frame has them
   p or f           0 or 1
   info             \"HEX\", if it has octets
-  message          with --names, the same words as above
-  fault, octets    in place of all but direction: \"F1 TooShort\" and \"HEX\"
+  message          with --names, the words above
+  fault, octets    instead of all members but direction: \"F1 TooShort\" and \"HEX\"
   packet           with --pcap, the number of the packet, from 1
-  time             with --pcap, of a pcap file: \"SECONDS\" since 1970, with six digits behind a point
-As {\"direction\":\"U>N\",\"frame\":\"SABME\",\"p\":1,\"role\":\"command\",\"sapi\":0,\"tei\":64}
+  time             with --pcap, of a pcap file: \"SECONDS\" since 1970, with six digits after a point
+For example: {\"direction\":\"U>N\",\"frame\":\"SABME\",\"p\":1,\"role\":\"command\",\"sapi\":0,\"tei\":64}
 
-Example. A line of the script stands behind <, and what is printed for it stands behind >.
+Example. A line after < is a line of the script, and a line after > is printed.
   < user 00817f
   > U>N SAPI 0 TEI 64 C SABME P=1
   < net 008173

@@ -114,7 +114,7 @@ const LIVE: &[CommandOption] = &[
 const SIDE: WordOption = WordOption {
     name: "side",
     value_name: "SIDE",
-    help: "The side of the link that answers",
+    help: "The side of the link",
     words: &["net", "user"],
     default: "net",
 };

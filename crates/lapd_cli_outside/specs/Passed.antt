@@ -1,4 +1,4 @@
--- The frames that go over a line, each with its sender.
+-- The frames that cross a line, each with its sender.
 use Rattle.std.specs.Prelude.{◌≡◌, List, [], ◌∷◌, ◌++◌, ℕ, Option, None, Some, option_map, ⊤}
 use Rattle.lapd_field.specs.Address.{other_side}
 use Rattle.lapd_frame.specs.declared.Side.{Side}

@@ -3,7 +3,7 @@
 use Rattle.std.proofs.Common.{◌≡◌, ◌≢◌, ℕ, ◌==◌, ◌+◌, ◌*◌, ◌⊎◌, inl, inr, Bool, true, false, List, [], ◌∷◌, None, Result, Ok, Err, if◌then◌else◌, refl, sym, ◌∙◌}
 use Rattle.std.specs.Result.{result_ok}
 use Rattle.std.proofs.Math.Dec.{eqb}
-use Rattle.std.proofs.lemmas.Bool.Decides.{eqb_implies}
+use Rattle.std.proofs.lemmas.Bool.Decides.{eqb_tells}
 use Rattle.hex.specs.Hex.{◌>>=◌, decode_pairs, pair_value, value_at}
 use Rattle.hex.specs.declared.error.FromHexError.{FromHexError}
 use Rattle.hex.specs.declared.error.FromHexError.TheVariants.{OddLength}
@@ -28,7 +28,7 @@ no_space_behind octet octets h rest (inr not) = let other = not.0 in (not.1, res
 
 no_space : (octets : List ℕ) → has_space octets ≡ false → HasNoSpace octets
 no_space [] h = tt
-no_space (octet ∷ octets) h = no_space_behind octet octets h (no_space octets) (eqb_implies octet 32)
+no_space (octet ∷ octets) h = no_space_behind octet octets h (no_space octets) (eqb_tells octet 32)
 
 -- ---- With a space, the rest is at least two words.
 
@@ -55,7 +55,7 @@ two_words_behind octet octets h rest (inr not) =
 
 two_words : (octets : List ℕ) → has_space octets ≡ true → AreTwo (words_of octets)
 two_words [] h = absurd (cc)
-two_words (octet ∷ octets) h = two_words_behind octet octets h (two_words octets) (eqb_implies octet 32)
+two_words (octet ∷ octets) h = two_words_behind octet octets h (two_words octets) (eqb_tells octet 32)
 
 none_behind : (words : List (List ℕ)) → AreTwo words → octets_behind words ≡ None
 none_behind words w = rw w.3 refl
@@ -85,7 +85,7 @@ undecoded : (i : ℕ) (octets : List ℕ) → has_space octets ≡ true → resu
 unfolding decode_pairs
 undecoded i [] h = absurd (cc)
 undecoded i (digit ∷ []) h = refl
-undecoded i (high ∷ low ∷ octets) h = undecoded_behind i high low octets h (undecoded (i + 2) octets) (eqb_implies high 32) (eqb_implies low 32)
+undecoded i (high ∷ low ∷ octets) h = undecoded_behind i high low octets h (undecoded (i + 2) octets) (eqb_tells high 32) (eqb_tells low 32)
 
 either_way : (test : Bool) (octets : List ℕ) → result_ok (decode_pairs 0 octets) ≡ None → result_ok (if test then Err OddLength else decode_pairs 0 octets) ≡ None
 either_way true octets h = refl

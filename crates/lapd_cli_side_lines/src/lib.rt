@@ -1,9 +1,9 @@
 //! The request lines of the commands `net` and `user`, and the lines that these commands print.
 //!
-//! [`read_line`] parses a request line; `request_of_line` in specs/Wishes.antt defines its meaning.
-//! [`push_frame`] and [`push_primitives`] append the lines of the frames and primitives that a
-//! side's call returned. [`put_refused`] prints why a request is refused. Lines are printed in
-//! words or as JSON objects ([`LineStyle`]); specs/SideTexts.antt defines the text of each.
+//! [`read_line`] parses a request line; `request_of_line` in specs/LineRequests.antt defines its
+//! meaning. [`push_frame`] and [`push_primitives`] append the lines of the frames and primitives
+//! that a side's call returned. [`put_refused`] prints why a request is refused. Lines are printed
+//! in words or as JSON objects ([`LineStyle`]); specs/SideTexts.antt defines the text of each.
 #![tactic(auto)]
 
 mod frame_lines;

@@ -32,13 +32,13 @@ const EXAMPLES: &[(&str, Script, &str, bool)] = &[
     (
         "lapd pair",
         Script::Pair,
-        "\nThe network side begins anew",
+        "\nThe network side restarts",
         false,
     ),
     (
         "lapd pair",
         Script::Pair,
-        "\nThe network side begins anew",
+        "\nThe network side restarts",
         true,
     ),
     ("lapd pair", Script::Loop, "\nExample", true),

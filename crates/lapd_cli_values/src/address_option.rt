@@ -16,7 +16,7 @@ pub struct AddressOption {
 /// The address on which the network side listens.
 pub const LISTEN: AddressOption = AddressOption {
     name: "listen",
-    help: "Waits here for one connection, such as 127.0.0.1:4000",
+    help: "Waits at this address for a connection, such as 127.0.0.1:4000",
 };
 
 /// The address to which the user side connects.

@@ -56,7 +56,7 @@ pub const ROOM: NumberOption = NumberOption {
 pub const TERMINALS: NumberOption = NumberOption {
     name: "terminals",
     value_name: "TERMINALS",
-    help: "The terminals on the bus, 1 to 127",
+    help: "The number of terminals on the bus, 1 to 127",
     default: "2",
     least: 1,
     most: 127,
@@ -66,7 +66,7 @@ pub const TERMINALS: NumberOption = NumberOption {
 pub const CONNECTED_TERMINALS: NumberOption = NumberOption {
     name: "terminals",
     value_name: "TERMINALS",
-    help: "With --clock real, takes so many connections, each of a terminal on the bus, 1 to 127 [default: 1]",
+    help: "With --clock real, the number of connections that are accepted, each of a terminal on the bus, 1 to 127 [default: 1]",
     default: "",
     least: 1,
     most: 127,
@@ -77,7 +77,7 @@ pub const CONNECTED_TERMINALS: NumberOption = NumberOption {
 pub const IDLE_LIMIT: NumberOption = NumberOption {
     name: "idle-limit",
     value_name: "MS",
-    help: "With --terminals above 1, closes a connection that has sent no whole frame for so many milliseconds, 1 to 3600000",
+    help: "With --terminals above 1, closes a connection that has sent no whole frame for this many milliseconds, 1 to 3600000",
     default: "",
     least: 1,
     most: 3_600_000,
@@ -93,11 +93,11 @@ pub const LINK_TEI: NumberOption = NumberOption {
     most: 126,
 };
 
-/// A TEI that the network side knows. It may be given more than once, and has no default.
+/// A TEI that the network side knows from the start. The option may be repeated, and has no default.
 pub const KNOWN_TEI: NumberOption = NumberOption {
     name: "tei",
     value_name: "TEI",
-    help: "A TEI that is known from the start, 0 to 126; may be given for each of several",
+    help: "A TEI that is known from the start, 0 to 126; may be repeated",
     default: "",
     least: 0,
     most: 126,
@@ -107,7 +107,7 @@ pub const KNOWN_TEI: NumberOption = NumberOption {
 pub const FIXED_TEI: NumberOption = NumberOption {
     name: "tei",
     value_name: "TEI",
-    help: "The fixed TEI of this side, 0 to 126, which then asks for none",
+    help: "The fixed TEI of this side, 0 to 126; the side then requests none",
     default: "",
     least: 0,
     most: 126,
@@ -158,7 +158,7 @@ pub const T202: NumberOption = NumberOption {
 pub const T203: NumberOption = NumberOption {
     name: "t203",
     value_name: "MS",
-    help: "How long T203 runs on an idle link before the other side is enquired, in milliseconds, 1 to 3600000",
+    help: "How long T203 runs on an idle link before an enquiry is sent, in milliseconds, 1 to 3600000",
     default: "10000",
     least: 1,
     most: 3_600_000,
@@ -169,7 +169,7 @@ pub const T203: NumberOption = NumberOption {
 pub const SEED: NumberOption = NumberOption {
     name: "seed",
     value_name: "NUMBER",
-    help: "Where the references of the user side's TEI management begin, 0 to 18446744073709551615 [default: 921; with --clock real drawn from the system]",
+    help: "The seed of the user side's references of TEI management, 0 to 18446744073709551615 [default: 921; with --clock real drawn from the system]",
     default: "",
     least: 0,
     most: 18_446_744_073_709_551_615,

@@ -53,8 +53,8 @@ closed_close s =
     let all = send_all Whole (unsent s.end) s in
     let done : may_send_next Whole all ≡ false = sent_all (unsent s.end) s (omega arith) in
     by_test (λ (t : StepState). IsClosed t.end) (is_7_or_8 all.end.state && all.end.window.ack_pending) _ _
-    (λ _. record { sent = done; told = λ opened. refl })
-    (λ none. record { sent = done; told = λ opened. pending (is_7_or_8 all.end.state) all.end.window.ack_pending none opened })
+    (λ _. record { sent = done; acknowledged = λ opened. refl })
+    (λ none. record { sent = done; acknowledged = λ opened. pending (is_7_or_8 all.end.state) all.end.window.ack_pending none opened })
   where
     pending : (a b : Bool) → (a && b) ≡ false → a ≡ true → b ≡ false
     pending true b none is = none
@@ -71,7 +71,7 @@ Left v r = IsSettledEnd (left_by v r).station.end
 
 new_is_settled : (e : End) → e.state ≡ TeiAssigned → 1 ≤ e.parameters.k → IsSettledEnd e
 unfolding begin
-new_is_settled e is some = record { timed = rw is tt; closed = record { sent = rw is refl; told = rw is (λ opened. cc) }; some = some }
+new_is_settled e is some = record { timed = rw is tt; closed = record { sent = rw is refl; acknowledged = rw is (λ opened. cc) }; some = some }
 
 module _ (s : Side) (v : View) (ends_settled : IsSettledEnd v.station.end) where
   by_outcome : (what : Input) (octets : List ℕ) (place : ℕ) (incoming : List Flight) (r : Result StepState LinkFault) → step Whole what v.station.end ≡ r

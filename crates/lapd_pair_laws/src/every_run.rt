@@ -127,9 +127,9 @@ pub fn the_invariant_gives_safe()
         → AreNearMoves moves w }
 {}
 
-/// Each premise on the moves is needed: without it, a run of about ten moves acknowledges a message
-/// that was never received. `t200`: T200 expires while the answer it waits for is in transit.
-/// `restart`: frames in transit survive a restart. `order`: one frame overtakes another.
+/// Each premise on the moves is needed: without it, a run of about ten moves ends in histories that
+/// are not safe. `t200`: T200 expires while the answer it waits for is in transit. `restart`:
+/// frames in transit survive a restart. `order`: one frame overtakes another.
 pub fn each_premise_is_needed()
     ensures t200 { AreSafe (run_freely hasty worked.start) → ⊥ }
     ensures restart { AreSafe (run_freely stale worked.start) → ⊥ }

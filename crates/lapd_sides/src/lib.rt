@@ -25,23 +25,31 @@
 //! let mut side = EitherSide::User(UserSide::new(alloc, config, Some(tei))?);
 //! let mut acts = Acts::new(alloc)?;
 //! side.request(Request::Establish(id), clock(), &mut acts)?;
-//! send_and_tell(&acts);
+//! send_and_report(&acts);
 //! loop {
 //!     let mut now = clock();
 //!     while let Some(octets) = octets_arrived() {
 //!         side.take(octets, now, &mut acts)?;
-//!         send_and_tell(&acts);
+//!         send_and_report(&acts);
 //!         now = clock();
 //!     }
-//!     while side.tick(now, &mut acts) { send_and_tell(&acts); }
+//!     while side.tick(now, &mut acts) { send_and_report(&acts); }
 //!     sleep_until(side.next_deadline());
 //! }
 //! ```
 //!
 //! The contracts prove that a side keeps to the standard, as the definitions in specs/ state it.
-//! They do not cover the clock. The guarantees between two ends require that T200 never expires
-//! after its answer has arrived, which step 5 ensures, or while the answer is in transit: so T200
-//! must be longer than the transit times of a frame and its answer together.
+//! They do not cover the clock. The guarantees between two ends have these premises:
+//!
+//! - T200 never expires after its answer has arrived, which step 5 ensures, or while the answer is
+//!   in transit. So T200 must be longer than the transit times of a frame and its answer together.
+//! - A side that is created anew finds nothing in transit from before.
+//! - The line keeps order, and repeats and alters nothing. Nobody else sends for the link.
+//! - The link's TEI is not assigned again after it was removed. If it is, its links are new ones.
+//!
+//! When a TEI is removed, each of its links reports at most its release (`Released` or
+//! `ReleaseConfirm`). Messages that still waited are not reported as `Dropped`. A caller that has
+//! to know counts, for each link, the messages accepted less those acknowledged or dropped.
 #![tactic(auto)]
 
 mod either_side;

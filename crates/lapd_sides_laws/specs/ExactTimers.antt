@@ -73,7 +73,7 @@ abbrev pub stepped : {S : Type 0} → Behaviour S → SideStep → SideView S �
 stepped w side_step v = does w side_step.event
     (record v { incoming = v.incoming ++ side_step.comes })
 
--- a list of turns, one after another
+-- a list of side steps, one after another
 abbrev pub stepped_by_all : {S : Type 0} → Behaviour S → List SideStep → SideView S → SideView S
 stepped_by_all w [] v = v
 stepped_by_all w (side_step ∷ side_steps) v = stepped_by_all w side_steps (stepped w side_step v)

@@ -181,8 +181,8 @@ pub fn schedule_is_computed()
 
 /// Each premise is needed, and for the link itself.
 ///
-/// Each of three short runs violates one premise, and ends with a message that counts as
-/// acknowledged but never arrived:
+/// Each of three short runs violates one premise, and what it reports of the link is not right
+/// (`IsRight`):
 ///
 /// - `t200`: T200 of the link expires while the answer that it waits for is in transit.
 ///   `of_that_link`: this run keeps the premises of another link.

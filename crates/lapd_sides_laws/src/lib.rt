@@ -27,8 +27,8 @@
 //!   primitives are right (`IsSafeAt`).
 //! - `Owed`: what each event of a side may do to one of its links (`ServesLink`).
 //! - `ExactTimers`, for all links and without premises: each timer of a link runs exactly when the
-//!   link's end requires it. In a `Turn` octets arrive at one side from anyone, and then an event
-//!   of that side follows. `ManagementTimers`: T201 and T202 run exactly while TEI management
+//!   link's end requires it. In a `SideStep` octets arrive at one side from anyone, and then an
+//!   event of that side follows. `ManagementTimers`: T201 and T202 run exactly while TEI management
 //!   waits.
 //! - `Calls`: which event a call of a side in code is. `Schedule`: worked runs.
 //!
@@ -41,8 +41,8 @@
 //!   contracts.
 //! - [`schedule_is_computed`]: the premises can be met.
 //! - [`each_premise_is_needed`]: no premise can be dropped.
-//! - [`timers_run_as_ends_require`]: no link ever lacks the timer that it waits for, whatever arrives
-//!   and whatever the side does.
+//! - [`timers_run_as_ends_require`]: no link ever lacks the timer that it waits for, whatever
+//!   arrives and whatever the side does.
 //! - [`management_timers_run_while_it_waits`]: the same for TEI management.
 //!
 //! [`NetSide`]: lapd_sides::NetSide

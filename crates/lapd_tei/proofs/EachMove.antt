@@ -54,7 +54,7 @@ t201_way b G way (Some check) = way.assigner_does assigner.T201
 receives_once_way : (b : BusState) (G : Option ℕ → BusStep → Type 0) → EachWay b G → (i t ri : ℕ) (f : Broadcast) (phase : Phase) (before : Bool)
     → slice_get b.down i ≡ Some f → slice_get b.terminals t ≡ Some phase → G (Some t) (done b (reaches_terminal b i t ri f phase before))
 receives_once_way b G way i t ri f phase true flies there = way.refused (Some t)
-receives_once_way b G way i t ri f phase false flies there = way.hears i t ri f phase flies there
+receives_once_way b G way i t ri f phase false flies there = way.reaches_terminal i t ri f phase flies there
 
 receives_way : (b : BusState) (G : Option ℕ → BusStep → Type 0) → EachWay b G → (i t ri : ℕ) (f : Option Broadcast) (o : Option Phase)
     → slice_get b.down i ≡ f → slice_get b.terminals t ≡ o → G (Some t) (done b (terminal_receives b i t ri f o))

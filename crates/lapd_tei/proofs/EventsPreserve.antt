@@ -61,7 +61,7 @@ each_way_known : (b : BusState) → HoldsInUse b → EachWay b (KnowsAfter b)
 each_way_known b h = record {
   refused = λ place nobodys. h;
   does = λ t phase e there silent nobodys. terminal_did_known b t phase e there (silent_known b e silent) h;
-  hears = λ i t ri f phase flies there nobodys.
+  reaches_terminal = λ i t ri f phase flies there nobodys.
       terminal_did_known (with_mark b i t f) t phase (event.Heard f.message ri) there (received_is_known b i f flies h) (marked_known b i t f flies h);
   lost_down = λ i nobodys. record {
     terminals = h.terminals;
@@ -117,7 +117,7 @@ unfolding marked_owned
 each_way_owned b known h = record {
   refused = λ place own. h;
   does = λ t phase e there silent own. terminal_owned b t phase e there h (silent_fits h.owner e silent) own;
-  hears = λ i t ri f phase flies there own.
+  reaches_terminal = λ i t ri f phase flies there own.
       terminal_owned (with_mark b i t f) t phase (event.Heard f.message ri) there (marked_owned b i t f flies h)
       (all_at (λ g. Fits h.owner g.message) b.down i f h.flying flies)
       (all_each (IsNoOthers b (Some t)) (IsNoOthers (with_mark b i t f) (Some t)) (marked_no_others b i t f (Some t)) (references (sent (terminal_step phase (event.Heard f.message ri)).outs)) own);
@@ -229,7 +229,7 @@ each_way_held : (b : BusState) → EachWay b (HeldAfter b)
 each_way_held b = record {
   refused = λ place tei is unfreed. is;
   does = λ t phase e there silent tei is unfreed. is;
-  hears = λ i t ri f phase flies there tei is unfreed. is;
+  reaches_terminal = λ i t ri f phase flies there tei is unfreed. is;
   lost_down = λ i tei is unfreed. is;
   lost_up = λ i tei is unfreed. is;
   assigner_does = λ e. stays_held b.assigner (assigner_step b.assigner e) (assigner_assigns b.assigner e);
@@ -256,7 +256,7 @@ each_way_new : (b : BusState) (rest : List ℕ) → EachWay b (NewAfter b rest)
 each_way_new b rest = record {
   refused = λ place new differ. new;
   does = λ t phase e there silent. terminal_new b t phase e rest there;
-  hears = λ i t ri f phase flies there. terminal_new (with_mark b i t f) t phase (event.Heard f.message ri) rest there;
+  reaches_terminal = λ i t ri f phase flies there. terminal_new (with_mark b i t f) t phase (event.Heard f.message ri) rest there;
   lost_down = λ i new differ. new;
   lost_up = λ i new differ. new;
   assigner_does = λ e new differ. all_back (IsNew b) (references (sent (assigner_step b.assigner e).outs)) rest new;

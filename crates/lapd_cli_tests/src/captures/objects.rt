@@ -1,4 +1,4 @@
-//! JSON objects for octets, as in docs/SPECIFICATION.md.
+//! JSON objects for octets, as in docs/CLI.md.
 
 use crate::captures::lines::rows_hold;
 use lapd_cli_decode::{LineForm, Style};

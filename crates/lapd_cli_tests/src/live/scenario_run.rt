@@ -2,7 +2,8 @@
 //!
 //! Rows begin with `=== `. A row has a name, a line of words, and four texts, each ended by `---`:
 //! the events ([`Arrivals`]), the lines of input, the output, and the reports to the surroundings
-//! and to a person ([`Made::told`], [`Reader::told`]). The last text may be left out. The words:
+//! and to a person (`lines_printed` of [`Made`] and [`Reader`]). The last text may be left out. The
+//! words:
 //!
 //! - `net`: the network side, which knows TEI 64, or `user`: a user side without a TEI; both at
 //!   basic access with SAPI 16

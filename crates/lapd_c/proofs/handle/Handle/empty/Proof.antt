@@ -14,7 +14,7 @@ use denote.Signature.{plain}
 use denote.RawPtr.{null_ptr, ptr_val}
 use denote.Steps.{nothing}
 use denote.Triple.Walked.{says, Stays, stay_dropped, walk_of, ends_at, Goes-dropped}
-use Rattle.core.proofs.alloc.Calls.{handle_shows}
+use Rattle.core.proofs.alloc.Calls.{handle_tells}
 use Rattle.std.specs.Prelude.{None}
 use Rattle.std.proofs.raw_atomic.Walks.{proved_at}
 use Rattle.std_alloc.proofs.ResultValues.{and_tt}
@@ -33,7 +33,7 @@ empty_spec 𝓤 𝓛 𝓜 𝓡 wired =
     proved_at 𝓛 ended stayed c 𝓜 𝓡 (Goes-dropped 𝓛 0 (plain (λ _. Z)) yes (λ κs x f. refl), tt) #self code.function (code.unfolded 𝓤 𝓛.H 𝓜 𝓡 wired) (λ z are.
     let a = z.0.3.0 in let Post = (walk_of 𝓛 ended stayed c).post z in let made : H.Denot = record { at = null_ptr; alloc = a; held = None } in
     qed 𝓛 ((‵ ftrue ⊛ ‵ (fsep (Z.own_val a z.0.4.0) ftrue)) ∷ raw (emp 𝓤) ∷ []) ∵ split ! $ drop ! $ fsplit ! $ move ! (1 ∷ 2 ∷ []) $ drop ! $ drop ! $
-    handle_shows E.al ! a z.0.4.0 (λ h ws fits.
+    handle_tells E.al ! a z.0.4.0 (λ h ws fits.
     let w : Val = both (ptr_val null_ptr) h in
     suffices ! (WpFn 𝓤 𝓛.H 𝓣.C 𝓣.Λ code.function (h ∷ []) Post) (subst (λ (us : List Val). ent 𝓤 (WpFn 𝓤 𝓛.H 𝓣.C 𝓣.Λ code.function (h ∷ []) Post) (WpFn 𝓤 𝓛.H 𝓣.C 𝓣.Λ code.function us Post)) (sym (λ i. ws i ++ [])) (id⊢ 𝓤 (WpFn 𝓤 𝓛.H 𝓣.C 𝓣.Λ code.function (h ∷ []) Post))) $
     enter ! 𝓣.C 𝓣.Λ code.function (h ∷ []) Post $ alloc_all ! (λ ls. pass_all ! refl (fits, tt) $

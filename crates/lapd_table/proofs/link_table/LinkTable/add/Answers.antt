@@ -11,12 +11,12 @@ pub returns-then-is_err-clause-err : goal.returns-then-is_err-clause-err
 returns-then-is_err-clause-err c = subst (λ id. link_at c.args.self.now id ≡ None) c.of_link-id.ensures (none_at c.args.self.now c.of_link-id.result (no_key _ (sym c.contains_key.ensures ∙ c.if-contains_key.false)))
 
 pub returns-then-is_err-clause-unchanged : goal.returns-then-is_err-clause-unchanged
-returns-then-is_err-clause-unchanged c = with_room c.args.self.now _ refl (λ at. ap (λ l. slab.get l at) c.reserve.ensures.rest_preserved) refl
+returns-then-is_err-clause-unchanged c = with_room c.args.self.now _ refl (λ at. ap (λ l. slab.get l at) c.reserve.ensures.rest_kept) refl
 
 pub invariant_of-self-in-Ok : goal.invariant_of-self-in-Ok
 invariant_of-self-in-Ok c = record {
   index = with_link_index c.args.self.now c.args.link c.requires.side c.of_link-id.result c.of_link-id.ensures (no_key _ (sym c.contains_key.ensures ∙ c.if-contains_key.false))
-      c.reserve.new.self (λ at. ap (λ l. slab.get l at) c.reserve.ensures.rest_preserved) c.insert_reserved-key.result c.insert_reserved-key.ensures.was_vacant _ c.insert_reserved-key.ensures.updates
+      c.reserve.new.self (λ at. ap (λ l. slab.get l at) c.reserve.ensures.rest_kept) c.insert_reserved-key.result c.insert_reserved-key.ensures.was_vacant _ c.insert_reserved-key.ensures.updates
       _ c.in-Ok.ensures.updates;
 }
 
@@ -26,13 +26,13 @@ returns-in-Ok-clause-new c = subst (λ id. link_at c.args.self.now id ≡ None) 
 pub returns-in-Ok-clause-ok : goal.returns-in-Ok-clause-ok
 returns-in-Ok-clause-ok c =
     with_link c.args.self.now c.args.link c.requires.side c.of_link-id.result c.of_link-id.ensures (no_key _ (sym c.contains_key.ensures ∙ c.if-contains_key.false))
-    c.reserve.new.self (λ at. ap (λ l. slab.get l at) c.reserve.ensures.rest_preserved) c.insert_reserved-key.result c.insert_reserved-key.ensures.was_vacant _ c.insert_reserved-key.ensures.updates
+    c.reserve.new.self (λ at. ap (λ l. slab.get l at) c.reserve.ensures.rest_kept) c.insert_reserved-key.result c.insert_reserved-key.ensures.was_vacant _ c.insert_reserved-key.ensures.updates
     _ c.in-Ok.ensures.updates _ refl refl refl
 
 pub invariant_of-self-in-Err : goal.invariant_of-self-in-Err
 invariant_of-self-in-Err c = record {
   index = as_before_index c.args.self.now c.args.link c.requires.side c.of_link-id.result c.of_link-id.ensures (no_key _ (sym c.contains_key.ensures ∙ c.if-contains_key.false))
-      c.reserve.new.self (λ at. ap (λ l. slab.get l at) c.reserve.ensures.rest_preserved) c.insert_reserved-key.result c.insert_reserved-key.ensures.was_vacant _ c.insert_reserved-key.ensures.updates
+      c.reserve.new.self (λ at. ap (λ l. slab.get l at) c.reserve.ensures.rest_kept) c.insert_reserved-key.result c.insert_reserved-key.ensures.was_vacant _ c.insert_reserved-key.ensures.updates
       c.remove.new.self c.remove.ensures.updates _ c.in-Err.ensures.err;
 }
 
@@ -42,7 +42,7 @@ returns-in-Err-clause-err c = subst (λ id. link_at c.args.self.now id ≡ None)
 pub returns-in-Err-clause-unchanged : goal.returns-in-Err-clause-unchanged
 returns-in-Err-clause-unchanged c =
     as_before c.args.self.now c.args.link c.requires.side c.of_link-id.result c.of_link-id.ensures (no_key _ (sym c.contains_key.ensures ∙ c.if-contains_key.false))
-    c.reserve.new.self (λ at. ap (λ l. slab.get l at) c.reserve.ensures.rest_preserved) c.insert_reserved-key.result c.insert_reserved-key.ensures.was_vacant _ c.insert_reserved-key.ensures.updates
+    c.reserve.new.self (λ at. ap (λ l. slab.get l at) c.reserve.ensures.rest_kept) c.insert_reserved-key.result c.insert_reserved-key.ensures.was_vacant _ c.insert_reserved-key.ensures.updates
     c.remove.new.self c.remove.ensures.updates _ c.in-Err.ensures.err _ refl refl refl
 
 pub invariant_of-self : goal.invariant_of-self
