@@ -179,17 +179,14 @@ class Side:
         self.process = subprocess.Popen([Side.program, *words.split()], **how)
         Side.started.append(self.process)
         if script is not None:
-            self.type(script)
-            self.type_no_more()
+            self.process.stdin.write(script.encode())
+            self.process.stdin.close()
+            self.process.stdin = None
 
     def type(self, lines):
         """Writes these lines to its standard input, and leaves it open."""
         self.process.stdin.write(lines.encode())
         self.process.stdin.flush()
-
-    def type_no_more(self):
-        self.process.stdin.close()
-        self.process.stdin = None
 
     def port(self):
         """The port that it listens on."""
@@ -200,7 +197,7 @@ class Side:
         return int(found[1])
 
     def end(self, status=0):
-        """Waits until it has ended with this status, and keeps what it printed."""
+        """Ends its standard input, waits until it has ended with this status, and keeps what it printed."""
         printed, said = self.process.communicate(timeout=SECONDS)
         self.lines, self.said = (printed or b"").decode().splitlines(), (said or b"").decode().splitlines()
         if self.process.returncode != status:
