@@ -48,8 +48,10 @@
 extern "C" {
 #endif
 
-/* The version of this header; lapd_version() is that of the library. */
-#define LAPD_VERSION 1
+/* The version of this header, as text, and as a number: 10,000 times the major version, 100 times
+ * the minor one, and the patch. lapd_version() is the number of the library. */
+#define LAPD_VERSION_STRING "0.1.0"
+#define LAPD_VERSION 100
 
 /* A handle: one word, which owns a side or nothing. It may be a member of a struct of yours. */
 typedef struct lapd_side {

@@ -1,5 +1,6 @@
-/* An echo over a TCP connection of this machine, as plain as it can be: `echo MESSAGES ASKED ANSWERED` sends so many octets so often,
-   and waits each time for so many octets that a second process answers. It prints how many nanoseconds each took. */
+/* An echo over a TCP connection of this machine, as plain as it can be: `echo MESSAGES ASKED ANSWERED` sends so many
+   octets so often, and waits each time for so many octets that a second process answers. It prints how many
+   nanoseconds each took. */
 
 #include <arpa/inet.h>
 #include <netinet/tcp.h>
@@ -10,43 +11,39 @@
 #include <time.h>
 #include <unistd.h>
 
-#define MOST 4096
+static char octets[4096];
 
-static char octets[MOST];
-
-static void check(int well)
+static int checked(int well)
 {
     if (!well) {
         perror("echo");
         exit(2);
     }
+    return well;
 }
 
-static void send_all(int line, size_t count)
+static void send_all(int line, ssize_t count)
 {
-    check(write(line, octets, count) == (ssize_t)count);
+    checked(write(line, octets, count) == count);
 }
 
-static void receive_all(int line, size_t count)
+static void receive_all(int line, ssize_t count)
 {
-    while (count > 0) {
-        ssize_t read_now = read(line, octets, count);
-        check(read_now > 0);
-        count -= (size_t)read_now;
-    }
+    for (ssize_t now; count > 0; count -= now)
+        checked((now = read(line, octets, count)) > 0);
 }
 
 static int without_delay(int line)
 {
     int on = 1;
-    check(line >= 0 && setsockopt(line, IPPROTO_TCP, TCP_NODELAY, &on, sizeof on) == 0);
+    checked(line >= 0 && setsockopt(line, IPPROTO_TCP, TCP_NODELAY, &on, sizeof on) == 0);
     return line;
 }
 
 static long long now(void)
 {
     struct timespec time;
-    check(clock_gettime(CLOCK_MONOTONIC, &time) == 0);
+    checked(clock_gettime(CLOCK_MONOTONIC, &time) == 0);
     return time.tv_sec * 1000000000LL + time.tv_nsec;
 }
 
@@ -54,30 +51,28 @@ int main(int count, char **words)
 {
     struct sockaddr_in address = {.sin_family = AF_INET, .sin_addr.s_addr = htonl(INADDR_LOOPBACK)};
     socklen_t length = sizeof address;
-    int listener = socket(AF_INET, SOCK_STREAM, 0), line;
-    long messages, at;
-    size_t asked, answered;
-    long long begun;
+    int listener = socket(AF_INET, SOCK_STREAM, 0);
+    long messages = count == 4 ? atol(words[1]) : 0, asked = count == 4 ? atol(words[2]) : 0;
+    long answered = count == 4 ? atol(words[3]) : 0;
 
-    if (count != 4 || (messages = atol(words[1])) < 1 || (asked = (size_t)atol(words[2])) - 1 >= MOST ||
-        (answered = (size_t)atol(words[3])) - 1 >= MOST) {
+    if (messages < 1 || asked < 1 || answered < 1 || asked > (long)sizeof octets || answered > (long)sizeof octets) {
         fprintf(stderr, "usage: echo MESSAGES ASKED ANSWERED\n");
         return 2;
     }
-    check(bind(listener, (struct sockaddr *)&address, length) == 0 && listen(listener, 1) == 0);
-    check(getsockname(listener, (struct sockaddr *)&address, &length) == 0);
+    checked(bind(listener, (struct sockaddr *)&address, length) == 0 && listen(listener, 1) == 0);
+    checked(getsockname(listener, (struct sockaddr *)&address, &length) == 0);
     if (fork() == 0) {
-        line = without_delay(accept(listener, NULL, NULL));
-        for (at = 0; at < messages; at++) {
+        int line = without_delay(accept(listener, NULL, NULL));
+        for (long at = 0; at < messages; at++) {
             receive_all(line, asked);
             send_all(line, answered);
         }
         return 0;
     }
-    line = without_delay(socket(AF_INET, SOCK_STREAM, 0));
-    check(connect(line, (struct sockaddr *)&address, length) == 0);
-    begun = now();
-    for (at = 0; at < messages; at++) {
+    int line = without_delay(socket(AF_INET, SOCK_STREAM, 0));
+    checked(connect(line, (struct sockaddr *)&address, length) == 0);
+    long long begun = now();
+    for (long at = 0; at < messages; at++) {
         send_all(line, asked);
         receive_all(line, answered);
     }

@@ -41,12 +41,13 @@ use making::{make_network, make_user};
 use settings::Settings;
 use std::alloc::Global;
 
-/// The version of the library: thousands are major versions, units are minor versions.
+/// The version of the library, 0.1.0: 10,000 times the major version, 100 times the minor one, and
+/// the patch.
 #[unsafe(no_mangle)]
 pub extern "C" fn lapd_version() -> u32
-    ensures { result ≡ 1 }
+    ensures { result ≡ 100 }
 {
-    1
+    100
 }
 
 /// Creates a network side that holds these TEIs, each 0 to 126, and frees the side that the handle
