@@ -16,6 +16,7 @@ use crate::peers::{LostPeer, Peers};
 use lapd_cli_outside::{Impairment, Lines, Outside, Sending, Woken};
 use lapd_port::{MOST_OCTETS, PortFault};
 use lapd_table::LinkId;
+use lapd_timers::earlier;
 use mio::net::{TcpListener, TcpStream};
 use mio::{Events, Poll, Token};
 use std::io::{self, ErrorKind};
@@ -240,7 +241,7 @@ impl<'a> Connections<'a> {
         } else {
             None
         };
-        let next = sooner(until, sooner(idle, further))?;
+        let next = earlier(until, earlier(idle, further))?;
         Some(next.saturating_sub(now))
     }
 
@@ -291,15 +292,6 @@ impl<'a> Connections<'a> {
             }
         }
         Err(io::Error::from(ErrorKind::TimedOut))
-    }
-}
-
-/// The earlier of two moments, each of which may be unset.
-fn sooner(one: Option<u64>, other: Option<u64>) -> Option<u64> {
-    match (one, other) {
-        (Some(one), Some(other)) => Some(one.min(other)),
-        (Some(one), None) => Some(one),
-        (None, other) => other,
     }
 }
 

@@ -1,6 +1,7 @@
 -- A running side, step by step. A step receives every frame that had arrived, then expires every
 -- timer that is due, and then waits once, until the next deadline.
 use Rattle.std.specs.Prelude.{◌≡◌, ◌⊎◌, ℕ, ◌+◌, ◌-◌, ◌^◌, ◌<◌, ◌≤◌, Bool, true, false, List, [], ◌∷◌, ◌++◌, length, min, Option, None, Some, Result, Ok, Err, ⊤}
+use Rattle.lapd_timers.specs.Moments.{earlier}
 use Rattle.lapd_sides_links.specs.Effects.{Effects}
 use Rattle.lapd_sides_links.specs.declared.side_fault.SideFault.{SideFault}
 use Rattle.lapd_sides.specs.declared.request.Request.{Request}
@@ -41,12 +42,6 @@ end_by_wait Ignored woken.Line = None
 abbrev pub IsReached : Option ℕ → ℕ → Type 0
 IsReached None now = ⊥
 IsReached (Some end) now = end ≤ now
-
--- the earlier of two optional moments
-abbrev pub sooner : Option ℕ → Option ℕ → Option ℕ
-sooner None other = other
-sooner (Some one) None = Some one
-sooner (Some one) (Some other) = Some (min one other)
 
 -- ---- Receiving.
 
@@ -162,7 +157,7 @@ pub record WaitsFor (service : Service) (outcome : Option EndReason)
   pub is_next : HasNextDeadline a.side deadline
   pub woken : Woken
   pub waited : LiveState
-  pub waits : HappenBeside (Around (Waits (sooner deadline service.end) woken) ∷ []) a waited
+  pub waits : HappenBeside (Around (Waits (earlier deadline service.end) woken) ∷ []) a waited
   pub now : ℕ
   pub reads : ReadsClock now waited b
   pub is : outcome ≡ end_by_wait service.lines woken

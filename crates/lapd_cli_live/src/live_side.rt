@@ -8,7 +8,7 @@ ghost use Rattle.lapd_cli_outside.specs.IoEvents.{SendsFront};
 ghost use Rattle.lapd_cli_live.specs.Entries.{Delivered};
 ghost use Rattle.std.specs.Io.KnownBytes.{Keeps};
 ghost use Rattle.lapd_cli_live.specs.Printers.{PrintsOn, SendsAll, shown};
-ghost use Rattle.lapd_cli_live.specs.Steps.{end_by_wait as end_of_wait, ended_by as ends_by, IsReached, sooner as sooner_of};
+ghost use Rattle.lapd_cli_live.specs.Steps.{end_by_wait as end_of_wait, ended_by as ends_by, IsReached};
 
 use crate::fault::LiveFault;
 use crate::printer::Printer;
@@ -19,6 +19,7 @@ use lapd_cli_script::LineFault;
 use lapd_frame::{Side, read};
 use lapd_port::{MOST_OCTETS, PortFault};
 use lapd_sides::{Acts, EitherSide, LinkId, Primitive, Request};
+use lapd_timers::earlier;
 use std::alloc::Global;
 use std::io::Write;
 
@@ -218,7 +219,7 @@ impl<O: Outside, W: Write> LiveSide<O, W> {
             (WaitsFor service end_reason)) }
     {
         self.printer.flush()?;
-        let until = sooner(self.side.next_deadline(), service.end);
+        let until = earlier(self.side.next_deadline(), service.end);
         let woken = self.outside.wait(until, service.lines)?;
         self.read_clock()?;
         Ok(end_by_wait(service.lines, woken))
@@ -334,17 +335,6 @@ fn end_by_wait(lines: Lines, woken: Woken) -> Option<EndReason>
         (Woken::Closed, _) => Some(EndReason::Closed),
         (Woken::Line, Lines::Awaited) => Some(EndReason::Line),
         (Woken::Line, Lines::Ignored) | (Woken::Arrival | Woken::Due, _) => None,
-    }
-}
-
-/// The earlier of two optional moments.
-fn sooner(one: Option<u64>, other: Option<u64>) -> Option<u64>
-    ensures { result ≡ sooner_of one other }
-{
-    match (one, other) {
-        (Some(one), Some(other)) => Some(one.min(other)),
-        (Some(one), None) => Some(one),
-        (None, other) => other,
     }
 }
 

@@ -11,7 +11,8 @@ use Rattle.lapd_cli_outside.specs.declared.outside.Woken.{Woken}
 use Rattle.lapd_cli_outside.specs.IoEvents.{Adds, IoEvent, Reads, Sends, Waits, received}
 use Rattle.rand_pcg.specs.Pcg.{pcg32}
 use Rattle.lapd_cli_outside.specs.declared.outside.Sending.TheVariants.{Sent}
-use Rattle.lapd_cli_outside.specs.Delays.{AreRounds, AddsSome, FirstIsLater, PassesFrame, IsDrawn, IsOver, IsTakenOff, PutsFrameOff, PutsOff, Receives, Round, SendsDue, WaitsOn, WaitsOnce, first_moment, is_direct, octets_of, rest_of, sent_of, sooner}
+use Rattle.lapd_timers.specs.Moments.{earlier}
+use Rattle.lapd_cli_outside.specs.Delays.{AreRounds, AddsSome, FirstIsLater, PassesFrame, IsDrawn, IsOver, IsTakenOff, PutsFrameOff, PutsOff, Receives, Round, SendsDue, WaitsOn, WaitsOnce, first_moment, is_direct, octets_of, rest_of, sent_of}
 use Rattle.lapd_cli_outside.proofs.IoEvents.{adds_both, adds_none}
 
 -- this frame is due
@@ -63,12 +64,12 @@ due_sent now before mid after old read new reads h same later =
     (Reads now ∷ sent, adds_both old read new (Reads now ∷ []) sent reads h.sent, subst (λ (x : Delays). SendsDue before x (Reads now ∷ sent)) (sym same) whole)
 
 pub waits_once : (until next : Option ℕ) (before after : Delays) (result : Result Woken PortFault) (old mid new : Option (List IoEvent))
-    → AddsSome old mid (SendsDue before after) → next ≡ sooner until (first_moment after.delayed.items)
+    → AddsSome old mid (SendsDue before after) → next ≡ earlier until (first_moment after.delayed.items)
     → IfOk result (λ (woken : Woken). Adds mid new (Waits next woken ∷ []))
     → IfOk result (λ (woken : Woken). AddsSome old new (WaitsOnce until woken before after))
 waits_once until next before after (Err fault) old mid new due is waits = tt
 waits_once until next before after (Ok woken) old mid new due is waits =
-    let last = Waits (sooner until (first_moment after.delayed.items)) woken ∷ [] in
+    let last = Waits (earlier until (first_moment after.delayed.items)) woken ∷ [] in
     let whole : WaitsOnce until woken before after (due.0 ++ last) = record { first = due.0; due = due.2; all = refl } in
     (due.0 ++ last, adds_both old mid new due.0 last due.1 (subst (λ (x : Option ℕ). Adds mid new (Waits x woken ∷ [])) is waits), whole)
 

@@ -1,5 +1,6 @@
 -- A line that loses and delays the frames of one side on purpose.
 use Rattle.std.specs.Prelude.{◌≡◌, ◌⊎◌, ◌&&◌, ℕ, ◌<◌, ◌≤◌, ◌+◌, ◌%◌, nat_eq, nat_le, nat_lt, max, min, List, [], ◌∷◌, ◌++◌, length, map, flat_map, Bool, true, false, Option, None, Some, ⊤}
+use Rattle.lapd_timers.specs.Moments.{earlier}
 use Rattle.std.specs.List.{All}
 use Rattle.rand_pcg.specs.Lcg.{Lcg}
 use Rattle.rand_pcg.specs.Pcg.{pcg32}
@@ -85,12 +86,6 @@ pub record SendsDue (old new : Delays) (io_events : List IoEvent) : Type 0 where
   pub impairment : new.impairment ≡ old.impairment
   pub random : new.random ≡ old.random
 
--- the earlier of two optional moments
-abbrev pub sooner : Option ℕ → Option ℕ → Option ℕ
-sooner None other = other
-sooner (Some one) None = Some one
-sooner (Some one) (Some other) = Some (min one other)
-
 -- The frames that are due are sent. Then there is one wait, until the next frame is due or a moment
 -- is reached.
 pub record WaitsOnce (until : Option ℕ) (woken : Woken) (old new : Delays)
@@ -98,7 +93,7 @@ pub record WaitsOnce (until : Option ℕ) (woken : Woken) (old new : Delays)
     : Type 0 where
   pub first : List IoEvent
   pub due : SendsDue old new first
-  pub all : io_events ≡ first ++ Waits (sooner until (first_moment new.delayed.items)) woken ∷ []
+  pub all : io_events ≡ first ++ Waits (earlier until (first_moment new.delayed.items)) woken ∷ []
 
 -- ---- A frame is passed in.
 

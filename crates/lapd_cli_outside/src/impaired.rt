@@ -2,13 +2,14 @@
 
 ghost use Rattle.std.specs.Prelude.{◌≡◌, ◌≤◌, length, IfOk, IfSome, OnOk};
 ghost use Rattle.lapd_port.specs.SocketText.{IsFrameLength};
-ghost use Rattle.lapd_cli_outside.specs.Delays.{is_reached as come_by, sooner as sooner_of};
+ghost use Rattle.lapd_cli_outside.specs.Delays.{is_reached as come_by};
 
 use crate::delays::Delays;
 use crate::impairment::Impairment;
 use crate::outside::{Lines, Outside, Sending, Woken};
 use lapd_port::{MOST_OCTETS, PortFault};
 use lapd_table::LinkId;
+use lapd_timers::earlier;
 use std::alloc::Global;
 
 /// A line and a clock, with a line that can be impaired ([`Outside::impair`]). Each frame that the
@@ -66,7 +67,7 @@ impl<O: Outside> Impaired<O> {
             (WaitsOnce until woken self.old.delays self.new.delays)) }
     {
         self.send_due()?;
-        let next = sooner(until, self.delays.next_moment());
+        let next = earlier(until, self.delays.next_moment());
         self.inner.wait(next, lines)
     }
 
@@ -171,17 +172,6 @@ impl<O: Outside> Outside for Impaired<O> {
             ≡ record (self.old.delays) { impairment = impairment } }
     {
         self.delays.impairment = impairment;
-    }
-}
-
-/// The earlier of two optional moments.
-fn sooner(one: Option<u64>, other: Option<u64>) -> Option<u64>
-    ensures { result ≡ sooner_of one other }
-{
-    match (one, other) {
-        (Some(one), Some(other)) => Some(one.min(other)),
-        (Some(one), None) => Some(one),
-        (None, other) => other,
     }
 }
 

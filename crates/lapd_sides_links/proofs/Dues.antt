@@ -9,6 +9,7 @@ use Rattle.lapd_timers.specs.declared.timer.Timer.TheVariants.{T200, T201, T202,
 use Rattle.lapd_timers.specs.Durations.{Lengths}
 use Rattle.lapd_timers.specs.Due.{Timers, deadline_of, all_stopped}
 use Rattle.lapd_timers.specs.Due as due
+use Rattle.lapd_timers.specs.Moments.{earlier}
 use Rattle.lapd_frame.specs.declared.Sapi.{Sapi}
 use Rattle.lapd_frame.specs.declared.Sapi.TheVariants.{Call, Packet, Management}
 use Rattle.lapd_table.specs.declared.link_id.LinkId.{LinkId}
@@ -16,7 +17,7 @@ use Rattle.lapd_sides_links.specs.declared.running_timer.RunningTimer.{RunningTi
 use Rattle.lapd_sides_links.specs.declared.timer_places.TimerPlaces.{TimerPlaces}
 use Rattle.lapd_sides_links.specs.Links.{Served, IsOfLink, of_sapi}
 use Rattle.lapd_sides_links.specs.Expiries.{IsTimerOf, Runs, IsPast, IsNoLaterLink, IsNoLater, IsFirst, IsDue, IsNextDeadline, of_management, of_links, of_served}
-use Rattle.lapd_sides_links.specs.Places.{AreStopped, RunsFor, IsSooner, expiry_at, own_expiry_at, earlier}
+use Rattle.lapd_sides_links.specs.Places.{AreStopped, RunsFor, IsSooner, expiry_at, own_expiry_at}
 use Rattle.lapd_sides_links.specs.TimersAtPlaces.{placed, of_places, entry_place, RunsAt, AreEntered, RunsForPlaced}
 use Rattle.lapd_sides_links.specs.Tournament.{entry, IsEntered}
 use Rattle.lapd_sides_links.proofs.Order.{link_no_later_self, no_later_chained, earlier_deadline, joined, same_first, sooner_of, deadline, sooner_deadline}

@@ -4,6 +4,8 @@ use Rattle.std.proofs.lemmas.Bool.{cases_lt}
 use Rattle.lapd_timers.specs.declared.timer.Timer.{Timer}
 use Rattle.lapd_timers.specs.declared.timer.Timer.TheVariants.{T200, T201, T202, T203}
 use Rattle.lapd_timers.specs.Due.{place}
+use Rattle.lapd_timers.specs.Moments.{earlier}
+use Rattle.lapd_timers.proofs.TimerOrder.{same_place}
 use Rattle.lapd_frame.specs.declared.Sapi.{Sapi}
 use Rattle.lapd_frame.specs.declared.Sapi.TheVariants.{Call, Packet, Management}
 use Rattle.lapd_frame.specs.Address.{sapi_value}
@@ -11,7 +13,7 @@ use Rattle.lapd_table.specs.declared.link_id.LinkId.{LinkId}
 use Rattle.lapd_sides_links.specs.declared.running_timer.RunningTimer.{RunningTimer}
 use Rattle.lapd_sides_links.specs.Links.{of_sapi}
 use Rattle.lapd_sides_links.specs.Expiries.{IsNoLaterLink, IsNoLater, IsFirst}
-use Rattle.lapd_sides_links.specs.Places.{IsSooner, earlier}
+use Rattle.lapd_sides_links.specs.Places.{IsSooner}
 
 -- ---- The order.
 
@@ -123,22 +125,6 @@ both_no_later m n Then Else (inl a) (inl b) = absurd (omega (arith, a, b))
 both_no_later m n Then Else (inl a) (inr b) = absurd (omega (arith, a, b.0))
 both_no_later m n Then Else (inr a) (inl b) = absurd (omega (arith, a.0, b))
 both_no_later m n Then Else (inr a) (inr b) = (a.0, (a.1, b.1))
-
-timer_at : ℕ → Timer
-timer_at zero = T200
-timer_at (suc zero) = T201
-timer_at (suc (suc zero)) = T202
-timer_at (suc (suc (suc n))) = T203
-
-timer_again : (t : Timer) → timer_at (place t) ≡ t
-unfolding timer_at
-timer_again T200 = refl
-timer_again T201 = refl
-timer_again T202 = refl
-timer_again T203 = refl
-
-same_place : (a b : Timer) → place a ≡ place b → a ≡ b
-same_place a b same = sym (timer_again a) ∙ (ap timer_at same ∙ timer_again b)
 
 same_sapi : (a b : Sapi) → sapi_value a ≡ sapi_value b → a ≡ b
 same_sapi Call Call q = refl

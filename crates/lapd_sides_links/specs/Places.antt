@@ -1,5 +1,5 @@
 -- The slots of the links' timers, and the order of two expiries.
-use Rattle.std.specs.Prelude.{◌≡◌, ℕ, min, List, length, Option, Some, None, ◌⊎◌}
+use Rattle.std.specs.Prelude.{◌≡◌, ℕ, List, length, Option, Some, None, ◌⊎◌}
 use Rattle.lapd_timers.specs.declared.timer.Timer.{Timer}
 use Rattle.lapd_timers.specs.Due.{Timers, deadline_of}
 use Rattle.lapd_table.specs.declared.link_id.LinkId.{LinkId}
@@ -37,9 +37,3 @@ abbrev pub IsSooner : Option RunningTimer → Option RunningTimer → Option Run
 IsSooner None b c = c ≡ b
 IsSooner (Some a) None c = c ≡ Some a
 IsSooner (Some a) (Some b) c = ((c ≡ Some a) × IsNoLater a b) ⊎ ((c ≡ Some b) × IsNoLater b a)
-
--- the earlier one of two optional moments
-abbrev pub earlier : Option ℕ → Option ℕ → Option ℕ
-earlier None b = b
-earlier (Some a) None = Some a
-earlier (Some a) (Some b) = Some (min a b)

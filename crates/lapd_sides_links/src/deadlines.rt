@@ -2,15 +2,15 @@
 
 ghost use Rattle.std.specs.Prelude.{◌≡◌, IfSome, option_map};
 ghost use Rattle.lapd_frame.specs.declared.Side.{Side};
+ghost use Rattle.lapd_timers.specs.Moments.{earlier};
 ghost use Rattle.lapd_sides_links.specs.Expiries.{IsDue, IsFirst, IsNextDeadline, IsPast, IsTimerOf, of_management};
 ghost use Rattle.lapd_sides_links.specs.Links.{Links};
-ghost use Rattle.lapd_sides_links.specs.Places.{earlier};
 ghost use Rattle.lapd_sides_links.specs.Shown.{ShowLinks};
 
 use crate::RunningTimer;
 use crate::link_set::LinkSet;
 use crate::running_timer::sooner;
-use lapd_timers::{Timer, TimerSet};
+use lapd_timers::{Timer, TimerSet, earlier};
 
 /// Returns the first timer of a side that is due at the moment `now`, if any: a timer of TEI
 /// management or of a link.
@@ -55,18 +55,6 @@ fn least_deadline(timers: &TimerSet) -> Option<u64>
         earlier(timers.deadline(Timer::T200), timers.deadline(Timer::T201)),
         earlier(timers.deadline(Timer::T202), timers.deadline(Timer::T203)),
     )
-}
-
-/// The earlier of two optional moments.
-#[inline(always)]
-fn earlier(one: Option<u64>, other: Option<u64>) -> Option<u64>
-    ensures { result ≡ earlier one other }
-{
-    match (one, other) {
-        (None, other) => other,
-        (one, None) => one,
-        (Some(one), Some(other)) => Some(one.min(other)),
-    }
 }
 
 /// The first timer of TEI management that is due.

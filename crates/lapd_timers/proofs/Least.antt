@@ -6,27 +6,12 @@ use Rattle.lapd_timers.specs.declared.timer.Timer.{Timer}
 use Rattle.lapd_timers.specs.declared.timer.Timer.TheVariants.{T200, T201, T202, T203}
 use Rattle.lapd_timers.specs.declared.timer_set.TimerDeadline.{TimerDeadline}
 use Rattle.lapd_timers.specs.Due.{Timers, HasExpired, IsNoGreater, IsLeast, IsDue, deadline_of, place, sooner, sooner_of, timer_of}
+use Rattle.lapd_timers.proofs.TimerOrder.{same_place}
 
 -- the pair of a timer before this place, if it has expired
 record IsAmong (now : ℕ) (s : Timers) (n : ℕ) (e : TimerDeadline) : Type 0 where
   expired : HasExpired now s e
   early : place e.timer < n
-
-timer_at : ℕ → Timer
-timer_at zero = T200
-timer_at (suc zero) = T201
-timer_at (suc (suc zero)) = T202
-timer_at (suc (suc (suc n))) = T203
-
-timer_again : (t : Timer) → timer_at (place t) ≡ t
-unfolding timer_at
-timer_again T200 = refl
-timer_again T201 = refl
-timer_again T202 = refl
-timer_again T203 = refl
-
-same_place : (a b : Timer) → place a ≡ place b → a ≡ b
-same_place a b same = sym (timer_again a) ∙ (ap timer_at same ∙ timer_again b)
 
 -- the next place has one more timer
 divided : (now : ℕ) (s : Timers) (timer : Timer) (f : TimerDeadline) → IsAmong now s (place timer + 1) f → IsAmong now s (place timer) f ⊎ (f.timer ≡ timer)

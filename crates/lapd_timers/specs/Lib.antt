@@ -1,3 +1,4 @@
 pub mod Due
 pub mod Durations
+pub mod Moments
 pub mod Timer

@@ -7,10 +7,12 @@
 
 mod durations;
 mod laws;
+mod moments;
 mod timer;
 mod timer_set;
 
 pub use durations::Durations;
 pub use laws::one_is_due;
+pub use moments::earlier;
 pub use timer::Timer;
 pub use timer_set::TimerSet;

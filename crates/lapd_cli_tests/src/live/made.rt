@@ -6,6 +6,7 @@ use crate::live::typed::Reads;
 use lapd_cli_live::{Impairment, Lines, Outside, Sending, Woken};
 use lapd_port::{MOST_OCTETS, PortFault};
 use lapd_sides::LinkId;
+use lapd_timers::earlier;
 use std::alloc::{AllocError, Global};
 use std::collections::VecDeque;
 
@@ -194,7 +195,7 @@ impl<'s> Made<'s> {
     /// there is neither.
     fn advance(&mut self, until: Option<u64>) -> bool {
         let next = self.next_event().map(|(moment, _event)| moment);
-        let Some(moment) = sooner(next, until) else {
+        let Some(moment) = earlier(next, until) else {
             return false;
         };
         self.now = self.now.max(moment);
@@ -254,15 +255,6 @@ fn behind_line(text: &str) -> &str {
     match text.split_once('\n') {
         Some((_line, behind)) => behind,
         None => "",
-    }
-}
-
-/// The earlier of two times, each of which may be unset.
-fn sooner(one: Option<u64>, other: Option<u64>) -> Option<u64> {
-    match (one, other) {
-        (Some(one), Some(other)) => Some(one.min(other)),
-        (Some(one), None) => Some(one),
-        (None, other) => other,
     }
 }
 

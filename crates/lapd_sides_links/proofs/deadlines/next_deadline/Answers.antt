@@ -1,5 +1,5 @@
 use Rattle.std.proofs.Common.{ℕ, Option, ap, ◌∙◌}
-use Rattle.lapd_sides_links.specs.Places.{earlier}
+use Rattle.lapd_timers.specs.Moments.{earlier}
 use Rattle.lapd_sides_links.proofs.Dues.{next_of_served}
 use Rattle.lapd_sides_links.proofs.deadlines.next_deadline.Goals as goal
 

@@ -7,7 +7,7 @@ use Rattle.lapd_cli_live.proofs.live_side.LiveSide.wait.Goals as goal
 pub returns : goal.returns
 returns g c =
     let adds = subst (λ (until : Option ℕ). Adds (g.O.Outside.io_events c.args.self.now.outside) (g.O.Outside.io_events c.wait.new.self) (Waits until c.in_ok-woken.woken ∷ []))
-    c.sooner-until.ensures c.in_ok-woken.ensures.io_events in
+    c.earlier-until.ensures c.in_ok-woken.ensures.io_events in
     record {
       deadline = c.next_deadline.result;
       is_next = c.next_deadline.ensures;
