@@ -1,5 +1,5 @@
--- What is recorded of a link at a side is what the history records, over every event. So within one
--- establishment no message is skipped.
+-- A side's record of a link agrees with the history of the world's end, over every event. So within
+-- one establishment no message is skipped.
 use Rattle.std.proofs.Common.{◌≡◌, inl, inr, ℕ, List, [], ◌∷◌, ◌++◌, map, Option, Some, refl, sym, ap, subst, ◌∙◌}
 use Rattle.std.specs.List.{filter_map}
 use Rattle.std.proofs.lemmas.List.{append-nil, length-map, append_cancel_left}

@@ -1,7 +1,7 @@
 -- In which establishment each message of a link was received, and in which it was last sent. Both
 -- are read from the link's end in the definition of a side, after each event.
 --
--- What a side delivers and sends does not show them. No primitive carries the number of an
+-- The primitives and frames of a side do not show them. No primitive carries the number of an
 -- establishment, and an establishment may begin without a primitive. No primitive reports that a
 -- message is sent, and an I frame carries N(S), but not the position of its message.
 use Rattle.std.specs.Prelude.{◌≡◌, ℕ, ◌+◌, ◌<◌, nat_le, nat_lt, ◌&&◌, if◌then◌else◌, Bool, false, List, [], ◌∷◌, ◌++◌, length, Option, Some, None}
