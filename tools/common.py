@@ -110,6 +110,16 @@ def rows_below(name):
     return found
 
 
+def prove(*words):
+    """Runs tools/prove, and returns its status. A signal ends it too."""
+    process = subprocess.Popen([f"{TOP}/tools/prove", *words], stdin=subprocess.DEVNULL)
+    try:
+        return process.wait()
+    finally:
+        process.terminate()
+        process.wait()
+
+
 def free_port():
     with socket.socket() as it:
         it.bind(("127.0.0.1", 0))
