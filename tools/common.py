@@ -57,7 +57,7 @@ def start(main, usage):
 
 def stopped(number, _frame):
     for it in signal.SIGINT, signal.SIGTERM, signal.SIGHUP:
-        signal.signal(it, signal.SIG_IGN)
+        signal.signal(it, lambda *_: None)
     raise Stopped(number)
 
 
