@@ -57,7 +57,7 @@ def start(main, usage):
 
 def stopped(number, _frame):
     for it in signal.SIGINT, signal.SIGTERM, signal.SIGHUP:
-        signal.signal(it, signal.SIG_IGN)
+        signal.signal(it, lambda *_: None)
     raise Stopped(number)
 
 
@@ -108,6 +108,16 @@ def rows_below(name):
         raise Failed(f"crates.txt has no crate {name}")
     add(name)
     return found
+
+
+def prove(*words):
+    """Runs tools/prove, and returns its status. A signal ends it too."""
+    process = subprocess.Popen([f"{TOP}/tools/prove", *words], stdin=subprocess.DEVNULL)
+    try:
+        return process.wait()
+    finally:
+        process.terminate()
+        process.wait()
 
 
 def free_port():
