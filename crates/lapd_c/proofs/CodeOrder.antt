@@ -13,7 +13,7 @@ use Rattle.lapd_c.specs.CodeOrder.{ReturnsInOrder}
 use Rattle.lapd_c.specs.Codes.{code_of, code_of_kind, memory, no_side, out_of_range, pending}
 use Rattle.lapd_c.specs.Owned.{Held}
 
--- a code that is none of the three
+-- a code other than these three
 abbrev IsOther : ℕ → Type 0
 IsOther code = (nat_eq code out_of_range ≡ false) × (nat_eq code no_side ≡ false) × (nat_eq code pending ≡ false)
 

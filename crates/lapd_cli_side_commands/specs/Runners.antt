@@ -1,4 +1,4 @@
--- What a runner shows of its side, its clock and its surroundings.
+-- A runner, shown as its side, its clock and its surroundings.
 use Rattle.std.specs.Prelude.{ℕ, List, Option}
 use Rattle.lapd_cli_side_commands.specs.declared.side_runner.SideRunner.{SideRunner}
 use Rattle.lapd_cli_side_commands.specs.Served.{AtWork, at_work, devices}

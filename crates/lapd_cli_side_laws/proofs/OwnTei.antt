@@ -1,5 +1,5 @@
--- The primitives of a user side tell its own TEI: the fixed one, or the one obtained last, until it
--- is removed.
+-- The primitives of a user side determine its own TEI: the fixed one, or the one obtained last,
+-- until it is removed.
 use Rattle.std.proofs.Common.{◌≡◌, ℕ, ◌+◌, ◌==◌, ◌&&◌, not, nat_lt, List, [], ◌∷◌, ◌++◌, length, map, Bool, true, false, if◌then◌else◌, Option, Some, None, Result, Ok, Err, refl, sym, ap, subst, ◌∙◌}
 use Rattle.std.specs.List.{filter_map}
 use Rattle.lapd_timers.specs.declared.timer.Timer.{Timer}
@@ -327,7 +327,7 @@ reaction_tells config v (Lose at) = refl
 reaction_tells config v (Expire timer of now) = either config v.now (may_expire timer of v.now.served) (user_expires config now timer of v.now) (unmoved v.now) (expires config v.now now timer of) refl
 reaction_tells config v (Ask request now) = requested config v.now (user_requested config request now v.now) (λ a is. granted config v.now request now a is)
 
--- the side's own TEI is the one that all primitives so far tell
+-- the side's own TEI is the one that all primitives so far determine
 abbrev pub KnowsTei : Option ℕ → SideView User → Type 0
 KnowsTei fixed v = tei_of v.now.terminal ≡ own_tei fixed v.delivered
 

@@ -65,7 +65,7 @@ user_submits fixed i line_request refused known =
 
 -- ---- Transcripts of both programs.
 
--- from one interface to another, the transcripts tell what the sides delivered and accepted
+-- from one interface to another, the transcripts contain what the sides delivered and accepted
 pub record Tell (fixed : Option ℕ) (network user : List ExecutedLine) (i j : Interface) : Type 0 where
   pub delivered_to_network : j.delivered_to_network ≡ i.delivered_to_network ++ primitives_of network
   pub delivered_to_user : j.delivered_to_user ≡ i.delivered_to_user ++ primitives_of user

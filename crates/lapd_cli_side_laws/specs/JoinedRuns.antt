@@ -85,7 +85,7 @@ sides_at_first c fixed known =
 
 -- ---- What is printed is right.
 
--- the transcripts tell what the sides of the interface delivered and accepted
+-- the transcripts contain what the sides of the interface delivered and accepted
 pub record ArePrinted (fixed : Option ℕ) (network user : List ExecutedLine) (i : Interface)
     : Type 0 where
   pub delivered_to_network : i.delivered_to_network ≡ primitives_of network
@@ -119,7 +119,7 @@ pub record IsSafeInPrint (c : Configs) (id : LinkId) (fixed : Option ℕ)
   pub in_print : IsRightInPrint c id fixed network user moves i
 
 -- Both runs have transcripts, and are moves of an interface whose primitives and messages the
--- transcripts tell.
+-- transcripts contain.
 pub record AreMovesInPrint (c : Configs) (fixed : Option ℕ) (known : List ℕ)
     (lines : List ProgramLine) (network_lines user_lines : List LineRequest)
     (network_before network_after user_before user_after : Devices) : Type 0 where

@@ -18,7 +18,7 @@ pub record AreTold {S : Type 0} (w : Behaviour S) (line_request : LineRequest)
       ≡ v.given ++ submitted_in (w.means v.now) line_request (is_refused printed)
 
 -- A line of a program is a list of its events (`IsByEvents`), and what it prints is the text of
--- lines that tell what these events deliver and accept.
+-- lines that contain what these events deliver and accept.
 pub record IsPrinted {S : Type 0} (w : Behaviour S) (Shows : EitherSide → S → Type 0)
     (AreAskedFor : List SideEvent → Type 0) (line_request : LineRequest) (a b : AtWork) : Type 0
   where

@@ -1,4 +1,4 @@
--- What the common part of both sides does with received frames and expired timers.
+-- The common part of both sides processes received frames and expired timers.
 use Rattle.std.proofs.Common.{◌≡◌, ℕ, List, [], Option, Some, None, Result, Ok, Err, sym, ap, subst, ◌∙◌}
 use Rattle.std.specs.Prelude.{OnOk, OnErr, IfErr}
 use Rattle.lapd_frame.specs.declared.Side.{Side}
