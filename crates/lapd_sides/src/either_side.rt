@@ -32,8 +32,8 @@ impl EitherSide {
         }
     }
 
-    /// Processes octets received from the line at the time `now`, in milliseconds. `acts` is cleared,
-    /// and then has the frames to send and the primitives to deliver, as for the calls below.
+    /// Processes octets received from the line at the time `now`, in milliseconds. `acts` is
+    /// cleared, and then has the frames to send and the primitives to deliver, as in all calls.
     ///
     /// # Errors
     ///
