@@ -1,0 +1,2 @@
+pub mod TimersOfRuns
+pub mod WorkedWorlds

@@ -1,0 +1,4 @@
+pub mod Agreed
+pub mod Own
+pub mod Recovered
+pub mod Timers

@@ -1,0 +1,54 @@
+//! Laws of a link that comes back. They are proofs; their functions do nothing.
+
+ghost use Rattle.std.specs.Prelude.{◌≡◌, ◌≤◌, List, None};
+ghost use Rattle.lapd_mod128.specs.Counting.{Reading};
+ghost use Rattle.lapd_link_definition.specs.declared.recovery.Recovery.TheVariants.{Enquiry, LastMessage};
+ghost use Rattle.lapd_link_definition.specs.Parameters.{Parameters};
+ghost use Rattle.lapd_pair_laws.specs.Move.{Move};
+ghost use Rattle.lapd_pair_laws.specs.Settle.{next_move};
+ghost use Rattle.lapd_pair_laws.specs.Worked.{new_pair, busy};
+ghost use Rattle.lapd_pair_laws.specs.World.{new_world, run};
+ghost use Rattle.lapd_recovery_laws.specs.Recovered.{outcome_of, both_sabmes_lost, network_restarts, restarts_with_one_sent, release_unheard, disc_meets_sabme, longest, both_in_7, both_in_4, held_up, IsBusy};
+ghost use Rattle.lapd_recovery_laws.specs.Timers.{HaveTimersOfStates};
+
+/// Worked worlds come back as expected, on whole numbers and on tags, with either `Recovery`: the
+/// network restarts, without and with a message in transit; both SABMEs are lost; each DISC of a
+/// release is lost, which undoes it; a DISC and a SABME cross; and a world that takes 31 moves.
+/// Without T203, a network that restarts leaves the ends apart. With a busy end the moves are not few.
+pub fn recovery_is_computed()
+    ensures restart { (r : Reading) → outcome_of r (run r network_restarts (new_pair 1 Enquiry))
+        ≡ both_in_7 11 0 0 }
+    ensures restart_by_last { (r : Reading)
+        → outcome_of r (run r network_restarts (new_pair 1 LastMessage)) ≡ both_in_7 11 0 0 }
+    ensures sabmes { (r : Reading) → outcome_of r (run r both_sabmes_lost (new_pair 1 Enquiry))
+        ≡ both_in_7 6 0 0 }
+    ensures sabmes_by_last { (r : Reading)
+        → outcome_of r (run r both_sabmes_lost (new_pair 1 LastMessage)) ≡ both_in_7 6 0 0 }
+    ensures one_sent { (r : Reading)
+        → outcome_of r (run r restarts_with_one_sent (new_pair 1 Enquiry)) ≡ both_in_7 9 0 1 }
+    ensures one_sent_by_last { (r : Reading)
+        → outcome_of r (run r restarts_with_one_sent (new_pair 1 LastMessage)) ≡ both_in_7 9 0 1 }
+    ensures unheard { (r : Reading) → outcome_of r (run r release_unheard (new_pair 1 Enquiry))
+        ≡ both_in_7 12 0 0 }
+    ensures unheard_by_last { (r : Reading)
+        → outcome_of r (run r release_unheard (new_pair 1 LastMessage)) ≡ both_in_7 12 0 0 }
+    ensures crossed { (r : Reading) → outcome_of r (run r disc_meets_sabme (new_pair 1 Enquiry))
+        ≡ both_in_4 4 }
+    ensures crossed_by_last { (r : Reading)
+        → outcome_of r (run r disc_meets_sabme (new_pair 1 LastMessage)) ≡ both_in_4 4 }
+    ensures longest { (r : Reading) → outcome_of r (run r longest (new_pair 1 Enquiry))
+        ≡ both_in_7 31 0 1 }
+    ensures longest_by_last { (r : Reading) → outcome_of r (run r longest (new_pair 1 LastMessage))
+        ≡ both_in_7 31 0 1 }
+    ensures apart_without_t203 { (r : Reading)
+        → next_move r (run r network_restarts (new_pair 1 Enquiry)) ≡ None }
+    ensures held_up { (r : Reading) → outcome_of r (run r busy (new_pair 1 Enquiry)) ≡ held_up }
+    ensures busy { (r : Reading) → IsBusy (run r busy (new_pair 1 Enquiry)) }
+{}
+
+/// After every run, on whole numbers and on tags, the timers that run are those of each end's state:
+/// T200 alone in states 5, 6 and 8, and T203 in state 7 if T200 does not run (Q.921 5.10.3.1).
+pub fn timers_of_states_run()
+    ensures { (r : Reading) (user network : Parameters) → user.k ≤ 127 → network.k ≤ 127
+        → (moves : List Move) → HaveTimersOfStates (run r moves (new_world user network)) }
+{}
