@@ -1,2 +1,12 @@
+pub mod AnyOrder
+pub mod Beside
+pub mod Lost
+pub mod LostExpires
+pub mod LostMoves
+pub mod OpenAfterRuns
+pub mod OpenLine
+pub mod OwnOnTags
+pub mod RetriesLeft
+pub mod Retry
 pub mod TimersOfRuns
 pub mod WorkedWorlds

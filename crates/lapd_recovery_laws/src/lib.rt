@@ -8,4 +8,4 @@
 
 mod recovery;
 
-pub use recovery::{recovery_is_computed, timers_of_states_run};
+pub use recovery::{every_open_line_comes_up, recovery_is_computed, timers_of_states_run};

@@ -8,6 +8,7 @@ ghost use Rattle.lapd_pair_laws.specs.Move.{Move};
 ghost use Rattle.lapd_pair_laws.specs.Settle.{next_move};
 ghost use Rattle.lapd_pair_laws.specs.Worked.{new_pair, busy};
 ghost use Rattle.lapd_pair_laws.specs.World.{new_world, run};
+ghost use Rattle.lapd_recovery_laws.specs.OpenLine.{IsOpenLine, ComesUp};
 ghost use Rattle.lapd_recovery_laws.specs.Recovered.{outcome_of, both_sabmes_lost, network_restarts, restarts_with_one_sent, release_unheard, disc_meets_sabme, longest, both_in_7, both_in_4, held_up, IsBusy};
 ghost use Rattle.lapd_recovery_laws.specs.Timers.{HaveTimersOfStates};
 
@@ -51,4 +52,16 @@ pub fn recovery_is_computed()
 pub fn timers_of_states_run()
     ensures { (r : Reading) (user network : Parameters) → user.k ≤ 127 → network.k ≤ 127
         → (moves : List Move) → HaveTimersOfStates (run r moves (new_world user network)) }
+{}
+
+/// A line with both ends in states 7 and 8 and no frame in transit comes up by itself, if no end is
+/// own receiver busy or at its last try. Its own moves, in any order, are at most three per message
+/// left, and eight more. Where none is possible any more, both ends are in state 7 with equal
+/// numbers, no message was dropped, and each was received and acknowledged. The run starts in a new
+/// world, on whole numbers or on tags, with windows of 1 to 127 and either `Recovery`.
+pub fn every_open_line_comes_up()
+    ensures { (r : Reading) (user network : Parameters)
+        → user.k ≤ 127 → network.k ≤ 127 → 1 ≤ user.k → 1 ≤ network.k → (moves : List Move)
+        → IsOpenLine (run r moves (new_world user network))
+        → ComesUp r (run r moves (new_world user network)) }
 {}
