@@ -194,16 +194,16 @@ not_apart n x y d have due =
     let never : are_apart (at x y [] []) ≡ false = rw (in_7.0, in_7.1) refl in
     cc
 
-ok_in_world : (s : Side) (w : World) (o : Result ViewStep Refusal) → is_ok (in_world s w o) ≡ is_ok o
+pub ok_in_world : (s : Side) (w : World) (o : Result ViewStep Refusal) → is_ok (in_world s w o) ≡ is_ok o
 ok_in_world s w (Ok acted) = refl
 ok_in_world s w (Err refusal) = refl
 
 -- a frame is there to be delivered, and T200 that expires runs
-none_there : (x y : Station) (to_network : List Flight) → is_ok (happens Whole (user_move Deliver) (at x y [] to_network)) ≡ false
+pub none_there : (x y : Station) (to_network : List Flight) → is_ok (happens Whole (user_move Deliver) (at x y [] to_network)) ≡ false
 unfolding happens acts delivers
 none_there x y to_network = refl
 
-none_there_too : (x y : Station) (to_user : List Flight) → is_ok (happens Whole (network_move Deliver) (at x y to_user [])) ≡ false
+pub none_there_too : (x y : Station) (to_user : List Flight) → is_ok (happens Whole (network_move Deliver) (at x y to_user [])) ≡ false
 unfolding happens acts delivers
 none_there_too x y to_user = refl
 
@@ -215,7 +215,7 @@ only_if_on s v ok = by_timer v.station.end.t200 refl
     by_timer true on = on
     by_timer false off = let never : false ≡ true = rw off at ok in cc
 
-runs_if_expires : (s : Side) (w : World) → is_ok (happens Whole (record { side = s; event = Expire200 }) w) ≡ true → (view_of s w).station.end.t200 ≡ true
+pub runs_if_expires : (s : Side) (w : World) → is_ok (happens Whole (record { side = s; event = Expire200 }) w) ≡ true → (view_of s w).station.end.t200 ≡ true
 unfolding happens
 runs_if_expires s w ok = only_if_on s (view_of s w) (sym (ok_in_world s w (acts Whole s Expire200 (view_of s w))) ∙ ok)
 

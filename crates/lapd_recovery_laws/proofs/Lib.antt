@@ -1,11 +1,14 @@
 pub mod AnyOrder
 pub mod Beside
+pub mod ClosedSteps
 pub mod Lost
 pub mod LostExpires
 pub mod LostMoves
 pub mod OpenAfterRuns
 pub mod OpenLine
 pub mod OwnOnTags
+pub mod Releases
+pub mod ReleasesAfterRuns
 pub mod RetriesLeft
 pub mod Retry
 pub mod TimersOfRuns

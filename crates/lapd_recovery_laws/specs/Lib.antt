@@ -2,4 +2,5 @@ pub mod Agreed
 pub mod OpenLine
 pub mod Own
 pub mod Recovered
+pub mod ReleasedLine
 pub mod Timers

@@ -8,4 +8,7 @@
 
 mod recovery;
 
-pub use recovery::{every_open_line_comes_up, recovery_is_computed, timers_of_states_run};
+pub use recovery::{
+    every_open_line_comes_up, every_released_line_comes_down, recovery_is_computed,
+    timers_of_states_run,
+};

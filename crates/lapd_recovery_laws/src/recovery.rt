@@ -10,6 +10,7 @@ ghost use Rattle.lapd_pair_laws.specs.Worked.{new_pair, busy};
 ghost use Rattle.lapd_pair_laws.specs.World.{new_world, run};
 ghost use Rattle.lapd_recovery_laws.specs.OpenLine.{IsOpenLine, ComesUp};
 ghost use Rattle.lapd_recovery_laws.specs.Recovered.{outcome_of, both_sabmes_lost, network_restarts, restarts_with_one_sent, release_unheard, disc_meets_sabme, longest, both_in_7, both_in_4, held_up, IsBusy};
+ghost use Rattle.lapd_recovery_laws.specs.ReleasedLine.{IsReleasedLine, ComesDown};
 ghost use Rattle.lapd_recovery_laws.specs.Timers.{HaveTimersOfStates};
 
 /// Worked worlds come back as expected, on whole numbers and on tags, with either `Recovery`: the
@@ -64,4 +65,14 @@ pub fn every_open_line_comes_up()
         → user.k ≤ 127 → network.k ≤ 127 → 1 ≤ user.k → 1 ≤ network.k → (moves : List Move)
         → IsOpenLine (run r moves (new_world user network))
         → ComesUp r (run r moves (new_world user network)) }
+{}
+
+/// A line with both ends in states 4 and 6 and no frame in transit is released by itself. Its own
+/// moves, in any order, are at most six, whatever N200 is. Where none is possible any more, both
+/// ends are in state 4, and no message is left. The run starts in a new world, on whole numbers or
+/// on tags, with windows of at most 127.
+pub fn every_released_line_comes_down()
+    ensures { (r : Reading) (user network : Parameters) → user.k ≤ 127 → network.k ≤ 127
+        → (moves : List Move) → IsReleasedLine (run r moves (new_world user network))
+        → ComesDown r (run r moves (new_world user network)) }
 {}
