@@ -1,6 +1,10 @@
 pub mod AnyOrder
 pub mod Beside
 pub mod ClosedSteps
+pub mod Establishes
+pub mod Lone
+pub mod LoneAfterRuns
+pub mod LoneSteps
 pub mod Lost
 pub mod LostExpires
 pub mod LostMoves

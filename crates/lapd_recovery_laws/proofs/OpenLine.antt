@@ -67,7 +67,7 @@ in_7 : (e : End) → e.state ≡ MultipleFrameEstablished → IsTimedIn e.state 
 in_7 e is timed = let t : IsTimedIn MultipleFrameEstablished e.t200 e.window.vs e.window.va e.window.peer_busy = rw is at timed in t
 
 -- the messages of a side that are left
-side_left : (s : Station) (base : ℕ) → IsNumbering (party base s).sends → s.history.passed ≡ s.end.first → AreSettled s.history → left_of s ≡ (length s.end.given - s.end.next) + (s.end.window.vs - s.end.window.va)
+pub side_left : (s : Station) (base : ℕ) → IsNumbering (party base s).sends → s.history.passed ≡ s.end.first → AreSettled s.history → left_of s ≡ (length s.end.given - s.end.next) + (s.end.window.vs - s.end.window.va)
 side_left s base num passed settled =
     let first : s.end.first ≡ base + s.end.window.va = num.first in
     let next : s.end.next ≡ base + s.end.window.vs = num.next in
@@ -244,7 +244,7 @@ up_at n begun x y kept d off none same =
       safe = safe_by_invariant w d.holds;
     }
 
-up_so : (n : ℕ) (begun : World) (x y : Station) (to_user to_network : List Flight) → IsConsistentWorld Whole (at x y to_user to_network) → Drains n (at x y to_user to_network) → IsStill (at x y to_user to_network) → SameDropped begun (at x y to_user to_network) → IsUp begun (at x y to_user to_network)
+pub up_so : (n : ℕ) (begun : World) (x y : Station) (to_user to_network : List Flight) → IsConsistentWorld Whole (at x y to_user to_network) → Drains n (at x y to_user to_network) → IsStill (at x y to_user to_network) → SameDropped begun (at x y to_user to_network) → IsUp begun (at x y to_user to_network)
 up_so n begun x y [] [] kept d still same = up_at n begun x y kept d still.user still.network same
 up_so n begun x y (frame ∷ rest) to_network kept d still same = let none = still.to_user in cc
 up_so n begun x y [] (frame ∷ rest) kept d still same = let none = still.to_network in cc

@@ -1,4 +1,5 @@
 pub mod Agreed
+pub mod LoneLine
 pub mod OpenLine
 pub mod Own
 pub mod Recovered

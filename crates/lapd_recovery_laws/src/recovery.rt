@@ -1,6 +1,6 @@
 //! Laws of a link that comes back. They are proofs; their functions do nothing.
 
-ghost use Rattle.std.specs.Prelude.{◌≡◌, ◌≤◌, List, None};
+ghost use Rattle.std.specs.Prelude.{◌≡◌, ℕ, ◌≤◌, List, None};
 ghost use Rattle.lapd_mod128.specs.Counting.{Reading};
 ghost use Rattle.lapd_link_definition.specs.declared.recovery.Recovery.TheVariants.{Enquiry, LastMessage};
 ghost use Rattle.lapd_link_definition.specs.Parameters.{Parameters};
@@ -8,6 +8,7 @@ ghost use Rattle.lapd_pair_laws.specs.Move.{Move};
 ghost use Rattle.lapd_pair_laws.specs.Settle.{next_move};
 ghost use Rattle.lapd_pair_laws.specs.Worked.{new_pair, busy};
 ghost use Rattle.lapd_pair_laws.specs.World.{new_world, run};
+ghost use Rattle.lapd_recovery_laws.specs.LoneLine.{IsLoneLine, ComesUpAnew};
 ghost use Rattle.lapd_recovery_laws.specs.OpenLine.{IsOpenLine, ComesUp};
 ghost use Rattle.lapd_recovery_laws.specs.Recovered.{outcome_of, both_sabmes_lost, network_restarts, restarts_with_one_sent, release_unheard, disc_meets_sabme, longest, both_in_7, both_in_4, held_up, IsBusy};
 ghost use Rattle.lapd_recovery_laws.specs.ReleasedLine.{IsReleasedLine, ComesDown};
@@ -75,4 +76,17 @@ pub fn every_released_line_comes_down()
     ensures { (r : Reading) (user network : Parameters) → user.k ≤ 127 → network.k ≤ 127
         → (moves : List Move) → IsReleasedLine (run r moves (new_world user network))
         → ComesDown r (run r moves (new_world user network)) }
+{}
+
+/// A line with one end in state 7 or 8 and the other in state 4, as after a restart, comes up by
+/// itself, if no frame is in transit. Its own moves, in any order, are at most three per message
+/// left, two per retransmission that N200 allows, and five more. Where none is possible any more,
+/// both ends are in state 7 with equal numbers, and no message is left: each was received and
+/// acknowledged, or dropped. The run starts in a new world, on whole numbers or on tags, with
+/// windows of 1 to 127 and either `Recovery`.
+pub fn every_lone_line_comes_up()
+    ensures { (r : Reading) (n200 : ℕ) (user network : Parameters)
+        → user.k ≤ 127 → network.k ≤ 127 → 1 ≤ user.k → 1 ≤ network.k → (moves : List Move)
+        → IsLoneLine n200 (run r moves (new_world user network))
+        → ComesUpAnew r n200 (run r moves (new_world user network)) }
 {}
