@@ -89,7 +89,7 @@ abbrev Lone : ℕ → World → Type 0
 Lone n w = (Waits n w ⊎ Enquires n w) ⊎ (Asks n w ⊎ Accepted n w)
 
 abbrev Coming : ℕ → World → Type 0
-Coming n w = Draining n w ⊎ (Lone n w ⊎ Lone n (swapped w))
+Coming n w = Draining false n w ⊎ (Lone n w ⊎ Lone n (swapped w))
 
 record ComesOn (n : ℕ) (now : World) : Type 0 where
   some : 1 ≤ n
@@ -351,7 +351,7 @@ coming_swapped : (n : ℕ) (w : World) → ComesOn n w → ComesOn n (swapped w)
 coming_swapped n w c = record { some = c.some; coming = by_coming c.coming }
   where
     by_coming : Coming (n - 1) w → Coming (n - 1) (swapped w)
-    by_coming (inl d) = inl (draining_swapped (n - 1) w d)
+    by_coming (inl d) = inl (draining_swapped false (n - 1) w d)
     by_coming (inr (inl l)) = inr (inr l)
     by_coming (inr (inr l)) = inr (inl l)
 
@@ -378,7 +378,7 @@ lone_moves n side.Network Expire203 w l f due ok = subst (λ v. ComesOn n v) (sy
 lone_moves n s event w l f due ok = cc
 
 coming_moves : (n : ℕ) (s : Side) (event : PairEvent) (w : World) → Coming n w → Facts w → IsOwn Whole (record { side = s; event = event }) w → ComesOn n (after s event w)
-coming_moves n s event w (inl d) f own = let m = own_moves_on n (record { side = s; event = event }) w d f.have own in record { some = m.some; coming = inl m.draining }
+coming_moves n s event w (inl d) f own = let m = own_moves_on false n (record { side = s; event = event }) w d (λ is last. cc) f.have own in record { some = m.some; coming = inl m.draining }
 coming_moves n s event w (inr (inl l)) f own = lone_moves n s event w l f own.due (ok_of_side s event w own.admitted)
 coming_moves n side.User event w (inr (inr l)) f own =
     subst (λ v. ComesOn n v) (ap swapped (network_alike Whole event (swapped w)))
@@ -436,7 +436,7 @@ own_203_swapped : (w : World) → IsOwn Whole (user_move Expire203) (swapped w) 
 own_203_swapped w own = record { due = due_swapped Expire203 w ∙ own.due; admitted = expires_203_at side.Network w (t203_runs (view_of side.User (swapped w)) (ok_of_side side.User Expire203 (swapped w) own.admitted)) }
 
 drained_at_rest : (n : ℕ) (w : World) → Coming n w → HaveTimersOfStates w → IsStill w → Rests Whole w → Drains n w
-drained_at_rest n w (inl d) have still rests = rests_drained n w d have still
+drained_at_rest n w (inl d) have still rests = rests_drained false n w d have still
 drained_at_rest n w (inr (inl l)) have still rests = absurd (no_lone_rest n w l have still (λ own. rests (user_move Expire203) own))
 drained_at_rest n w (inr (inr l)) have still rests = absurd (no_lone_rest n (swapped w) l (record { user = have.network; network = have.user }) (still_swapped w still) (λ own. rests (network_move Expire203) (own_203_swapped w own)))
 

@@ -1,5 +1,5 @@
 -- The moves of a line with a lost end: each reduces the remaining work.
-use Rattle.std.proofs.Common.{◌≡◌, ◌⊎◌, inl, inr, ℕ, ◌+◌, ◌-◌, ◌<◌, ◌≤◌, nat_lt, Bool, true, false, List, [], ◌∷◌, ◌++◌, length, Option, Some, None, Result, Ok, Err, refl, sym, ap, subst, ◌∙◌, arith}
+use Rattle.std.proofs.Common.{◌≡◌, ◌⊎◌, inl, inr, ℕ, ◌+◌, ◌-◌, ◌<◌, ◌≤◌, nat_lt, ◌||◌, Bool, true, false, List, [], ◌∷◌, ◌++◌, length, Option, Some, None, Result, Ok, Err, refl, sym, ap, subst, ◌∙◌, arith}
 use Rattle.lapd_frame.specs.declared.Side.TheVariants as side
 use Rattle.lapd_mod128.specs.Counting.{Whole}
 use Rattle.lapd_link_definition.specs.declared.state.State.{State}
@@ -103,12 +103,12 @@ unfolding happens acts delivers receives step view_after story_after
 beside x y frame rest to_network = refl
 
 -- RC and parameters after the delivery
-tries_after : (x y : Station) (frame : Flight) (rest to_network : List Flight) → AreReady (frame ∷ rest) → x.end.state ≡ TimerRecovery → nat_lt x.end.rc x.end.parameters.n200 ≡ true
+tries_after : (last : Bool) (x y : Station) (frame : Flight) (rest to_network : List Flight) → AreReady (frame ∷ rest) → x.end.state ≡ TimerRecovery → (last || nat_lt x.end.rc x.end.parameters.n200) ≡ true
     → (world_after (at x y (frame ∷ rest) to_network) (happens Whole (user_move Deliver) (at x y (frame ∷ rest) to_network))).user.end.state ≡ TimerRecovery
-    → nat_lt (world_after (at x y (frame ∷ rest) to_network) (happens Whole (user_move Deliver) (at x y (frame ∷ rest) to_network))).user.end.rc
-    (world_after (at x y (frame ∷ rest) to_network) (happens Whole (user_move Deliver) (at x y (frame ∷ rest) to_network))).user.end.parameters.n200 ≡ true
+    → (last || nat_lt (world_after (at x y (frame ∷ rest) to_network) (happens Whole (user_move Deliver) (at x y (frame ∷ rest) to_network))).user.end.rc
+    (world_after (at x y (frame ∷ rest) to_network) (happens Whole (user_move Deliver) (at x y (frame ∷ rest) to_network))).user.end.parameters.n200) ≡ true
 unfolding happens acts delivers receives step view_after story_after
-tries_after x y frame rest to_network ready is tries now =
+tries_after last x y frame rest to_network ready is tries now =
     let done = end_step Whole (row Whole x.end.state (Heard frame.control frame.role) (begin x.end)) in
     let rc : done.end.rc ≡ x.end.rc = same_rc frame.control frame.role x.end ready.0 is now in
     let parameters : done.end.parameters ≡ x.end.parameters = step_preserves_parameters Whole (Heard frame.control frame.role) x.end done refl in
@@ -118,10 +118,10 @@ ready_front : (fs : List Flight) (f : Flight) → AreReady (fs ++ f ∷ []) → 
 ready_front [] f ready = tt
 ready_front (g ∷ fs) f ready = (ready.0, ready_front fs f ready.1)
 
-pub lost_user_receives : (n : ℕ) (x y : Station) (frame : Flight) (rest to_network : List Flight) → UserLost n (at x y (frame ∷ rest) to_network)
-    → UserLost (n - 1) (world_after (at x y (frame ∷ rest) to_network) (happens Whole (user_move Deliver) (at x y (frame ∷ rest) to_network)))
+pub lost_user_receives : (last : Bool) (n : ℕ) (x y : Station) (frame : Flight) (rest to_network : List Flight) → UserLost last n (at x y (frame ∷ rest) to_network)
+    → UserLost last (n - 1) (world_after (at x y (frame ∷ rest) to_network) (happens Whole (user_move Deliver) (at x y (frame ∷ rest) to_network)))
 unfolding happens
-lost_user_receives n x y frame rest to_network l =
+lost_user_receives last n x y frame rest to_network l =
     let w = at x y (frame ∷ rest) to_network in
     let more = rest ++ final_of_peer y ∷ [] in
     let now = world_after w (happens Whole (user_move Deliver) w) in
@@ -140,15 +140,15 @@ lost_user_receives n x y frame rest to_network l =
     record {
       holds = each_move_preserves (user_move Deliver) w l.holds;
       in_8 = in_8;
-      tries = tries_after x y frame rest to_network (ready_front (frame ∷ rest) (final_of_peer y) d.sees.coming) l.in_8 l.tries in_8;
+      tries = tries_after last x y frame rest to_network (ready_front (frame ∷ rest) (final_of_peer y) d.sees.coming) l.in_8 l.tries in_8;
       two = let le = d.sees.flow.most in omega (arith, le);
       drains = subst (λ m. Drains m (with_final now)) fewer here;
     }
 
-pub lost_user_receives_dropped : (n : ℕ) (x y : Station) (frame : Flight) (rest to_network : List Flight) → UserLost n (at x y (frame ∷ rest) to_network)
+pub lost_user_receives_dropped : (last : Bool) (n : ℕ) (x y : Station) (frame : Flight) (rest to_network : List Flight) → UserLost last n (at x y (frame ∷ rest) to_network)
     → SameDropped (at x y (frame ∷ rest) to_network) (world_after (at x y (frame ∷ rest) to_network) (happens Whole (user_move Deliver) (at x y (frame ∷ rest) to_network)))
 unfolding happens acts delivers receives step view_after story_after
-lost_user_receives_dropped n x y frame rest to_network l =
+lost_user_receives_dropped last n x y frame rest to_network l =
     let d = l.drains in
     let i = d.holds in
     let same = preserved_delivered x y frame (rest ++ final_of_peer y ∷ []) to_network (n - 2) i.user_base i.network_base i.both d.ends_settled.user d.sees in
@@ -156,7 +156,7 @@ lost_user_receives_dropped n x y frame rest to_network l =
 
 -- ---- A frame is delivered to its peer.
 
-module _ (n : ℕ) (x y : Station) (back : List Flight) (frame : Flight) (rest : List Flight) (l : UserLost n (at x y back (frame ∷ rest))) where
+module _ (last : Bool) (n : ℕ) (x y : Station) (back : List Flight) (frame : Flight) (rest : List Flight) (l : UserLost last n (at x y back (frame ∷ rest))) where
   abbrev w : World
   w = at x y back (frame ∷ rest)
 
@@ -216,7 +216,7 @@ module _ (n : ℕ) (x y : Station) (back : List Flight) (frame : Flight) (rest :
   theirs : Stream (source x.end) (sink with.station.end) (kinds rest) (kinds with.outgoing) seen.flow.b
   theirs = subst (λ r. Stream (source x.end) (sink with.station.end) (kinds r) (kinds with.outgoing) seen.flow.b) are.with_rest seen.flow.its
 
-  parts : LostParts (n - 1) now
+  parts : LostParts last (n - 1) now
   parts = record {
     holds = subst IsInvariant same (each_move_preserves (network_move Deliver) w l.holds);
     ends_settled = subst AreSettledEnds same (move_settles (network_move Deliver) w (record { user = l.drains.ends_settled.user; network = l.drains.ends_settled.network }));
@@ -243,8 +243,8 @@ module _ (n : ℕ) (x y : Station) (back : List Flight) (frame : Flight) (rest :
         omega (arith, le, heavy, one_less, len, k);
   }
 
-  pub lost_peer_receives : UserLost (n - 1) (world_after w (happens Whole (network_move Deliver) w))
-  lost_peer_receives = subst (λ v. UserLost (n - 1) v) (sym same) (lost_so (n - 1) now parts)
+  pub lost_peer_receives : UserLost last (n - 1) (world_after w (happens Whole (network_move Deliver) w))
+  lost_peer_receives = subst (λ v. UserLost last (n - 1) v) (sym same) (lost_so last (n - 1) now parts)
 
   pub lost_peer_receives_dropped : SameDropped w (world_after w (happens Whole (network_move Deliver) w))
   lost_peer_receives_dropped = subst (λ v. SameDropped w v) (sym same) (record {

@@ -134,8 +134,8 @@ module _ (x y : Station) (i : IsInvariant (at x y [] [])) (ends_settled : AreSet
     };
   }
 
-  user_in_8 : x.end.state ≡ TimerRecovery → y.end.state ≡ MultipleFrameEstablished → UserLost (most_moves w) w
-  user_in_8 is its_is = lost_so (most_moves w) w (record {
+  user_in_8 : x.end.state ≡ TimerRecovery → y.end.state ≡ MultipleFrameEstablished → UserLost false (most_moves w) w
+  user_in_8 is its_is = lost_so false (most_moves w) w (record {
     holds = i;
     ends_settled = ends_settled;
     in_8 = is;
@@ -151,8 +151,8 @@ module _ (x y : Station) (i : IsInvariant (at x y [] [])) (ends_settled : AreSet
     most = let le = all in let heavy = burden_x in omega (arith, le, heavy);
   })
 
-  network_in_8 : x.end.state ≡ MultipleFrameEstablished → y.end.state ≡ TimerRecovery → UserLost (most_moves w) (swapped w)
-  network_in_8 is its_is = lost_so (most_moves w) (swapped w) (record {
+  network_in_8 : x.end.state ≡ MultipleFrameEstablished → y.end.state ≡ TimerRecovery → UserLost false (most_moves w) (swapped w)
+  network_in_8 is its_is = lost_so false (most_moves w) (swapped w) (record {
     holds = exchanged w i;
     ends_settled = record { user = ends_settled.network; network = ends_settled.user };
     in_8 = its_is;
@@ -168,7 +168,7 @@ module _ (x y : Station) (i : IsInvariant (at x y [] [])) (ends_settled : AreSet
     most = let le = all in let heavy = burden_y in omega (arith, le, heavy);
   })
 
-  both_in_8 : x.end.state ≡ TimerRecovery → y.end.state ≡ TimerRecovery → BothLost (most_moves w) w
+  both_in_8 : x.end.state ≡ TimerRecovery → y.end.state ≡ TimerRecovery → BothLost false (most_moves w) w
   both_in_8 is its_is = record {
     to_user = refl;
     to_network = refl;
@@ -183,10 +183,10 @@ module _ (x y : Station) (i : IsInvariant (at x y [] [])) (ends_settled : AreSet
     most = let le = all in let heavy = burden_x in let heavy_too = burden_y in omega (arith, le, heavy, heavy_too);
   }
 
-  pub draining_begins : Draining (most_moves w) w
+  pub draining_begins : Draining false (most_moves w) w
   draining_begins = by_states x.end.state y.end.state refl refl x_open.open_state y_open.open_state
     where
-      by_states : (a b : State) → x.end.state ≡ a → y.end.state ≡ b → is_7_or_8 a ≡ true → is_7_or_8 b ≡ true → Draining (most_moves w) w
+      by_states : (a b : State) → x.end.state ≡ a → y.end.state ≡ b → is_7_or_8 a ≡ true → is_7_or_8 b ≡ true → Draining false (most_moves w) w
       by_states MultipleFrameEstablished MultipleFrameEstablished is its_is o p = inl (both_in_7 is its_is)
       by_states TimerRecovery MultipleFrameEstablished is its_is o p = inr (inl (user_in_8 is its_is))
       by_states MultipleFrameEstablished TimerRecovery is its_is o p = inr (inr (inl (network_in_8 is its_is)))
@@ -251,7 +251,7 @@ up_so n begun x y [] (frame ∷ rest) kept d still same = let none = still.to_ne
 
 -- ---- The theorem, on whole numbers.
 
-begins : (x y : Station) (to_user to_network : List Flight) → IsInvariant (at x y to_user to_network) → IsConsistentWorld Whole (at x y to_user to_network) → AreSettledEnds (at x y to_user to_network) → IsOpenLine (at x y to_user to_network) → Draining (most_moves (at x y to_user to_network)) (at x y to_user to_network)
+begins : (x y : Station) (to_user to_network : List Flight) → IsInvariant (at x y to_user to_network) → IsConsistentWorld Whole (at x y to_user to_network) → AreSettledEnds (at x y to_user to_network) → IsOpenLine (at x y to_user to_network) → Draining false (most_moves (at x y to_user to_network)) (at x y to_user to_network)
 begins x y [] [] i kept ends_settled o = draining_begins x y i ends_settled kept.user.settled kept.network.settled o.user o.network
 begins x y (frame ∷ rest) to_network i kept ends_settled o = let none = o.to_user in cc
 begins x y [] (frame ∷ rest) i kept ends_settled o = let none = o.to_network in cc
@@ -265,5 +265,5 @@ open_line_comes_up w i kept ends_settled have o =
           let now = run Whole moves w in
           let reached = own_moves_reach (most_moves w) w moves d have own in
           let still = rests_still now.user now.network now.to_user now.to_network rests in
-          up_so (most_moves w - length moves) w now.user now.network now.to_user now.to_network (run_consistent Whole moves w kept) (rests_drained (most_moves w - length moves) now reached.draining reached.have still) still reached.kept;
+          up_so (most_moves w - length moves) w now.user now.network now.to_user now.to_network (run_consistent Whole moves w kept) (rests_drained false (most_moves w - length moves) now reached.draining reached.have still) still reached.kept;
     }
