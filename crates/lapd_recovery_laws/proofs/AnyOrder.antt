@@ -172,7 +172,7 @@ runs_in_8 : (e : End) → HasTimersOfState e → e.state ≡ TimerRecovery → e
 runs_in_8 e has is = let t : AreTimersOf TimerRecovery e.t200 e.t203 (e.window.vs ≡ e.window.va) = subst (λ s. AreTimersOf s e.t200 e.t203 (e.window.vs ≡ e.window.va)) is has in t.0
 
 -- on an empty line an end that is not lost is in state 7
-in_state_7 : (x : Source) (y : Sink) (a : ℕ) → Stream x y [] [] a → x.state ≡ MultipleFrameEstablished
+pub in_state_7 : (x : Source) (y : Sink) (a : ℕ) → Stream x y [] [] a → x.state ≡ MultipleFrameEstablished
 in_state_7 x y a s = by_stage s.stage s.so
   where
     by_stage : (stage : Stage) → IsAt stage x y [] [] → x.state ≡ MultipleFrameEstablished

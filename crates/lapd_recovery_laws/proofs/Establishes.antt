@@ -34,13 +34,13 @@ use Rattle.lapd_recovery_laws.proofs.LoneSteps.{AsksItself, IsNew, ua, sends_not
 
 -- ---- Messages of the last establishment are dropped, if any is outstanding.
 
-abbrev discards_by : Bool → StepState → StepState
+abbrev pub discards_by : Bool → StepState → StepState
 discards_by none s = record {
   end = record (s.end) { first = if none then s.end.first else length s.end.given; next = if none then s.end.next else length s.end.given };
   outs = s.outs ++ (if none then [] else counted (waiting s.end) Dropped ++ Established ∷ []);
 }
 
-by_outstanding : (P : StepState → Type 0) (s : StepState) → P (discards_by true s) → P (discards_by false s) → P (discard_unacknowledged s)
+pub by_outstanding : (P : StepState → Type 0) (s : StepState) → P (discards_by true s) → P (discards_by false s) → P (discard_unacknowledged s)
 unfolding discard_unacknowledged
 by_outstanding P s same other = cases (s.end.window.vs == s.end.window.va)
   where

@@ -1,7 +1,11 @@
+pub mod AfterOutage
 pub mod AnyOrder
 pub mod Beside
+pub mod Cleared
 pub mod ClosedSteps
 pub mod Establishes
+pub mod Exchanges
+pub mod HalfSteps
 pub mod Lone
 pub mod LoneAfterRuns
 pub mod LoneSteps
@@ -10,10 +14,14 @@ pub mod LostExpires
 pub mod LostMoves
 pub mod OpenAfterRuns
 pub mod OpenLine
+pub mod Outage
 pub mod OwnOnTags
 pub mod Releases
 pub mod ReleasesAfterRuns
 pub mod RetriesLeft
 pub mod Retry
+pub mod SendsOn
+pub mod Situations
 pub mod TimersOfRuns
+pub mod Transitions
 pub mod WorkedWorlds

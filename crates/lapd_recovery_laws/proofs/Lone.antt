@@ -222,11 +222,11 @@ module _ (n : ℕ) (x y : Station) where
   abbrev ByNetwork : PairEvent → List Flight → List Flight → Type 0
   ByNetwork event to_user to_network = is_due event (at x y to_user to_network) ≡ true → Admits event y to_network to_user → ComesOn n (by_network event to_user to_network)
 
-no_delivery : (s : Station) (outgoing : List Flight) → is_ok (acts Whole side.User Deliver (seeing s [] outgoing)) ≡ true → ⊥
+pub no_delivery : (s : Station) (outgoing : List Flight) → is_ok (acts Whole side.User Deliver (seeing s [] outgoing)) ≡ true → ⊥
 unfolding acts delivers
 no_delivery s outgoing ok = cc
 
-t200_runs : (v : View) → is_ok (acts Whole side.User Expire200 v) ≡ true → v.station.end.t200 ≡ true
+pub t200_runs : (v : View) → is_ok (acts Whole side.User Expire200 v) ≡ true → v.station.end.t200 ≡ true
 unfolding acts expires_200
 t200_runs v ok = by_timer v.station.end.t200 refl
   where
@@ -234,7 +234,7 @@ t200_runs v ok = by_timer v.station.end.t200 refl
     by_timer true on = on
     by_timer false off = let never : false ≡ true = rw off at ok in cc
 
-t203_runs : (v : View) → is_ok (acts Whole side.User Expire203 v) ≡ true → v.station.end.t203 ≡ true
+pub t203_runs : (v : View) → is_ok (acts Whole side.User Expire203 v) ≡ true → v.station.end.t203 ≡ true
 unfolding acts expires_203
 t203_runs v ok = by_timer v.station.end.t203 refl
   where
@@ -242,10 +242,10 @@ t203_runs v ok = by_timer v.station.end.t203 refl
     by_timer true on = on
     by_timer false off = let never : false ≡ true = rw off at ok in cc
 
-not_apart : (x y : End) → x.state ≡ TimerRecovery → y.state ≡ TeiAssigned → (if is_established x.state then not (is_established y.state) else is_established y.state) ≡ true → ⊥
+pub not_apart : (x y : End) → x.state ≡ TimerRecovery → y.state ≡ TeiAssigned → (if is_established x.state then not (is_established y.state) else is_established y.state) ≡ true → ⊥
 not_apart x y is its_is apart = let never : false ≡ true = rw (is, its_is) at apart in cc
 
-last_of : (a b c : Bool) → (a && b && c) ≡ true → c ≡ true
+pub last_of : (a b c : Bool) → (a && b && c) ≡ true → c ≡ true
 last_of true true c all = all
 last_of false b c all = cc
 last_of true false c all = cc
@@ -302,7 +302,7 @@ module _ (n : ℕ) (x y : Station) where
 
 -- ---- The two sides exchanged.
 
-ok_of_side : (s : Side) (event : PairEvent) (w : World) → is_ok (happens Whole (record { side = s; event = event }) w) ≡ true → is_ok (acts Whole side.User event (view_of s w)) ≡ true
+pub ok_of_side : (s : Side) (event : PairEvent) (w : World) → is_ok (happens Whole (record { side = s; event = event }) w) ≡ true → is_ok (acts Whole side.User event (view_of s w)) ≡ true
 unfolding happens acts expires_200
 ok_of_side side.User event w ok = sym (ok_in_world side.User w (acts Whole side.User event (view_of side.User w))) ∙ ok
 ok_of_side side.Network Expire200 w ok = by_timer w.network.end.t200 (first_poll w.to_user) (first_final w.to_network) (takes Whole (Expiry T200) [] (view_of side.Network w)) (sym (ok_in_world side.Network w (acts Whole side.Network Expire200 (view_of side.Network w))) ∙ ok)
@@ -332,7 +332,7 @@ apart_swap true false = refl
 apart_swap false true = refl
 apart_swap false false = refl
 
-due_swapped : (event : PairEvent) (w : World) → is_due event w ≡ is_due event (swapped w)
+pub due_swapped : (event : PairEvent) (w : World) → is_due event w ≡ is_due event (swapped w)
 due_swapped Deliver w = refl
 due_swapped Expire200 w = and_swap (is_empty w.to_user) (is_empty w.to_network)
 due_swapped Expire203 w =
@@ -412,12 +412,12 @@ own_moves_reach n w (move ∷ moves) c f own =
 
 -- ---- Where no own move is possible, the lone end has found its peer.
 
-expires_203_at : (s : Side) (w : World) → (view_of s w).station.end.t203 ≡ true → is_ok (happens Whole (record { side = s; event = Expire203 }) w) ≡ true
+pub expires_203_at : (s : Side) (w : World) → (view_of s w).station.end.t203 ≡ true → is_ok (happens Whole (record { side = s; event = Expire203 }) w) ≡ true
 unfolding happens acts takes expires_203 step
 expires_203_at side.User w on = rw on refl
 expires_203_at side.Network w on = rw on refl
 
-due_203 : (w : World) → IsStill w → w.user.end.state ≡ MultipleFrameEstablished → w.network.end.state ≡ TeiAssigned → is_due Expire203 w ≡ true
+pub due_203 : (w : World) → IsStill w → w.user.end.state ≡ MultipleFrameEstablished → w.network.end.state ≡ TeiAssigned → is_due Expire203 w ≡ true
 due_203 w still is its_is = rw (still.to_user, still.to_network, still.user, still.network, is, its_is) refl
 
 no_lone_rest : (n : ℕ) (w : World) → Lone n w → HaveTimersOfStates w → IsStill w → (IsOwn Whole (user_move Expire203) w → ⊥) → ⊥
@@ -429,10 +429,10 @@ no_lone_rest n w (inl (inr s)) have still rests = let on = (timers_in TimerRecov
 no_lone_rest n w (inr (inl s)) have still rests = let none = still.to_network in let some = s.to_network in cc
 no_lone_rest n w (inr (inr s)) have still rests = let none = still.to_user in let some = s.to_user in cc
 
-still_swapped : (w : World) → IsStill w → IsStill (swapped w)
+pub still_swapped : (w : World) → IsStill w → IsStill (swapped w)
 still_swapped w s = record { to_user = s.to_network; to_network = s.to_user; user = s.network; network = s.user }
 
-own_203_swapped : (w : World) → IsOwn Whole (user_move Expire203) (swapped w) → IsOwn Whole (network_move Expire203) w
+pub own_203_swapped : (w : World) → IsOwn Whole (user_move Expire203) (swapped w) → IsOwn Whole (network_move Expire203) w
 own_203_swapped w own = record { due = due_swapped Expire203 w ∙ own.due; admitted = expires_203_at side.Network w (t203_runs (view_of side.User (swapped w)) (ok_of_side side.User Expire203 (swapped w) own.admitted)) }
 
 drained_at_rest : (n : ℕ) (w : World) → Coming n w → HaveTimersOfStates w → IsStill w → Rests Whole w → Drains n w

@@ -78,21 +78,21 @@ side_left s base num passed settled =
 tries_so : (a b : ℕ) → a < b → nat_lt a b ≡ true
 tries_so a b less = grind (arith, nat_tests, less)
 
-module _ (x y : Station) (i : IsInvariant (at x y [] [])) (ends_settled : AreSettledEnds (at x y [] [])) (x_settled : AreSettled x.history) (y_settled : AreSettled y.history) (x_open : IsOpen x.end) (y_open : IsOpen y.end) where
+module _ (x y : Station) (i : IsInvariant (at x y [] [])) (ends_settled : AreSettledEnds (at x y [] [])) (x_settled : AreSettled x.history) (y_settled : AreSettled y.history) (last : Bool) (x_opened : is_7_or_8 x.end.state ≡ true) (y_opened : is_7_or_8 y.end.state ≡ true) (x_free : x.end.window.own_busy ≡ false) (y_free : y.end.window.own_busy ≡ false) (x_tries : x.end.state ≡ TimerRecovery → (last || nat_lt x.end.rc x.end.parameters.n200) ≡ true) (y_tries : y.end.state ≡ TimerRecovery → (last || nat_lt y.end.rc y.end.parameters.n200) ≡ true) where
   abbrev w : World
   w = at x y [] []
 
   mine : Mid (party i.user_base x) (party i.network_base y) [] []
-  mine = enter (party i.user_base x) (party i.network_base y) [] [] x_open.open_state i.both
+  mine = enter (party i.user_base x) (party i.network_base y) [] [] x_opened i.both
 
   its : Mid (party i.network_base y) (party i.user_base x) [] []
-  its = enter (party i.network_base y) (party i.user_base x) [] [] y_open.open_state (record { mine = i.both.its; its = i.both.mine })
+  its = enter (party i.network_base y) (party i.user_base x) [] [] y_opened (record { mine = i.both.its; its = i.both.mine })
 
   between : (x.end.window.va ≤ y.end.window.vr) × (y.end.window.vr ≤ x.end.window.vs)
-  between = between_open {x = party i.user_base x} {y = party i.network_base y} {out = []} {back = []} y_open.open_state mine
+  between = between_open {x = party i.user_base x} {y = party i.network_base y} {out = []} {back = []} y_opened mine
 
   between_its : (y.end.window.va ≤ x.end.window.vr) × (x.end.window.vr ≤ y.end.window.vs)
-  between_its = between_open {x = party i.network_base y} {y = party i.user_base x} {out = []} {back = []} x_open.open_state its
+  between_its = between_open {x = party i.network_base y} {y = party i.user_base x} {out = []} {back = []} x_opened its
 
   abbrev most_of : Station → ℕ
   most_of s = 3 * ((length s.end.given - s.end.next) + (s.end.window.vs - s.end.window.va)) + 4
@@ -115,12 +115,6 @@ module _ (x y : Station) (i : IsInvariant (at x y [] [])) (ends_settled : AreSet
   burden_y : burden 3 (source y.end) (sink x.end) ≤ most_of y
   burden_y = burden_begins (source y.end) (sink x.end) between_its.0 between_its.1
 
-  x_free : x.end.window.own_busy ≡ false
-  x_free = x_open.free x_open.open_state
-
-  y_free : y.end.window.own_busy ≡ false
-  y_free = y_open.free y_open.open_state
-
   both_in_7 : x.end.state ≡ MultipleFrameEstablished → y.end.state ≡ MultipleFrameEstablished → Drains (most_moves w) w
   both_in_7 is its_is = record {
     holds = i;
@@ -134,13 +128,13 @@ module _ (x y : Station) (i : IsInvariant (at x y [] [])) (ends_settled : AreSet
     };
   }
 
-  user_in_8 : x.end.state ≡ TimerRecovery → y.end.state ≡ MultipleFrameEstablished → UserLost false (most_moves w) w
-  user_in_8 is its_is = lost_so false (most_moves w) w (record {
+  user_in_8 : x.end.state ≡ TimerRecovery → y.end.state ≡ MultipleFrameEstablished → UserLost last (most_moves w) w
+  user_in_8 is its_is = lost_so last (most_moves w) w (record {
     holds = i;
     ends_settled = ends_settled;
     in_8 = is;
-    tries = tries_so x.end.rc x.end.parameters.n200 (x_open.tries is);
-    peer_open = y_open.open_state;
+    tries = x_tries is;
+    peer_open = y_opened;
     lost = record { polls = refl; finals = refl; no_message = refl };
     b = most_of y;
     its = stream_y its_is;
@@ -151,13 +145,13 @@ module _ (x y : Station) (i : IsInvariant (at x y [] [])) (ends_settled : AreSet
     most = let le = all in let heavy = burden_x in omega (arith, le, heavy);
   })
 
-  network_in_8 : x.end.state ≡ MultipleFrameEstablished → y.end.state ≡ TimerRecovery → UserLost false (most_moves w) (swapped w)
-  network_in_8 is its_is = lost_so false (most_moves w) (swapped w) (record {
+  network_in_8 : x.end.state ≡ MultipleFrameEstablished → y.end.state ≡ TimerRecovery → UserLost last (most_moves w) (swapped w)
+  network_in_8 is its_is = lost_so last (most_moves w) (swapped w) (record {
     holds = exchanged w i;
     ends_settled = record { user = ends_settled.network; network = ends_settled.user };
     in_8 = its_is;
-    tries = tries_so y.end.rc y.end.parameters.n200 (y_open.tries its_is);
-    peer_open = x_open.open_state;
+    tries = y_tries its_is;
+    peer_open = x_opened;
     lost = record { polls = refl; finals = refl; no_message = refl };
     b = most_of x;
     its = stream_x is;
@@ -168,7 +162,7 @@ module _ (x y : Station) (i : IsInvariant (at x y [] [])) (ends_settled : AreSet
     most = let le = all in let heavy = burden_y in omega (arith, le, heavy);
   })
 
-  both_in_8 : x.end.state ≡ TimerRecovery → y.end.state ≡ TimerRecovery → BothLost false (most_moves w) w
+  both_in_8 : x.end.state ≡ TimerRecovery → y.end.state ≡ TimerRecovery → BothLost last (most_moves w) w
   both_in_8 is its_is = record {
     to_user = refl;
     to_network = refl;
@@ -176,17 +170,17 @@ module _ (x y : Station) (i : IsInvariant (at x y [] [])) (ends_settled : AreSet
     ends_settled = ends_settled;
     user_in_8 = is;
     network_in_8 = its_is;
-    user_tries = tries_so x.end.rc x.end.parameters.n200 (x_open.tries is);
-    network_tries = tries_so y.end.rc y.end.parameters.n200 (y_open.tries its_is);
+    user_tries = x_tries is;
+    network_tries = y_tries its_is;
     user_idle = x_free;
     network_idle = y_free;
     most = let le = all in let heavy = burden_x in let heavy_too = burden_y in omega (arith, le, heavy, heavy_too);
   }
 
-  pub draining_begins : Draining false (most_moves w) w
-  draining_begins = by_states x.end.state y.end.state refl refl x_open.open_state y_open.open_state
+  pub draining_begins : Draining last (most_moves w) w
+  draining_begins = by_states x.end.state y.end.state refl refl x_opened y_opened
     where
-      by_states : (a b : State) → x.end.state ≡ a → y.end.state ≡ b → is_7_or_8 a ≡ true → is_7_or_8 b ≡ true → Draining false (most_moves w) w
+      by_states : (a b : State) → x.end.state ≡ a → y.end.state ≡ b → is_7_or_8 a ≡ true → is_7_or_8 b ≡ true → Draining last (most_moves w) w
       by_states MultipleFrameEstablished MultipleFrameEstablished is its_is o p = inl (both_in_7 is its_is)
       by_states TimerRecovery MultipleFrameEstablished is its_is o p = inr (inl (user_in_8 is its_is))
       by_states MultipleFrameEstablished TimerRecovery is its_is o p = inr (inr (inl (network_in_8 is its_is)))
@@ -252,7 +246,7 @@ up_so n begun x y [] (frame ∷ rest) kept d still same = let none = still.to_ne
 -- ---- The theorem, on whole numbers.
 
 begins : (x y : Station) (to_user to_network : List Flight) → IsInvariant (at x y to_user to_network) → IsConsistentWorld Whole (at x y to_user to_network) → AreSettledEnds (at x y to_user to_network) → IsOpenLine (at x y to_user to_network) → Draining false (most_moves (at x y to_user to_network)) (at x y to_user to_network)
-begins x y [] [] i kept ends_settled o = draining_begins x y i ends_settled kept.user.settled kept.network.settled o.user o.network
+begins x y [] [] i kept ends_settled o = draining_begins x y i ends_settled kept.user.settled kept.network.settled false o.user.open_state o.network.open_state (o.user.free o.user.open_state) (o.network.free o.network.open_state) (λ is. tries_so x.end.rc x.end.parameters.n200 (o.user.tries is)) (λ is. tries_so y.end.rc y.end.parameters.n200 (o.network.tries is))
 begins x y (frame ∷ rest) to_network i kept ends_settled o = let none = o.to_user in cc
 begins x y [] (frame ∷ rest) i kept ends_settled o = let none = o.to_network in cc
 

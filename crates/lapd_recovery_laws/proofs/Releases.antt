@@ -292,7 +292,7 @@ released_so : (e : End) → HasTimersOfState e → e.t200 ≡ false → IsReleas
 released_so e has off (inl is) = is
 released_so e has off (inr is) = let on = on_in_6 e has is in cc
 
-empty_in_4 : (s : Station) (x : Party) → x.sends.given ≡ s.end.given → x.sends.first ≡ s.end.first → x.sends.passed ≡ s.history.passed → x.state ≡ TeiAssigned → IsConsistentSender x.state x.asked x.leaving x.sends → x.sends.passed ≡ x.sends.first → AreSettled s.history → left_of s ≡ 0
+pub empty_in_4 : (s : Station) (x : Party) → x.sends.given ≡ s.end.given → x.sends.first ≡ s.end.first → x.sends.passed ≡ s.history.passed → x.state ≡ TeiAssigned → IsConsistentSender x.state x.asked x.leaving x.sends → x.sends.passed ≡ x.sends.first → AreSettled s.history → left_of s ≡ 0
 empty_in_4 s x given first gone is kept passed settled =
     let none : IsEmpty x.sends = subst (λ st. IsConsistentSender st x.asked x.leaving x.sends) is kept in
     let all : x.sends.first ≡ length x.sends.given = none.first in

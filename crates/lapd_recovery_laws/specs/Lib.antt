@@ -1,3 +1,4 @@
+pub mod AfterOutage
 pub mod Agreed
 pub mod LoneLine
 pub mod OpenLine

@@ -8,6 +8,8 @@ ghost use Rattle.lapd_pair_laws.specs.Move.{Move};
 ghost use Rattle.lapd_pair_laws.specs.Settle.{next_move};
 ghost use Rattle.lapd_pair_laws.specs.Worked.{new_pair, busy};
 ghost use Rattle.lapd_pair_laws.specs.World.{new_world, run};
+ghost use Rattle.lapd_recovery_laws.specs.AfterOutage.{IsAfterOutage};
+ghost use Rattle.lapd_recovery_laws.specs.Agreed.{ComesBack};
 ghost use Rattle.lapd_recovery_laws.specs.LoneLine.{IsLoneLine, ComesUpAnew};
 ghost use Rattle.lapd_recovery_laws.specs.OpenLine.{IsOpenLine, ComesUp};
 ghost use Rattle.lapd_recovery_laws.specs.Recovered.{outcome_of, both_sabmes_lost, network_restarts, restarts_with_one_sent, release_unheard, disc_meets_sabme, longest, both_in_7, both_in_4, held_up, IsBusy};
@@ -89,4 +91,17 @@ pub fn every_lone_line_comes_up()
         → user.k ≤ 127 → network.k ≤ 127 → 1 ≤ user.k → 1 ≤ network.k → (moves : List Move)
         → IsLoneLine n200 (run r moves (new_world user network))
         → ComesUpAnew r n200 (run r moves (new_world user network)) }
+{}
+
+/// After an outage every link comes back by itself. Whatever happened before, if no frame is in
+/// transit and no end in state 7 or 8 is own receiver busy, then the line's own moves, in any order,
+/// are at most three per message left, six per retransmission that N200 allows, and eleven more.
+/// Where none is possible any more, both ends agree: both in state 4, or both in state 7 with equal
+/// numbers, and no message is left. The run starts in a new world, on whole numbers or on tags, with
+/// windows of 1 to 127 and either `Recovery`. The argument is at least N200 of both ends, and 1.
+pub fn every_line_comes_back()
+    ensures { (r : Reading) (n200 : ℕ) → 1 ≤ n200 → (user network : Parameters)
+        → user.k ≤ 127 → network.k ≤ 127 → 1 ≤ user.k → 1 ≤ network.k → (moves : List Move)
+        → IsAfterOutage n200 (run r moves (new_world user network))
+        → ComesBack r n200 (run r moves (new_world user network)) }
 {}
