@@ -1,0 +1,471 @@
+-- A line comes back after an outage, by own moves in any order.
+use Rattle.std.proofs.Common.{◌≡◌, ◌⊎◌, inl, inr, ℕ, zero, suc, ◌+◌, ◌*◌, ◌-◌, ◌<◌, ◌≤◌, ◌==◌, nat_lt, not, ◌||◌, Bool, true, false, List, [], ◌∷◌, map, length, refl, sym, ap, subst, ◌∙◌, arith}
+use Rattle.lapd_frame.specs.declared.Side.{Side}
+use Rattle.lapd_frame.specs.declared.Side.TheVariants as side
+use Rattle.lapd_mod128.specs.Counting.{Reading, Whole, Tagged, steps}
+use Rattle.lapd_supervision.specs.Tags.{tag_variables}
+use Rattle.lapd_link_definition.specs.declared.state.State.{State}
+use Rattle.lapd_link_definition.specs.declared.state.State.TheVariants.{TeiAssigned, AwaitingEstablishment, AwaitingRelease, MultipleFrameEstablished, TimerRecovery}
+use Rattle.lapd_link_definition.specs.EndOfStep.{is_7_or_8}
+use Rattle.lapd_link_definition.specs.End.{End, unsent}
+use Rattle.lapd_link_definition.specs.RunningTimers.{AreTimersOf, HasTimersOfState}
+use Rattle.lapd_link_definition.specs.Parameters.{Parameters}
+use Rattle.lapd_link_definition.specs.Sound.{AreOutstanding, AreUnsent, AreAwaiting, IsSoundIn, IsSound}
+use Rattle.lapd_link_definition.specs.Tagging.{tag_end}
+use Rattle.lapd_pair_laws.specs.Consistent.{AreSettled, IsConsistentWorld}
+use Rattle.lapd_pair_laws.specs.Invariant.{IsInvariant}
+use Rattle.lapd_pair_laws.specs.Line.{Flight}
+use Rattle.lapd_pair_laws.specs.Move.{PairEvent, Expire203, Move, Station, View, acts}
+use Rattle.lapd_pair_laws.specs.Parties.{party}
+use Rattle.lapd_pair_laws.specs.Tagged.{tag_flight, tag_world}
+use Rattle.lapd_pair_laws.specs.Timed.{AreSettledEnds}
+use Rattle.lapd_pair_laws.specs.World.{World, swapped, view_of, world_after, happens, new_world, run, left, left_of}
+use Rattle.lapd_pair_laws.specs.Settle.{most_moves}
+use Rattle.lapd_pair_laws.proofs.Consistency.{new_world_consistent, run_consistent}
+use Rattle.lapd_pair_laws.proofs.Drains.{Drains}
+use Rattle.lapd_pair_laws.proofs.EndsPreserved.{stays_sound}
+use Rattle.lapd_pair_laws.proofs.Reached.{reached_tags}
+use Rattle.lapd_pair_laws.proofs.Settled.{left_settled}
+use Rattle.lapd_pair_laws.proofs.SettledEnds.{new_settles, run_settles, move_settles}
+use Rattle.lapd_pair_laws.proofs.Settles.{IsStill}
+use Rattle.lapd_pair_laws.proofs.Stepping.{user_move, network_move}
+use Rattle.lapd_pair_laws.proofs.TaggedMoves.{left_on_tags}
+use Rattle.lapd_pair_laws.proofs.Whole.{each_move_preserves, each_run_preserves}
+use Rattle.lapd_pair_laws.proofs.Worlds.{left_by, new_holds, exchanged}
+use Rattle.lapd_recovery_laws.specs.AfterOutage.{IsAfterOutage}
+use Rattle.lapd_recovery_laws.specs.Agreed.{AreReleased, AreAgreed, ComesBack}
+use Rattle.lapd_recovery_laws.specs.Own.{IsOwn, AreOwn, Rests, IsFree, most_own_moves}
+use Rattle.lapd_recovery_laws.specs.Timers.{HaveTimersOfStates}
+use Rattle.lapd_recovery_laws.proofs.AnyOrder.{Draining, rests_still, rests_drained}
+use Rattle.lapd_recovery_laws.proofs.Cleared.{AreClearIn5, clear_after_move, clear_after_run, new_is_clear}
+use Rattle.lapd_recovery_laws.proofs.Lone.{expires_203_at, due_203, still_swapped, own_203_swapped}
+use Rattle.lapd_recovery_laws.proofs.Lost.{at, with_final, UserLost}
+use Rattle.lapd_recovery_laws.proofs.LostMoves.{moved_user, moved_network}
+use Rattle.lapd_recovery_laws.proofs.OpenLine.{draining_begins, up_so}
+use Rattle.lapd_recovery_laws.proofs.Outage.{Facts, coming_moves}
+use Rattle.lapd_recovery_laws.proofs.OwnOnTags.{are_own_by_tags, rests_by_tags, ran_on_tags, agreed_on_tags}
+use Rattle.lapd_recovery_laws.proofs.Releases.{empty_in_4}
+use Rattle.lapd_recovery_laws.proofs.SendsOn.{AreIgnored}
+use Rattle.lapd_recovery_laws.proofs.Situations.{tries, twice, attempt_in, attempt, gone_in, gone, again_in, again, finds_in, finds, polls_in, polls, Alone4, Alone5, Alone6, Closed, Half, alone_4, alone_5, alone_6, asks_5, asks_6, accepted, crossed, refused, parting, closed, Coming}
+use Rattle.lapd_recovery_laws.proofs.TimersOfRuns.{new_has_timers, timers_after_move, timers_after_run}
+use Rattle.lapd_recovery_laws.proofs.Transitions.{timers_in}
+
+-- ---- What each move keeps.
+
+same_parameters : (move : Move) (w : World) → IsInvariant w → ((world_after w (happens Whole move w)).user.end.parameters ≡ w.user.end.parameters) × ((world_after w (happens Whole move w)).network.end.parameters ≡ w.network.end.parameters)
+same_parameters move w i = by_side move.side move.event
+  where
+    by_side : (s : Side) (event : PairEvent) → ((world_after w (happens Whole (record { side = s; event = event }) w)).user.end.parameters ≡ w.user.end.parameters) × ((world_after w (happens Whole (record { side = s; event = event }) w)).network.end.parameters ≡ w.network.end.parameters)
+    by_side side.User event = (ap (λ (u : World). u.user.end.parameters) (moved_user event w) ∙ (stays_sound (view_of side.User w) i.user_window i.user_sound event).parameters, ap (λ (u : World). u.network.end.parameters) (moved_user event w))
+    by_side side.Network event = (ap (λ (u : World). u.user.end.parameters) (moved_network event w), ap (λ (u : World). u.network.end.parameters) (moved_network event w) ∙ (stays_sound (view_of side.User (swapped w)) i.network_window i.network_sound event).parameters)
+
+facts_after : (N : ℕ) (move : Move) (w : World) → Facts N w → Facts N (world_after w (happens Whole move w))
+facts_after N move w f =
+    let same = same_parameters move w f.holds in
+    record {
+      holds = each_move_preserves move w f.holds;
+      settled = move_settles move w f.settled;
+      have = timers_after_move move w f.have;
+      clear = clear_after_move move w f.clear;
+      few_user = subst (λ (p : Parameters). p.n200 ≤ N) (sym same.0) f.few_user;
+      few_network = subst (λ (p : Parameters). p.n200 ≤ N) (sym same.1) f.few_network;
+    }
+
+record Reaches (N n : ℕ) (moves : List Move) (now : World) : Type 0 where
+  few : length moves ≤ n
+  coming : Coming N (n - length moves) now
+  facts : Facts N now
+
+own_moves_reach : (N : ℕ) → 1 ≤ N → (n : ℕ) (w : World) (moves : List Move) → Coming N n w → Facts N w → AreOwn Whole moves w → Reaches N n moves (run Whole moves w)
+own_moves_reach N some n w [] c f own = let same : n ≡ n - 0 = omega arith in record { few = omega arith; coming = subst (λ m. Coming N m w) same c; facts = f }
+own_moves_reach N some n w (move ∷ moves) c f own =
+    let one = coming_moves N some n move.side move.event w c f own.0 in
+    let now = world_after w (happens Whole move w) in
+    let rest = own_moves_reach N some (n - 1) now moves one.coming (facts_after N move w f) own.1 in
+    let fewer : n - 1 - length moves ≡ n - length (move ∷ moves) = omega arith in
+    record {
+      few = let some_left = one.some in let few = rest.few in omega (arith, some_left, few);
+      coming = subst (λ m. Coming N m (run Whole moves now)) fewer rest.coming;
+      facts = rest.facts;
+    }
+
+-- ---- Where no own move is possible, the ends agree.
+
+half_rests : (N n : ℕ) (w : World) → Half N n w → HaveTimersOfStates w → IsStill w → (IsOwn Whole (user_move Expire203) w → ⊥) → Closed N n w
+half_rests N n w (alone_4 s) have still rests = by_state w.user.end.state refl s.open_state
+  where
+    by_state : (state : State) → w.user.end.state ≡ state → is_7_or_8 state ≡ true → Closed N n w
+    by_state MultipleFrameEstablished is o =
+        let on : w.user.end.t203 ≡ true = (timers_in MultipleFrameEstablished w.user.end have.user is).0 ∙ ap not still.user in
+        absurd (rests (record { due = due_203 w still is s.network; admitted = expires_203_at side.User w on }))
+    by_state TimerRecovery is o = let on = (timers_in TimerRecovery w.user.end have.user is).0 in let off = still.user in cc
+    by_state TeiAssigned is o = cc
+    by_state AwaitingEstablishment is o = cc
+    by_state AwaitingRelease is o = cc
+half_rests N n w (alone_5 s) have still rests = let on = (timers_in AwaitingEstablishment w.network.end have.network s.network).0 in let off = still.network in cc
+half_rests N n w (alone_6 s) have still rests = let on = (timers_in AwaitingRelease w.network.end have.network s.network).0 in let off = still.network in cc
+half_rests N n w (asks_5 s) have still rests = let none = still.to_network in let some = s.to_network in cc
+half_rests N n w (asks_6 s) have still rests = let none = still.to_network in let some = s.to_network in cc
+half_rests N n w (accepted s) have still rests = let none = still.to_user in let some = s.to_user in cc
+half_rests N n w (crossed s) have still rests = let none = still.to_user in let some = s.to_user in cc
+half_rests N n w (refused s) have still rests = let none = still.to_user in let some = s.to_user in cc
+half_rests N n w (parting s) have still rests = let on = (timers_in AwaitingRelease w.user.end have.user s.user).0 in let off = still.user in cc
+half_rests N n w (closed s) have still rests = s
+
+in_state_4 : (e : End) → HasTimersOfState e → is_7_or_8 e.state ≡ false → e.t200 ≡ false → e.state ≡ TeiAssigned
+in_state_4 e has c off = by_state e.state refl c
+  where
+    by_state : (state : State) → e.state ≡ state → is_7_or_8 state ≡ false → e.state ≡ TeiAssigned
+    by_state TeiAssigned is c = is
+    by_state AwaitingEstablishment is c = let on = (timers_in AwaitingEstablishment e has is).0 in cc
+    by_state AwaitingRelease is c = let on = (timers_in AwaitingRelease e has is).0 in cc
+    by_state MultipleFrameEstablished is c = cc
+    by_state TimerRecovery is c = cc
+
+closed_agree : (w : World) → IsInvariant w → IsConsistentWorld Whole w → HaveTimersOfStates w → IsStill w → is_7_or_8 w.user.end.state ≡ false → is_7_or_8 w.network.end.state ≡ false → AreAgreed w
+closed_agree w i kept have still user network =
+    let mine = in_state_4 w.user.end have.user user still.user in
+    let its = in_state_4 w.network.end have.network network still.network in
+    let left_x = empty_in_4 w.user (party i.user_base w.user) refl refl refl mine i.both.mine.kept i.both.mine.passed kept.user.settled in
+    let left_y = empty_in_4 w.network (party i.network_base w.network) refl refl refl its i.both.its.kept i.both.its.passed kept.network.settled in
+    record {
+      to_user = still.to_user;
+      to_network = still.to_network;
+      empty = omega (arith, left_x, left_y);
+      user_stopped = still.user;
+      network_stopped = still.network;
+      ends = inl (record { mine = mine; its = its });
+    }
+
+agreed_at_rest : (N n : ℕ) (w : World) → Coming N n w → Facts N w → IsConsistentWorld Whole w → IsStill w → Rests Whole w → AreAgreed w
+agreed_at_rest N n w (inl d) f kept still rests = (up_so n w w.user w.network w.to_user w.to_network kept (rests_drained true n w d f.have still) still (record { user = refl; network = refl })).agreed
+agreed_at_rest N n w (inr (inl l)) f kept still rests = let s = half_rests N n w l f.have still (λ own. rests (user_move Expire203) own) in closed_agree w f.holds kept f.have still s.user s.network
+agreed_at_rest N n w (inr (inr l)) f kept still rests =
+    let s = half_rests N n (swapped w) l (record { user = f.have.network; network = f.have.user }) (still_swapped w still) (λ own. rests (network_move Expire203) (own_203_swapped w own)) in
+    closed_agree w f.holds kept f.have still s.network s.user
+
+-- ---- The start.
+
+-- unsent messages are left
+unsent_sound : (e : End) → IsSound Whole e → unsent e ≤ length e.given - e.first
+unsent_sound e sound = by_state e.state refl
+  where
+    by_unsent : AreUnsent e.first e.next (length e.given) → unsent e ≤ length e.given - e.first
+    by_unsent a = let places = a.places in omega (arith, places)
+
+    by_outstanding : AreOutstanding Whole e.first e.next (length e.given) e.window.va e.window.vs → unsent e ≤ length e.given - e.first
+    by_outstanding a = let places = a.places in omega (arith, places)
+
+    by_awaiting : (asked leaving : Bool) → AreAwaiting Whole asked leaving e.first e.next (length e.given) e.window.va e.window.vs → unsent e ≤ length e.given - e.first
+    by_awaiting true leaving a = by_unsent a
+    by_awaiting false true a = by_unsent a
+    by_awaiting false false a = by_outstanding a
+
+    by_state : (state : State) → e.state ≡ state → unsent e ≤ length e.given - e.first
+    by_state TeiAssigned is = by_unsent (subst (λ st. IsSoundIn Whole st e) is sound)
+    by_state AwaitingEstablishment is = by_awaiting e.layer3_initiated e.release_pending (subst (λ st. IsSoundIn Whole st e) is sound)
+    by_state AwaitingRelease is = by_unsent (subst (λ st. IsSoundIn Whole st e) is sound)
+    by_state MultipleFrameEstablished is = by_outstanding (subst (λ st. IsSoundIn Whole st e) is sound)
+    by_state TimerRecovery is = by_outstanding (subst (λ st. IsSoundIn Whole st e) is sound)
+
+user_left : (w : World) → IsInvariant w → AreSettled w.user.history → unsent w.user.end ≤ left_of w.user
+user_left w i settled = let all = left_settled w.user settled in let few = unsent_sound w.user.end i.user_sound in let passed : w.user.history.passed ≡ w.user.end.first = i.both.mine.passed in omega (arith, all, few, passed)
+
+network_left : (w : World) → IsInvariant w → AreSettled w.network.history → unsent w.network.end ≤ left_of w.network
+network_left w i settled = let all = left_settled w.network settled in let few = unsent_sound w.network.end i.network_sound in let passed : w.network.history.passed ≡ w.network.end.first = i.both.its.passed in omega (arith, all, few, passed)
+
+-- bounds of the weights
+attempt_few : (state : State) (tried leaving : Bool) → attempt_in state tried leaving ≤ 5
+attempt_few AwaitingEstablishment true true = omega arith
+attempt_few AwaitingEstablishment true false = omega arith
+attempt_few AwaitingEstablishment false leaving = omega arith
+attempt_few AwaitingRelease true leaving = omega arith
+attempt_few AwaitingRelease false leaving = omega arith
+attempt_few TeiAssigned tried leaving = omega arith
+attempt_few MultipleFrameEstablished tried leaving = omega arith
+attempt_few TimerRecovery tried leaving = omega arith
+
+-- an end at its last try has one attempt, else it leaves nobody alone
+last_few : (N : ℕ) (state : State) (tried leaving : Bool) → (gone_in N tried ≡ 0) ⊎ ((attempt_in state tried leaving ≤ 1) × (gone_in N tried ≡ 2 * N + 5))
+last_few N state true leaving = inl refl
+last_few N AwaitingEstablishment false leaving = inr (omega arith, refl)
+last_few N AwaitingRelease false leaving = inr (omega arith, refl)
+last_few N TeiAssigned false leaving = inr (omega arith, refl)
+last_few N MultipleFrameEstablished false leaving = inr (omega arith, refl)
+last_few N TimerRecovery false leaving = inr (omega arith, refl)
+
+again_or_none : (N : ℕ) (same : Bool) (u : ℕ) → (again_in N same u ≡ 0) ⊎ ((again_in N same u ≡ 2 * N + 3) × (1 ≤ u))
+again_or_none N true zero = inl refl
+again_or_none N true (suc u) = inr (refl, omega arith)
+again_or_none N false u = inl refl
+
+finds_few : (N : ℕ) (state : State) (left : ℕ) → left ≤ N → finds_in N state left ≤ 2 * N + 5
+finds_few N TimerRecovery left few = omega (arith, few)
+finds_few N TeiAssigned left few = omega arith
+finds_few N AwaitingEstablishment left few = omega arith
+finds_few N AwaitingRelease left few = omega arith
+finds_few N MultipleFrameEstablished left few = omega arith
+
+polls_few : (N : ℕ) (state : State) (t200 : Bool) (left : ℕ) → left ≤ N → polls_in N state t200 left ≤ 2 * N + 3
+polls_few N TimerRecovery t200 left few = omega (arith, few)
+polls_few N TeiAssigned true left few = omega arith
+polls_few N TeiAssigned false left few = omega arith
+polls_few N AwaitingEstablishment true left few = omega arith
+polls_few N AwaitingEstablishment false left few = omega arith
+polls_few N AwaitingRelease true left few = omega arith
+polls_few N AwaitingRelease false left few = omega arith
+polls_few N MultipleFrameEstablished true left few = omega arith
+polls_few N MultipleFrameEstablished false left few = omega arith
+
+module _ (N : ℕ) (some : 1 ≤ N) (x y : Station) (i : IsInvariant (at x y [] [])) (x_settled : AreSettled x.history) (y_settled : AreSettled y.history) (few_x : x.end.parameters.n200 ≤ N) (few_y : y.end.parameters.n200 ≤ N) where
+  abbrev w : World
+  w = at x y [] []
+
+  abbrev n : ℕ
+  n = most_own_moves N w
+
+  mine : unsent x.end ≤ left_of x
+  mine = user_left w i x_settled
+
+  its : unsent y.end ≤ left_of y
+  its = network_left w i y_settled
+
+  finds_x : finds N x.end ≤ 2 * N + 5
+  finds_x = finds_few N x.end.state (x.end.parameters.n200 - x.end.rc) (omega (arith, few_x))
+
+  polls_x : polls N x.end ≤ 2 * N + 3
+  polls_x = polls_few N x.end.state x.end.t200 (x.end.parameters.n200 - x.end.rc) (omega (arith, few_x))
+
+  attempt_x : attempt x.end ≤ 5
+  attempt_x = attempt_few x.end.state (tries x.end) x.end.release_pending
+
+  attempt_y : attempt y.end ≤ 5
+  attempt_y = attempt_few y.end.state (tries y.end) y.end.release_pending
+
+  weight_5 : 2 * unsent x.end + 2 * unsent y.end + attempt y.end + gone N y.end + polls N x.end + again N x.end ≤ n
+  weight_5 = by_both (last_few N y.end.state (tries y.end) y.end.release_pending) (again_or_none N (x.end.window.vs == x.end.window.va) (unsent x.end))
+    where
+      by_both : (gone N y.end ≡ 0) ⊎ ((attempt y.end ≤ 1) × (gone N y.end ≡ 2 * N + 5)) → (again N x.end ≡ 0) ⊎ ((again N x.end ≡ 2 * N + 3) × (1 ≤ unsent x.end)) → 2 * unsent x.end + 2 * unsent y.end + attempt y.end + gone N y.end + polls N x.end + again N x.end ≤ n
+      by_both (inl none) (inl nothing) = omega (arith, none, nothing, mine, its, polls_x, attempt_y, some)
+      by_both (inl none) (inr sends) = let a = sends.0 in omega (arith, none, a, mine, its, polls_x, attempt_y, some)
+      by_both (inr last) (inl nothing) = let a = last.0 in let g = last.1 in omega (arith, a, g, nothing, mine, its, polls_x, some)
+      by_both (inr last) (inr sends) = let a = last.0 in let g = last.1 in let b = sends.0 in let u = sends.1 in omega (arith, a, g, b, u, mine, its, polls_x, some)
+
+  alone_begins : is_7_or_8 x.end.state ≡ true → is_7_or_8 y.end.state ≡ false → Half N n w
+  alone_begins opened c = by_state y.end.state refl c
+    where
+      by_state : (state : State) → y.end.state ≡ state → is_7_or_8 state ≡ false → Half N n w
+      by_state TeiAssigned is c = alone_4 (record { open_state = opened; network = is; to_user = refl; ignored = tt; most = omega (arith, mine, its, finds_x, some) })
+      by_state AwaitingEstablishment is c = alone_5 (record { open_state = opened; network = is; to_user = refl; ignored = tt; most = let le = weight_5 in omega (arith, le) })
+      by_state AwaitingRelease is c = alone_6 (record { open_state = opened; network = is; to_user = refl; ignored = tt; most = omega (arith, mine, its, finds_x, attempt_y, some) })
+      by_state MultipleFrameEstablished is c = cc
+      by_state TimerRecovery is c = cc
+
+  -- the greater one
+  record Most (a b : ℕ) : Type 0 where
+    value : ℕ
+    first_few : a ≤ value
+    second_few : b ≤ value
+    one : (value ≡ a) ⊎ (value ≡ b)
+
+  greater : (a b : ℕ) → a ≤ b ⊎ b ≤ a → Most a b
+  greater a b (inl less) = record { value = b; first_few = less; second_few = omega arith; one = inr refl }
+  greater a b (inr less) = record { value = a; first_few = omega arith; second_few = less; one = inl refl }
+
+  ordered : (a b : ℕ) → a ≤ b ⊎ b ≤ a
+  ordered a b = grind arith
+
+  record Extra (u : ℕ) : Type 0 where
+    sends : ℕ
+    sends_x : again N x.end ≤ sends
+    sends_y : again N y.end ≤ sends
+    either_sends : (sends ≡ 0) ⊎ ((sends ≡ 2 * N + 3) × (1 ≤ u))
+    leaves : ℕ
+    leaves_x : gone N x.end ≤ leaves
+    leaves_y : gone N y.end ≤ leaves
+    either_leaves : (leaves ≡ 0) ⊎ ((leaves ≡ 2 * N + 5) × (attempt x.end + attempt y.end ≤ 6))
+
+  extra : Extra (unsent x.end + unsent y.end)
+  extra =
+      let s = greater (again N x.end) (again N y.end) (ordered (again N x.end) (again N y.end)) in
+      let l = greater (gone N x.end) (gone N y.end) (ordered (gone N x.end) (gone N y.end)) in
+      record {
+        sends = s.value;
+        sends_x = s.first_few;
+        sends_y = s.second_few;
+        either_sends = by_sends s.value s.one;
+        leaves = l.value;
+        leaves_x = l.first_few;
+        leaves_y = l.second_few;
+        either_leaves = by_leaves l.value l.one;
+      }
+    where
+      by_sends : (v : ℕ) → (v ≡ again N x.end) ⊎ (v ≡ again N y.end) → (v ≡ 0) ⊎ ((v ≡ 2 * N + 3) × (1 ≤ unsent x.end + unsent y.end))
+      by_sends v (inl same) = elim (again_or_none N (x.end.window.vs == x.end.window.va) (unsent x.end)) [
+        | inl none ↦ inl (same ∙ none)
+        | inr sends ↦ inr (same ∙ sends.0, let u = sends.1 in omega (arith, u))
+      ]
+      by_sends v (inr same) = elim (again_or_none N (y.end.window.vs == y.end.window.va) (unsent y.end)) [
+        | inl none ↦ inl (same ∙ none)
+        | inr sends ↦ inr (same ∙ sends.0, let u = sends.1 in omega (arith, u))
+      ]
+
+      by_leaves : (v : ℕ) → (v ≡ gone N x.end) ⊎ (v ≡ gone N y.end) → (v ≡ 0) ⊎ ((v ≡ 2 * N + 5) × (attempt x.end + attempt y.end ≤ 6))
+      by_leaves v (inl same) = elim (last_few N x.end.state (tries x.end) x.end.release_pending) [
+        | inl none ↦ inl (same ∙ none)
+        | inr last ↦ inr (same ∙ last.1, let a = last.0 in omega (arith, a, attempt_y))
+      ]
+      by_leaves v (inr same) = elim (last_few N y.end.state (tries y.end) y.end.release_pending) [
+        | inl none ↦ inl (same ∙ none)
+        | inr last ↦ inr (same ∙ last.1, let a = last.0 in omega (arith, a, attempt_x))
+      ]
+
+  closed_begins : is_7_or_8 x.end.state ≡ false → is_7_or_8 y.end.state ≡ false → Half N n w
+  closed_begins c d =
+      let e = extra in
+      closed (record {
+        user = c;
+        network = d;
+        to_user = refl;
+        to_network = refl;
+        sends = e.sends;
+        leaves = e.leaves;
+        both = λ in_5 its_in_5. (e.sends_x, e.sends_y, e.leaves_x, e.leaves_y);
+        most = by_both e.sends e.leaves e.either_sends e.either_leaves;
+      })
+    where
+      by_both : (sends leaves : ℕ) → (sends ≡ 0) ⊎ ((sends ≡ 2 * N + 3) × (1 ≤ unsent x.end + unsent y.end)) → (leaves ≡ 0) ⊎ ((leaves ≡ 2 * N + 5) × (attempt x.end + attempt y.end ≤ 6))
+          → attempt x.end + attempt y.end + 2 * unsent x.end + 2 * unsent y.end + sends + leaves ≤ n
+      by_both sends leaves (inl none) (inl nothing) = omega (arith, none, nothing, mine, its, attempt_x, attempt_y, some)
+      by_both sends leaves (inl none) (inr last) = let l = last.0 in let a = last.1 in omega (arith, none, l, a, mine, its, some)
+      by_both sends leaves (inr again_) (inl nothing) = let s = again_.0 in omega (arith, s, nothing, mine, its, attempt_x, attempt_y, some)
+      by_both sends leaves (inr again_) (inr last) = let s = again_.0 in let u = again_.1 in let l = last.0 in let a = last.1 in omega (arith, s, u, l, a, mine, its, some)
+
+-- ---- The theorem, on whole numbers.
+
+-- more work may remain
+drains_more : (n m : ℕ) (w : World) → n ≤ m → Drains n w → Drains m w
+drains_more n m w less d =
+    let s = d.sees in
+    let f = s.flow in
+    record {
+      holds = d.holds;
+      ends_settled = d.ends_settled;
+      sees = record { flow = record { a = f.a; b = f.b; mine = f.mine; its = f.its; most = let le = f.most in omega (arith, le, less) }; idle = s.idle; its_idle = s.its_idle; going = s.going; coming = s.coming };
+    }
+
+lost_more : (n m : ℕ) (w : World) → n ≤ m → UserLost true n w → UserLost true m w
+lost_more n m w less l = record { holds = l.holds; in_8 = l.in_8; tries = l.tries; two = let two = l.two in omega (arith, two, less); drains = drains_more (n - 2) (m - 2) (with_final w) (omega (arith, less)) l.drains }
+
+weaker : (n m : ℕ) (w : World) → n ≤ m → Draining true n w → Draining true m w
+weaker n m w less (inl d) = inl (drains_more n m w less d)
+weaker n m w less (inr (inl l)) = inr (inl (lost_more n m w less l))
+weaker n m w less (inr (inr (inl l))) = inr (inr (inl (lost_more n m (swapped w) less l)))
+weaker n m w less (inr (inr (inr l))) = inr (inr (inr (record {
+  to_user = l.to_user;
+  to_network = l.to_network;
+  holds = l.holds;
+  ends_settled = l.ends_settled;
+  user_in_8 = l.user_in_8;
+  network_in_8 = l.network_in_8;
+  user_tries = l.user_tries;
+  network_tries = l.network_tries;
+  user_idle = l.user_idle;
+  network_idle = l.network_idle;
+  most = let le = l.most in omega (arith, le, less);
+})))
+
+both_begin : (N : ℕ) → 1 ≤ N → (x y : Station) → IsInvariant (at x y [] []) → IsConsistentWorld Whole (at x y [] []) → AreSettledEnds (at x y [] []) → IsFree x.end → IsFree y.end → x.end.parameters.n200 ≤ N → y.end.parameters.n200 ≤ N → Coming N (most_own_moves N (at x y [] [])) (at x y [] [])
+both_begin N some x y i kept settled x_free y_free few_x few_y = by_open (is_7_or_8 x.end.state) (is_7_or_8 y.end.state) refl refl
+  where
+    w : World
+    w = at x y [] []
+
+    more : Draining true (most_moves w) w → Draining true (most_own_moves N w) w
+    more d = weaker (most_moves w) (most_own_moves N w) w (omega arith) d
+
+    swapped_bound : most_own_moves N (swapped w) ≡ most_own_moves N w
+    swapped_bound = omega arith
+
+    by_open : (a b : Bool) → is_7_or_8 x.end.state ≡ a → is_7_or_8 y.end.state ≡ b → Coming N (most_own_moves N (at x y [] [])) (at x y [] [])
+    by_open true true o p = inl (more (draining_begins x y i settled kept.user.settled kept.network.settled true o p (x_free o) (y_free p) (λ _. refl) (λ _. refl)))
+    by_open true false o c = inr (inl (alone_begins N some x y i kept.user.settled kept.network.settled few_x few_y o c))
+    by_open false true c o = inr (inr (subst (λ m. Half N m (swapped w)) swapped_bound (alone_begins N some y x (exchanged w i) kept.network.settled kept.user.settled few_y few_x o c)))
+    by_open false false c d = inr (inl (closed_begins N some x y i kept.user.settled kept.network.settled few_x few_y c d))
+
+begins : (N : ℕ) → 1 ≤ N → (x y : Station) (to_user to_network : List Flight) → IsInvariant (at x y to_user to_network) → IsConsistentWorld Whole (at x y to_user to_network) → AreSettledEnds (at x y to_user to_network) → IsAfterOutage N (at x y to_user to_network) → Coming N (most_own_moves N (at x y to_user to_network)) (at x y to_user to_network)
+begins N some x y [] [] i kept settled a = both_begin N some x y i kept settled a.user_free a.network_free a.user_retries a.network_retries
+begins N some x y (f ∷ fs) to_network i kept settled a = let none = a.to_user in cc
+begins N some x y [] (f ∷ fs) i kept settled a = let none = a.to_network in cc
+
+pub line_comes_back : (N : ℕ) → 1 ≤ N → (w : World) → IsInvariant w → IsConsistentWorld Whole w → AreSettledEnds w → HaveTimersOfStates w → AreClearIn5 w → IsAfterOutage N w → ComesBack Whole N w
+line_comes_back N some w i kept settled have clear a =
+    let n = most_own_moves N w in
+    let c = begins N some w.user w.network w.to_user w.to_network i kept settled a in
+    let f : Facts N w = record { holds = i; settled = settled; have = have; clear = clear; few_user = a.user_retries; few_network = a.network_retries } in
+    record {
+      few = λ moves own. (own_moves_reach N some n w moves c f own).few;
+      agreed = λ moves own rests.
+          let now = run Whole moves w in
+          let reached = own_moves_reach N some n w moves c f own in
+          let still = rests_still now.user now.network now.to_user now.to_network rests in
+          agreed_at_rest N (n - length moves) now reached.coming reached.facts (run_consistent Whole moves w kept) still rests;
+    }
+
+-- ---- After every run, on whole numbers and on tags.
+
+comes_back_on_tags : (N : ℕ) (w : World) → IsInvariant w → IsConsistentWorld Whole w → ComesBack Whole N w → ComesBack Tagged N (tag_world w)
+comes_back_on_tags N w i kept c = record {
+  few = λ moves own.
+      let most : most_own_moves N (tag_world w) ≡ most_own_moves N w = ap (λ l. 3 * l + 6 * N + 11) (left_on_tags w) in
+      let few = c.few moves (are_own_by_tags moves w i kept own) in
+      omega (arith, most, few);
+  agreed = λ moves own rests.
+      let now = run Whole moves w in
+      let same : run Tagged moves (tag_world w) ≡ tag_world now = ran_on_tags moves w i kept in
+      let still : Rests Whole now = rests_by_tags now (each_run_preserves moves w i) (run_consistent Whole moves w kept) (subst (λ v. Rests Tagged v) same rests) in
+      subst AreAgreed (sym same) (agreed_on_tags now (c.agreed moves (are_own_by_tags moves w i kept own) still));
+}
+
+unmapped : (l : List Flight) → map tag_flight l ≡ [] → l ≡ []
+unmapped [] none = refl
+unmapped (f ∷ fs) none = cc
+
+free_by_tags : (e : End) → IsFree (tag_end e) → IsFree e
+unfolding tag_variables
+free_by_tags e free = free
+
+after_outage_by_tags : (N : ℕ) (w : World) → IsAfterOutage N (tag_world w) → IsAfterOutage N w
+after_outage_by_tags N w a = record {
+  to_user = unmapped w.to_user a.to_user;
+  to_network = unmapped w.to_network a.to_network;
+  user_free = free_by_tags w.user.end a.user_free;
+  network_free = free_by_tags w.network.end a.network_free;
+  user_retries = a.user_retries;
+  network_retries = a.network_retries;
+}
+
+module _ (N : ℕ) (some : 1 ≤ N) (user network : Parameters) (user_small : user.k ≤ 127) (network_small : network.k ≤ 127) (user_some : 1 ≤ user.k) (network_some : 1 ≤ network.k) (moves : List Move) where
+  abbrev start : World
+  start = new_world user network
+
+  abbrev reached : World
+  reached = run Whole moves start
+
+  holds : IsInvariant reached
+  holds = each_run_preserves moves start (new_holds user network user_small network_small)
+
+  kept : IsConsistentWorld Whole reached
+  kept = run_consistent Whole moves start (new_world_consistent Whole user network user_small network_small)
+
+  back_whole : IsAfterOutage N reached → ComesBack Whole N reached
+  back_whole a = let c = line_comes_back N some reached holds kept (run_settles moves start (new_settles user network user_some network_some)) (timers_after_run moves start (new_has_timers user network)) (clear_after_run moves start (new_is_clear user network)) a in c
+
+  comes_back_by : (r : Reading) → IsAfterOutage N (run r moves (new_world user network)) → ComesBack r N (run r moves (new_world user network))
+  comes_back_by Whole a = back_whole a
+  comes_back_by Tagged a =
+      let same : run Tagged moves (new_world user network) ≡ tag_world reached = reached_tags user network user_small network_small moves in
+      subst (λ w. ComesBack Tagged N w) (sym same) (comes_back_on_tags N reached holds kept (back_whole (after_outage_by_tags N reached (subst (λ w. IsAfterOutage N w) same a))))
+
+pub every_line_comes_back : (r : Reading) (n200 : ℕ) → 1 ≤ n200 → (user network : Parameters) → user.k ≤ 127 → network.k ≤ 127 → 1 ≤ user.k → 1 ≤ network.k → (moves : List Move) → IsAfterOutage n200 (run r moves (new_world user network)) → ComesBack r n200 (run r moves (new_world user network))
+every_line_comes_back r n200 some user network u n us ns moves a = comes_back_by n200 some user network u n us ns moves r a

@@ -1,0 +1,322 @@
+-- The own moves of an open line, in any order: each reduces the remaining work.
+use Rattle.std.proofs.Common.{◌≡◌, ◌⊎◌, inl, inr, ℕ, ◌+◌, ◌-◌, ◌<◌, ◌≤◌, nat_lt, not, ◌&&◌, ◌||◌, Bool, true, false, List, [], ◌∷◌, ◌++◌, length, Option, Some, None, Result, Ok, Err, is_ok, refl, sym, ap, subst, ◌∙◌, arith}
+use Rattle.lapd_frame.specs.declared.Side.{Side}
+use Rattle.lapd_frame.specs.declared.Side.TheVariants as side
+use Rattle.lapd_mod128.specs.Counting.{Whole}
+use Rattle.lapd_link_definition.specs.declared.state.State.{State}
+use Rattle.lapd_link_definition.specs.declared.state.State.TheVariants.{MultipleFrameEstablished, TimerRecovery}
+use Rattle.lapd_link_definition.specs.EndOfStep.{is_established}
+use Rattle.lapd_link_definition.specs.End.{End}
+use Rattle.lapd_link_definition.specs.RunningTimers.{AreTimersOf, HasTimersOfState}
+use Rattle.lapd_link_definition.specs.Table.{step}
+use Rattle.lapd_link_definition.proofs.Sending.{both_true}
+use Rattle.lapd_pair_laws.specs.Line.{Flight, first_poll, first_final}
+use Rattle.lapd_pair_laws.specs.Move.{PairEvent, Give, Establish, Release, Deliver, Lose, Expire200, Expire203, Busy, UnitData, Restart, Move, Station, View, ViewStep, Refusal, acts, receives, delivers, takes, expires_200, expires_203, unless_under_way}
+use Rattle.lapd_pair_laws.specs.World.{World, swapped, view_of, in_world, with_view, world_after, happens, run}
+use Rattle.lapd_pair_laws.specs.Kinds.{Kind, kinds}
+use Rattle.lapd_pair_laws.specs.Invariant.{IsInvariant}
+use Rattle.lapd_pair_laws.specs.Timed.{AreSettledEnds}
+use Rattle.lapd_pair_laws.proofs.Drains.{Seen, Drains, drains_swapped, seen_delivered, preserved_delivered, mine_open, turned}
+use Rattle.lapd_pair_laws.proofs.DrainsByT200.{seen_expired, preserved_expired}
+use Rattle.lapd_pair_laws.proofs.Flow.{Source, Sink, source, sink, Stage, Clean, Waiting, Polling, Answered, IsAt, burden, weight, Stream, Flow, IsInTransit}
+use Rattle.lapd_pair_laws.proofs.Moves.{after_by_user}
+use Rattle.lapd_pair_laws.proofs.SettledEnds.{move_settles}
+use Rattle.lapd_pair_laws.proofs.Settles.{SameDropped, IsStill}
+use Rattle.lapd_pair_laws.proofs.Stepping.{user_move, network_move}
+use Rattle.lapd_pair_laws.proofs.Swaps.{network_alike}
+use Rattle.lapd_pair_laws.proofs.Whole.{each_move_preserves}
+use Rattle.lapd_pair_laws.proofs.Worlds.{left_by}
+use Rattle.lapd_recovery_laws.specs.Own.{are_apart, is_line_empty, is_due, IsOwn, AreOwn, Rests}
+use Rattle.lapd_recovery_laws.specs.Timers.{HaveTimersOfStates}
+use Rattle.lapd_recovery_laws.proofs.Lost.{at, UserLost}
+use Rattle.lapd_recovery_laws.proofs.LostMoves.{moved_user, moved_network, lost_user_receives, lost_user_receives_dropped, lost_peer_receives, lost_peer_receives_dropped}
+use Rattle.lapd_recovery_laws.proofs.LostExpires.{BothLost, both_swapped, lost_user_expires, lost_user_expires_dropped, lost_peer_expires, lost_peer_expires_dropped, both_lost_expires, both_lost_expires_dropped}
+use Rattle.lapd_recovery_laws.proofs.TimersOfRuns.{timers_after_move}
+
+-- neither end is lost, one is, or both are; n bounds the remaining work
+abbrev pub Draining : Bool → ℕ → World → Type 0
+Draining last n w = Drains n w ⊎ (UserLost last n w ⊎ (UserLost last n (swapped w) ⊎ BothLost last n w))
+
+pub draining_swapped : (last : Bool) (n : ℕ) (w : World) → Draining last n w → Draining last n (swapped w)
+draining_swapped last n w (inl d) = inl (drains_swapped n w d)
+draining_swapped last n w (inr (inl l)) = inr (inr (inl l))
+draining_swapped last n w (inr (inr (inl l))) = inr (inl l)
+draining_swapped last n w (inr (inr (inr l))) = inr (inr (inr (both_swapped last n w l)))
+
+-- one own move
+pub record Moves (last : Bool) (n : ℕ) (w now : World) : Type 0 where
+  pub some : 1 ≤ n
+  pub draining : Draining last (n - 1) now
+  pub kept : SameDropped w now
+
+lost_or_not : (last : Bool) (n : ℕ) (w : World) → UserLost last n w ⊎ Drains n w → Draining last n w
+lost_or_not last n w (inl l) = inr (inl l)
+lost_or_not last n w (inr d) = inl d
+
+-- the same of the sides exchanged
+moves_swapped : (last : Bool) (n : ℕ) (event : PairEvent) (w : World) → Moves last n (swapped w) (world_after (swapped w) (happens Whole (user_move event) (swapped w))) → Moves last n w (world_after w (happens Whole (network_move event) w))
+moves_swapped last n event w m =
+    let now = world_after (swapped w) (happens Whole (user_move event) (swapped w)) in
+    subst (λ v. Moves last n w v) (sym (network_alike Whole event w)) (record {
+      some = m.some;
+      draining = draining_swapped last (n - 1) now m.draining;
+      kept = record { user = m.kept.network; network = m.kept.user };
+    })
+
+-- ---- A frame is delivered.
+
+drains_on : (n : ℕ) (event : PairEvent) (w : World) → Drains n w → Seen (n - 1) (left_by (view_of side.User w) (acts Whole side.User event (view_of side.User w))) w.network → Drains (n - 1) (world_after w (happens Whole (user_move event) w))
+drains_on n event w d s =
+    let same = moved_user event w in
+    subst (λ v. Drains (n - 1) v) (sym same) (record {
+      holds = subst IsInvariant same (each_move_preserves (user_move event) w d.holds);
+      ends_settled = subst AreSettledEnds same (move_settles (user_move event) w d.ends_settled);
+      sees = s;
+    })
+
+dropped_on : (event : PairEvent) (w : World) → (left_by (view_of side.User w) (acts Whole side.User event (view_of side.User w))).station.history.dropped ≡ w.user.history.dropped → SameDropped w (world_after w (happens Whole (user_move event) w))
+dropped_on event w same = subst (λ v. SameDropped w v) (sym (moved_user event w)) (record { user = same; network = refl })
+
+-- the other side is lost
+peer_receives : (last : Bool) (n : ℕ) (x y : Station) (back : List Flight) (frame : Flight) (rest : List Flight) → UserLost last n (at x y back (frame ∷ rest)) → Moves last n (at y x (frame ∷ rest) back) (world_after (at y x (frame ∷ rest) back) (happens Whole (user_move Deliver) (at y x (frame ∷ rest) back)))
+peer_receives last n x y back frame rest l =
+    let w = at x y back (frame ∷ rest) in
+    let now = world_after w (happens Whole (network_move Deliver) w) in
+    let same : now ≡ swapped (world_after (swapped w) (happens Whole (user_move Deliver) (swapped w))) = network_alike Whole Deliver w in
+    let kept = subst (λ v. SameDropped w v) same (lost_peer_receives_dropped last n x y back frame rest l) in
+    record {
+      some = let two = l.two in omega (arith, two);
+      draining = inr (inr (inl (subst (λ v. UserLost last (n - 1) v) same (lost_peer_receives last n x y back frame rest l))));
+      kept = record { user = kept.network; network = kept.user };
+    }
+
+user_receives : (last : Bool) (n : ℕ) (x y : Station) (frame : Flight) (rest to_network : List Flight) → Draining last n (at x y (frame ∷ rest) to_network) → Moves last n (at x y (frame ∷ rest) to_network) (world_after (at x y (frame ∷ rest) to_network) (happens Whole (user_move Deliver) (at x y (frame ∷ rest) to_network)))
+user_receives last n x y frame rest to_network (inl d) = record {
+  some = let le = d.sees.flow.most in omega (arith, le);
+  draining = inl (drains_on n Deliver (at x y (frame ∷ rest) to_network) d (seen_delivered x y frame rest to_network n d.holds.user_base d.holds.network_base d.holds.both d.ends_settled.user d.sees));
+  kept = dropped_on Deliver (at x y (frame ∷ rest) to_network) (preserved_delivered x y frame rest to_network n d.holds.user_base d.holds.network_base d.holds.both d.ends_settled.user d.sees);
+}
+user_receives last n x y frame rest to_network (inr (inl l)) = record {
+  some = let two = l.two in omega (arith, two);
+  draining = inr (inl (lost_user_receives last n x y frame rest to_network l));
+  kept = lost_user_receives_dropped last n x y frame rest to_network l;
+}
+user_receives last n x y frame rest to_network (inr (inr (inl l))) = peer_receives last n y x to_network frame rest l
+user_receives last n x y frame rest to_network (inr (inr (inr l))) = let none = l.to_user in cc
+
+-- ---- T200 expires.
+
+-- the other side is lost
+peer_expires : (last : Bool) (n : ℕ) (x y : Station) → UserLost last n (at x y [] []) → y.end.t200 ≡ true → Moves last n (at y x [] []) (world_after (at y x [] []) (happens Whole (user_move Expire200) (at y x [] [])))
+peer_expires last n x y l on =
+    let w = at x y [] [] in
+    let now = world_after w (happens Whole (network_move Expire200) w) in
+    let then = swapped (world_after (swapped w) (happens Whole (user_move Expire200) (swapped w))) in
+    let same : now ≡ then = network_alike Whole Expire200 w in
+    let kept = subst (λ v. SameDropped w v) same (lost_peer_expires_dropped last n x y l on) in
+    let after = subst (λ v. UserLost last (n - 1) v ⊎ Drains (n - 1) v) same (lost_peer_expires last n x y l on) in
+    record {
+      some = let two = l.two in omega (arith, two);
+      draining = draining_swapped last (n - 1) then (lost_or_not last (n - 1) then after);
+      kept = record { user = kept.network; network = kept.user };
+    }
+
+-- if T200 runs and the line is empty, work remains
+some_at : (x : Source) (y : Sink) (a : ℕ) → x.t200 ≡ true → Stream x y [] [] a → 1 ≤ a
+some_at x y a on s = by_stage s.stage s.so s.most
+  where
+    none : (rejecting : Bool) (low end : ℕ) → low < end → IsInTransit rejecting low end [] → ⊥
+    none false low end less same = absurd (omega (arith, less, same))
+    none true low end less same = absurd (omega (arith, less, same))
+
+    by_stage : (stage : Stage) → IsAt stage x y [] [] → weight stage x y ≤ a → 1 ≤ a
+    by_stage Clean c most = elim (c.stopped on) [
+      | inl less ↦ absurd (none y.rejecting y.vr x.vs less c.coming)
+      | inr among ↦ absurd among
+    ]
+    by_stage Waiting w most = omega (arith, most)
+    by_stage Polling w most = absurd (omega (arith, w.1))
+    by_stage Answered w most = absurd (omega (arith, w.1))
+
+-- an end in state 8 has a retry left, if the last try is admitted
+abbrev pub MayRetry : Bool → End → Type 0
+MayRetry last e = last ≡ true → e.state ≡ TimerRecovery → nat_lt e.rc e.parameters.n200 ≡ true
+
+tries_now : (last : Bool) (e : End) → (last || nat_lt e.rc e.parameters.n200) ≡ true → MayRetry last e → e.state ≡ TimerRecovery → nat_lt e.rc e.parameters.n200 ≡ true
+tries_now true e tries may is = may refl is
+tries_now false e tries may is = tries
+
+user_expires : (last : Bool) (n : ℕ) (x y : Station) → Draining last n (at x y [] []) → x.end.t200 ≡ true → MayRetry last x.end → Moves last n (at x y [] []) (world_after (at x y [] []) (happens Whole (user_move Expire200) (at x y [] [])))
+user_expires last n x y (inl d) on may = record {
+  some = let le = d.sees.flow.most in let some = some_at (source x.end) (sink y.end) d.sees.flow.a on d.sees.flow.mine in omega (arith, le, some);
+  draining = inl (drains_on n Expire200 (at x y [] []) d (seen_expired x y n on d.sees));
+  kept = dropped_on Expire200 (at x y [] []) (preserved_expired x y n on d.sees);
+}
+user_expires last n x y (inr (inl l)) on may = record {
+  some = let two = l.two in omega (arith, two);
+  draining = inl (lost_user_expires last n x y l on (tries_now last x.end l.tries may l.in_8));
+  kept = lost_user_expires_dropped last n x y l on (tries_now last x.end l.tries may l.in_8);
+}
+user_expires last n x y (inr (inr (inl l))) on may = peer_expires last n y x l on
+user_expires last n x y (inr (inr (inr l))) on may =
+    let now = world_after (at x y [] []) (happens Whole (user_move Expire200) (at x y [] [])) in
+    record {
+      some = let le = l.most in omega (arith, le);
+      draining = draining_swapped last (n - 1) (swapped now) (lost_or_not last (n - 1) (swapped now) (both_lost_expires last n x y l on (tries_now last x.end l.user_tries may l.user_in_8)));
+      kept = both_lost_expires_dropped last n x y l on (tries_now last x.end l.user_tries may l.user_in_8);
+    }
+
+-- ---- Any own move.
+
+runs_in_8 : (e : End) → HasTimersOfState e → e.state ≡ TimerRecovery → e.t200 ≡ true
+runs_in_8 e has is = let t : AreTimersOf TimerRecovery e.t200 e.t203 (e.window.vs ≡ e.window.va) = subst (λ s. AreTimersOf s e.t200 e.t203 (e.window.vs ≡ e.window.va)) is has in t.0
+
+-- on an empty line an end that is not lost is in state 7
+pub in_state_7 : (x : Source) (y : Sink) (a : ℕ) → Stream x y [] [] a → x.state ≡ MultipleFrameEstablished
+in_state_7 x y a s = by_stage s.stage s.so
+  where
+    by_stage : (stage : Stage) → IsAt stage x y [] [] → x.state ≡ MultipleFrameEstablished
+    by_stage Clean c = c.in_7
+    by_stage Waiting w = w.0
+    by_stage Polling w = absurd (omega (arith, w.1))
+    by_stage Answered w = absurd (omega (arith, w.1))
+
+neither_on : (a b : Bool) → not (a || b) ≡ true → (a ≡ false) × (b ≡ false)
+neither_on false false is = (refl, refl)
+neither_on true b is = cc
+neither_on false true is = cc
+
+-- T203 is not due: if T200 runs nowhere, both ends are in state 7
+together : (last : Bool) (n : ℕ) (x y : Station) → Draining last n (at x y [] []) → HaveTimersOfStates (at x y [] []) → x.end.t200 ≡ false → y.end.t200 ≡ false → (x.end.state ≡ MultipleFrameEstablished) × (y.end.state ≡ MultipleFrameEstablished)
+together last n x y (inl d) have off none = (in_state_7 (source x.end) (sink y.end) d.sees.flow.a d.sees.flow.mine, in_state_7 (source y.end) (sink x.end) d.sees.flow.b d.sees.flow.its)
+together last n x y (inr (inl l)) have off none = let on = runs_in_8 x.end have.user l.in_8 in cc
+together last n x y (inr (inr (inl l))) have off none = let on = runs_in_8 y.end have.network l.in_8 in cc
+together last n x y (inr (inr (inr l))) have off none = let on = runs_in_8 x.end have.user l.user_in_8 in cc
+
+not_apart : (last : Bool) (n : ℕ) (x y : Station) → Draining last n (at x y [] []) → HaveTimersOfStates (at x y [] []) → is_due Expire203 (at x y [] []) ≡ true → ⊥
+not_apart last n x y d have due =
+    let both = both_true (not (x.end.t200 || y.end.t200)) (are_apart (at x y [] [])) due in
+    let off = neither_on x.end.t200 y.end.t200 both.0 in
+    let in_7 = together last n x y d have off.0 off.1 in
+    let apart : are_apart (at x y [] []) ≡ true = both.1 in
+    let never : are_apart (at x y [] []) ≡ false = rw (in_7.0, in_7.1) refl in
+    cc
+
+pub ok_in_world : (s : Side) (w : World) (o : Result ViewStep Refusal) → is_ok (in_world s w o) ≡ is_ok o
+ok_in_world s w (Ok acted) = refl
+ok_in_world s w (Err refusal) = refl
+
+-- a frame is there to be delivered, and T200 that expires runs
+pub none_there : (x y : Station) (to_network : List Flight) → is_ok (happens Whole (user_move Deliver) (at x y [] to_network)) ≡ false
+unfolding happens acts delivers
+none_there x y to_network = refl
+
+pub none_there_too : (x y : Station) (to_user : List Flight) → is_ok (happens Whole (network_move Deliver) (at x y to_user [])) ≡ false
+unfolding happens acts delivers
+none_there_too x y to_user = refl
+
+only_if_on : (s : Side) (v : View) → is_ok (acts Whole s Expire200 v) ≡ true → v.station.end.t200 ≡ true
+unfolding acts expires_200
+only_if_on s v ok = by_timer v.station.end.t200 refl
+  where
+    by_timer : (b : Bool) → v.station.end.t200 ≡ b → v.station.end.t200 ≡ true
+    by_timer true on = on
+    by_timer false off = let never : false ≡ true = rw off at ok in cc
+
+pub runs_if_expires : (s : Side) (w : World) → is_ok (happens Whole (record { side = s; event = Expire200 }) w) ≡ true → (view_of s w).station.end.t200 ≡ true
+unfolding happens
+runs_if_expires s w ok = only_if_on s (view_of s w) (sym (ok_in_world s w (acts Whole s Expire200 (view_of s w))) ∙ ok)
+
+module _ (last : Bool) (n : ℕ) (x y : Station) where
+  abbrev After : Side → PairEvent → List Flight → List Flight → Type 0
+  After s event to_user to_network = Moves last n (at x y to_user to_network) (world_after (at x y to_user to_network) (happens Whole (record { side = s; event = event }) (at x y to_user to_network)))
+
+  user_own_delivers : (to_user to_network : List Flight) → Draining last n (at x y to_user to_network) → is_ok (happens Whole (user_move Deliver) (at x y to_user to_network)) ≡ true → After side.User Deliver to_user to_network
+  user_own_delivers [] to_network d ok = let never = none_there x y to_network in cc
+  user_own_delivers (frame ∷ rest) to_network d ok = user_receives last n x y frame rest to_network d
+
+  network_own_delivers : (to_user to_network : List Flight) → Draining last n (at x y to_user to_network) → is_ok (happens Whole (network_move Deliver) (at x y to_user to_network)) ≡ true → After side.Network Deliver to_user to_network
+  network_own_delivers to_user [] d ok = let never = none_there_too x y to_user in cc
+  network_own_delivers to_user (frame ∷ rest) d ok = moves_swapped last n Deliver (at x y to_user (frame ∷ rest)) (user_receives last n y x frame rest to_user (draining_swapped last n (at x y to_user (frame ∷ rest)) d))
+
+  own_expires : (s : Side) (to_user to_network : List Flight) → Draining last n (at x y to_user to_network) → MayRetry last (view_of s (at x y to_user to_network)).station.end → is_line_empty (at x y to_user to_network) ≡ true → is_ok (happens Whole (record { side = s; event = Expire200 }) (at x y to_user to_network)) ≡ true → After s Expire200 to_user to_network
+  own_expires side.User [] [] d may empty ok = user_expires last n x y d (runs_if_expires side.User (at x y [] []) ok) may
+  own_expires side.Network [] [] d may empty ok = moves_swapped last n Expire200 (at x y [] []) (user_expires last n y x (draining_swapped last n (at x y [] []) d) (runs_if_expires side.Network (at x y [] []) ok) may)
+  own_expires s (frame ∷ rest) to_network d may empty ok = cc
+  own_expires s [] (frame ∷ rest) d may empty ok = cc
+
+  own_never : (s : Side) (to_user to_network : List Flight) → Draining last n (at x y to_user to_network) → HaveTimersOfStates (at x y to_user to_network) → is_due Expire203 (at x y to_user to_network) ≡ true → After s Expire203 to_user to_network
+  own_never s [] [] d have due = absurd (not_apart last n x y d have due)
+  own_never s (frame ∷ rest) to_network d have due = cc
+  own_never s [] (frame ∷ rest) d have due = cc
+
+  own_event : (s : Side) (event : PairEvent) (to_user to_network : List Flight) → Draining last n (at x y to_user to_network) → (event ≡ Expire200 → MayRetry last (view_of s (at x y to_user to_network)).station.end) → HaveTimersOfStates (at x y to_user to_network) → is_due event (at x y to_user to_network) ≡ true → is_ok (happens Whole (record { side = s; event = event }) (at x y to_user to_network)) ≡ true → After s event to_user to_network
+  own_event side.User Deliver to_user to_network d may have due ok = user_own_delivers to_user to_network d ok
+  own_event side.Network Deliver to_user to_network d may have due ok = network_own_delivers to_user to_network d ok
+  own_event s Expire200 to_user to_network d may have due ok = own_expires s to_user to_network d (may refl) due ok
+  own_event s Expire203 to_user to_network d may have due ok = own_never s to_user to_network d have due
+  own_event s event to_user to_network d may have due ok = cc
+
+pub own_moves_on : (last : Bool) (n : ℕ) (move : Move) (w : World) → Draining last n w → (move.event ≡ Expire200 → MayRetry last (view_of move.side w).station.end) → HaveTimersOfStates w → IsOwn Whole move w → Moves last n w (world_after w (happens Whole move w))
+own_moves_on last n move w d may have own = own_event last n w.user w.network move.side move.event w.to_user w.to_network d may have own.due own.admitted
+
+-- ---- All of them.
+
+pub record Reaches (n : ℕ) (w : World) (moves : List Move) (now : World) : Type 0 where
+  pub few : length moves ≤ n
+  pub draining : Draining false (n - length moves) now
+  pub have : HaveTimersOfStates now
+  pub kept : SameDropped w now
+
+pub own_moves_reach : (n : ℕ) (w : World) (moves : List Move) → Draining false n w → HaveTimersOfStates w → AreOwn Whole moves w → Reaches n w moves (run Whole moves w)
+own_moves_reach n w [] d have own = let same : n ≡ n - 0 = omega arith in record { few = omega arith; draining = subst (λ m. Draining false m w) same d; have = have; kept = record { user = refl; network = refl } }
+own_moves_reach n w (move ∷ moves) d have own =
+    let one = own_moves_on false n move w d (λ is last. cc) have own.0 in
+    let now = world_after w (happens Whole move w) in
+    let rest = own_moves_reach (n - 1) now moves one.draining (timers_after_move move w have) own.1 in
+    let fewer : n - 1 - length moves ≡ n - length (move ∷ moves) = omega arith in
+    record {
+      few = let some = one.some in let few = rest.few in omega (arith, some, few);
+      draining = subst (λ m. Draining false m (run Whole moves now)) fewer rest.draining;
+      have = rest.have;
+      kept = record { user = rest.kept.user ∙ one.kept.user; network = rest.kept.network ∙ one.kept.network };
+    }
+
+-- ---- Where no own move is possible.
+
+delivers_to_user : (x y : Station) (frame : Flight) (rest to_network : List Flight) → is_ok (happens Whole (user_move Deliver) (at x y (frame ∷ rest) to_network)) ≡ true
+unfolding happens acts delivers receives step
+delivers_to_user x y frame rest to_network = refl
+
+delivers_to_network : (x y : Station) (to_user : List Flight) (frame : Flight) (rest : List Flight) → is_ok (happens Whole (network_move Deliver) (at x y to_user (frame ∷ rest))) ≡ true
+unfolding happens acts delivers receives step
+delivers_to_network x y to_user frame rest = refl
+
+expires_at_user : (x y : Station) → x.end.t200 ≡ true → is_ok (happens Whole (user_move Expire200) (at x y [] [])) ≡ true
+unfolding happens acts takes expires_200 step
+expires_at_user x y on = rw on refl
+
+expires_at_network : (x y : Station) → y.end.t200 ≡ true → is_ok (happens Whole (network_move Expire200) (at x y [] [])) ≡ true
+unfolding happens acts takes expires_200 step
+expires_at_network x y on = rw on refl
+
+pub rests_still : (x y : Station) (to_user to_network : List Flight) → Rests Whole (at x y to_user to_network) → IsStill (at x y to_user to_network)
+rests_still x y (frame ∷ rest) to_network rests = absurd (rests (user_move Deliver) (record { due = refl; admitted = delivers_to_user x y frame rest to_network }))
+rests_still x y [] (frame ∷ rest) rests = absurd (rests (network_move Deliver) (record { due = refl; admitted = delivers_to_network x y [] frame rest }))
+rests_still x y [] [] rests = record {
+  to_user = refl;
+  to_network = refl;
+  user = by_timer x.end.t200 (λ on. rests (user_move Expire200) (record { due = refl; admitted = expires_at_user x y on }));
+  network = by_timer y.end.t200 (λ on. rests (network_move Expire200) (record { due = refl; admitted = expires_at_network x y on }));
+}
+  where
+    by_timer : (b : Bool) → (b ≡ true → ⊥) → b ≡ false
+    by_timer true never = absurd (never refl)
+    by_timer false never = refl
+
+-- then no end is lost
+pub rests_drained : (last : Bool) (n : ℕ) (w : World) → Draining last n w → HaveTimersOfStates w → IsStill w → Drains n w
+rests_drained last n w (inl d) have still = d
+rests_drained last n w (inr (inl l)) have still = let on = runs_in_8 w.user.end have.user l.in_8 in let off = still.user in cc
+rests_drained last n w (inr (inr (inl l))) have still = let on = runs_in_8 w.network.end have.network l.in_8 in let off = still.network in cc
+rests_drained last n w (inr (inr (inr l))) have still = let on = runs_in_8 w.user.end have.user l.user_in_8 in let off = still.user in cc

@@ -1,0 +1,97 @@
+-- Worked worlds come back as expected, computed in both readings.
+use Rattle.std.proofs.Common.{◌≡◌, refl, None}
+use Rattle.lapd_link_definition.specs.declared.recovery.Recovery.TheVariants.{Enquiry, LastMessage}
+use Rattle.lapd_mod128.specs.Counting.{Reading, Whole, Tagged, after, steps, lies_within}
+use Rattle.lapd_supervision.specs.StateVariables.{initial_variables, without_exceptions, with_zero_counters, status_frame, acknowledgement, without_ack_pending, poll_response, is_accepted, is_rejected, after_i_frame, i_frame_response, is_valid_nr, with_va, acknowledged_count, acknowledges_all, with_vs, may_send, next_i_frame, after_sending, with_own_busy, with_peer_busy}
+use Rattle.lapd_link_definition.specs.AwaitingEstablishment.{end_establishment, confirm_or_indicate, ua_final, awaiting_establishment_t200, awaiting_establishment}
+use Rattle.lapd_link_definition.specs.AwaitingRelease.{confirm_release, awaiting_release_t200, awaiting_release}
+use Rattle.lapd_link_definition.specs.EndOfStep.{send_all, acknowledge_pending, end_step}
+use Rattle.lapd_link_definition.specs.End.{begin}
+use Rattle.lapd_link_definition.specs.Established.{established_t200, acknowledge_with_timers, i_frame_nr, poll_or_final, rr_nr, rej_nr, rnr_nr, busy_on, busy_off, in_7_and_8, multiple_frame_established}
+use Rattle.lapd_link_definition.specs.Procedures.{put, state_to, rc_to, increment_rc, layer3_initiated_to, release_pending_to, start, stop, expired, clear_exception_conditions, zero_state_variables, set_peer_busy, set_own_busy, enquiry_response, transmit_enquiry, queue_up, discard_i_queue, acknowledge, invoke_retransmission, i_frame_ns, discard_unacknowledged, transmit_i_frame, ensure_t200, transmit_rr, establish_data_link, reestablish_data_link, nr_error_recovery}
+use Rattle.lapd_link_definition.specs.Table.{by_state, report_fault, row, step}
+use Rattle.lapd_link_definition.specs.TeiAssigned.{tei_assigned}
+use Rattle.lapd_link_definition.specs.TimerRecovery.{i_frame_nr_in_recovery, poll, rr_nr_in_recovery, rnr_nr_in_recovery, timer_recovery_t200, timer_recovery}
+use Rattle.lapd_pair_laws.specs.Move.{story_after, view_after, receives, takes, delivers, loses, expires_200, expires_203, restarts, acts}
+use Rattle.lapd_pair_laws.specs.World.{happens, run}
+use Rattle.lapd_mod128.specs.Counting.{before}
+use Rattle.lapd_supervision.specs.StateVariables.{last_i_frame}
+use Rattle.lapd_link_definition.specs.Procedures.{retransmit_last_i_frame}
+use Rattle.lapd_pair_laws.specs.Settle.{next_move}
+use Rattle.lapd_pair_laws.specs.Worked.{new_pair, busy}
+use Rattle.lapd_recovery_laws.specs.Recovered.{outcome_of, both_sabmes_lost, network_restarts, restarts_with_one_sent, release_unheard, disc_meets_sabme, longest, both_in_7, both_in_4, held_up, IsBusy}
+
+pub restart_back : (r : Reading) → outcome_of r (run r network_restarts (new_pair 1 Enquiry)) ≡ both_in_7 11 0 0
+unfolding story_after view_after receives takes delivers loses expires_200 expires_203 restarts acts happens begin put state_to rc_to increment_rc layer3_initiated_to release_pending_to start stop expired clear_exception_conditions zero_state_variables set_peer_busy set_own_busy enquiry_response transmit_enquiry queue_up discard_i_queue acknowledge invoke_retransmission i_frame_ns discard_unacknowledged transmit_i_frame ensure_t200 transmit_rr establish_data_link reestablish_data_link end_establishment tei_assigned confirm_or_indicate ua_final awaiting_establishment_t200 awaiting_establishment confirm_release awaiting_release_t200 awaiting_release acknowledge_with_timers nr_error_recovery i_frame_nr i_frame_nr_in_recovery poll_or_final poll rr_nr rej_nr rnr_nr rr_nr_in_recovery rnr_nr_in_recovery timer_recovery_t200 busy_on busy_off in_7_and_8 established_t200 multiple_frame_established timer_recovery by_state report_fault row send_all acknowledge_pending end_step step initial_variables without_exceptions with_zero_counters status_frame acknowledgement without_ack_pending poll_response is_accepted is_rejected after_i_frame i_frame_response is_valid_nr with_va acknowledged_count acknowledges_all with_vs may_send next_i_frame after_sending with_own_busy with_peer_busy after steps lies_within retransmit_last_i_frame last_i_frame before
+restart_back Whole = refl
+restart_back Tagged = refl
+
+pub restart_back_by_last : (r : Reading) → outcome_of r (run r network_restarts (new_pair 1 LastMessage)) ≡ both_in_7 11 0 0
+unfolding story_after view_after receives takes delivers loses expires_200 expires_203 restarts acts happens begin put state_to rc_to increment_rc layer3_initiated_to release_pending_to start stop expired clear_exception_conditions zero_state_variables set_peer_busy set_own_busy enquiry_response transmit_enquiry queue_up discard_i_queue acknowledge invoke_retransmission i_frame_ns discard_unacknowledged transmit_i_frame ensure_t200 transmit_rr establish_data_link reestablish_data_link end_establishment tei_assigned confirm_or_indicate ua_final awaiting_establishment_t200 awaiting_establishment confirm_release awaiting_release_t200 awaiting_release acknowledge_with_timers nr_error_recovery i_frame_nr i_frame_nr_in_recovery poll_or_final poll rr_nr rej_nr rnr_nr rr_nr_in_recovery rnr_nr_in_recovery timer_recovery_t200 busy_on busy_off in_7_and_8 established_t200 multiple_frame_established timer_recovery by_state report_fault row send_all acknowledge_pending end_step step initial_variables without_exceptions with_zero_counters status_frame acknowledgement without_ack_pending poll_response is_accepted is_rejected after_i_frame i_frame_response is_valid_nr with_va acknowledged_count acknowledges_all with_vs may_send next_i_frame after_sending with_own_busy with_peer_busy after steps lies_within retransmit_last_i_frame last_i_frame before
+restart_back_by_last Whole = refl
+restart_back_by_last Tagged = refl
+
+pub sabmes_back : (r : Reading) → outcome_of r (run r both_sabmes_lost (new_pair 1 Enquiry)) ≡ both_in_7 6 0 0
+unfolding story_after view_after receives takes delivers loses expires_200 expires_203 restarts acts happens begin put state_to rc_to increment_rc layer3_initiated_to release_pending_to start stop expired clear_exception_conditions zero_state_variables set_peer_busy set_own_busy enquiry_response transmit_enquiry queue_up discard_i_queue acknowledge invoke_retransmission i_frame_ns discard_unacknowledged transmit_i_frame ensure_t200 transmit_rr establish_data_link reestablish_data_link end_establishment tei_assigned confirm_or_indicate ua_final awaiting_establishment_t200 awaiting_establishment confirm_release awaiting_release_t200 awaiting_release acknowledge_with_timers nr_error_recovery i_frame_nr i_frame_nr_in_recovery poll_or_final poll rr_nr rej_nr rnr_nr rr_nr_in_recovery rnr_nr_in_recovery timer_recovery_t200 busy_on busy_off in_7_and_8 established_t200 multiple_frame_established timer_recovery by_state report_fault row send_all acknowledge_pending end_step step initial_variables without_exceptions with_zero_counters status_frame acknowledgement without_ack_pending poll_response is_accepted is_rejected after_i_frame i_frame_response is_valid_nr with_va acknowledged_count acknowledges_all with_vs may_send next_i_frame after_sending with_own_busy with_peer_busy after steps lies_within retransmit_last_i_frame last_i_frame before
+sabmes_back Whole = refl
+sabmes_back Tagged = refl
+
+pub sabmes_back_by_last : (r : Reading) → outcome_of r (run r both_sabmes_lost (new_pair 1 LastMessage)) ≡ both_in_7 6 0 0
+unfolding story_after view_after receives takes delivers loses expires_200 expires_203 restarts acts happens begin put state_to rc_to increment_rc layer3_initiated_to release_pending_to start stop expired clear_exception_conditions zero_state_variables set_peer_busy set_own_busy enquiry_response transmit_enquiry queue_up discard_i_queue acknowledge invoke_retransmission i_frame_ns discard_unacknowledged transmit_i_frame ensure_t200 transmit_rr establish_data_link reestablish_data_link end_establishment tei_assigned confirm_or_indicate ua_final awaiting_establishment_t200 awaiting_establishment confirm_release awaiting_release_t200 awaiting_release acknowledge_with_timers nr_error_recovery i_frame_nr i_frame_nr_in_recovery poll_or_final poll rr_nr rej_nr rnr_nr rr_nr_in_recovery rnr_nr_in_recovery timer_recovery_t200 busy_on busy_off in_7_and_8 established_t200 multiple_frame_established timer_recovery by_state report_fault row send_all acknowledge_pending end_step step initial_variables without_exceptions with_zero_counters status_frame acknowledgement without_ack_pending poll_response is_accepted is_rejected after_i_frame i_frame_response is_valid_nr with_va acknowledged_count acknowledges_all with_vs may_send next_i_frame after_sending with_own_busy with_peer_busy after steps lies_within retransmit_last_i_frame last_i_frame before
+sabmes_back_by_last Whole = refl
+sabmes_back_by_last Tagged = refl
+
+pub one_sent_back : (r : Reading) → outcome_of r (run r restarts_with_one_sent (new_pair 1 Enquiry)) ≡ both_in_7 9 0 1
+unfolding story_after view_after receives takes delivers loses expires_200 expires_203 restarts acts happens begin put state_to rc_to increment_rc layer3_initiated_to release_pending_to start stop expired clear_exception_conditions zero_state_variables set_peer_busy set_own_busy enquiry_response transmit_enquiry queue_up discard_i_queue acknowledge invoke_retransmission i_frame_ns discard_unacknowledged transmit_i_frame ensure_t200 transmit_rr establish_data_link reestablish_data_link end_establishment tei_assigned confirm_or_indicate ua_final awaiting_establishment_t200 awaiting_establishment confirm_release awaiting_release_t200 awaiting_release acknowledge_with_timers nr_error_recovery i_frame_nr i_frame_nr_in_recovery poll_or_final poll rr_nr rej_nr rnr_nr rr_nr_in_recovery rnr_nr_in_recovery timer_recovery_t200 busy_on busy_off in_7_and_8 established_t200 multiple_frame_established timer_recovery by_state report_fault row send_all acknowledge_pending end_step step initial_variables without_exceptions with_zero_counters status_frame acknowledgement without_ack_pending poll_response is_accepted is_rejected after_i_frame i_frame_response is_valid_nr with_va acknowledged_count acknowledges_all with_vs may_send next_i_frame after_sending with_own_busy with_peer_busy after steps lies_within retransmit_last_i_frame last_i_frame before
+one_sent_back Whole = refl
+one_sent_back Tagged = refl
+
+pub one_sent_back_by_last : (r : Reading) → outcome_of r (run r restarts_with_one_sent (new_pair 1 LastMessage)) ≡ both_in_7 9 0 1
+unfolding story_after view_after receives takes delivers loses expires_200 expires_203 restarts acts happens begin put state_to rc_to increment_rc layer3_initiated_to release_pending_to start stop expired clear_exception_conditions zero_state_variables set_peer_busy set_own_busy enquiry_response transmit_enquiry queue_up discard_i_queue acknowledge invoke_retransmission i_frame_ns discard_unacknowledged transmit_i_frame ensure_t200 transmit_rr establish_data_link reestablish_data_link end_establishment tei_assigned confirm_or_indicate ua_final awaiting_establishment_t200 awaiting_establishment confirm_release awaiting_release_t200 awaiting_release acknowledge_with_timers nr_error_recovery i_frame_nr i_frame_nr_in_recovery poll_or_final poll rr_nr rej_nr rnr_nr rr_nr_in_recovery rnr_nr_in_recovery timer_recovery_t200 busy_on busy_off in_7_and_8 established_t200 multiple_frame_established timer_recovery by_state report_fault row send_all acknowledge_pending end_step step initial_variables without_exceptions with_zero_counters status_frame acknowledgement without_ack_pending poll_response is_accepted is_rejected after_i_frame i_frame_response is_valid_nr with_va acknowledged_count acknowledges_all with_vs may_send next_i_frame after_sending with_own_busy with_peer_busy after steps lies_within retransmit_last_i_frame last_i_frame before
+one_sent_back_by_last Whole = refl
+one_sent_back_by_last Tagged = refl
+
+pub unheard_back : (r : Reading) → outcome_of r (run r release_unheard (new_pair 1 Enquiry)) ≡ both_in_7 12 0 0
+unfolding story_after view_after receives takes delivers loses expires_200 expires_203 restarts acts happens begin put state_to rc_to increment_rc layer3_initiated_to release_pending_to start stop expired clear_exception_conditions zero_state_variables set_peer_busy set_own_busy enquiry_response transmit_enquiry queue_up discard_i_queue acknowledge invoke_retransmission i_frame_ns discard_unacknowledged transmit_i_frame ensure_t200 transmit_rr establish_data_link reestablish_data_link end_establishment tei_assigned confirm_or_indicate ua_final awaiting_establishment_t200 awaiting_establishment confirm_release awaiting_release_t200 awaiting_release acknowledge_with_timers nr_error_recovery i_frame_nr i_frame_nr_in_recovery poll_or_final poll rr_nr rej_nr rnr_nr rr_nr_in_recovery rnr_nr_in_recovery timer_recovery_t200 busy_on busy_off in_7_and_8 established_t200 multiple_frame_established timer_recovery by_state report_fault row send_all acknowledge_pending end_step step initial_variables without_exceptions with_zero_counters status_frame acknowledgement without_ack_pending poll_response is_accepted is_rejected after_i_frame i_frame_response is_valid_nr with_va acknowledged_count acknowledges_all with_vs may_send next_i_frame after_sending with_own_busy with_peer_busy after steps lies_within retransmit_last_i_frame last_i_frame before
+unheard_back Whole = refl
+unheard_back Tagged = refl
+
+pub unheard_back_by_last : (r : Reading) → outcome_of r (run r release_unheard (new_pair 1 LastMessage)) ≡ both_in_7 12 0 0
+unfolding story_after view_after receives takes delivers loses expires_200 expires_203 restarts acts happens begin put state_to rc_to increment_rc layer3_initiated_to release_pending_to start stop expired clear_exception_conditions zero_state_variables set_peer_busy set_own_busy enquiry_response transmit_enquiry queue_up discard_i_queue acknowledge invoke_retransmission i_frame_ns discard_unacknowledged transmit_i_frame ensure_t200 transmit_rr establish_data_link reestablish_data_link end_establishment tei_assigned confirm_or_indicate ua_final awaiting_establishment_t200 awaiting_establishment confirm_release awaiting_release_t200 awaiting_release acknowledge_with_timers nr_error_recovery i_frame_nr i_frame_nr_in_recovery poll_or_final poll rr_nr rej_nr rnr_nr rr_nr_in_recovery rnr_nr_in_recovery timer_recovery_t200 busy_on busy_off in_7_and_8 established_t200 multiple_frame_established timer_recovery by_state report_fault row send_all acknowledge_pending end_step step initial_variables without_exceptions with_zero_counters status_frame acknowledgement without_ack_pending poll_response is_accepted is_rejected after_i_frame i_frame_response is_valid_nr with_va acknowledged_count acknowledges_all with_vs may_send next_i_frame after_sending with_own_busy with_peer_busy after steps lies_within retransmit_last_i_frame last_i_frame before
+unheard_back_by_last Whole = refl
+unheard_back_by_last Tagged = refl
+
+pub crossed_back : (r : Reading) → outcome_of r (run r disc_meets_sabme (new_pair 1 Enquiry)) ≡ both_in_4 4
+unfolding story_after view_after receives takes delivers loses expires_200 expires_203 restarts acts happens begin put state_to rc_to increment_rc layer3_initiated_to release_pending_to start stop expired clear_exception_conditions zero_state_variables set_peer_busy set_own_busy enquiry_response transmit_enquiry queue_up discard_i_queue acknowledge invoke_retransmission i_frame_ns discard_unacknowledged transmit_i_frame ensure_t200 transmit_rr establish_data_link reestablish_data_link end_establishment tei_assigned confirm_or_indicate ua_final awaiting_establishment_t200 awaiting_establishment confirm_release awaiting_release_t200 awaiting_release acknowledge_with_timers nr_error_recovery i_frame_nr i_frame_nr_in_recovery poll_or_final poll rr_nr rej_nr rnr_nr rr_nr_in_recovery rnr_nr_in_recovery timer_recovery_t200 busy_on busy_off in_7_and_8 established_t200 multiple_frame_established timer_recovery by_state report_fault row send_all acknowledge_pending end_step step initial_variables without_exceptions with_zero_counters status_frame acknowledgement without_ack_pending poll_response is_accepted is_rejected after_i_frame i_frame_response is_valid_nr with_va acknowledged_count acknowledges_all with_vs may_send next_i_frame after_sending with_own_busy with_peer_busy after steps lies_within retransmit_last_i_frame last_i_frame before
+crossed_back Whole = refl
+crossed_back Tagged = refl
+
+pub crossed_back_by_last : (r : Reading) → outcome_of r (run r disc_meets_sabme (new_pair 1 LastMessage)) ≡ both_in_4 4
+unfolding story_after view_after receives takes delivers loses expires_200 expires_203 restarts acts happens begin put state_to rc_to increment_rc layer3_initiated_to release_pending_to start stop expired clear_exception_conditions zero_state_variables set_peer_busy set_own_busy enquiry_response transmit_enquiry queue_up discard_i_queue acknowledge invoke_retransmission i_frame_ns discard_unacknowledged transmit_i_frame ensure_t200 transmit_rr establish_data_link reestablish_data_link end_establishment tei_assigned confirm_or_indicate ua_final awaiting_establishment_t200 awaiting_establishment confirm_release awaiting_release_t200 awaiting_release acknowledge_with_timers nr_error_recovery i_frame_nr i_frame_nr_in_recovery poll_or_final poll rr_nr rej_nr rnr_nr rr_nr_in_recovery rnr_nr_in_recovery timer_recovery_t200 busy_on busy_off in_7_and_8 established_t200 multiple_frame_established timer_recovery by_state report_fault row send_all acknowledge_pending end_step step initial_variables without_exceptions with_zero_counters status_frame acknowledgement without_ack_pending poll_response is_accepted is_rejected after_i_frame i_frame_response is_valid_nr with_va acknowledged_count acknowledges_all with_vs may_send next_i_frame after_sending with_own_busy with_peer_busy after steps lies_within retransmit_last_i_frame last_i_frame before
+crossed_back_by_last Whole = refl
+crossed_back_by_last Tagged = refl
+
+pub longest_back : (r : Reading) → outcome_of r (run r longest (new_pair 1 Enquiry)) ≡ both_in_7 31 0 1
+unfolding story_after view_after receives takes delivers loses expires_200 expires_203 restarts acts happens begin put state_to rc_to increment_rc layer3_initiated_to release_pending_to start stop expired clear_exception_conditions zero_state_variables set_peer_busy set_own_busy enquiry_response transmit_enquiry queue_up discard_i_queue acknowledge invoke_retransmission i_frame_ns discard_unacknowledged transmit_i_frame ensure_t200 transmit_rr establish_data_link reestablish_data_link end_establishment tei_assigned confirm_or_indicate ua_final awaiting_establishment_t200 awaiting_establishment confirm_release awaiting_release_t200 awaiting_release acknowledge_with_timers nr_error_recovery i_frame_nr i_frame_nr_in_recovery poll_or_final poll rr_nr rej_nr rnr_nr rr_nr_in_recovery rnr_nr_in_recovery timer_recovery_t200 busy_on busy_off in_7_and_8 established_t200 multiple_frame_established timer_recovery by_state report_fault row send_all acknowledge_pending end_step step initial_variables without_exceptions with_zero_counters status_frame acknowledgement without_ack_pending poll_response is_accepted is_rejected after_i_frame i_frame_response is_valid_nr with_va acknowledged_count acknowledges_all with_vs may_send next_i_frame after_sending with_own_busy with_peer_busy after steps lies_within retransmit_last_i_frame last_i_frame before
+longest_back Whole = refl
+longest_back Tagged = refl
+
+pub longest_back_by_last : (r : Reading) → outcome_of r (run r longest (new_pair 1 LastMessage)) ≡ both_in_7 31 0 1
+unfolding story_after view_after receives takes delivers loses expires_200 expires_203 restarts acts happens begin put state_to rc_to increment_rc layer3_initiated_to release_pending_to start stop expired clear_exception_conditions zero_state_variables set_peer_busy set_own_busy enquiry_response transmit_enquiry queue_up discard_i_queue acknowledge invoke_retransmission i_frame_ns discard_unacknowledged transmit_i_frame ensure_t200 transmit_rr establish_data_link reestablish_data_link end_establishment tei_assigned confirm_or_indicate ua_final awaiting_establishment_t200 awaiting_establishment confirm_release awaiting_release_t200 awaiting_release acknowledge_with_timers nr_error_recovery i_frame_nr i_frame_nr_in_recovery poll_or_final poll rr_nr rej_nr rnr_nr rr_nr_in_recovery rnr_nr_in_recovery timer_recovery_t200 busy_on busy_off in_7_and_8 established_t200 multiple_frame_established timer_recovery by_state report_fault row send_all acknowledge_pending end_step step initial_variables without_exceptions with_zero_counters status_frame acknowledgement without_ack_pending poll_response is_accepted is_rejected after_i_frame i_frame_response is_valid_nr with_va acknowledged_count acknowledges_all with_vs may_send next_i_frame after_sending with_own_busy with_peer_busy after steps lies_within retransmit_last_i_frame last_i_frame before
+longest_back_by_last Whole = refl
+longest_back_by_last Tagged = refl
+
+pub busy_is_held_up : (r : Reading) → outcome_of r (run r busy (new_pair 1 Enquiry)) ≡ held_up
+unfolding story_after view_after receives takes delivers loses expires_200 expires_203 restarts acts happens begin put state_to rc_to increment_rc layer3_initiated_to release_pending_to start stop expired clear_exception_conditions zero_state_variables set_peer_busy set_own_busy enquiry_response transmit_enquiry queue_up discard_i_queue acknowledge invoke_retransmission i_frame_ns discard_unacknowledged transmit_i_frame ensure_t200 transmit_rr establish_data_link reestablish_data_link end_establishment tei_assigned confirm_or_indicate ua_final awaiting_establishment_t200 awaiting_establishment confirm_release awaiting_release_t200 awaiting_release acknowledge_with_timers nr_error_recovery i_frame_nr i_frame_nr_in_recovery poll_or_final poll rr_nr rej_nr rnr_nr rr_nr_in_recovery rnr_nr_in_recovery timer_recovery_t200 busy_on busy_off in_7_and_8 established_t200 multiple_frame_established timer_recovery by_state report_fault row send_all acknowledge_pending end_step step initial_variables without_exceptions with_zero_counters status_frame acknowledgement without_ack_pending poll_response is_accepted is_rejected after_i_frame i_frame_response is_valid_nr with_va acknowledged_count acknowledges_all with_vs may_send next_i_frame after_sending with_own_busy with_peer_busy after steps lies_within retransmit_last_i_frame last_i_frame before
+busy_is_held_up Whole = refl
+busy_is_held_up Tagged = refl
+
+pub network_is_busy : (r : Reading) → IsBusy (run r busy (new_pair 1 Enquiry))
+unfolding story_after view_after receives takes delivers loses expires_200 expires_203 restarts acts happens begin put state_to rc_to increment_rc layer3_initiated_to release_pending_to start stop expired clear_exception_conditions zero_state_variables set_peer_busy set_own_busy enquiry_response transmit_enquiry queue_up discard_i_queue acknowledge invoke_retransmission i_frame_ns discard_unacknowledged transmit_i_frame ensure_t200 transmit_rr establish_data_link reestablish_data_link end_establishment tei_assigned confirm_or_indicate ua_final awaiting_establishment_t200 awaiting_establishment confirm_release awaiting_release_t200 awaiting_release acknowledge_with_timers nr_error_recovery i_frame_nr i_frame_nr_in_recovery poll_or_final poll rr_nr rej_nr rnr_nr rr_nr_in_recovery rnr_nr_in_recovery timer_recovery_t200 busy_on busy_off in_7_and_8 established_t200 multiple_frame_established timer_recovery by_state report_fault row send_all acknowledge_pending end_step step initial_variables without_exceptions with_zero_counters status_frame acknowledgement without_ack_pending poll_response is_accepted is_rejected after_i_frame i_frame_response is_valid_nr with_va acknowledged_count acknowledges_all with_vs may_send next_i_frame after_sending with_own_busy with_peer_busy after steps lies_within retransmit_last_i_frame last_i_frame before
+network_is_busy Whole user network = let free = network refl in cc
+network_is_busy Tagged user network = let free = network refl in cc
+
+pub rests_apart : (r : Reading) → next_move r (run r network_restarts (new_pair 1 Enquiry)) ≡ None
+unfolding story_after view_after receives takes delivers loses expires_200 expires_203 restarts acts happens begin put state_to rc_to increment_rc layer3_initiated_to release_pending_to start stop expired clear_exception_conditions zero_state_variables set_peer_busy set_own_busy enquiry_response transmit_enquiry queue_up discard_i_queue acknowledge invoke_retransmission i_frame_ns discard_unacknowledged transmit_i_frame ensure_t200 transmit_rr establish_data_link reestablish_data_link end_establishment tei_assigned confirm_or_indicate ua_final awaiting_establishment_t200 awaiting_establishment confirm_release awaiting_release_t200 awaiting_release acknowledge_with_timers nr_error_recovery i_frame_nr i_frame_nr_in_recovery poll_or_final poll rr_nr rej_nr rnr_nr rr_nr_in_recovery rnr_nr_in_recovery timer_recovery_t200 busy_on busy_off in_7_and_8 established_t200 multiple_frame_established timer_recovery by_state report_fault row send_all acknowledge_pending end_step step initial_variables without_exceptions with_zero_counters status_frame acknowledgement without_ack_pending poll_response is_accepted is_rejected after_i_frame i_frame_response is_valid_nr with_va acknowledged_count acknowledges_all with_vs may_send next_i_frame after_sending with_own_busy with_peer_busy after steps lies_within retransmit_last_i_frame last_i_frame before
+rests_apart Whole = refl
+rests_apart Tagged = refl

@@ -1,0 +1,116 @@
+-- Worked worlds that try the line's own moves. N200 is three.
+use Rattle.std.specs.Prelude.{ℕ, nat_le, Bool, true, false, List, [], ◌∷◌, ◌++◌, length, is_none}
+use Rattle.lapd_mod128.specs.Counting.{Reading}
+use Rattle.lapd_link_definition.specs.declared.recovery.Recovery.{Recovery}
+use Rattle.lapd_link_definition.specs.declared.state.State.{State}
+use Rattle.lapd_link_definition.specs.declared.state.State.TheVariants.{TeiAssigned, MultipleFrameEstablished, TimerRecovery}
+use Rattle.lapd_pair_laws.specs.Move.{Move, Give, Establish, Release, Deliver, Lose, Restart, Expire200, Expire203}
+use Rattle.lapd_pair_laws.specs.Schedule.{of_user, of_network, establishing}
+use Rattle.lapd_pair_laws.specs.World.{World, run, left}
+use Rattle.lapd_recovery_laws.specs.Own.{IsFree, first_own, most_own_moves, recovering, tried}
+
+-- The result of the own moves. `moves`: how many were made; `few`: whether they are at most
+-- `most_own_moves`; `rest`: whether no own move is possible; `left`: how many messages are left;
+-- `received`: how many the network received; `dropped`: how many of the user's are dropped; then
+-- both states.
+pub record RecoveryOutcome : Type 0 where
+  pub moves : ℕ
+  pub few : Bool
+  pub rest : Bool
+  pub left : ℕ
+  pub received : ℕ
+  pub dropped : ℕ
+  pub user : State
+  pub network : State
+
+abbrev pub looked_at : Reading → ℕ → ℕ → World → RecoveryOutcome
+looked_at r moves most w = record {
+  moves = moves;
+  few = nat_le moves most;
+  rest = is_none (first_own r tried w);
+  left = left w;
+  received = length w.network.history.received;
+  dropped = length w.user.history.dropped;
+  user = w.user.end.state;
+  network = w.network.end.state;
+}
+
+abbrev pub after_moves : Reading → List Move → World → RecoveryOutcome
+after_moves r moves w = looked_at r (length moves) (most_own_moves 3 w) (run r moves w)
+
+-- at most 40 moves are made
+abbrev pub outcome_of : Reading → World → RecoveryOutcome
+outcome_of r w = after_moves r (recovering r 40 w) w
+
+abbrev pub outcome : ℕ → ℕ → ℕ → State → RecoveryOutcome
+outcome moves received dropped state = record {
+  moves = moves;
+  few = true;
+  rest = true;
+  left = 0;
+  received = received;
+  dropped = dropped;
+  user = state;
+  network = state;
+}
+
+abbrev pub both_in_7 : ℕ → ℕ → ℕ → RecoveryOutcome
+both_in_7 moves received dropped = outcome moves received dropped MultipleFrameEstablished
+
+abbrev pub both_in_4 : ℕ → RecoveryOutcome
+both_in_4 moves = outcome moves 0 0 TeiAssigned
+
+-- ---- What happened before.
+
+-- both ends establish, and both SABMEs are lost
+abbrev pub both_sabmes_lost : List Move
+both_sabmes_lost = of_user Establish ∷ of_network Establish ∷ of_network (Lose 0)
+    ∷ of_user (Lose 0) ∷ []
+
+-- the network restarts
+abbrev pub network_restarts : List Move
+network_restarts = establishing ++ of_network Restart ∷ []
+
+-- the network restarts while a message is in transit to it
+abbrev pub restarts_with_one_sent : List Move
+restarts_with_one_sent = establishing ++ of_user (Give (1 ∷ [])) ∷ of_network Restart ∷ []
+
+-- T200 of the user expires three times; the frame before and each frame that it sends is lost
+abbrev pub all_lost : List Move
+all_lost = of_network (Lose 0) ∷ of_user Expire200 ∷ of_network (Lose 0) ∷ of_user Expire200
+    ∷ of_network (Lose 0) ∷ of_user Expire200 ∷ of_network (Lose 0) ∷ []
+
+-- the user releases, and each of its DISC is lost
+abbrev pub release_unheard : List Move
+release_unheard = establishing ++ of_user Release ∷ all_lost
+
+-- the DISC of the user and the SABME of the network cross
+abbrev pub disc_meets_sabme : List Move
+disc_meets_sabme = establishing ++ of_user Release ∷ of_network Establish ∷ []
+
+-- The user polls, the answer is lost, and a message waits. The network establishes, and each of its
+-- SABMEs is lost.
+abbrev pub longest : List Move
+longest = establishing ++ of_user Expire203 ∷ of_network Deliver ∷ of_user (Lose 0)
+    ∷ of_user (Give (1 ∷ [])) ∷ of_network Establish ∷ of_user (Lose 0) ∷ of_network Expire200
+    ∷ of_user (Lose 0) ∷ of_network Expire200 ∷ of_user (Lose 0) ∷ of_network Expire200
+    ∷ of_user (Lose 0) ∷ []
+
+-- ---- A busy end.
+
+-- the user polls again and again, the network answers that it is busy, and the bound is passed
+abbrev pub held_up : RecoveryOutcome
+held_up = record {
+  moves = 40;
+  few = false;
+  rest = false;
+  left = 1;
+  received = 0;
+  dropped = 0;
+  user = TimerRecovery;
+  network = MultipleFrameEstablished;
+}
+
+-- one end of the world is not free
+abbrev pub IsBusy : World → Type 0
+IsBusy w = IsFree w.user.end → IsFree w.network.end → ⊥

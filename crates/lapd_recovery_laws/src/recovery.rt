@@ -1,0 +1,107 @@
+//! Laws of a link that comes back. They are proofs; their functions do nothing.
+
+ghost use Rattle.std.specs.Prelude.{◌≡◌, ℕ, ◌≤◌, List, None};
+ghost use Rattle.lapd_mod128.specs.Counting.{Reading};
+ghost use Rattle.lapd_link_definition.specs.declared.recovery.Recovery.TheVariants.{Enquiry, LastMessage};
+ghost use Rattle.lapd_link_definition.specs.Parameters.{Parameters};
+ghost use Rattle.lapd_pair_laws.specs.Move.{Move};
+ghost use Rattle.lapd_pair_laws.specs.Settle.{next_move};
+ghost use Rattle.lapd_pair_laws.specs.Worked.{new_pair, busy};
+ghost use Rattle.lapd_pair_laws.specs.World.{new_world, run};
+ghost use Rattle.lapd_recovery_laws.specs.AfterOutage.{IsAfterOutage};
+ghost use Rattle.lapd_recovery_laws.specs.Agreed.{ComesBack};
+ghost use Rattle.lapd_recovery_laws.specs.LoneLine.{IsLoneLine, ComesUpAnew};
+ghost use Rattle.lapd_recovery_laws.specs.OpenLine.{IsOpenLine, ComesUp};
+ghost use Rattle.lapd_recovery_laws.specs.Recovered.{outcome_of, both_sabmes_lost, network_restarts, restarts_with_one_sent, release_unheard, disc_meets_sabme, longest, both_in_7, both_in_4, held_up, IsBusy};
+ghost use Rattle.lapd_recovery_laws.specs.ReleasedLine.{IsReleasedLine, ComesDown};
+ghost use Rattle.lapd_recovery_laws.specs.Timers.{HaveTimersOfStates};
+
+/// Worked worlds come back as expected, on whole numbers and on tags, with either `Recovery`: the
+/// network restarts, without and with a message in transit; both SABMEs are lost; each DISC of a
+/// release is lost, which undoes it; a DISC and a SABME cross; and a world that takes 31 moves.
+/// Without T203, a network that restarts leaves the ends apart. With a busy end the moves are not few.
+pub fn recovery_is_computed()
+    ensures restart { (r : Reading) → outcome_of r (run r network_restarts (new_pair 1 Enquiry))
+        ≡ both_in_7 11 0 0 }
+    ensures restart_by_last { (r : Reading)
+        → outcome_of r (run r network_restarts (new_pair 1 LastMessage)) ≡ both_in_7 11 0 0 }
+    ensures sabmes { (r : Reading) → outcome_of r (run r both_sabmes_lost (new_pair 1 Enquiry))
+        ≡ both_in_7 6 0 0 }
+    ensures sabmes_by_last { (r : Reading)
+        → outcome_of r (run r both_sabmes_lost (new_pair 1 LastMessage)) ≡ both_in_7 6 0 0 }
+    ensures one_sent { (r : Reading)
+        → outcome_of r (run r restarts_with_one_sent (new_pair 1 Enquiry)) ≡ both_in_7 9 0 1 }
+    ensures one_sent_by_last { (r : Reading)
+        → outcome_of r (run r restarts_with_one_sent (new_pair 1 LastMessage)) ≡ both_in_7 9 0 1 }
+    ensures unheard { (r : Reading) → outcome_of r (run r release_unheard (new_pair 1 Enquiry))
+        ≡ both_in_7 12 0 0 }
+    ensures unheard_by_last { (r : Reading)
+        → outcome_of r (run r release_unheard (new_pair 1 LastMessage)) ≡ both_in_7 12 0 0 }
+    ensures crossed { (r : Reading) → outcome_of r (run r disc_meets_sabme (new_pair 1 Enquiry))
+        ≡ both_in_4 4 }
+    ensures crossed_by_last { (r : Reading)
+        → outcome_of r (run r disc_meets_sabme (new_pair 1 LastMessage)) ≡ both_in_4 4 }
+    ensures longest { (r : Reading) → outcome_of r (run r longest (new_pair 1 Enquiry))
+        ≡ both_in_7 31 0 1 }
+    ensures longest_by_last { (r : Reading) → outcome_of r (run r longest (new_pair 1 LastMessage))
+        ≡ both_in_7 31 0 1 }
+    ensures apart_without_t203 { (r : Reading)
+        → next_move r (run r network_restarts (new_pair 1 Enquiry)) ≡ None }
+    ensures held_up { (r : Reading) → outcome_of r (run r busy (new_pair 1 Enquiry)) ≡ held_up }
+    ensures busy { (r : Reading) → IsBusy (run r busy (new_pair 1 Enquiry)) }
+{}
+
+/// After every run, on whole numbers and on tags, the timers that run are those of each end's state:
+/// T200 alone in states 5, 6 and 8, and T203 in state 7 if T200 does not run (Q.921 5.10.3.1).
+pub fn timers_of_states_run()
+    ensures { (r : Reading) (user network : Parameters) → user.k ≤ 127 → network.k ≤ 127
+        → (moves : List Move) → HaveTimersOfStates (run r moves (new_world user network)) }
+{}
+
+/// A line with both ends in states 7 and 8 and no frame in transit comes up by itself, if no end is
+/// own receiver busy or at its last try. Its own moves, in any order, are at most three per message
+/// left, and eight more. Where none is possible any more, both ends are in state 7 with equal
+/// numbers, no message was dropped, and each was received and acknowledged. The run starts in a new
+/// world, on whole numbers or on tags, with windows of 1 to 127 and either `Recovery`.
+pub fn every_open_line_comes_up()
+    ensures { (r : Reading) (user network : Parameters)
+        → user.k ≤ 127 → network.k ≤ 127 → 1 ≤ user.k → 1 ≤ network.k → (moves : List Move)
+        → IsOpenLine (run r moves (new_world user network))
+        → ComesUp r (run r moves (new_world user network)) }
+{}
+
+/// A line with both ends in states 4 and 6 and no frame in transit is released by itself. Its own
+/// moves, in any order, are at most six, whatever N200 is. Where none is possible any more, both
+/// ends are in state 4, and no message is left. The run starts in a new world, on whole numbers or
+/// on tags, with windows of at most 127.
+pub fn every_released_line_comes_down()
+    ensures { (r : Reading) (user network : Parameters) → user.k ≤ 127 → network.k ≤ 127
+        → (moves : List Move) → IsReleasedLine (run r moves (new_world user network))
+        → ComesDown r (run r moves (new_world user network)) }
+{}
+
+/// A line with one end in state 7 or 8 and the other in state 4, as after a restart, comes up by
+/// itself, if no frame is in transit. Its own moves, in any order, are at most three per message
+/// left, two per retransmission that N200 allows, and five more. Where none is possible any more,
+/// both ends are in state 7 with equal numbers, and no message is left: each was received and
+/// acknowledged, or dropped. The run starts in a new world, on whole numbers or on tags, with
+/// windows of 1 to 127 and either `Recovery`.
+pub fn every_lone_line_comes_up()
+    ensures { (r : Reading) (n200 : ℕ) (user network : Parameters)
+        → user.k ≤ 127 → network.k ≤ 127 → 1 ≤ user.k → 1 ≤ network.k → (moves : List Move)
+        → IsLoneLine n200 (run r moves (new_world user network))
+        → ComesUpAnew r n200 (run r moves (new_world user network)) }
+{}
+
+/// After an outage every link comes back by itself. Whatever happened before, if no frame is in
+/// transit and no end in state 7 or 8 is own receiver busy, then the line's own moves, in any order,
+/// are at most three per message left, six per retransmission that N200 allows, and eleven more.
+/// Where none is possible any more, both ends agree: both in state 4, or both in state 7 with equal
+/// numbers, and no message is left. The run starts in a new world, on whole numbers or on tags, with
+/// windows of 1 to 127 and either `Recovery`. The argument is at least N200 of both ends, and 1.
+pub fn every_line_comes_back()
+    ensures { (r : Reading) (n200 : ℕ) → 1 ≤ n200 → (user network : Parameters)
+        → user.k ≤ 127 → network.k ≤ 127 → 1 ≤ user.k → 1 ≤ network.k → (moves : List Move)
+        → IsAfterOutage n200 (run r moves (new_world user network))
+        → ComesBack r n200 (run r moves (new_world user network)) }
+{}
