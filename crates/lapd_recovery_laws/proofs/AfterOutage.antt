@@ -32,8 +32,8 @@ use Rattle.lapd_pair_laws.proofs.Stepping.{user_move, network_move}
 use Rattle.lapd_pair_laws.proofs.TaggedMoves.{left_on_tags}
 use Rattle.lapd_pair_laws.proofs.Whole.{each_move_preserves, each_run_preserves}
 use Rattle.lapd_pair_laws.proofs.Worlds.{left_by, new_holds, exchanged}
-use Rattle.lapd_recovery_laws.specs.AfterOutage.{IsAfterOutage}
-use Rattle.lapd_recovery_laws.specs.Agreed.{AreReleased, AreAgreed, ComesBack}
+use Rattle.lapd_recovery_laws.specs.AfterOutage.{IsAfterOutage, IsKept, IsHeldUp, StaysUp}
+use Rattle.lapd_recovery_laws.specs.Agreed.{AreReleased, AreLevel, AreAgreed, ComesBack}
 use Rattle.lapd_recovery_laws.specs.Own.{IsOwn, AreOwn, Rests, IsFree, most_own_moves}
 use Rattle.lapd_recovery_laws.specs.Timers.{HaveTimersOfStates}
 use Rattle.lapd_recovery_laws.proofs.AnyOrder.{Draining, rests_still, rests_drained}
@@ -43,10 +43,10 @@ use Rattle.lapd_recovery_laws.proofs.Lost.{at, with_final, UserLost}
 use Rattle.lapd_recovery_laws.proofs.LostMoves.{moved_user, moved_network}
 use Rattle.lapd_recovery_laws.proofs.OpenLine.{draining_begins, up_so}
 use Rattle.lapd_recovery_laws.proofs.Outage.{Facts, coming_moves}
-use Rattle.lapd_recovery_laws.proofs.OwnOnTags.{are_own_by_tags, rests_by_tags, ran_on_tags, agreed_on_tags}
+use Rattle.lapd_recovery_laws.proofs.OwnOnTags.{are_own_by_tags, rests_by_tags, ran_on_tags, are_level_on_tags, agreed_on_tags}
 use Rattle.lapd_recovery_laws.proofs.Releases.{empty_in_4}
 use Rattle.lapd_recovery_laws.proofs.SendsOn.{AreIgnored}
-use Rattle.lapd_recovery_laws.proofs.Situations.{tries, twice, attempt_in, attempt, gone_in, gone, again_in, again, finds_in, finds, polls_in, polls, Alone4, Alone5, Alone6, Closed, Half, alone_4, alone_5, alone_6, asks_5, asks_6, accepted, crossed, refused, parting, closed, Coming}
+use Rattle.lapd_recovery_laws.proofs.Situations.{tries, twice, attempt_in, attempt, gone_in, gone, again_in, again, finds_in, finds, polls_in, polls, Alone4, Alone5, Alone6, Closed, Half, alone_4, alone_5, alone_6, asks_5, asks_6, accepted, crossed, refused, parting, closed, not_both, false_if, Coming}
 use Rattle.lapd_recovery_laws.proofs.TimersOfRuns.{new_has_timers, timers_after_move, timers_after_run}
 use Rattle.lapd_recovery_laws.proofs.Transitions.{timers_in}
 
@@ -71,30 +71,30 @@ facts_after N move w f =
       few_network = subst (λ (p : Parameters). p.n200 ≤ N) (sym same.1) f.few_network;
     }
 
-record Reaches (N n : ℕ) (moves : List Move) (now : World) : Type 0 where
+record Reaches (up : Bool) (N n : ℕ) (moves : List Move) (now : World) : Type 0 where
   few : length moves ≤ n
-  coming : Coming N (n - length moves) now
+  coming : Coming N up (n - length moves) now
   facts : Facts N now
 
-own_moves_reach : (N : ℕ) → 1 ≤ N → (n : ℕ) (w : World) (moves : List Move) → Coming N n w → Facts N w → AreOwn Whole moves w → Reaches N n moves (run Whole moves w)
-own_moves_reach N some n w [] c f own = let same : n ≡ n - 0 = omega arith in record { few = omega arith; coming = subst (λ m. Coming N m w) same c; facts = f }
-own_moves_reach N some n w (move ∷ moves) c f own =
-    let one = coming_moves N some n move.side move.event w c f own.0 in
+own_moves_reach : (up : Bool) (N : ℕ) → 1 ≤ N → (n : ℕ) (w : World) (moves : List Move) → Coming N up n w → Facts N w → AreOwn Whole moves w → Reaches up N n moves (run Whole moves w)
+own_moves_reach up N some n w [] c f own = let same : n ≡ n - 0 = omega arith in record { few = omega arith; coming = subst (λ m. Coming N up m w) same c; facts = f }
+own_moves_reach up N some n w (move ∷ moves) c f own =
+    let one = coming_moves N some up n move.side move.event w c f own.0 in
     let now = world_after w (happens Whole move w) in
-    let rest = own_moves_reach N some (n - 1) now moves one.coming (facts_after N move w f) own.1 in
+    let rest = own_moves_reach up N some (n - 1) now moves one.coming (facts_after N move w f) own.1 in
     let fewer : n - 1 - length moves ≡ n - length (move ∷ moves) = omega arith in
     record {
       few = let some_left = one.some in let few = rest.few in omega (arith, some_left, few);
-      coming = subst (λ m. Coming N m (run Whole moves now)) fewer rest.coming;
+      coming = subst (λ m. Coming N up m (run Whole moves now)) fewer rest.coming;
       facts = rest.facts;
     }
 
 -- ---- Where no own move is possible, the ends agree.
 
-half_rests : (N n : ℕ) (w : World) → Half N n w → HaveTimersOfStates w → IsStill w → (IsOwn Whole (user_move Expire203) w → ⊥) → Closed N n w
-half_rests N n w (alone_4 s) have still rests = by_state w.user.end.state refl s.open_state
+half_rests : (up : Bool) (N n : ℕ) (w : World) → Half N up n w → HaveTimersOfStates w → IsStill w → (IsOwn Whole (user_move Expire203) w → ⊥) → Closed N n w × (up ≡ false)
+half_rests up N n w (alone_4 s) have still rests = by_state w.user.end.state refl s.open_state
   where
-    by_state : (state : State) → w.user.end.state ≡ state → is_7_or_8 state ≡ true → Closed N n w
+    by_state : (state : State) → w.user.end.state ≡ state → is_7_or_8 state ≡ true → Closed N n w × (up ≡ false)
     by_state MultipleFrameEstablished is o =
         let on : w.user.end.t203 ≡ true = (timers_in MultipleFrameEstablished w.user.end have.user is).0 ∙ ap not still.user in
         absurd (rests (record { due = due_203 w still is s.network; admitted = expires_203_at side.User w on }))
@@ -102,15 +102,15 @@ half_rests N n w (alone_4 s) have still rests = by_state w.user.end.state refl s
     by_state TeiAssigned is o = cc
     by_state AwaitingEstablishment is o = cc
     by_state AwaitingRelease is o = cc
-half_rests N n w (alone_5 s) have still rests = let on = (timers_in AwaitingEstablishment w.network.end have.network s.network).0 in let off = still.network in cc
-half_rests N n w (alone_6 s) have still rests = let on = (timers_in AwaitingRelease w.network.end have.network s.network).0 in let off = still.network in cc
-half_rests N n w (asks_5 s) have still rests = let none = still.to_network in let some = s.to_network in cc
-half_rests N n w (asks_6 s) have still rests = let none = still.to_network in let some = s.to_network in cc
-half_rests N n w (accepted s) have still rests = let none = still.to_user in let some = s.to_user in cc
-half_rests N n w (crossed s) have still rests = let none = still.to_user in let some = s.to_user in cc
-half_rests N n w (refused s) have still rests = let none = still.to_user in let some = s.to_user in cc
-half_rests N n w (parting s) have still rests = let on = (timers_in AwaitingRelease w.user.end have.user s.user).0 in let off = still.user in cc
-half_rests N n w (closed s) have still rests = s
+half_rests up N n w (alone_5 s k) have still rests = let on = (timers_in AwaitingEstablishment w.network.end have.network s.network).0 in let off = still.network in cc
+half_rests up N n w (alone_6 s k) have still rests = let on = (timers_in AwaitingRelease w.network.end have.network s.network).0 in let off = still.network in cc
+half_rests up N n w (asks_5 s k) have still rests = let none = still.to_network in let some = s.to_network in cc
+half_rests up N n w (asks_6 s k) have still rests = let none = still.to_network in let some = s.to_network in cc
+half_rests up N n w (accepted s k) have still rests = let none = still.to_user in let some = s.to_user in cc
+half_rests up N n w (crossed s k) have still rests = let none = still.to_user in let some = s.to_user in cc
+half_rests up N n w (refused s k) have still rests = let none = still.to_user in let some = s.to_user in cc
+half_rests up N n w (parting s k) have still rests = let on = (timers_in AwaitingRelease w.user.end have.user s.user).0 in let off = still.user in cc
+half_rests up N n w (closed s k) have still rests = (s, k)
 
 in_state_4 : (e : End) → HasTimersOfState e → is_7_or_8 e.state ≡ false → e.t200 ≡ false → e.state ≡ TeiAssigned
 in_state_4 e has c off = by_state e.state refl c
@@ -137,12 +137,12 @@ closed_agree w i kept have still user network =
       ends = inl (record { mine = mine; its = its });
     }
 
-agreed_at_rest : (N n : ℕ) (w : World) → Coming N n w → Facts N w → IsConsistentWorld Whole w → IsStill w → Rests Whole w → AreAgreed w
-agreed_at_rest N n w (inl d) f kept still rests = (up_so n w w.user w.network w.to_user w.to_network kept (rests_drained true n w d f.have still) still (record { user = refl; network = refl })).agreed
-agreed_at_rest N n w (inr (inl l)) f kept still rests = let s = half_rests N n w l f.have still (λ own. rests (user_move Expire203) own) in closed_agree w f.holds kept f.have still s.user s.network
-agreed_at_rest N n w (inr (inr l)) f kept still rests =
-    let s = half_rests N n (swapped w) l (record { user = f.have.network; network = f.have.user }) (still_swapped w still) (λ own. rests (network_move Expire203) (own_203_swapped w own)) in
-    closed_agree w f.holds kept f.have still s.network s.user
+agreed_at_rest : (up : Bool) (N n : ℕ) (w : World) → Coming N up n w → Facts N w → IsConsistentWorld Whole w → IsStill w → Rests Whole w → AreAgreed w
+agreed_at_rest up N n w (inl d) f kept still rests = (up_so n w w.user w.network w.to_user w.to_network kept (rests_drained true n w d f.have still) still (record { user = refl; network = refl })).agreed
+agreed_at_rest up N n w (inr (inl l)) f kept still rests = let s = half_rests up N n w l f.have still (λ own. rests (user_move Expire203) own) in closed_agree w f.holds kept f.have still s.0.user s.0.network
+agreed_at_rest up N n w (inr (inr l)) f kept still rests =
+    let s = half_rests up N n (swapped w) l (record { user = f.have.network; network = f.have.user }) (still_swapped w still) (λ own. rests (network_move Expire203) (own_203_swapped w own)) in
+    closed_agree w f.holds kept f.have still s.0.network s.0.user
 
 -- ---- The start.
 
@@ -251,13 +251,13 @@ module _ (N : ℕ) (some : 1 ≤ N) (x y : Station) (i : IsInvariant (at x y [] 
       by_both (inr last) (inl nothing) = let a = last.0 in let g = last.1 in omega (arith, a, g, nothing, mine, its, polls_x, some)
       by_both (inr last) (inr sends) = let a = last.0 in let g = last.1 in let b = sends.0 in let u = sends.1 in omega (arith, a, g, b, u, mine, its, polls_x, some)
 
-  alone_begins : is_7_or_8 x.end.state ≡ true → is_7_or_8 y.end.state ≡ false → Half N n w
-  alone_begins opened c = by_state y.end.state refl c
+  alone_begins : (up : Bool) → is_7_or_8 x.end.state ≡ true → is_7_or_8 y.end.state ≡ false → (up ≡ true → IsKept y.end) → Half N up n w
+  alone_begins up opened c k = by_state y.end.state refl c
     where
-      by_state : (state : State) → y.end.state ≡ state → is_7_or_8 state ≡ false → Half N n w
+      by_state : (state : State) → y.end.state ≡ state → is_7_or_8 state ≡ false → Half N up n w
       by_state TeiAssigned is c = alone_4 (record { open_state = opened; network = is; to_user = refl; ignored = tt; most = omega (arith, mine, its, finds_x, some) })
-      by_state AwaitingEstablishment is c = alone_5 (record { open_state = opened; network = is; to_user = refl; ignored = tt; most = let le = weight_5 in omega (arith, le) })
-      by_state AwaitingRelease is c = alone_6 (record { open_state = opened; network = is; to_user = refl; ignored = tt; most = omega (arith, mine, its, finds_x, attempt_y, some) })
+      by_state AwaitingEstablishment is c = alone_5 (record { open_state = opened; network = is; to_user = refl; ignored = tt; most = let le = weight_5 in omega (arith, le) }) (λ up_is. (k up_is).none_pending is)
+      by_state AwaitingRelease is c = alone_6 (record { open_state = opened; network = is; to_user = refl; ignored = tt; most = omega (arith, mine, its, finds_x, attempt_y, some) }) (false_if up (λ up_is. (k up_is).not_releasing is))
       by_state MultipleFrameEstablished is c = cc
       by_state TimerRecovery is c = cc
 
@@ -320,7 +320,7 @@ module _ (N : ℕ) (some : 1 ≤ N) (x y : Station) (i : IsInvariant (at x y [] 
         | inr last ↦ inr (same ∙ last.1, let a = last.0 in omega (arith, a, attempt_x))
       ]
 
-  closed_begins : is_7_or_8 x.end.state ≡ false → is_7_or_8 y.end.state ≡ false → Half N n w
+  closed_begins : is_7_or_8 x.end.state ≡ false → is_7_or_8 y.end.state ≡ false → Half N false n w
   closed_begins c d =
       let e = extra in
       closed (record {
@@ -332,7 +332,7 @@ module _ (N : ℕ) (some : 1 ≤ N) (x y : Station) (i : IsInvariant (at x y [] 
         leaves = e.leaves;
         both = λ in_5 its_in_5. (e.sends_x, e.sends_y, e.leaves_x, e.leaves_y);
         most = by_both e.sends e.leaves e.either_sends e.either_leaves;
-      })
+      }) refl
     where
       by_both : (sends leaves : ℕ) → (sends ≡ 0) ⊎ ((sends ≡ 2 * N + 3) × (1 ≤ unsent x.end + unsent y.end)) → (leaves ≡ 0) ⊎ ((leaves ≡ 2 * N + 5) × (attempt x.end + attempt y.end ≤ 6))
           → attempt x.end + attempt y.end + 2 * unsent x.end + 2 * unsent y.end + sends + leaves ≤ n
@@ -375,7 +375,7 @@ weaker n m w less (inr (inr (inr l))) = inr (inr (inr (record {
   most = let le = l.most in omega (arith, le, less);
 })))
 
-both_begin : (N : ℕ) → 1 ≤ N → (x y : Station) → IsInvariant (at x y [] []) → IsConsistentWorld Whole (at x y [] []) → AreSettledEnds (at x y [] []) → IsFree x.end → IsFree y.end → x.end.parameters.n200 ≤ N → y.end.parameters.n200 ≤ N → Coming N (most_own_moves N (at x y [] [])) (at x y [] [])
+both_begin : (N : ℕ) → 1 ≤ N → (x y : Station) → IsInvariant (at x y [] []) → IsConsistentWorld Whole (at x y [] []) → AreSettledEnds (at x y [] []) → IsFree x.end → IsFree y.end → x.end.parameters.n200 ≤ N → y.end.parameters.n200 ≤ N → Coming N false (most_own_moves N (at x y [] [])) (at x y [] [])
 both_begin N some x y i kept settled x_free y_free few_x few_y = by_open (is_7_or_8 x.end.state) (is_7_or_8 y.end.state) refl refl
   where
     w : World
@@ -387,13 +387,13 @@ both_begin N some x y i kept settled x_free y_free few_x few_y = by_open (is_7_o
     swapped_bound : most_own_moves N (swapped w) ≡ most_own_moves N w
     swapped_bound = omega arith
 
-    by_open : (a b : Bool) → is_7_or_8 x.end.state ≡ a → is_7_or_8 y.end.state ≡ b → Coming N (most_own_moves N (at x y [] [])) (at x y [] [])
+    by_open : (a b : Bool) → is_7_or_8 x.end.state ≡ a → is_7_or_8 y.end.state ≡ b → Coming N false (most_own_moves N (at x y [] [])) (at x y [] [])
     by_open true true o p = inl (more (draining_begins x y i settled kept.user.settled kept.network.settled true o p (x_free o) (y_free p) (λ _. refl) (λ _. refl)))
-    by_open true false o c = inr (inl (alone_begins N some x y i kept.user.settled kept.network.settled few_x few_y o c))
-    by_open false true c o = inr (inr (subst (λ m. Half N m (swapped w)) swapped_bound (alone_begins N some y x (exchanged w i) kept.network.settled kept.user.settled few_y few_x o c)))
+    by_open true false o c = inr (inl (alone_begins N some x y i kept.user.settled kept.network.settled few_x few_y false o c (λ no_up. cc)))
+    by_open false true c o = inr (inr (subst (λ m. Half N false m (swapped w)) swapped_bound (alone_begins N some y x (exchanged w i) kept.network.settled kept.user.settled few_y few_x false o c (λ no_up. cc))))
     by_open false false c d = inr (inl (closed_begins N some x y i kept.user.settled kept.network.settled few_x few_y c d))
 
-begins : (N : ℕ) → 1 ≤ N → (x y : Station) (to_user to_network : List Flight) → IsInvariant (at x y to_user to_network) → IsConsistentWorld Whole (at x y to_user to_network) → AreSettledEnds (at x y to_user to_network) → IsAfterOutage N (at x y to_user to_network) → Coming N (most_own_moves N (at x y to_user to_network)) (at x y to_user to_network)
+begins : (N : ℕ) → 1 ≤ N → (x y : Station) (to_user to_network : List Flight) → IsInvariant (at x y to_user to_network) → IsConsistentWorld Whole (at x y to_user to_network) → AreSettledEnds (at x y to_user to_network) → IsAfterOutage N (at x y to_user to_network) → Coming N false (most_own_moves N (at x y to_user to_network)) (at x y to_user to_network)
 begins N some x y [] [] i kept settled a = both_begin N some x y i kept settled a.user_free a.network_free a.user_retries a.network_retries
 begins N some x y (f ∷ fs) to_network i kept settled a = let none = a.to_user in cc
 begins N some x y [] (f ∷ fs) i kept settled a = let none = a.to_network in cc
@@ -404,12 +404,12 @@ line_comes_back N some w i kept settled have clear a =
     let c = begins N some w.user w.network w.to_user w.to_network i kept settled a in
     let f : Facts N w = record { holds = i; settled = settled; have = have; clear = clear; few_user = a.user_retries; few_network = a.network_retries } in
     record {
-      few = λ moves own. (own_moves_reach N some n w moves c f own).few;
+      few = λ moves own. (own_moves_reach false N some n w moves c f own).few;
       agreed = λ moves own rests.
           let now = run Whole moves w in
-          let reached = own_moves_reach N some n w moves c f own in
+          let reached = own_moves_reach false N some n w moves c f own in
           let still = rests_still now.user now.network now.to_user now.to_network rests in
-          agreed_at_rest N (n - length moves) now reached.coming reached.facts (run_consistent Whole moves w kept) still rests;
+          agreed_at_rest false N (n - length moves) now reached.coming reached.facts (run_consistent Whole moves w kept) still rests;
     }
 
 -- ---- After every run, on whole numbers and on tags.
@@ -469,3 +469,84 @@ module _ (N : ℕ) (some : 1 ≤ N) (user network : Parameters) (user_small : us
 
 pub every_line_comes_back : (r : Reading) (n200 : ℕ) → 1 ≤ n200 → (user network : Parameters) → user.k ≤ 127 → network.k ≤ 127 → 1 ≤ user.k → 1 ≤ network.k → (moves : List Move) → IsAfterOutage n200 (run r moves (new_world user network)) → ComesBack r n200 (run r moves (new_world user network))
 every_line_comes_back r n200 some user network u n us ns moves a = comes_back_by n200 some user network u n us ns moves r a
+
+-- ---- An open link that nobody releases stays up.
+
+held_begin : (N : ℕ) → 1 ≤ N → (x y : Station) → IsInvariant (at x y [] []) → IsConsistentWorld Whole (at x y [] []) → AreSettledEnds (at x y [] []) → IsFree x.end → IsFree y.end → x.end.parameters.n200 ≤ N → y.end.parameters.n200 ≤ N → IsHeldUp (at x y [] []) → Coming N true (most_own_moves N (at x y [] [])) (at x y [] [])
+held_begin N some x y i kept settled x_free y_free few_x few_y held = by_open (is_7_or_8 x.end.state) (is_7_or_8 y.end.state) refl refl
+  where
+    w : World
+    w = at x y [] []
+
+    more : Draining true (most_moves w) w → Draining true (most_own_moves N w) w
+    more d = weaker (most_moves w) (most_own_moves N w) w (omega arith) d
+
+    swapped_bound : most_own_moves N (swapped w) ≡ most_own_moves N w
+    swapped_bound = omega arith
+
+    one_open : is_7_or_8 x.end.state ≡ false → is_7_or_8 y.end.state ≡ false → (is_7_or_8 x.end.state ≡ true) ⊎ (is_7_or_8 y.end.state ≡ true) → ⊥
+    one_open c d (inl o) = not_both (is_7_or_8 x.end.state) c o
+    one_open c d (inr o) = not_both (is_7_or_8 y.end.state) d o
+
+    by_open : (a b : Bool) → is_7_or_8 x.end.state ≡ a → is_7_or_8 y.end.state ≡ b → Coming N true (most_own_moves N (at x y [] [])) (at x y [] [])
+    by_open true true o p = inl (more (draining_begins x y i settled kept.user.settled kept.network.settled true o p (x_free o) (y_free p) (λ _. refl) (λ _. refl)))
+    by_open true false o c = inr (inl (alone_begins N some x y i kept.user.settled kept.network.settled few_x few_y true o c (λ _. held.network)))
+    by_open false true c o = inr (inr (subst (λ m. Half N true m (swapped w)) swapped_bound (alone_begins N some y x (exchanged w i) kept.network.settled kept.user.settled few_y few_x true o c (λ _. held.user))))
+    by_open false false c d = absurd (one_open c d held.open_state)
+
+held_begins : (N : ℕ) → 1 ≤ N → (x y : Station) (to_user to_network : List Flight) → IsInvariant (at x y to_user to_network) → IsConsistentWorld Whole (at x y to_user to_network) → AreSettledEnds (at x y to_user to_network) → IsAfterOutage N (at x y to_user to_network) → IsHeldUp (at x y to_user to_network) → Coming N true (most_own_moves N (at x y to_user to_network)) (at x y to_user to_network)
+held_begins N some x y [] [] i kept settled a h = held_begin N some x y i kept settled a.user_free a.network_free a.user_retries a.network_retries (record { user = h.user; network = h.network; open_state = h.open_state })
+held_begins N some x y (f ∷ fs) to_network i kept settled a h = let none = a.to_user in cc
+held_begins N some x y [] (f ∷ fs) i kept settled a h = let none = a.to_network in cc
+
+level_at_rest : (N n : ℕ) (w : World) → Coming N true n w → Facts N w → IsConsistentWorld Whole w → IsStill w → Rests Whole w → AreLevel w.user.end w.network.end
+level_at_rest N n w (inl d) f kept still rests = (up_so n w w.user w.network w.to_user w.to_network kept (rests_drained true n w d f.have still) still (record { user = refl; network = refl })).level
+level_at_rest N n w (inr (inl l)) f kept still rests = let s = half_rests true N n w l f.have still (λ own. rests (user_move Expire203) own) in absurd (not_both true s.1 refl)
+level_at_rest N n w (inr (inr l)) f kept still rests =
+    let s = half_rests true N n (swapped w) l (record { user = f.have.network; network = f.have.user }) (still_swapped w still) (λ own. rests (network_move Expire203) (own_203_swapped w own)) in
+    absurd (not_both true s.1 refl)
+
+held_stays_up : (N : ℕ) → 1 ≤ N → (w : World) → IsInvariant w → IsConsistentWorld Whole w → AreSettledEnds w → HaveTimersOfStates w → AreClearIn5 w → IsAfterOutage N w → IsHeldUp w → StaysUp Whole w
+held_stays_up N some w i kept settled have clear a h moves own rests =
+    let n = most_own_moves N w in
+    let c = held_begins N some w.user w.network w.to_user w.to_network i kept settled a h in
+    let f : Facts N w = record { holds = i; settled = settled; have = have; clear = clear; few_user = a.user_retries; few_network = a.network_retries } in
+    let now = run Whole moves w in
+    let reached = own_moves_reach true N some n w moves c f own in
+    let still = rests_still now.user now.network now.to_user now.to_network rests in
+    level_at_rest N (n - length moves) now reached.coming reached.facts (run_consistent Whole moves w kept) still rests
+
+stays_up_on_tags : (w : World) → IsInvariant w → IsConsistentWorld Whole w → StaysUp Whole w → StaysUp Tagged (tag_world w)
+stays_up_on_tags w i kept up moves own rests =
+    let now = run Whole moves w in
+    let same : run Tagged moves (tag_world w) ≡ tag_world now = ran_on_tags moves w i kept in
+    let still : Rests Whole now = rests_by_tags now (each_run_preserves moves w i) (run_consistent Whole moves w kept) (subst (λ v. Rests Tagged v) same rests) in
+    subst (λ (v : World). AreLevel v.user.end v.network.end) (sym same) (are_level_on_tags now.user.end now.network.end (up moves (are_own_by_tags moves w i kept own) still))
+
+kept_by_tags : (e : End) → IsKept (tag_end e) → IsKept e
+kept_by_tags e k = record { not_releasing = k.not_releasing; none_pending = k.none_pending }
+
+held_by_tags : (w : World) → IsHeldUp (tag_world w) → IsHeldUp w
+held_by_tags w h = record { user = kept_by_tags w.user.end h.user; network = kept_by_tags w.network.end h.network; open_state = h.open_state }
+
+module _ (N : ℕ) (some : 1 ≤ N) (user network : Parameters) (user_small : user.k ≤ 127) (network_small : network.k ≤ 127) (user_some : 1 ≤ user.k) (network_some : 1 ≤ network.k) (moves : List Move) where
+  abbrev held_world : World
+  held_world = run Whole moves (new_world user network)
+
+  held_holds : IsInvariant held_world
+  held_holds = each_run_preserves moves (new_world user network) (new_holds user network user_small network_small)
+
+  held_consistent : IsConsistentWorld Whole held_world
+  held_consistent = run_consistent Whole moves (new_world user network) (new_world_consistent Whole user network user_small network_small)
+
+  stays_whole : IsAfterOutage N held_world → IsHeldUp held_world → StaysUp Whole held_world
+  stays_whole a h = let c = held_stays_up N some held_world held_holds held_consistent (run_settles moves (new_world user network) (new_settles user network user_some network_some)) (timers_after_run moves (new_world user network) (new_has_timers user network)) (clear_after_run moves (new_world user network) (new_is_clear user network)) a h in c
+
+  stays_up_by : (r : Reading) → IsAfterOutage N (run r moves (new_world user network)) → IsHeldUp (run r moves (new_world user network)) → StaysUp r (run r moves (new_world user network))
+  stays_up_by Whole a h = stays_whole a h
+  stays_up_by Tagged a h =
+      let same : run Tagged moves (new_world user network) ≡ tag_world held_world = reached_tags user network user_small network_small moves in
+      subst (λ w. StaysUp Tagged w) (sym same) (stays_up_on_tags held_world held_holds held_consistent (stays_whole (after_outage_by_tags N held_world (subst (λ w. IsAfterOutage N w) same a)) (held_by_tags held_world (subst IsHeldUp same h))))
+
+pub every_held_line_stays_up : (r : Reading) (n200 : ℕ) → 1 ≤ n200 → (user network : Parameters) → user.k ≤ 127 → network.k ≤ 127 → 1 ≤ user.k → 1 ≤ network.k → (moves : List Move) → IsAfterOutage n200 (run r moves (new_world user network)) → IsHeldUp (run r moves (new_world user network)) → StaysUp r (run r moves (new_world user network))
+every_held_line_stays_up r n200 some user network u n us ns moves a h = stays_up_by n200 some user network u n us ns moves r a h

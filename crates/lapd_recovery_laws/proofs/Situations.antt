@@ -48,6 +48,14 @@ attempt_in state tried leaving = 0
 abbrev pub attempt : End → ℕ
 attempt e = attempt_in e.state (tries e) e.release_pending
 
+pub not_both : (b : Bool) → b ≡ false → b ≡ true → ⊥
+not_both true off on = cc
+not_both false off on = cc
+
+pub false_if : (b : Bool) → (b ≡ true → ⊥) → b ≡ false
+false_if true never = absurd (never refl)
+false_if false never = refl
+
 module _ (N : ℕ) where
   -- after an end in state 5 has given up, an open peer finds it in state 4
   abbrev pub gone_in : Bool → ℕ
@@ -187,24 +195,31 @@ module _ (N : ℕ) where
         → (again w.user.end ≤ sends) × (again w.network.end ≤ sends) × (gone w.user.end ≤ leaves) × (gone w.network.end ≤ leaves)
     pub most : attempt w.user.end + attempt w.network.end + 2 * unsent w.user.end + 2 * unsent w.network.end + sends + leaves ≤ n
 
-  pub data Half (n : ℕ) (w : World) : Type 0 where
-    alone_4 : Alone4 n w → Half n w
-    alone_5 : Alone5 n w → Half n w
-    alone_6 : Alone6 n w → Half n w
-    asks_5 : Asks5 n w → Half n w
-    asks_6 : Asks6 n w → Half n w
-    accepted : Accepted n w → Half n w
-    crossed : Crossed n w → Half n w
-    refused : Refused n w → Half n w
-    parting : Parting n w → Half n w
-    closed : Closed n w → Half n w
+  -- neither end releases while the SABME of x is in transit
+  pub record NoneReleases (w : World) : Type 0 where
+    pub user : w.user.end.release_pending ≡ false
+    pub not_6 : w.network.end.state ≡ AwaitingRelease → ⊥
+    pub network : w.network.end.state ≡ AwaitingEstablishment → w.network.end.release_pending ≡ false
 
-  abbrev pub Coming : ℕ → World → Type 0
-  Coming n w = Draining true n w ⊎ (Half n w ⊎ Half n (swapped w))
+  -- if `up`, no end releases, and the link is open or an establishment is under way
+  pub data Half (up : Bool) (n : ℕ) (w : World) : Type 0 where
+    alone_4 : Alone4 n w → Half up n w
+    alone_5 : Alone5 n w → (up ≡ true → w.network.end.release_pending ≡ false) → Half up n w
+    alone_6 : Alone6 n w → up ≡ false → Half up n w
+    asks_5 : Asks5 n w → (up ≡ true → NoneReleases w) → Half up n w
+    asks_6 : Asks6 n w → up ≡ false → Half up n w
+    accepted : Accepted n w → (up ≡ true → w.user.end.release_pending ≡ false) → Half up n w
+    crossed : Crossed n w → (up ≡ true → (w.user.end.release_pending ≡ false) × (w.network.end.release_pending ≡ false)) → Half up n w
+    refused : Refused n w → up ≡ false → Half up n w
+    parting : Parting n w → up ≡ false → Half up n w
+    closed : Closed n w → up ≡ false → Half up n w
 
-  pub record ComesOn (n : ℕ) (now : World) : Type 0 where
+  abbrev pub Coming : Bool → ℕ → World → Type 0
+  Coming up n w = Draining true n w ⊎ (Half up n w ⊎ Half up n (swapped w))
+
+  pub record ComesOn (up : Bool) (n : ℕ) (now : World) : Type 0 where
     pub some : 1 ≤ n
-    pub coming : Coming (n - 1) now
+    pub coming : Coming up (n - 1) now
 
   -- ---- T200 of an open end expires on an empty line: it polls, or establishes anew.
 

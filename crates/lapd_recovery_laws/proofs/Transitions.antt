@@ -33,7 +33,7 @@ use Rattle.lapd_recovery_laws.proofs.LoneSteps.{is_ignored, Polls, polls_by_t203
 use Rattle.lapd_recovery_laws.proofs.Lost.{at}
 use Rattle.lapd_recovery_laws.proofs.LostMoves.{seen_by_network}
 use Rattle.lapd_recovery_laws.proofs.SendsOn.{AreIgnored, AreMessages, IsUpWith, Opens, sabme_in_7_8, IsCleared, ua_opens}
-use Rattle.lapd_recovery_laws.proofs.Situations.{tries, twice, attempt_in, attempt, gone_in, gone, again_in, again, finds_in, finds, polls_in, polls, Alone, Alone4, Alone5, Alone6, by_peer_5, Asks5, by_peer_6, Asks6, Accepted, Crossed, Refused, IsAnswer, EndInAnswer, Parting, Closed, Half, alone_4, alone_5, alone_6, asks_5, asks_6, accepted, crossed, refused, parting, closed, Coming, ComesOn, PollsOn, AsksAnew, t200_of_open, up_drains}
+use Rattle.lapd_recovery_laws.proofs.Situations.{tries, twice, attempt_in, attempt, gone_in, gone, again_in, again, finds_in, finds, polls_in, polls, Alone, Alone4, Alone5, Alone6, by_peer_5, Asks5, by_peer_6, Asks6, Accepted, Crossed, Refused, IsAnswer, EndInAnswer, Parting, Closed, Half, alone_4, alone_5, alone_6, asks_5, asks_6, accepted, crossed, refused, parting, closed, NoneReleases, not_both, false_if, Coming, ComesOn, PollsOn, AsksAnew, t200_of_open, up_drains}
 
 pub literally : (P : List Flight → List Flight → Type 0) (a b c d : List Flight) → a ≡ c → b ≡ d → P c d → P a b
 literally P a b c d is its_is p = subst (λ l. P l b) (sym is) (subst (λ l. P c l) (sym its_is) p)
@@ -61,7 +61,7 @@ attempt_is state tried e is some = ap (λ st. attempt_in st (tries e) e.release_
 abbrev pub state_of : End → State
 state_of e = e.state
 
-module _ (N : ℕ) (some_retries : 1 ≤ N) where
+module _ (N : ℕ) (some_retries : 1 ≤ N) (up : Bool) where
   -- ---- A world after an event.
 
   abbrev pub by_user : PairEvent → Station → Station → List Flight → List Flight → World
@@ -114,6 +114,12 @@ module _ (N : ℕ) (some_retries : 1 ≤ N) where
         again_of_asking : then.user.end ≡ asking x.end → again N then.user.end ≡ again N x.end
         again_of_asking is = ap (again N) is ∙ again_of x.end
 
+  none_releases : (n : ℕ) (x y : Station) (few : x.end.parameters.n200 ≤ N) (on : x.end.t200 ≡ true) → AsksAnew N x (left_by (seeing x [] []) (acts Whole side.User Expire200 (seeing x [] []))) → (y.end.state ≡ AwaitingRelease → ⊥) → (y.end.state ≡ AwaitingEstablishment → y.end.release_pending ≡ false) → NoneReleases N (by_user Expire200 x y [] [])
+  none_releases n x y few on a not_6 stays = let seen = a.sees in record { user = ap (λ (e : End). e.release_pending) seen.end; not_6 = not_6; network = stays }
+
+  other_state : (a b c : State) → a ≡ b → a ≡ c → b ≡ c
+  other_state a b c is is_too = sym is ∙ is_too
+
   -- ---- Weights by the state of the peer.
 
   pub open_peer_5 : (state : State) (w a : ℕ) → is_7_or_8 state ≡ true → by_peer_5 N state w a ≡ 0
@@ -156,7 +162,7 @@ module _ (N : ℕ) (some_retries : 1 ≤ N) where
     abbrev after_t200 : World
     after_t200 = by_user Expire200 x y [] []
 
-    pub alone4_t200 : Alone4 N n (at x y [] []) → ComesOn N n after_t200
+    pub alone4_t200 : Alone4 N n (at x y [] []) → ComesOn N up n after_t200
     alone4_t200 s = elim (t200_of_open N some_retries x few on s.open_state) [
       | inl p ↦
           let le = s.most in let less = p.finds_less in
@@ -164,33 +170,33 @@ module _ (N : ℕ) (some_retries : 1 ≤ N) where
       | inr a ↦
           let le = s.most in let more = a.finds_some in
           let none = ap (λ st. by_peer_5 N st (attempt y.end + gone N y.end + again N x.end) (attempt y.end)) s.network in
-          record { some = omega (arith, le, more); coming = inr (inl (asks_5 (asks_anew n x y few on (n - 1) a (omega (arith, le, more, none))))) }
+          record { some = omega (arith, le, more); coming = inr (inl (asks_5 (asks_anew n x y few on (n - 1) a (omega (arith, le, more, none))) (λ _. none_releases n x y few on a (λ in_6. let never = other_state _ TeiAssigned AwaitingRelease s.network in_6 in cc) (λ in_5. absurd (let never = other_state _ TeiAssigned AwaitingEstablishment s.network in_5 in cc))))) }
     ]
 
-    pub alone6_t200 : Alone6 N n (at x y [] []) → ComesOn N n after_t200
-    alone6_t200 s = elim (t200_of_open N some_retries x few on s.open_state) [
+    pub alone6_t200 : Alone6 N n (at x y [] []) → up ≡ false → ComesOn N up n after_t200
+    alone6_t200 s k = elim (t200_of_open N some_retries x few on s.open_state) [
       | inl p ↦
           let le = s.most in let less = p.finds_less in
-          record { some = omega (arith, le, less); coming = inr (inl (alone_6 (still_alone n x y few on AwaitingRelease (attempt y.end + finds N after_t200.user.end) (n - 1) s.network p (omega (arith, le, less))))) }
+          record { some = omega (arith, le, less); coming = inr (inl (alone_6 (still_alone n x y few on AwaitingRelease (attempt y.end + finds N after_t200.user.end) (n - 1) s.network p (omega (arith, le, less))) k)) }
       | inr a ↦
           let le = s.most in let more = a.finds_some in
           let only = ap (λ st. by_peer_5 N st (attempt y.end + gone N y.end + again N x.end) (attempt y.end)) s.network in
-          record { some = omega (arith, le, more); coming = inr (inl (asks_5 (asks_anew n x y few on (n - 1) a (omega (arith, le, more, only))))) }
+          record { some = omega (arith, le, more); coming = inr (inl (asks_5 (asks_anew n x y few on (n - 1) a (omega (arith, le, more, only))) (λ is. absurd (not_both up k is)))) }
     ]
 
-    pub alone5_t200 : Alone5 N n (at x y [] []) → ComesOn N n after_t200
-    alone5_t200 s = elim (t200_of_open N some_retries x few on s.open_state) [
+    pub alone5_t200 : Alone5 N n (at x y [] []) → (up ≡ true → y.end.release_pending ≡ false) → ComesOn N up n after_t200
+    alone5_t200 s k = elim (t200_of_open N some_retries x few on s.open_state) [
       | inl p ↦
           let le = s.most in let less = p.polls_less in let same = p.same_again in
-          record { some = omega (arith, le, less); coming = inr (inl (alone_5 (still_alone n x y few on AwaitingEstablishment (attempt y.end + gone N y.end + polls N after_t200.user.end + again N after_t200.user.end) (n - 1) s.network p (omega (arith, le, less, same))))) }
+          record { some = omega (arith, le, less); coming = inr (inl (alone_5 (still_alone n x y few on AwaitingEstablishment (attempt y.end + gone N y.end + polls N after_t200.user.end + again N after_t200.user.end) (n - 1) s.network p (omega (arith, le, less, same))) k)) }
       | inr a ↦
           let le = s.most in let more = a.polls_some in
           let all = ap (λ st. by_peer_5 N st (attempt y.end + gone N y.end + again N x.end) (attempt y.end)) s.network in
-          record { some = omega (arith, le, more); coming = inr (inl (asks_5 (asks_anew n x y few on (n - 1) a (omega (arith, le, more, all))))) }
+          record { some = omega (arith, le, more); coming = inr (inl (asks_5 (asks_anew n x y few on (n - 1) a (omega (arith, le, more, all))) (λ is. none_releases n x y few on a (λ in_6. let never = other_state _ AwaitingEstablishment AwaitingRelease s.network in_6 in cc) (λ _. k is)))) }
     ]
 
   -- T203 of an open end that has found nothing yet
-  pub alone4_t203 : (n : ℕ) (x y : Station) → Alone4 N n (at x y [] []) → x.end.parameters.n200 ≤ N → x.end.state ≡ MultipleFrameEstablished → x.end.t203 ≡ true → ComesOn N n (by_user Expire203 x y [] [])
+  pub alone4_t203 : (n : ℕ) (x y : Station) → Alone4 N n (at x y [] []) → x.end.parameters.n200 ≤ N → x.end.state ≡ MultipleFrameEstablished → x.end.t203 ≡ true → ComesOn N up n (by_user Expire203 x y [] [])
   alone4_t203 n x y s few is on =
       let p = polls_by_t203 x is on in
       let then = by_user Expire203 x y [] [] in
@@ -222,13 +228,13 @@ module _ (N : ℕ) (some_retries : 1 ≤ N) where
     most = let len = ap (λ fs. length fs) seen.incoming in let no = ap unsent seen.end in omega (arith, most, len, no, none);
   }
 
-  pub alone5_peer : (n : ℕ) (x y : Station) → Alone5 N n (at x y [] []) → y.end.t200 ≡ true → ComesOn N n (by_network Expire200 x y [] [])
-  alone5_peer n x y s on = by_tries (tries y.end) refl
+  pub alone5_peer : (n : ℕ) (x y : Station) → Alone5 N n (at x y [] []) → (up ≡ true → y.end.release_pending ≡ false) → y.end.t200 ≡ true → ComesOn N up n (by_network Expire200 x y [] [])
+  alone5_peer n x y s k on = by_tries (tries y.end) refl
     where
       is : y.end.state ≡ AwaitingEstablishment
       is = s.network
 
-      by_tries : (b : Bool) → tries y.end ≡ b → ComesOn N n (by_network Expire200 x y [] [])
+      by_tries : (b : Bool) → tries y.end ≡ b → ComesOn N up n (by_network Expire200 x y [] [])
       by_tries true more =
           let v = seen_after_t200 y (asked_again y.end is) (sabme ∷ []) on (retry_in_5 y.end is on more) in
           let then = by_network Expire200 x y [] [] in
@@ -239,7 +245,11 @@ module _ (N : ℕ) (some_retries : 1 ≤ N) where
           let none = open_peer_5 x.end.state (attempt x.end + gone N x.end + again N then.network.end) (attempt x.end) s.open_state in
           record {
             some = omega (arith, le, three);
-            coming = inr (inr (asks_5 (record { user = ap state_of v.end ∙ is; to_user = v.incoming; to_network = v.outgoing; most = omega (arith, le, three, bit, same, none) })));
+            coming = inr (inr (asks_5 (record { user = ap state_of v.end ∙ is; to_user = v.incoming; to_network = v.outgoing; most = omega (arith, le, three, bit, same, none) }) (λ up_is. record {
+              user = ap (λ (e : End). e.release_pending) v.end ∙ k up_is;
+              not_6 = λ in_6. let never : is_7_or_8 x.end.state ≡ false = ap is_7_or_8 in_6 in let open_state = s.open_state in cc;
+              network = λ in_5. absurd (let never : is_7_or_8 x.end.state ≡ false = ap is_7_or_8 in_5 in let open_state = s.open_state in cc);
+            })));
           }
       by_tries false last =
           let v = seen_after_t200 y (abandoned y.end is) [] on (give_up_in_5 y.end is on last) in
@@ -249,13 +259,13 @@ module _ (N : ℕ) (some_retries : 1 ≤ N) where
           let found = finds_below x.end s.open_state in
           record { some = omega (arith, le, one); coming = inr (inl (alone_4 (peer_in_4 n (n - 1) x y (abandoned y.end is) s.open_state refl (omega arith) v (omega (arith, le, one, left, found))))) }
 
-  pub alone6_peer : (n : ℕ) (x y : Station) → Alone6 N n (at x y [] []) → length y.end.given ≡ y.end.next → y.end.t200 ≡ true → ComesOn N n (by_network Expire200 x y [] [])
-  alone6_peer n x y s empty on = by_tries (tries y.end) refl
+  pub alone6_peer : (n : ℕ) (x y : Station) → Alone6 N n (at x y [] []) → up ≡ false → length y.end.given ≡ y.end.next → y.end.t200 ≡ true → ComesOn N up n (by_network Expire200 x y [] [])
+  alone6_peer n x y s k empty on = by_tries (tries y.end) refl
     where
       is : y.end.state ≡ AwaitingRelease
       is = s.network
 
-      by_tries : (b : Bool) → tries y.end ≡ b → ComesOn N n (by_network Expire200 x y [] [])
+      by_tries : (b : Bool) → tries y.end ≡ b → ComesOn N up n (by_network Expire200 x y [] [])
       by_tries true more =
           let v = seen_after_t200 y (retried y.end is) (disc ∷ []) on (retry_in_6 y.end is on more) in
           let then = by_network Expire200 x y [] [] in
@@ -265,7 +275,7 @@ module _ (N : ℕ) (some_retries : 1 ≤ N) where
           let len = ap (λ fs. length fs) v.incoming in
           record {
             some = omega (arith, le, three);
-            coming = inr (inr (asks_6 (record { user = ap state_of v.end ∙ is; ignored = subst AreIgnored (sym v.incoming) tt; to_network = v.outgoing; most = omega (arith, le, three, none, len) })));
+            coming = inr (inr (asks_6 (record { user = ap state_of v.end ∙ is; ignored = subst AreIgnored (sym v.incoming) tt; to_network = v.outgoing; most = omega (arith, le, three, none, len) }) k));
           }
       by_tries false last =
           let v = seen_after_t200 y (released y.end is) [] on (give_up_in_6 y.end is on last) in
@@ -294,23 +304,23 @@ module _ (N : ℕ) (some_retries : 1 ≤ N) where
       most = let len = ap (λ fs. length fs) seen.incoming in let same = ap unsent seen.end in omega (arith, most, len, same);
     }
 
-    pub alone4_ignores : Alone4 N n (at x y [] (frame ∷ rest)) → ComesOn N n after_ignored
+    pub alone4_ignores : Alone4 N n (at x y [] (frame ∷ rest)) → ComesOn N up n after_ignored
     alone4_ignores s =
         let seen = ignored_so (ap is_7_or_8 s.network) s.ignored.0 in
         let le = s.most in
         record { some = omega (arith, le); coming = inr (inl (alone_4 (still TeiAssigned _ (finds N x.end) s seen (omega (arith, le))))) }
 
-    pub alone6_ignores : Alone6 N n (at x y [] (frame ∷ rest)) → ComesOn N n after_ignored
-    alone6_ignores s =
+    pub alone6_ignores : Alone6 N n (at x y [] (frame ∷ rest)) → up ≡ false → ComesOn N up n after_ignored
+    alone6_ignores s k =
         let seen = ignored_so (ap is_7_or_8 s.network) s.ignored.0 in
         let le = s.most in
         let same : attempt after_ignored.network.end ≡ attempt y.end = ap attempt seen.end in
-        record { some = omega (arith, le); coming = inr (inl (alone_6 (still AwaitingRelease _ (attempt after_ignored.network.end + finds N x.end) s seen (omega (arith, le, same))))) }
+        record { some = omega (arith, le); coming = inr (inl (alone_6 (still AwaitingRelease _ (attempt after_ignored.network.end + finds N x.end) s seen (omega (arith, le, same))) k)) }
 
-    pub alone5_ignores : Alone5 N n (at x y [] (frame ∷ rest)) → ComesOn N n after_ignored
-    alone5_ignores s =
+    pub alone5_ignores : Alone5 N n (at x y [] (frame ∷ rest)) → (up ≡ true → y.end.release_pending ≡ false) → ComesOn N up n after_ignored
+    alone5_ignores s k =
         let seen = ignored_so (ap is_7_or_8 s.network) s.ignored.0 in
         let le = s.most in
         let same : attempt after_ignored.network.end ≡ attempt y.end = ap attempt seen.end in
         let same_gone : gone N after_ignored.network.end ≡ gone N y.end = ap (gone N) seen.end in
-        record { some = omega (arith, le); coming = inr (inl (alone_5 (still AwaitingEstablishment _ (attempt after_ignored.network.end + gone N after_ignored.network.end + polls N x.end + again N x.end) s seen (omega (arith, le, same, same_gone))))) }
+        record { some = omega (arith, le); coming = inr (inl (alone_5 (still AwaitingEstablishment _ (attempt after_ignored.network.end + gone N after_ignored.network.end + polls N x.end + again N x.end) s seen (omega (arith, le, same, same_gone))) (λ is. ap (λ (e : End). e.release_pending) seen.end ∙ k is))) }

@@ -8,7 +8,7 @@ ghost use Rattle.lapd_pair_laws.specs.Move.{Move};
 ghost use Rattle.lapd_pair_laws.specs.Settle.{next_move};
 ghost use Rattle.lapd_pair_laws.specs.Worked.{new_pair, busy};
 ghost use Rattle.lapd_pair_laws.specs.World.{new_world, run};
-ghost use Rattle.lapd_recovery_laws.specs.AfterOutage.{IsAfterOutage};
+ghost use Rattle.lapd_recovery_laws.specs.AfterOutage.{IsAfterOutage, IsHeldUp, StaysUp};
 ghost use Rattle.lapd_recovery_laws.specs.Agreed.{ComesBack};
 ghost use Rattle.lapd_recovery_laws.specs.LoneLine.{IsLoneLine, ComesUpAnew};
 ghost use Rattle.lapd_recovery_laws.specs.OpenLine.{IsOpenLine, ComesUp};
@@ -104,4 +104,15 @@ pub fn every_line_comes_back()
         → user.k ≤ 127 → network.k ≤ 127 → 1 ≤ user.k → 1 ≤ network.k → (moves : List Move)
         → IsAfterOutage n200 (run r moves (new_world user network))
         → ComesBack r n200 (run r moves (new_world user network)) }
+{}
+
+/// After an outage a link that one end holds up, and that neither end releases, stays up: where no
+/// own move is possible any more, both ends are in state 7 with equal numbers. The premises are
+/// those of [`every_line_comes_back`].
+pub fn every_held_line_stays_up()
+    ensures { (r : Reading) (n200 : ℕ) → 1 ≤ n200 → (user network : Parameters)
+        → user.k ≤ 127 → network.k ≤ 127 → 1 ≤ user.k → 1 ≤ network.k → (moves : List Move)
+        → IsAfterOutage n200 (run r moves (new_world user network))
+        → IsHeldUp (run r moves (new_world user network))
+        → StaysUp r (run r moves (new_world user network)) }
 {}
