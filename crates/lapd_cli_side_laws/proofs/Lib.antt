@@ -6,3 +6,4 @@ pub mod Transcribed
 pub mod Orders
 pub mod SafeRuns
 pub mod WorkedRuns
+pub mod UnorderedRuns

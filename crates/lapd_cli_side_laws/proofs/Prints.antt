@@ -33,7 +33,7 @@ use Rattle.lapd_cli_side_laws.proofs.Lines.{HasEvents, IsOneRequest, all_expire,
 
 -- ---- The lines of a call's output.
 
-abbrev acts_lines : Side → List (List ℕ) → List Primitive → List PrintedLine
+abbrev pub acts_lines : Side → List (List ℕ) → List Primitive → List PrintedLine
 acts_lines side frames primitives = map (Frame side) frames ++ map Delivered primitives
 
 frames_read : (style : LineStyle) (side : Side) (frames : List (List ℕ)) → lines_text style (map (Frame side) frames) ≡ frames_text style side frames
@@ -44,7 +44,7 @@ primitives_read : (style : LineStyle) (primitives : List Primitive) → lines_te
 primitives_read style [] = refl
 primitives_read style (primitive ∷ primitives) = ap (λ (text : List ℕ). primitive_line style primitive ++ text) (primitives_read style primitives)
 
-acts_read : (style : LineStyle) (side : Side) (frames : List (List ℕ)) (primitives : List Primitive) → lines_text style (acts_lines side frames primitives) ≡ acts_text style side frames primitives
+pub acts_read : (style : LineStyle) (side : Side) (frames : List (List ℕ)) (primitives : List Primitive) → lines_text style (acts_lines side frames primitives) ≡ acts_text style side frames primitives
 acts_read style side frames primitives =
     flat_map-append (line_text style) (map (Frame side) frames) (map Delivered primitives)
     ∙ ap (λ (text : List ℕ). text ++ lines_text style (map Delivered primitives)) (frames_read style side frames)
@@ -54,7 +54,7 @@ primitives_are : (primitives : List Primitive) → primitives_in (map Delivered 
 primitives_are [] = refl
 primitives_are (primitive ∷ primitives) = ap (λ (others : List Primitive). primitive ∷ others) (primitives_are primitives)
 
-acts_are : (side : Side) (frames : List (List ℕ)) (primitives : List Primitive) → primitives_in (acts_lines side frames primitives) ≡ primitives
+pub acts_are : (side : Side) (frames : List (List ℕ)) (primitives : List Primitive) → primitives_in (acts_lines side frames primitives) ≡ primitives
 acts_are side [] primitives = primitives_are primitives
 acts_are side (frame ∷ frames) primitives = acts_are side frames primitives
 
@@ -71,7 +71,7 @@ answer_read : (style : LineStyle) (side : Side) (result : Result ⊤ SideFault) 
 answer_read style side (Ok done) acts = acts_read style side acts.frames acts.primitives
 answer_read style side (Err fault) acts = append-nil (refusal_line style fault.kind)
 
-reads_as : (old new : Option (List ℕ)) (one two : List ℕ) → one ≡ two → Appends old new two → Appends old new one
+pub reads_as : (old new : Option (List ℕ)) (one two : List ℕ) → one ≡ two → Appends old new two → Appends old new one
 reads_as old new one two same appends = subst (Appends old new) (sym same) appends
 
 -- ---- A request.

@@ -43,11 +43,11 @@ use Rattle.lapd_cli_side_laws.proofs.Lines.{Did, HasEvents, network_has, text_of
 
 -- ---- A program whose source and sink have the octets of these frames.
 
-record IsAt {S : Type 0} (Shown : EitherSide → S → Type 0) (a : AtWork) (v : SideView S) : Type 0 where
-  shown : Shown a.side v.now
-  clock : a.now ≡ 0
-  rest : a.around.rest ≡ Some (socket_text v.incoming)
-  written : a.around.written ≡ Some (socket_text v.outgoing)
+pub record IsAt {S : Type 0} (Shown : EitherSide → S → Type 0) (a : AtWork) (v : SideView S) : Type 0 where
+  pub shown : Shown a.side v.now
+  pub clock : a.now ≡ 0
+  pub rest : a.around.rest ≡ Some (socket_text v.incoming)
+  pub written : a.around.written ≡ Some (socket_text v.outgoing)
 
 rest_after : (old new : Option (List ℕ)) (xs : List ℕ) → old ≡ Some xs → Consumes old new [] → new ≡ Some xs
 rest_after None new xs is h = let no : ⊥ = cc in absurd no
@@ -61,15 +61,15 @@ written_after (Some os) (Some ns) xs ys is h =
     let same : os ≡ socket_text xs = cc in
     ap Some (h ∙ ap (λ (text : List ℕ). text ++ socket_text ys) same ∙ sym (text_of_both xs ys))
 
-known_after : (old new : Option (List ℕ)) (text : List ℕ) → IsSome old → Consumes old new text → (ys : List ℕ) × (new ≡ Some ys)
+pub known_after : (old new : Option (List ℕ)) (text : List ℕ) → IsSome old → Consumes old new text → (ys : List ℕ) × (new ≡ Some ys)
 known_after None new text known h = let no : ⊥ = cc in absurd no
 known_after (Some xs) None text known h = absurd h
 known_after (Some xs) (Some ys) text known h = (ys, refl)
 
-is_known : (old : Option (List ℕ)) (xs : List ℕ) → old ≡ Some xs → IsSome old
+pub is_known : (old : Option (List ℕ)) (xs : List ℕ) → old ≡ Some xs → IsSome old
 is_known old xs is = subst (λ (o : Option (List ℕ)). IsSome o) (sym is) refl
 
-never_ends : (n : ℕ) (octets : List ℕ) → frame_of_length n octets ≡ Err End → ⊥
+pub never_ends : (n : ℕ) (octets : List ℕ) → frame_of_length n octets ≡ Err End → ⊥
 never_ends n octets = by_tests (not (is_frame_length n)) (nat_lt (length octets) n) _
   where
     by_tests : (bad short : Bool) (frame : List ℕ) → (if bad then Err BadLength else if short then Err Cut else Ok frame) ≡ Err End → ⊥
@@ -78,7 +78,7 @@ never_ends n octets = by_tests (not (is_frame_length n)) (nat_lt (length octets)
     by_tests false false frame h = cc
 
 module _ {S : Type 0} (w : Behaviour S) (Shown : EitherSide → S → Type 0) (has : HasEvents w Shown) where
-  asked : (line_request : LineRequest) (a b : AtWork) (v : SideView S) → IsAt Shown a v → Asks line_request a b → (request : Request) × (line_request_of request ≡ line_request) × IsAt Shown b (does w (Ask request 0) v)
+  pub asked : (line_request : LineRequest) (a b : AtWork) (v : SideView S) → IsAt Shown a v → Asks line_request a b → (request : Request) × (line_request_of request ≡ line_request) × IsAt Shown b (does w (Ask request 0) v)
   unfolding does
   asked line_request a b v at h =
       let d = subst (λ (now : ℕ). Did w (Shown b.side) h.acts (Ask h.request now) v) at.clock (has.asks h.request a.now h.result a.side b.side h.acts h.answers v at.shown) in (
@@ -106,7 +106,7 @@ module _ {S : Type 0} (w : Behaviour S) (Shown : EitherSide → S → Type 0) (h
         written = written_after a.around.written b.around.written v.outgoing h.takes.acts.frames at.written h.takes.puts.sent ∙ ap (λ (line : List (List ℕ)). Some (socket_text line)) (sym d.puts.sent);
       }
 
-  reads : (a b : AtWork) (v : SideView S) (frame : List ℕ) (frames : List (List ℕ)) → v.incoming ≡ frame ∷ frames → IsAt Shown a v → LineDoes Read a b → IsAt Shown b (does w (Take 0) v)
+  pub reads : (a b : AtWork) (v : SideView S) (frame : List ℕ) (frames : List (List ℕ)) → v.incoming ≡ frame ∷ frames → IsAt Shown a v → LineDoes Read a b → IsAt Shown b (does w (Take 0) v)
   reads a b v frame frames are at (inl h) = took a b v at h
   reads a b v frame frames are at (inr h) =
       let rest : a.around.rest ≡ Some (socket_text (frame ∷ frames)) = at.rest ∙ ap (λ (line : List (List ℕ)). Some (socket_text line)) are in
@@ -125,7 +125,7 @@ holding v octets fits = record { ptr = v.ptr; len = v.len; cap = v.cap; alloc = 
 with_octets : (P : Vec ℕ Global → Type 0) (octets : List ℕ) → ((v : Vec ℕ Global) (fits : Fits v octets) → P (holding v octets fits)) → (v : Vec ℕ Global) → v.items ≡ octets → P v
 with_octets P octets each v is = subst (λ (xs : List ℕ). (fits : Fits v xs) → P (holding v xs fits)) (sym is) (λ fits. each v fits) v.ok
 
-same_establish : (id : LinkId) (r : Request) → line_request_of r ≡ Establish id → r ≡ request.Establish id
+pub same_establish : (id : LinkId) (r : Request) → line_request_of r ≡ Establish id → r ≡ request.Establish id
 same_establish id (request.Establish other) is = cc
 same_establish id (request.Release other) is = cc
 same_establish id (request.Unit other octets) is = cc
@@ -160,10 +160,10 @@ giving id octets (request.Check tei) is = let no : ⊥ = cc in absurd no
 
 -- ---- The views of both sides after each line.
 
-abbrev net : Behaviour Network
+abbrev pub net : Behaviour Network
 net = network_behaviour configs.network
 
-abbrev usr : Behaviour User
+abbrev pub usr : Behaviour User
 usr = user_behaviour configs.user
 
 abbrev n0 : SideView Network
@@ -190,7 +190,7 @@ u3 message = does usr (Ask (request.Give call message) 0) u2
 abbrev u4 : Vec ℕ Global → SideView User
 u4 message = does usr (Take 0) (u3 message)
 
-abbrev IsLine : {S : Type 0} → SideView S → List (List ℕ) → List (List ℕ) → Type 0
+abbrev pub IsLine : {S : Type 0} → SideView S → List (List ℕ) → List (List ℕ) → Type 0
 IsLine v incoming outgoing = (v.incoming ≡ incoming) × (v.outgoing ≡ outgoing)
 
 record FirstLines : Type 0 where
@@ -217,17 +217,17 @@ message_lines = with_octets MessageLines (1 ∷ []) message_lines_hold
 -- ---- The runs, line by line.
 
 -- what a source has left and what a sink got, as lists of frames
-record HasFrames (a : AtWork) (incoming outgoing : List (List ℕ)) : Type 0 where
-  rest : a.around.rest ≡ Some (socket_text incoming)
-  written : a.around.written ≡ Some (socket_text outgoing)
+pub record HasFrames (a : AtWork) (incoming outgoing : List (List ℕ)) : Type 0 where
+  pub rest : a.around.rest ≡ Some (socket_text incoming)
+  pub written : a.around.written ≡ Some (socket_text outgoing)
 
-frames_at : {S : Type 0} (Shown : EitherSide → S → Type 0) (a : AtWork) (v : SideView S) (incoming outgoing : List (List ℕ)) → IsLine v incoming outgoing → IsAt Shown a v → HasFrames a incoming outgoing
+pub frames_at : {S : Type 0} (Shown : EitherSide → S → Type 0) (a : AtWork) (v : SideView S) (incoming outgoing : List (List ℕ)) → IsLine v incoming outgoing → IsAt Shown a v → HasFrames a incoming outgoing
 frames_at Shown a v incoming outgoing line at = record {
   rest = at.rest ∙ ap (λ (frames : List (List ℕ)). Some (socket_text frames)) line.0;
   written = at.written ∙ ap (λ (frames : List (List ℕ)). Some (socket_text frames)) line.1;
 }
 
-still_frames : (a b : AtWork) (incoming outgoing : List (List ℕ)) → b ≡ a → HasFrames a incoming outgoing → HasFrames b incoming outgoing
+pub still_frames : (a b : AtWork) (incoming outgoing : List (List ℕ)) → b ≡ a → HasFrames a incoming outgoing → HasFrames b incoming outgoing
 still_frames a b incoming outgoing same h = subst (λ (p : AtWork). HasFrames p incoming outgoing) (sym same) h
 
 record NetworkRun (a n1_at n2_at b : AtWork) : Type 0 where
@@ -285,7 +285,7 @@ user_run ub ua_ user rest written =
 
 -- ---- The premises of the runs.
 
-appends_so : (old new : Option (List ℕ)) (xs ys text : List ℕ) → old ≡ Some xs → new ≡ Some ys → ys ≡ xs ++ text → Appends old new text
+pub appends_so : (old new : Option (List ℕ)) (xs ys text : List ℕ) → old ≡ Some xs → new ≡ Some ys → ys ≡ xs ++ text → Appends old new text
 appends_so old new xs ys text was is both = subst (λ (o : Option (List ℕ)). Appends o new text) (sym was) (subst (λ (o : Option (List ℕ)). Appends (Some xs) o text) (sym is) both)
 
 -- what is left to read is exactly what the other program has yet to write

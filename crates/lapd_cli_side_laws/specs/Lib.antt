@@ -4,3 +4,4 @@ pub mod Printed
 pub mod Joined
 pub mod JoinedRuns
 pub mod WorkedRuns
+pub mod UnorderedRuns

@@ -41,7 +41,8 @@ pub record ExecutedLine : Type 0 where
   pub printed : List PrintedLine
 
 abbrev pub transcript_text : LineStyle → List ExecutedLine → List ℕ
-transcript_text style transcript = flat_map (λ executed. lines_text style executed.printed) transcript
+transcript_text style transcript =
+    flat_map (λ executed. lines_text style executed.printed) transcript
 
 -- The transcript has the lines of the script, in order, and its text is exactly what was printed.
 pub record IsTranscript (transcript : List ExecutedLine) (line_requests : List LineRequest)

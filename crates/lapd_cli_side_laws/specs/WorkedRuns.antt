@@ -54,8 +54,8 @@ pub record AreOverWorkedOctets (network user : Devices) : Type 0 where
   pub user_rest : user.rest ≡ Some (socket_text from_network)
   pub user_written : user.written ≡ Some []
 
--- All premises hold: what each program writes is what the other's source has, nothing is read before
--- it is written, and all moves that the lines request keep the premises of the link.
+-- All premises hold: what each program writes is what the other's source has, nothing is read
+-- before it is written, and all moves that the lines request keep the premises of the link.
 pub record MeetPremises (network_before network_after user_before user_after : Devices)
     (network : NetHasServed configs.network (64 ∷ []) network_script network_before network_after)
     (user : UserHasServed configs.user (Some 64) user_script user_before user_after) : Type 0 where

@@ -20,6 +20,7 @@ ghost use Rattle.lapd_cli_side_laws.specs.Joined.{AreAt, AreRun, AreRunSafely, P
 ghost use Rattle.lapd_cli_side_laws.specs.JoinedRuns.{AreJoined, AreMovesInPrint, AreServedInOrder, IsSafeInPrint, lines_in, sides_at_first};
 ghost use Rattle.lapd_cli_side_laws.specs.Printed.{IsPrinted};
 ghost use Rattle.lapd_cli_side_laws.specs.SideEvents.{AreFor, AreForAll, IsByEvents, ShowsNetwork, ShowsUser, does_all, moves_of};
+ghost use Rattle.lapd_cli_side_laws.specs.UnorderedRuns.{AreOverUnorderedOctets, AreWrong, answering_script, early_script};
 ghost use Rattle.lapd_cli_side_laws.specs.WorkedRuns.{AreOverWorkedOctets, MeetPremises, network_script, user_script};
 
 /// A line of `net` or `user`, and so a whole script, performs exactly the side events that it
@@ -73,8 +74,8 @@ pub fn lines_are_printed()
 /// other program writes, and each program reads only what was written. So each link of the
 /// interface is safe if these moves keep the premises of that link.
 ///
-/// `run_together`: from any interface that both represent. `safe`: from two new sides, the user with or
-/// without a fixed TEI, the network with any known TEIs. `network_lines`, `user_lines`: for each
+/// `run_together`: from any interface that both represent. `safe`: from two new sides, the user with
+/// or without a fixed TEI, the network with any known TEIs. `network_lines`, `user_lines`: for each
 /// program, this is what `net` and `user` promise.
 pub fn joined_programs_are_safe()
     ensures run_together { (c : Configs) (lines : List ProgramLine) (a b : Programs) (i : Interface)
@@ -90,7 +91,8 @@ pub fn joined_programs_are_safe()
         → LinesDo (requests_of_side side.User lines) a.user.at b.user.at }
 {}
 
-/// A run of `net` and a run of `user` over a lossless line print what their sides deliver and accept.
+/// A run of `net` and a run of `user` over a lossless line print what their sides deliver and
+/// accept.
 ///
 /// Both runs are those of the contracts of `net` and `user` (`NetHasServed`, `UserHasServed`). The
 /// premises: each source has the octets that the other's sink gets, and the lines of both have an
@@ -112,8 +114,8 @@ pub fn joined_runs_are_printed()
         user_lines network_before network_after user_before user_after }
 {}
 
-/// What such runs print of a link is right, in both directions, if the moves keep the link's
-/// premises.
+/// The lines that such runs print about a link are right, in both directions, if the moves keep the
+/// link's premises.
 ///
 /// The messages in the `data` lines that one program prints are, in order and once each, among
 /// those of the other program's `give` lines that were not refused. Within one establishment none
@@ -147,4 +149,18 @@ pub fn worked_runs_meet_premises()
         (user : UserHasServed configs.user (Some 64) user_script user_before user_after)
         → AreOverWorkedOctets network_before user_before
         → MeetPremises network_before network_after user_before user_after network user }
+{}
+
+/// The order of reading and writing is needed.
+///
+/// In these runs `net` reads the answer to its SABME, and then sends the SABME. Each source has the
+/// octets that the other's sink gets. But `net` prints `report C`, since the UA is unsolicited, and
+/// `joined_runs_are_right` excludes such a report.
+pub fn order_is_needed()
+    ensures { (network_before network_after user_before user_after : Devices)
+        (network : NetHasServed configs.network (64 ∷ []) early_script network_before
+        network_after)
+        (user : UserHasServed configs.user (Some 64) answering_script user_before user_after)
+        → AreOverUnorderedOctets network_before user_before
+        → AreWrong network_before network_after user_before user_after }
 {}

@@ -15,8 +15,9 @@
 //!   that a line of a script prints tell what its side events deliver and accept.
 //! - `Joined`, for both programs: each source delivers the octets that the other program writes,
 //!   and each program reads only what was written. Their lines run in any order.
-//! - `JoinedRuns`, for a run of `net` and a run of `user`, as their contracts describe it: what both
-//!   print of a link is right. `WorkedRuns`: two scripts that meet the premises.
+//! - `JoinedRuns`, for a run of `net` and a run of `user`, as their contracts describe it: what
+//!   both print of a link is right. `WorkedRuns`: two scripts that meet the premises.
+//!   `UnorderedRuns`: two scripts whose lines have no order, and of which one prints an error.
 //!
 //! Begin with [`lines_are_events`], then read [`joined_programs_are_safe`] and
 //! [`joined_runs_are_right`].
@@ -26,5 +27,5 @@ mod laws;
 
 pub use laws::{
     joined_programs_are_safe, joined_runs_are_printed, joined_runs_are_right, lines_are_events,
-    lines_are_printed, worked_runs_meet_premises,
+    lines_are_printed, order_is_needed, worked_runs_meet_premises,
 };
