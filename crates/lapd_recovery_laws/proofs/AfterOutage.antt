@@ -1,21 +1,21 @@
 -- A line comes back after an outage, by own moves in any order.
-use Rattle.std.proofs.Common.{◌≡◌, ◌⊎◌, inl, inr, ℕ, zero, suc, ◌+◌, ◌*◌, ◌-◌, ◌<◌, ◌≤◌, ◌==◌, nat_lt, not, ◌||◌, Bool, true, false, List, [], ◌∷◌, map, length, refl, sym, ap, subst, ◌∙◌, arith}
+use Rattle.std.proofs.Common.{◌≡◌, ◌⊎◌, inl, inr, ℕ, zero, suc, ◌+◌, ◌*◌, ◌-◌, ◌≤◌, ◌==◌, not, Bool, true, false, List, [], ◌∷◌, map, length, refl, sym, ap, subst, ◌∙◌, arith}
 use Rattle.lapd_frame.specs.declared.Side.{Side}
 use Rattle.lapd_frame.specs.declared.Side.TheVariants as side
-use Rattle.lapd_mod128.specs.Counting.{Reading, Whole, Tagged, steps}
+use Rattle.lapd_mod128.specs.Counting.{Reading, Whole, Tagged}
 use Rattle.lapd_supervision.specs.Tags.{tag_variables}
 use Rattle.lapd_link_definition.specs.declared.state.State.{State}
 use Rattle.lapd_link_definition.specs.declared.state.State.TheVariants.{TeiAssigned, AwaitingEstablishment, AwaitingRelease, MultipleFrameEstablished, TimerRecovery}
 use Rattle.lapd_link_definition.specs.EndOfStep.{is_7_or_8}
 use Rattle.lapd_link_definition.specs.End.{End, unsent}
-use Rattle.lapd_link_definition.specs.RunningTimers.{AreTimersOf, HasTimersOfState}
+use Rattle.lapd_link_definition.specs.RunningTimers.{HasTimersOfState}
 use Rattle.lapd_link_definition.specs.Parameters.{Parameters}
 use Rattle.lapd_link_definition.specs.Sound.{AreOutstanding, AreUnsent, AreAwaiting, IsSoundIn, IsSound}
 use Rattle.lapd_link_definition.specs.Tagging.{tag_end}
 use Rattle.lapd_pair_laws.specs.Consistent.{AreSettled, IsConsistentWorld}
 use Rattle.lapd_pair_laws.specs.Invariant.{IsInvariant}
 use Rattle.lapd_pair_laws.specs.Line.{Flight}
-use Rattle.lapd_pair_laws.specs.Move.{PairEvent, Expire203, Move, Station, View, acts}
+use Rattle.lapd_pair_laws.specs.Move.{PairEvent, Expire203, Move, Station}
 use Rattle.lapd_pair_laws.specs.Parties.{party}
 use Rattle.lapd_pair_laws.specs.Tagged.{tag_flight, tag_world}
 use Rattle.lapd_pair_laws.specs.Timed.{AreSettledEnds}
@@ -31,9 +31,9 @@ use Rattle.lapd_pair_laws.proofs.Settles.{IsStill}
 use Rattle.lapd_pair_laws.proofs.Stepping.{user_move, network_move}
 use Rattle.lapd_pair_laws.proofs.TaggedMoves.{left_on_tags}
 use Rattle.lapd_pair_laws.proofs.Whole.{each_move_preserves, each_run_preserves}
-use Rattle.lapd_pair_laws.proofs.Worlds.{left_by, new_holds, exchanged}
+use Rattle.lapd_pair_laws.proofs.Worlds.{new_holds, exchanged}
 use Rattle.lapd_recovery_laws.specs.AfterOutage.{IsAfterOutage, IsKept, IsHeldUp, StaysUp}
-use Rattle.lapd_recovery_laws.specs.Agreed.{AreReleased, AreLevel, AreAgreed, ComesBack}
+use Rattle.lapd_recovery_laws.specs.Agreed.{AreLevel, AreAgreed, ComesBack}
 use Rattle.lapd_recovery_laws.specs.Own.{IsOwn, AreOwn, Rests, IsFree, most_own_moves}
 use Rattle.lapd_recovery_laws.specs.Timers.{HaveTimersOfStates}
 use Rattle.lapd_recovery_laws.proofs.AnyOrder.{Draining, rests_still, rests_drained}
@@ -45,8 +45,7 @@ use Rattle.lapd_recovery_laws.proofs.OpenLine.{draining_begins, up_so}
 use Rattle.lapd_recovery_laws.proofs.Outage.{Facts, coming_moves}
 use Rattle.lapd_recovery_laws.proofs.OwnOnTags.{are_own_by_tags, rests_by_tags, ran_on_tags, are_level_on_tags, agreed_on_tags}
 use Rattle.lapd_recovery_laws.proofs.Releases.{empty_in_4}
-use Rattle.lapd_recovery_laws.proofs.SendsOn.{AreIgnored}
-use Rattle.lapd_recovery_laws.proofs.Situations.{tries, twice, attempt_in, attempt, gone_in, gone, again_in, again, finds_in, finds, polls_in, polls, Alone4, Alone5, Alone6, Closed, Half, alone_4, alone_5, alone_6, asks_5, asks_6, accepted, crossed, refused, parting, closed, not_both, false_if, Coming}
+use Rattle.lapd_recovery_laws.proofs.Situations.{tries, attempt_in, attempt, gone_in, gone, again_in, again, finds_in, finds, polls_in, polls, Closed, Half, alone_4, alone_5, alone_6, asks_5, asks_6, accepted, crossed, refused, parting, closed, not_both, false_if, Coming}
 use Rattle.lapd_recovery_laws.proofs.TimersOfRuns.{new_has_timers, timers_after_move, timers_after_run}
 use Rattle.lapd_recovery_laws.proofs.Transitions.{timers_in}
 

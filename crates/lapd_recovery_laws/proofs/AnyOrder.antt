@@ -1,25 +1,21 @@
 -- The own moves of an open line, in any order: each reduces the remaining work.
-use Rattle.std.proofs.Common.{◌≡◌, ◌⊎◌, inl, inr, ℕ, ◌+◌, ◌-◌, ◌<◌, ◌≤◌, nat_lt, not, ◌&&◌, ◌||◌, Bool, true, false, List, [], ◌∷◌, ◌++◌, length, Option, Some, None, Result, Ok, Err, is_ok, refl, sym, ap, subst, ◌∙◌, arith}
+use Rattle.std.proofs.Common.{◌≡◌, ◌⊎◌, inl, inr, ℕ, ◌-◌, ◌<◌, ◌≤◌, nat_lt, not, ◌||◌, Bool, true, false, List, [], ◌∷◌, length, Result, Ok, Err, is_ok, refl, sym, subst, ◌∙◌, arith}
 use Rattle.lapd_frame.specs.declared.Side.{Side}
 use Rattle.lapd_frame.specs.declared.Side.TheVariants as side
 use Rattle.lapd_mod128.specs.Counting.{Whole}
-use Rattle.lapd_link_definition.specs.declared.state.State.{State}
 use Rattle.lapd_link_definition.specs.declared.state.State.TheVariants.{MultipleFrameEstablished, TimerRecovery}
-use Rattle.lapd_link_definition.specs.EndOfStep.{is_established}
 use Rattle.lapd_link_definition.specs.End.{End}
 use Rattle.lapd_link_definition.specs.RunningTimers.{AreTimersOf, HasTimersOfState}
 use Rattle.lapd_link_definition.specs.Table.{step}
 use Rattle.lapd_link_definition.proofs.Sending.{both_true}
-use Rattle.lapd_pair_laws.specs.Line.{Flight, first_poll, first_final}
-use Rattle.lapd_pair_laws.specs.Move.{PairEvent, Give, Establish, Release, Deliver, Lose, Expire200, Expire203, Busy, UnitData, Restart, Move, Station, View, ViewStep, Refusal, acts, receives, delivers, takes, expires_200, expires_203, unless_under_way}
-use Rattle.lapd_pair_laws.specs.World.{World, swapped, view_of, in_world, with_view, world_after, happens, run}
-use Rattle.lapd_pair_laws.specs.Kinds.{Kind, kinds}
+use Rattle.lapd_pair_laws.specs.Line.{Flight}
+use Rattle.lapd_pair_laws.specs.Move.{PairEvent, Deliver, Expire200, Expire203, Move, Station, View, ViewStep, Refusal, acts, receives, delivers, takes, expires_200}
+use Rattle.lapd_pair_laws.specs.World.{World, swapped, view_of, in_world, world_after, happens, run}
 use Rattle.lapd_pair_laws.specs.Invariant.{IsInvariant}
 use Rattle.lapd_pair_laws.specs.Timed.{AreSettledEnds}
-use Rattle.lapd_pair_laws.proofs.Drains.{Seen, Drains, drains_swapped, seen_delivered, preserved_delivered, mine_open, turned}
+use Rattle.lapd_pair_laws.proofs.Drains.{Seen, Drains, drains_swapped, seen_delivered, preserved_delivered}
 use Rattle.lapd_pair_laws.proofs.DrainsByT200.{seen_expired, preserved_expired}
-use Rattle.lapd_pair_laws.proofs.Flow.{Source, Sink, source, sink, Stage, Clean, Waiting, Polling, Answered, IsAt, burden, weight, Stream, Flow, IsInTransit}
-use Rattle.lapd_pair_laws.proofs.Moves.{after_by_user}
+use Rattle.lapd_pair_laws.proofs.Flow.{Source, Sink, source, sink, Stage, Clean, Waiting, Polling, Answered, IsAt, weight, Stream, IsInTransit}
 use Rattle.lapd_pair_laws.proofs.SettledEnds.{move_settles}
 use Rattle.lapd_pair_laws.proofs.Settles.{SameDropped, IsStill}
 use Rattle.lapd_pair_laws.proofs.Stepping.{user_move, network_move}
@@ -29,7 +25,7 @@ use Rattle.lapd_pair_laws.proofs.Worlds.{left_by}
 use Rattle.lapd_recovery_laws.specs.Own.{are_apart, is_line_empty, is_due, IsOwn, AreOwn, Rests}
 use Rattle.lapd_recovery_laws.specs.Timers.{HaveTimersOfStates}
 use Rattle.lapd_recovery_laws.proofs.Lost.{at, UserLost}
-use Rattle.lapd_recovery_laws.proofs.LostMoves.{moved_user, moved_network, lost_user_receives, lost_user_receives_dropped, lost_peer_receives, lost_peer_receives_dropped}
+use Rattle.lapd_recovery_laws.proofs.LostMoves.{moved_user, lost_user_receives, lost_user_receives_dropped, lost_peer_receives, lost_peer_receives_dropped}
 use Rattle.lapd_recovery_laws.proofs.LostExpires.{BothLost, both_swapped, lost_user_expires, lost_user_expires_dropped, lost_peer_expires, lost_peer_expires_dropped, both_lost_expires, both_lost_expires_dropped}
 use Rattle.lapd_recovery_laws.proofs.TimersOfRuns.{timers_after_move}
 

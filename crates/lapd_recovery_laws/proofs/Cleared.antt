@@ -1,22 +1,21 @@
 -- In state 5 the conditions that an establishment clears stay cleared: after each step, each move
 -- and each run.
-use Rattle.std.proofs.Common.{◌≡◌, ℕ, zero, suc, ◌==◌, ◌&&◌, nat_lt, Option, Some, None, Result, Ok, Err, if◌then◌else◌, Bool, true, false, List, [], ◌∷◌, length, subst, refl, sym, ap, ◌∙◌}
+use Rattle.std.proofs.Common.{◌≡◌, ℕ, zero, suc, ◌==◌, ◌&&◌, nat_lt, Option, Some, None, Result, Ok, Err, Bool, true, false, List, [], ◌∷◌, length, subst, refl, sym, ap, ◌∙◌}
 use Rattle.lapd_timers.specs.declared.timer.Timer.TheVariants.{T200, T203}
 use Rattle.lapd_frame.specs.declared.Side.{Side}
 use Rattle.lapd_frame.specs.declared.Side.TheVariants as side
 use Rattle.lapd_frame.specs.declared.Role.{Role}
 use Rattle.lapd_frame.specs.declared.Role.TheVariants.{Command, Answer}
-use Rattle.lapd_frame.specs.declared.Control.{Control}
-use Rattle.lapd_frame.specs.declared.Control.TheVariants.{I, Rr, Rnr, Rej, Sabme, Dm, Disc, Ua, Ui, Frmr, Xid}
+use Rattle.lapd_frame.specs.declared.Control.TheVariants.{I, Rr, Rnr, Rej, Sabme, Dm, Disc, Ua, Frmr}
 use Rattle.lapd_frame.specs.declared.fault_kind.FaultKind.{FaultKind}
 use Rattle.lapd_mod128.specs.Counting.{Whole}
-use Rattle.lapd_supervision.specs.StateVariables.{is_valid_nr, acknowledges_all, without_exceptions, with_zero_counters, without_ack_pending, with_va, with_vs, after_sending, with_own_busy, with_peer_busy}
+use Rattle.lapd_supervision.specs.StateVariables.{is_valid_nr, acknowledges_all, without_exceptions, without_ack_pending}
 use Rattle.lapd_link_definition.specs.declared.event.LinkFault.{LinkFault}
 use Rattle.lapd_link_definition.specs.declared.out.Letter.TheVariants as letter
-use Rattle.lapd_link_definition.specs.declared.out.Out.TheVariants.{Report, Confirmed}
+use Rattle.lapd_link_definition.specs.declared.out.Out.TheVariants.{Report}
 use Rattle.lapd_link_definition.specs.declared.state.State.{State}
 use Rattle.lapd_link_definition.specs.declared.state.State.TheVariants.{TeiAssigned, AwaitingEstablishment, AwaitingRelease, MultipleFrameEstablished, TimerRecovery}
-use Rattle.lapd_link_definition.specs.AwaitingEstablishment.{end_establishment, confirm_or_indicate, ua_final, awaiting_establishment_t200, awaiting_establishment}
+use Rattle.lapd_link_definition.specs.AwaitingEstablishment.{end_establishment, ua_final, awaiting_establishment_t200, awaiting_establishment}
 use Rattle.lapd_link_definition.specs.AwaitingRelease.{confirm_release, awaiting_release_t200, awaiting_release}
 use Rattle.lapd_link_definition.specs.EndOfStep.{send_next, is_7_or_8, is_established, send_all, acknowledge_pending, end_step, may_send_next}
 use Rattle.lapd_link_definition.specs.End.{End, StepState, unsent, runs, begin}
@@ -24,7 +23,7 @@ use Rattle.lapd_link_definition.specs.Established.{sends_last, established_t200,
 use Rattle.lapd_link_definition.specs.Input as input
 use Rattle.lapd_link_definition.specs.Input.{Input, Heard, Faulty, Expiry, Establish, Release, BusyOn, BusyOff, UnitData, Give}
 use Rattle.lapd_link_definition.specs.Parameters.{Parameters}
-use Rattle.lapd_link_definition.specs.Procedures.{retransmit_last_i_frame, put, state_to, rc_to, increment_rc, layer3_initiated_to, release_pending_to, start, stop, expired, clear_exception_conditions, zero_state_variables, set_peer_busy, set_own_busy, enquiry_response, transmit_enquiry, queue_up, discard_i_queue, acknowledge, invoke_retransmission, i_frame_ns, discard_unacknowledged, transmit_i_frame, ensure_t200, transmit_rr, establish_data_link, reestablish_data_link, nr_error_recovery}
+use Rattle.lapd_link_definition.specs.Procedures.{put, state_to, rc_to, increment_rc, layer3_initiated_to, release_pending_to, start, stop, expired, clear_exception_conditions, zero_state_variables, set_peer_busy, set_own_busy, enquiry_response, transmit_enquiry, queue_up, discard_i_queue, acknowledge, invoke_retransmission, i_frame_ns, discard_unacknowledged, transmit_i_frame, ensure_t200, transmit_rr, establish_data_link, reestablish_data_link, nr_error_recovery}
 use Rattle.lapd_link_definition.specs.Refusal.{refused}
 use Rattle.lapd_link_definition.specs.Table.{by_state, report_fault, row, step, is_unit_data}
 use Rattle.lapd_link_definition.specs.TeiAssigned.{tei_assigned}

@@ -1,20 +1,16 @@
 -- The steps of an end in states 4 and 6, and the frames that they send.
-use Rattle.std.proofs.Common.{◌≡◌, ℕ, ◌+◌, nat_lt, if◌then◌else◌, Bool, true, false, List, [], ◌∷◌, ◌++◌, append_assoc, append-nil, Result, refl, sym, ap, subst, ◌∙◌}
+use Rattle.std.proofs.Common.{◌≡◌, ℕ, ◌+◌, nat_lt, Bool, true, false, List, [], ◌∷◌, ◌++◌, append-nil, Result, refl, sym, ap, subst}
 use Rattle.lapd_timers.specs.declared.timer.Timer.TheVariants.{T200}
 use Rattle.lapd_frame.specs.declared.Side.TheVariants as side
-use Rattle.lapd_frame.specs.declared.Role.{Role}
 use Rattle.lapd_frame.specs.declared.Role.TheVariants.{Command, Answer}
-use Rattle.lapd_frame.specs.declared.Control.{Control}
 use Rattle.lapd_frame.specs.declared.Control.TheVariants.{Dm, Disc, Ua}
 use Rattle.lapd_mod128.specs.Counting.{Whole}
 use Rattle.lapd_link_definition.specs.declared.out.Letter.TheVariants as letter
-use Rattle.lapd_link_definition.specs.declared.out.Out.{Out}
 use Rattle.lapd_link_definition.specs.declared.out.Out.TheVariants.{Send, Start, Stop, Report, ReleaseConfirm}
-use Rattle.lapd_link_definition.specs.declared.state.State.{State}
 use Rattle.lapd_link_definition.specs.declared.state.State.TheVariants.{TeiAssigned, AwaitingRelease}
 use Rattle.lapd_link_definition.specs.AwaitingRelease.{confirm_release, awaiting_release_t200, awaiting_release}
 use Rattle.lapd_link_definition.specs.EndOfStep.{is_7_or_8, end_step}
-use Rattle.lapd_link_definition.specs.End.{End, StepState, begin, runs}
+use Rattle.lapd_link_definition.specs.End.{End, StepState, begin}
 use Rattle.lapd_link_definition.specs.Input.{Heard, Expiry}
 use Rattle.lapd_link_definition.specs.Procedures.{out_where, put, state_to, increment_rc, start, stop, expired}
 use Rattle.lapd_link_definition.specs.Table.{by_state, row, step}

@@ -1,23 +1,21 @@
 -- The UA arrives at an end in state 5 whose peer has just established: the line drains from there.
-use Rattle.std.proofs.Common.{◌≡◌, ℕ, ◌+◌, ◌*◌, ◌-◌, ◌≤◌, ◌==◌, nat_lt, if◌then◌else◌, Bool, true, false, List, [], ◌∷◌, ◌++◌, length, refl, sym, ap, subst, ◌∙◌, arith}
-use Rattle.std.proofs.lemmas.Bool.Decides.{nat_tests}
+use Rattle.std.proofs.Common.{◌≡◌, ℕ, ◌*◌, ◌≤◌, ◌==◌, nat_lt, if◌then◌else◌, Bool, true, false, [], ◌∷◌, ◌++◌, length, refl, sym, ap, subst, ◌∙◌, arith}
 use Rattle.lapd_timers.specs.declared.timer.Timer.TheVariants.{T200, T203}
 use Rattle.lapd_frame.specs.declared.Side.TheVariants as side
 use Rattle.lapd_frame.specs.declared.Role.TheVariants.{Answer}
 use Rattle.lapd_frame.specs.declared.Control.TheVariants.{Ua}
 use Rattle.lapd_mod128.specs.Counting.{Whole}
 use Rattle.lapd_supervision.specs.StateVariables.{with_zero_counters}
-use Rattle.lapd_link_definition.specs.declared.out.Out.{Out}
 use Rattle.lapd_link_definition.specs.declared.out.Out.TheVariants.{Start, Stop, Dropped, Established}
 use Rattle.lapd_link_definition.specs.declared.state.State.TheVariants.{AwaitingEstablishment, MultipleFrameEstablished}
 use Rattle.lapd_link_definition.specs.AwaitingEstablishment.{confirm_or_indicate, ua_final, awaiting_establishment}
-use Rattle.lapd_link_definition.specs.EndOfStep.{is_7_or_8, end_step}
+use Rattle.lapd_link_definition.specs.EndOfStep.{end_step}
 use Rattle.lapd_link_definition.specs.End.{End, StepState, ◌▷◌, begin, unsent, waiting}
 use Rattle.lapd_link_definition.specs.Input.{Heard}
 use Rattle.lapd_link_definition.specs.Procedures.{out_where, counted, state_to, start, stop, zero_state_variables, discard_unacknowledged}
 use Rattle.lapd_link_definition.specs.Table.{by_state, row, step}
 use Rattle.lapd_pair_laws.specs.Histories.{Occasion, Story, after_outputs}
-use Rattle.lapd_pair_laws.specs.Kinds.{Kind, kinds}
+use Rattle.lapd_pair_laws.specs.Kinds.{kinds}
 use Rattle.lapd_pair_laws.specs.Move.{Deliver, Station, View, acts, receives, delivers, view_after, story_after}
 use Rattle.lapd_pair_laws.specs.Timed.{IsClosed}
 use Rattle.lapd_pair_laws.proofs.ActionEffects.{Context, story}

@@ -1,40 +1,31 @@
 -- The deliveries of a line after an outage, situation by situation, seen from one side.
-use Rattle.std.proofs.Common.{◌≡◌, ◌⊎◌, inl, inr, ℕ, zero, suc, ◌+◌, ◌*◌, ◌-◌, ◌<◌, ◌≤◌, ◌==◌, nat_lt, not, ◌&&◌, ◌||◌, Bool, true, false, List, [], ◌∷◌, ◌++◌, length, length-append, append-nil, is_ok, refl, sym, ap, subst, ◌∙◌, arith}
+use Rattle.std.proofs.Common.{◌≡◌, ◌⊎◌, inl, inr, ℕ, zero, suc, ◌+◌, ◌*◌, ◌-◌, ◌≤◌, ◌==◌, nat_lt, ◌&&◌, Bool, true, false, List, [], ◌∷◌, ◌++◌, length, length-append, refl, sym, ap, subst, ◌∙◌, arith}
 use Rattle.std.proofs.lemmas.Bool.Decides.{nat_tests}
-use Rattle.lapd_frame.specs.declared.Side.{Side}
 use Rattle.lapd_frame.specs.declared.Side.TheVariants as side
 use Rattle.lapd_mod128.specs.Counting.{Whole}
-use Rattle.lapd_supervision.specs.StateVariables.{without_exceptions, may_send, StateVariables}
-use Rattle.lapd_supervision.specs.StateVariables as variables
+use Rattle.lapd_supervision.specs.StateVariables.{may_send, StateVariables}
 use Rattle.lapd_mod128.specs.Counting.{steps}
 use Rattle.lapd_link_definition.specs.declared.state.State.{State}
 use Rattle.lapd_link_definition.specs.declared.state.State.TheVariants.{TeiAssigned, AwaitingEstablishment, AwaitingRelease, MultipleFrameEstablished, TimerRecovery}
 use Rattle.lapd_link_definition.specs.EndOfStep.{is_7_or_8}
 use Rattle.lapd_link_definition.specs.End.{End, unsent, begin}
-use Rattle.lapd_link_definition.specs.RunningTimers.{AreTimersOf, HasTimersOfState}
-use Rattle.lapd_pair_laws.specs.Conjuncts.{IsEmpty, IsConsistentSender}
+use Rattle.lapd_link_definition.specs.RunningTimers.{HasTimersOfState}
 use Rattle.lapd_pair_laws.specs.Invariant.{IsInvariant}
 use Rattle.lapd_pair_laws.specs.Line.{Flight}
-use Rattle.lapd_pair_laws.specs.Move.{PairEvent, Deliver, Expire200, Expire203, Station, View, acts}
-use Rattle.lapd_pair_laws.specs.Parties.{Party, party}
+use Rattle.lapd_pair_laws.specs.Move.{Deliver, Station, View, acts}
 use Rattle.lapd_pair_laws.specs.Timed.{IsTimedIn, IsSettledEnd, AreSettledEnds}
-use Rattle.lapd_pair_laws.specs.World.{World, swapped, view_of, with_view, world_after, happens}
+use Rattle.lapd_pair_laws.specs.World.{World}
 use Rattle.lapd_pair_laws.proofs.Drains.{Drains}
-use Rattle.lapd_pair_laws.proofs.Stepping.{user_move, network_move}
 use Rattle.lapd_pair_laws.proofs.Worlds.{left_by}
-use Rattle.lapd_recovery_laws.specs.Own.{is_due, is_line_empty, are_apart}
-use Rattle.lapd_recovery_laws.specs.Timers.{HaveTimersOfStates}
-use Rattle.lapd_recovery_laws.proofs.AnyOrder.{Draining}
 use Rattle.lapd_recovery_laws.proofs.Beside.{seeing}
-use Rattle.lapd_recovery_laws.proofs.Cleared.{AreClear, AreClearIn5}
-use Rattle.lapd_recovery_laws.proofs.ClosedSteps.{Yields, Sees, seen_after_t200, seen_after_frame, disc_in_4, disc_in_6, ua_in_6, dm_in_6, retry_in_6, give_up_in_6, released, retried}
-use Rattle.lapd_recovery_laws.proofs.HalfSteps.{dm, disc, sabme_in_5, disc_in_5, retry_in_5, give_up_in_5, dm_in_5, ua_in_5, asked_again, abandoned, leaving, sabme_in_6, ignored_if_closed, disconnected, disc_in_7_8}
-use Rattle.lapd_recovery_laws.proofs.LoneSteps.{is_ignored, Polls, polls_by_t203, sabme, ua, asking, established, sabme_in_4, IsNew, is_new}
+use Rattle.lapd_recovery_laws.proofs.Cleared.{AreClear}
+use Rattle.lapd_recovery_laws.proofs.ClosedSteps.{Sees, seen_after_frame, disc_in_4, disc_in_6, ua_in_6, dm_in_6, released}
+use Rattle.lapd_recovery_laws.proofs.HalfSteps.{dm, disc, sabme_in_5, disc_in_5, dm_in_5, ua_in_5, abandoned, leaving, sabme_in_6, ignored_if_closed, disconnected, disc_in_7_8}
+use Rattle.lapd_recovery_laws.proofs.LoneSteps.{is_ignored, sabme, ua, established, sabme_in_4, IsNew, is_new}
 use Rattle.lapd_recovery_laws.proofs.Lost.{at}
-use Rattle.lapd_recovery_laws.proofs.LostMoves.{seen_by_network}
-use Rattle.lapd_recovery_laws.proofs.SendsOn.{AreIgnored, AreMessages, IsUpWith, Opens, sabme_in_7_8, IsCleared, sendable_in, sendable, sendable_few, ua_opens}
-use Rattle.lapd_recovery_laws.proofs.Situations.{tries, twice, attempt_in, attempt, gone_in, gone, again_in, again, finds_in, finds, polls_in, polls, Alone, Alone4, Alone5, Alone6, by_peer_5, Asks5, by_peer_6, Asks6, Accepted, Crossed, Refused, IsAnswer, EndInAnswer, Parting, Closed, Half, alone_4, alone_5, alone_6, asks_5, asks_6, accepted, crossed, refused, parting, closed, NoneReleases, not_both, false_if, Coming, ComesOn, PollsOn, AsksAnew, t200_of_open, up_drains}
-use Rattle.lapd_recovery_laws.proofs.Transitions.{timers_in, empty_4_too, state_of, by_user, by_network, open_peer_5, open_peer_6, closed_peer_6, none_left}
+use Rattle.lapd_recovery_laws.proofs.SendsOn.{AreIgnored, IsUpWith, sabme_in_7_8, IsCleared, sendable_in, sendable, sendable_few, ua_opens}
+use Rattle.lapd_recovery_laws.proofs.Situations.{twice, attempt, gone, again_in, again, polls_in, polls, by_peer_5, Asks5, by_peer_6, Asks6, Accepted, Crossed, Refused, IsAnswer, EndInAnswer, Parting, alone_5, asks_6, accepted, crossed, refused, parting, closed, NoneReleases, false_if, ComesOn, up_drains}
+use Rattle.lapd_recovery_laws.proofs.Transitions.{timers_in, empty_4_too, state_of, by_user, by_network, open_peer_6, closed_peer_6, none_left}
 
 module _ (N : ℕ) (some_retries : 1 ≤ N) (up : Bool) where
   -- ---- The SABME of the user is delivered.

@@ -1,5 +1,5 @@
 -- An end in state 7 or 8 finds its peer in state 4, and brings it up, by own moves in any order.
-use Rattle.std.proofs.Common.{◌≡◌, ◌⊎◌, inl, inr, ℕ, ◌+◌, ◌*◌, ◌-◌, ◌<◌, ◌≤◌, nat_lt, not, ◌&&◌, ◌||◌, if◌then◌else◌, Bool, true, false, List, [], ◌∷◌, ◌++◌, length, Option, Some, None, Result, Ok, Err, is_ok, refl, sym, ap, subst, ◌∙◌, arith}
+use Rattle.std.proofs.Common.{◌≡◌, ◌⊎◌, inl, inr, ℕ, ◌+◌, ◌*◌, ◌-◌, ◌≤◌, nat_lt, not, ◌&&◌, ◌||◌, if◌then◌else◌, Bool, true, false, List, [], ◌∷◌, length, Option, Some, None, Result, Err, is_ok, refl, sym, ap, subst, ◌∙◌, arith}
 use Rattle.std.proofs.lemmas.Bool.Decides.{nat_tests}
 use Rattle.lapd_timers.specs.declared.timer.Timer.TheVariants.{T200}
 use Rattle.lapd_frame.specs.declared.Side.{Side}
@@ -17,24 +17,24 @@ use Rattle.lapd_pair_laws.specs.Consistent.{AreSettled, IsConsistentWorld}
 use Rattle.lapd_pair_laws.specs.Invariant.{IsInvariant}
 use Rattle.lapd_pair_laws.specs.Line.{Flight, first_poll, first_final}
 use Rattle.lapd_pair_laws.specs.Move.{PairEvent, Give, Establish, Release, Deliver, Lose, Expire200, Expire203, Busy, UnitData, Restart, Move, Station, View, ViewStep, Refusal, NotRunning, acts, takes, delivers, expires_200, expires_203, unless_under_way}
-use Rattle.lapd_pair_laws.specs.Parties.{Party, party}
+use Rattle.lapd_pair_laws.specs.Parties.{party}
 use Rattle.lapd_pair_laws.specs.Timed.{AreSettledEnds}
-use Rattle.lapd_pair_laws.specs.World.{World, swapped, view_of, with_view, in_world, world_after, happens, run, left, left_of}
+use Rattle.lapd_pair_laws.specs.World.{World, swapped, view_of, with_view, world_after, happens, run, left_of}
 use Rattle.lapd_pair_laws.proofs.Consistency.{run_consistent}
-use Rattle.lapd_pair_laws.proofs.Drains.{Seen, Drains}
-use Rattle.lapd_pair_laws.proofs.MidSteps.{Mid, enter, numbering}
-use Rattle.lapd_pair_laws.proofs.SettledEnds.{move_settles, run_settles}
+use Rattle.lapd_pair_laws.proofs.Drains.{Drains}
+use Rattle.lapd_pair_laws.proofs.MidSteps.{enter, numbering}
+use Rattle.lapd_pair_laws.proofs.SettledEnds.{move_settles}
 use Rattle.lapd_pair_laws.proofs.Settles.{IsStill}
 use Rattle.lapd_pair_laws.proofs.Stepping.{user_move, network_move}
 use Rattle.lapd_pair_laws.proofs.Swaps.{network_alike}
-use Rattle.lapd_pair_laws.proofs.Whole.{each_move_preserves, each_run_preserves}
+use Rattle.lapd_pair_laws.proofs.Whole.{each_move_preserves}
 use Rattle.lapd_pair_laws.proofs.Worlds.{left_by, exchanged}
-use Rattle.lapd_recovery_laws.specs.LoneLine.{IsLone, IsLoneLine, most_lone_moves, IsUpAnew, ComesUpAnew}
+use Rattle.lapd_recovery_laws.specs.LoneLine.{IsLone, IsLoneLine, most_lone_moves, ComesUpAnew}
 use Rattle.lapd_recovery_laws.specs.Own.{are_apart, is_empty, is_line_empty, is_due, IsOwn, AreOwn, Rests}
 use Rattle.lapd_recovery_laws.specs.Timers.{HaveTimersOfStates}
 use Rattle.lapd_recovery_laws.proofs.AnyOrder.{Draining, draining_swapped, own_moves_on, ok_in_world, rests_still, rests_drained}
 use Rattle.lapd_recovery_laws.proofs.Beside.{seeing}
-use Rattle.lapd_recovery_laws.proofs.ClosedSteps.{Sees, seen_after_t200, seen_after_frame}
+use Rattle.lapd_recovery_laws.proofs.ClosedSteps.{seen_after_t200, seen_after_frame}
 use Rattle.lapd_recovery_laws.proofs.Establishes.{seen_established}
 use Rattle.lapd_recovery_laws.proofs.LoneSteps.{is_ignored, ignored_in_4, Polls, polls_by_t200, polls_by_t203, polls_again, AsksItself, sabme, asking, last_try_in_8, asks_itself, IsNew, ua, established, sabme_in_4, is_new}
 use Rattle.lapd_recovery_laws.proofs.Lost.{at}

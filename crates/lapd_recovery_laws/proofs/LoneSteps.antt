@@ -1,5 +1,5 @@
 -- The steps by which an end in state 7 or 8 finds its peer in state 4, and brings it up.
-use Rattle.std.proofs.Common.{◌≡◌, ℕ, ◌+◌, ◌-◌, ◌&&◌, nat_lt, Bool, true, false, List, [], ◌∷◌, ◌++◌, length, append-nil, Result, refl, sym, ap, subst, ◌∙◌, arith}
+use Rattle.std.proofs.Common.{◌≡◌, ℕ, ◌+◌, ◌&&◌, nat_lt, Bool, true, false, List, [], ◌∷◌, ◌++◌, length, append-nil, Result, refl, sym, ap, subst, ◌∙◌, arith}
 use Rattle.std.proofs.lemmas.Bool.Decides.{nat_tests}
 use Rattle.lapd_timers.specs.declared.timer.Timer.TheVariants.{T200, T203}
 use Rattle.lapd_frame.specs.declared.Side.TheVariants as side
@@ -10,12 +10,10 @@ use Rattle.lapd_frame.specs.declared.Control.TheVariants.{I, Rr, Rnr, Rej, Sabme
 use Rattle.lapd_mod128.specs.Counting.{Whole, before}
 use Rattle.lapd_supervision.specs.StateVariables.{StateVariables, status_frame, without_ack_pending, without_exceptions, with_zero_counters, last_i_frame}
 use Rattle.lapd_link_definition.specs.declared.out.Letter.TheVariants as letter
-use Rattle.lapd_link_definition.specs.declared.out.Out.{Out}
 use Rattle.lapd_link_definition.specs.declared.out.Out.TheVariants.{Send, Start, Stop, Report, Established}
-use Rattle.lapd_link_definition.specs.declared.state.State.{State}
-use Rattle.lapd_link_definition.specs.declared.state.State.TheVariants.{TeiAssigned, AwaitingEstablishment, AwaitingRelease, MultipleFrameEstablished, TimerRecovery}
+use Rattle.lapd_link_definition.specs.declared.state.State.TheVariants.{TeiAssigned, AwaitingEstablishment, MultipleFrameEstablished, TimerRecovery}
 use Rattle.lapd_link_definition.specs.EndOfStep.{is_7_or_8, is_established, end_step, acknowledge_pending, may_send_next}
-use Rattle.lapd_link_definition.specs.End.{End, StepState, begin, runs, unsent}
+use Rattle.lapd_link_definition.specs.End.{End, StepState, begin, unsent}
 use Rattle.lapd_link_definition.specs.Established.{multiple_frame_established, established_t200, sends_last}
 use Rattle.lapd_link_definition.specs.Input.{Heard, Expiry}
 use Rattle.lapd_link_definition.specs.Procedures.{out_where, put, state_to, rc_to, increment_rc, layer3_initiated_to, release_pending_to, start, stop, expired, clear_exception_conditions, zero_state_variables, transmit_enquiry, retransmit_last_i_frame, establish_data_link, reestablish_data_link}
@@ -24,7 +22,7 @@ use Rattle.lapd_link_definition.specs.TeiAssigned.{tei_assigned}
 use Rattle.lapd_link_definition.specs.TimerRecovery.{timer_recovery, timer_recovery_t200}
 use Rattle.lapd_link_definition.proofs.Sending.{sends_none}
 use Rattle.lapd_pair_laws.specs.Line.{Flight, without_info}
-use Rattle.lapd_pair_laws.specs.Move.{Deliver, Expire200, Expire203, Station, View, ViewStep, Refusal, acts, takes, expires_200, expires_203, view_after, story_after}
+use Rattle.lapd_pair_laws.specs.Move.{Expire200, Expire203, Station, View, ViewStep, Refusal, acts, takes, expires_200, expires_203, view_after, story_after}
 use Rattle.lapd_pair_laws.proofs.ActionEffects.{Context, story}
 use Rattle.lapd_pair_laws.proofs.ClosedActions.{closes_nothing}
 use Rattle.lapd_pair_laws.proofs.Lists.{by_test}

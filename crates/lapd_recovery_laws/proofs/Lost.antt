@@ -1,28 +1,24 @@
 -- An end in state 8 whose poll, or the answer to it, was lost. Until T200 expires it behaves as if
 -- the answer were the last frame in transit to it, and never arrived.
-use Rattle.std.proofs.Common.{◌≡◌, inl, ℕ, ◌+◌, ◌-◌, ◌<◌, ◌≤◌, nat_lt, ◌||◌, Bool, true, false, List, [], ◌∷◌, ◌++◌, length, length-append, append_assoc, append-nil, Option, Some, None, refl, sym, ap, subst, ◌∙◌, arith}
-use Rattle.lapd_frame.specs.declared.Side.TheVariants as side
-use Rattle.lapd_frame.specs.declared.Role.TheVariants.{Command, Answer}
+use Rattle.std.proofs.Common.{◌≡◌, inl, ℕ, ◌+◌, ◌-◌, ◌≤◌, nat_lt, ◌||◌, Bool, true, false, List, [], ◌∷◌, ◌++◌, length, length-append, Some, refl, sym, subst, arith}
+use Rattle.lapd_frame.specs.declared.Role.TheVariants.{Answer}
 use Rattle.lapd_frame.specs.declared.Control.TheVariants.{Rr}
-use Rattle.lapd_mod128.specs.Counting.{Whole}
 use Rattle.lapd_link_definition.specs.declared.state.State.{State}
 use Rattle.lapd_link_definition.specs.declared.state.State.TheVariants.{TeiAssigned, AwaitingEstablishment, AwaitingRelease, MultipleFrameEstablished, TimerRecovery}
 use Rattle.lapd_link_definition.specs.EndOfStep.{is_7_or_8}
-use Rattle.lapd_link_definition.specs.End.{End}
 use Rattle.lapd_pair_laws.specs.Histories.{Receipt}
 use Rattle.lapd_pair_laws.specs.Line.{Flight, without_info}
 use Rattle.lapd_pair_laws.specs.Move.{Station}
 use Rattle.lapd_pair_laws.specs.World.{World}
-use Rattle.lapd_pair_laws.specs.Kinds.{Kind, Final, kind, kinds, messages, numbers, rejections, tally, poll_of, final_of}
-use Rattle.lapd_pair_laws.specs.Parties.{Party, Reception, party, reception_now, receives, OnReception, frames_received}
-use Rattle.lapd_pair_laws.specs.Conjuncts.{IsGot, AreAcknowledging, OneAsked, AreAsked, IsReceivable, high}
+use Rattle.lapd_pair_laws.specs.Kinds.{Kind, Final, kinds, messages, tally, poll_of, final_of}
+use Rattle.lapd_pair_laws.specs.Parties.{Party, Reception, party, reception_now, receives, OnReception}
+use Rattle.lapd_pair_laws.specs.Conjuncts.{IsGot, AreAsked, IsReceivable, high}
 use Rattle.lapd_pair_laws.specs.Invariant.{Both, IsInvariant}
-use Rattle.lapd_pair_laws.specs.Timed.{IsSettledEnd, AreSettledEnds}
+use Rattle.lapd_pair_laws.specs.Timed.{AreSettledEnds}
 use Rattle.lapd_pair_laws.proofs.ActionEffects.{kinds_more}
 use Rattle.lapd_pair_laws.proofs.Draws.{AreReady, ready_more}
-use Rattle.lapd_pair_laws.proofs.Drains.{Seen, Drains}
-use Rattle.lapd_pair_laws.proofs.Flow.{Source, Sink, source, sink, Stage, Clean, Waiting, Polling, Answered, IsAt, burden, weight, Stream, Flow}
-use Rattle.lapd_pair_laws.proofs.GoingBack.{none_asked_in_7, asked_in_8}
+use Rattle.lapd_pair_laws.proofs.Drains.{Drains}
+use Rattle.lapd_pair_laws.proofs.Flow.{source, sink, Answered, burden, Stream, Flow}
 use Rattle.lapd_pair_laws.proofs.Lists.{messages_same, tally_more}
 use Rattle.lapd_pair_laws.proofs.MidSteps.{Mid, enter, leave, got_where_received}
 use Rattle.lapd_pair_laws.proofs.Receptions.{open_receives, from_open, on_map, on_both}

@@ -1,22 +1,19 @@
 -- T200 expires on an empty line, at a lost end or at its peer.
-use Rattle.std.proofs.Common.{◌≡◌, ◌⊎◌, inl, inr, ℕ, ◌+◌, ◌-◌, ◌<◌, ◌≤◌, nat_lt, ◌||◌, Bool, true, false, List, [], ◌∷◌, ◌++◌, length, Result, refl, sym, ap, subst, ◌∙◌, arith}
+use Rattle.std.proofs.Common.{◌≡◌, ◌⊎◌, inl, inr, ℕ, ◌+◌, ◌-◌, ◌≤◌, nat_lt, ◌||◌, Bool, true, false, List, [], ◌∷◌, Result, refl, sym, ap, subst, arith}
 use Rattle.lapd_frame.specs.declared.Side.TheVariants as side
 use Rattle.lapd_mod128.specs.Counting.{Whole}
 use Rattle.lapd_link_definition.specs.declared.state.State.TheVariants.{MultipleFrameEstablished, TimerRecovery}
-use Rattle.lapd_link_definition.specs.EndOfStep.{is_7_or_8}
-use Rattle.lapd_link_definition.specs.End.{End}
 use Rattle.lapd_link_definition.specs.Table.{step}
-use Rattle.lapd_pair_laws.specs.Line.{Flight}
 use Rattle.lapd_pair_laws.specs.Move.{Expire200, Station, View, ViewStep, Refusal, acts, takes, expires_200, view_after}
 use Rattle.lapd_pair_laws.specs.World.{World, swapped, view_of, with_view, world_after, happens}
 use Rattle.lapd_pair_laws.specs.Kinds.{Kind, Final, kinds, messages, tally, poll_of, final_of}
 use Rattle.lapd_pair_laws.specs.Conjuncts.{OneAsked}
 use Rattle.lapd_pair_laws.specs.Invariant.{IsInvariant}
 use Rattle.lapd_pair_laws.specs.Timed.{AreSettledEnds}
-use Rattle.lapd_pair_laws.proofs.Drains.{Seen, Drains, drains_swapped, mine_open}
+use Rattle.lapd_pair_laws.proofs.Drains.{Seen, Drains, mine_open}
 use Rattle.lapd_pair_laws.proofs.DrainsByT200.{seen_expired, preserved_expired}
-use Rattle.lapd_pair_laws.proofs.Flow.{Source, Sink, source, sink, Stage, Clean, Waiting, Polling, Answered, IsAt, burden, weight, Stream, Flow}
-use Rattle.lapd_pair_laws.proofs.Lists.{by_test, messages_same}
+use Rattle.lapd_pair_laws.proofs.Flow.{Sink, source, sink, Stage, Clean, Waiting, Polling, Answered, IsAt, burden, weight, Stream}
+use Rattle.lapd_pair_laws.proofs.Lists.{by_test}
 use Rattle.lapd_pair_laws.proofs.SettledEnds.{move_settles}
 use Rattle.lapd_pair_laws.proofs.Settles.{SameDropped}
 use Rattle.lapd_pair_laws.proofs.Speaks as speaks
@@ -24,7 +21,7 @@ use Rattle.lapd_pair_laws.proofs.Stepping.{user_move, network_move}
 use Rattle.lapd_pair_laws.proofs.Whole.{each_move_preserves}
 use Rattle.lapd_pair_laws.proofs.Worlds.{left_by, exchanged}
 use Rattle.lapd_recovery_laws.proofs.Beside.{seeing}
-use Rattle.lapd_recovery_laws.proofs.Lost.{final_of_peer, IsLost, at, with_final, UserLost, LostParts, kinds_length, lost_so}
+use Rattle.lapd_recovery_laws.proofs.Lost.{at, UserLost, kinds_length, lost_so}
 use Rattle.lapd_recovery_laws.proofs.LostMoves.{moved_user, moved_network, seen_by_network, asked_of, weight_in_8}
 use Rattle.lapd_recovery_laws.proofs.Retry.{Retries, seen_retried, preserved_retried}
 

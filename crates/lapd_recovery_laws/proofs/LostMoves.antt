@@ -1,27 +1,25 @@
 -- The moves of a line with a lost end: each reduces the remaining work.
-use Rattle.std.proofs.Common.{◌≡◌, ◌⊎◌, inl, inr, ℕ, ◌+◌, ◌-◌, ◌<◌, ◌≤◌, nat_lt, ◌||◌, Bool, true, false, List, [], ◌∷◌, ◌++◌, length, Option, Some, None, Result, Ok, Err, refl, sym, ap, subst, ◌∙◌, arith}
+use Rattle.std.proofs.Common.{◌≡◌, ℕ, ◌+◌, ◌-◌, ◌≤◌, nat_lt, ◌||◌, Bool, true, List, [], ◌∷◌, ◌++◌, length, refl, sym, ap, subst, ◌∙◌, arith}
 use Rattle.lapd_frame.specs.declared.Side.TheVariants as side
 use Rattle.lapd_mod128.specs.Counting.{Whole}
 use Rattle.lapd_link_definition.specs.declared.state.State.{State}
 use Rattle.lapd_link_definition.specs.declared.state.State.TheVariants.{TeiAssigned, AwaitingEstablishment, AwaitingRelease, MultipleFrameEstablished, TimerRecovery}
 use Rattle.lapd_link_definition.specs.EndOfStep.{is_7_or_8, end_step}
-use Rattle.lapd_link_definition.specs.End.{End, begin}
+use Rattle.lapd_link_definition.specs.End.{begin}
 use Rattle.lapd_link_definition.specs.Input.{Heard}
 use Rattle.lapd_link_definition.specs.Table.{row, step}
 use Rattle.lapd_link_definition.proofs.PreservedByStep.{step_preserves_parameters}
 use Rattle.lapd_pair_laws.specs.Line.{Flight}
-use Rattle.lapd_pair_laws.specs.Move.{PairEvent, Deliver, Expire200, Move, Station, View, acts, receives, delivers, takes, expires_200, view_after, story_after}
+use Rattle.lapd_pair_laws.specs.Move.{PairEvent, Deliver, Station, View, acts, receives, delivers, view_after, story_after}
 use Rattle.lapd_pair_laws.specs.World.{World, swapped, view_of, with_view, world_after, happens}
-use Rattle.lapd_pair_laws.specs.Kinds.{Kind, Final, kind, kinds, messages, tally, poll_of, final_of}
-use Rattle.lapd_pair_laws.specs.Parties.{Party, party, reception_now, frames_received}
-use Rattle.lapd_pair_laws.specs.Parties as parties
+use Rattle.lapd_pair_laws.specs.Kinds.{Kind, Final, kinds, messages, tally, poll_of, final_of}
+use Rattle.lapd_pair_laws.specs.Parties.{party, frames_received}
 use Rattle.lapd_pair_laws.specs.Conjuncts.{OneAsked}
-use Rattle.lapd_pair_laws.specs.Invariant.{Both, IsInvariant}
+use Rattle.lapd_pair_laws.specs.Invariant.{IsInvariant}
 use Rattle.lapd_pair_laws.specs.Timed.{AreSettledEnds}
 use Rattle.lapd_pair_laws.proofs.Draws.{AreReady}
-use Rattle.lapd_pair_laws.proofs.Drains.{Seen, Drains, drains_swapped, seen_delivered, preserved_delivered, mine_open, its_open}
-use Rattle.lapd_pair_laws.proofs.DrainsByT200.{seen_expired, preserved_expired}
-use Rattle.lapd_pair_laws.proofs.Flow.{Source, Sink, source, sink, Stage, Clean, Waiting, Polling, Answered, IsAt, burden, weight, Stream, Flow}
+use Rattle.lapd_pair_laws.proofs.Drains.{Seen, Drains, drains_swapped, seen_delivered, preserved_delivered, mine_open}
+use Rattle.lapd_pair_laws.proofs.Flow.{Source, Sink, source, sink, Stage, Clean, Waiting, Polling, Answered, IsAt, burden, weight, Stream}
 use Rattle.lapd_pair_laws.proofs.GoingBack.{none_asked_in_7, asked_in_8}
 use Rattle.lapd_pair_laws.proofs.Lists.{tally_more}
 use Rattle.lapd_pair_laws.proofs.MidSteps.{Mid, enter}
@@ -34,9 +32,8 @@ use Rattle.lapd_pair_laws.proofs.Stepping.{user_move, network_move}
 use Rattle.lapd_pair_laws.proofs.Swaps.{network_alike}
 use Rattle.lapd_pair_laws.proofs.Whole.{each_move_preserves}
 use Rattle.lapd_pair_laws.proofs.Worlds.{left_by}
-use Rattle.lapd_recovery_laws.proofs.Beside.{messages_beside, tally_beside, ready_beside, length_beside, IsBeside, ViewsBeside, seeing, delivered_beside}
-use Rattle.lapd_recovery_laws.proofs.Lost.{final_of_peer, IsLost, at, with_final, UserLost, LostParts, final_kinds, kinds_length, lost_so}
-use Rattle.lapd_recovery_laws.proofs.Retry.{Retries, seen_retried, preserved_retried}
+use Rattle.lapd_recovery_laws.proofs.Beside.{messages_beside, tally_beside, ready_beside, length_beside, ViewsBeside, seeing, delivered_beside}
+use Rattle.lapd_recovery_laws.proofs.Lost.{final_of_peer, at, with_final, UserLost, LostParts, final_kinds, kinds_length, lost_so}
 use Rattle.lapd_recovery_laws.proofs.RetriesLeft.{same_rc}
 
 -- ---- A world after a move.

@@ -1,5 +1,5 @@
 -- An open line comes up after every run from a new world, on whole numbers and on tags.
-use Rattle.std.proofs.Common.{◌≡◌, ℕ, ◌+◌, ◌*◌, ◌≤◌, ◌<◌, List, [], ◌∷◌, map, length, refl, sym, ap, subst, ◌∙◌, arith}
+use Rattle.std.proofs.Common.{◌≡◌, ◌+◌, ◌*◌, ◌≤◌, List, [], ◌∷◌, map, refl, sym, ap, subst, arith}
 use Rattle.lapd_mod128.specs.Counting.{Reading, Whole, Tagged}
 use Rattle.lapd_supervision.specs.Tags.{tag_variables}
 use Rattle.lapd_link_definition.specs.End.{End}
@@ -9,7 +9,7 @@ use Rattle.lapd_pair_laws.specs.Consistent.{IsConsistentWorld}
 use Rattle.lapd_pair_laws.specs.Line.{Flight}
 use Rattle.lapd_pair_laws.specs.Move.{Move}
 use Rattle.lapd_pair_laws.specs.Tagged.{tag_flight, tag_world}
-use Rattle.lapd_pair_laws.specs.World.{World, new_world, run, left}
+use Rattle.lapd_pair_laws.specs.World.{World, new_world, run}
 use Rattle.lapd_pair_laws.specs.Invariant.{IsInvariant}
 use Rattle.lapd_pair_laws.specs.Settle.{most_moves}
 use Rattle.lapd_pair_laws.proofs.Consistency.{new_world_consistent, run_consistent}
@@ -19,7 +19,7 @@ use Rattle.lapd_pair_laws.proofs.TaggedMoves.{left_on_tags, safe_on_tags}
 use Rattle.lapd_pair_laws.proofs.Whole.{each_run_preserves}
 use Rattle.lapd_pair_laws.proofs.Worlds.{new_holds}
 use Rattle.lapd_recovery_laws.specs.OpenLine.{IsOpen, IsOpenLine, IsUp, ComesUp}
-use Rattle.lapd_recovery_laws.specs.Own.{AreOwn, Rests}
+use Rattle.lapd_recovery_laws.specs.Own.{Rests}
 use Rattle.lapd_recovery_laws.proofs.OpenLine.{open_line_comes_up}
 use Rattle.lapd_recovery_laws.proofs.OwnOnTags.{are_own_by_tags, rests_by_tags, ran_on_tags, are_level_on_tags, agreed_on_tags}
 use Rattle.lapd_recovery_laws.proofs.TimersOfRuns.{new_has_timers, timers_after_run}

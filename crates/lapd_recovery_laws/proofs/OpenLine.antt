@@ -1,5 +1,5 @@
 -- An open line with no frame in transit drains by its own moves, in any order.
-use Rattle.std.proofs.Common.{◌≡◌, ◌⊎◌, inl, inr, ℕ, ◌+◌, ◌-◌, ◌*◌, ◌<◌, ◌≤◌, nat_lt, ◌&&◌, ◌||◌, Bool, true, false, List, [], ◌∷◌, length, refl, sym, ap, subst, ◌∙◌, arith}
+use Rattle.std.proofs.Common.{◌≡◌, inl, inr, ℕ, ◌+◌, ◌-◌, ◌*◌, ◌<◌, ◌≤◌, nat_lt, ◌||◌, Bool, true, false, List, [], ◌∷◌, length, refl, sym, ap, ◌∙◌, arith}
 use Rattle.std.proofs.lemmas.Bool.Decides.{nat_tests}
 use Rattle.lapd_mod128.specs.Counting.{Whole}
 use Rattle.lapd_link_definition.specs.declared.state.State.{State}
@@ -9,28 +9,26 @@ use Rattle.lapd_link_definition.specs.End.{End}
 use Rattle.lapd_pair_laws.specs.Consistent.{is_one_of, AreSettled, IsConsistentWorld}
 use Rattle.lapd_pair_laws.specs.Drained.{IsServed}
 use Rattle.lapd_pair_laws.specs.Line.{Flight}
-use Rattle.lapd_pair_laws.specs.Move.{Move, Station}
+use Rattle.lapd_pair_laws.specs.Move.{Station}
 use Rattle.lapd_pair_laws.specs.World.{World, swapped, run, left, left_of}
-use Rattle.lapd_pair_laws.specs.Kinds.{Kind, kinds}
 use Rattle.lapd_pair_laws.specs.Parties.{party}
 use Rattle.lapd_pair_laws.specs.Conjuncts.{IsNumbering}
 use Rattle.lapd_pair_laws.specs.Invariant.{IsInvariant}
 use Rattle.lapd_pair_laws.specs.Settle.{most_moves}
 use Rattle.lapd_pair_laws.specs.Timed.{IsTimedIn, AreSettledEnds}
 use Rattle.lapd_pair_laws.proofs.Consistency.{run_consistent}
-use Rattle.lapd_pair_laws.proofs.Drains.{Drains, drains_swapped}
+use Rattle.lapd_pair_laws.proofs.Drains.{Drains}
 use Rattle.lapd_pair_laws.proofs.Facts.{between_open}
-use Rattle.lapd_pair_laws.proofs.Flow.{Source, Sink, source, sink, Stage, Clean, Waiting, Polling, Answered, IsAt, IsInTransit, burden, fresh, Stream, Flow}
+use Rattle.lapd_pair_laws.proofs.Flow.{Source, Sink, source, sink, Stage, Clean, Waiting, Polling, Answered, IsAt, IsInTransit, burden, fresh, Stream}
 use Rattle.lapd_pair_laws.proofs.MidSteps.{Mid, enter, numbering}
 use Rattle.lapd_pair_laws.proofs.Settled.{left_settled}
-use Rattle.lapd_pair_laws.proofs.Settles.{SameDropped, IsStill, Settles, Ends, nothing_left}
+use Rattle.lapd_pair_laws.proofs.Settles.{SameDropped, IsStill, Ends, nothing_left}
 use Rattle.lapd_pair_laws.proofs.Stepping.{next_none}
 use Rattle.lapd_pair_laws.proofs.Worlds.{safe_by_invariant, exchanged}
-use Rattle.lapd_recovery_laws.specs.Agreed.{IsLevel, AreLevel, AreAgreed}
-use Rattle.lapd_recovery_laws.specs.OpenLine.{IsOpen, IsOpenLine, IsUp, ComesUp}
-use Rattle.lapd_recovery_laws.specs.Own.{AreOwn, Rests}
+use Rattle.lapd_recovery_laws.specs.Agreed.{IsLevel, AreLevel}
+use Rattle.lapd_recovery_laws.specs.OpenLine.{IsOpenLine, IsUp, ComesUp}
 use Rattle.lapd_recovery_laws.specs.Timers.{HaveTimersOfStates}
-use Rattle.lapd_recovery_laws.proofs.AnyOrder.{Draining, Reaches, own_moves_reach, rests_still, rests_drained}
+use Rattle.lapd_recovery_laws.proofs.AnyOrder.{Draining, own_moves_reach, rests_still, rests_drained}
 use Rattle.lapd_recovery_laws.proofs.Lost.{at, UserLost, lost_so}
 use Rattle.lapd_recovery_laws.proofs.LostExpires.{BothLost}
 

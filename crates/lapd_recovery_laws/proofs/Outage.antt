@@ -1,5 +1,5 @@
 -- The own moves of a line after an outage, in any order.
-use Rattle.std.proofs.Common.{◌≡◌, ◌⊎◌, inl, inr, ℕ, zero, suc, ◌+◌, ◌*◌, ◌-◌, ◌<◌, ◌≤◌, ◌==◌, nat_lt, not, ◌&&◌, ◌||◌, Bool, true, false, List, [], ◌∷◌, ◌++◌, length, is_ok, refl, sym, ap, subst, ◌∙◌, arith}
+use Rattle.std.proofs.Common.{◌≡◌, inl, inr, ℕ, ◌+◌, ◌*◌, ◌-◌, ◌≤◌, not, ◌&&◌, ◌||◌, Bool, true, false, List, [], ◌∷◌, length, is_ok, refl, sym, ap, subst, ◌∙◌, arith}
 use Rattle.lapd_frame.specs.declared.Side.{Side}
 use Rattle.lapd_frame.specs.declared.Side.TheVariants as side
 use Rattle.lapd_mod128.specs.Counting.{Whole}
@@ -7,18 +7,16 @@ use Rattle.lapd_link_definition.specs.declared.state.State.{State}
 use Rattle.lapd_link_definition.specs.declared.state.State.TheVariants.{TeiAssigned, AwaitingEstablishment, AwaitingRelease, MultipleFrameEstablished, TimerRecovery}
 use Rattle.lapd_link_definition.specs.EndOfStep.{is_7_or_8, is_established}
 use Rattle.lapd_link_definition.specs.End.{End, unsent}
-use Rattle.lapd_link_definition.specs.RunningTimers.{AreTimersOf, HasTimersOfState}
+use Rattle.lapd_link_definition.specs.RunningTimers.{HasTimersOfState}
 use Rattle.lapd_pair_laws.specs.Conjuncts.{IsEmpty, IsConsistentSender}
 use Rattle.lapd_pair_laws.specs.Invariant.{IsInvariant}
 use Rattle.lapd_pair_laws.specs.Line.{Flight}
-use Rattle.lapd_pair_laws.specs.Move.{PairEvent, Give, Establish, Release, Deliver, Lose, Expire200, Expire203, Busy, UnitData, Restart, Move, Station, View, acts}
-use Rattle.lapd_pair_laws.specs.Parties.{Party, party}
+use Rattle.lapd_pair_laws.specs.Move.{PairEvent, Deliver, Expire200, Expire203, Station, View, acts}
+use Rattle.lapd_pair_laws.specs.Parties.{party}
 use Rattle.lapd_pair_laws.specs.Timed.{AreSettledEnds}
-use Rattle.lapd_pair_laws.specs.World.{World, swapped, view_of, with_view, world_after, happens}
-use Rattle.lapd_pair_laws.specs.Kinds.{Kind, Final, kinds}
-use Rattle.lapd_pair_laws.proofs.Drains.{Drains}
-use Rattle.lapd_pair_laws.proofs.EndsPreserved.{stays_sound}
-use Rattle.lapd_pair_laws.proofs.Flow.{Source, Sink, source, sink, Stage, Clean, Waiting, Polling, Answered, IsAt, burden, weight, Stream, Flow}
+use Rattle.lapd_pair_laws.specs.World.{World, swapped, view_of, world_after, happens}
+use Rattle.lapd_pair_laws.specs.Kinds.{Kind, Final}
+use Rattle.lapd_pair_laws.proofs.Flow.{Source, Sink, source, sink, Stage, Clean, Waiting, Polling, Answered, IsAt, weight, Stream}
 use Rattle.lapd_pair_laws.proofs.SettledEnds.{move_settles}
 use Rattle.lapd_pair_laws.proofs.Stepping.{user_move, network_move}
 use Rattle.lapd_pair_laws.proofs.Swaps.{network_alike}
@@ -28,18 +26,17 @@ use Rattle.lapd_recovery_laws.specs.Own.{are_apart, is_empty, is_line_empty, is_
 use Rattle.lapd_recovery_laws.specs.Timers.{HaveTimersOfStates}
 use Rattle.lapd_recovery_laws.proofs.AnyOrder.{Draining, draining_swapped, MayRetry, own_moves_on, in_state_7, ok_in_world}
 use Rattle.lapd_recovery_laws.proofs.Beside.{seeing}
-use Rattle.lapd_recovery_laws.proofs.Cleared.{AreClear, AreClearIn5, clear_after_move}
+use Rattle.lapd_recovery_laws.proofs.Cleared.{AreClearIn5}
 use Rattle.lapd_recovery_laws.proofs.ClosedSteps.{Sees, seen_after_t200, retry_in_6, give_up_in_6, released, retried}
 use Rattle.lapd_recovery_laws.proofs.HalfSteps.{dm, disc, retry_in_5, give_up_in_5, asked_again, abandoned}
 use Rattle.lapd_recovery_laws.proofs.Lone.{no_delivery, t200_runs, t203_runs, ok_of_side, due_swapped, last_of, not_apart}
 use Rattle.lapd_recovery_laws.proofs.LoneSteps.{sabme, ua, asking, last_try_in_8}
-use Rattle.lapd_recovery_laws.proofs.Lost.{at, UserLost}
-use Rattle.lapd_recovery_laws.proofs.LostExpires.{BothLost, stream}
+use Rattle.lapd_recovery_laws.proofs.Lost.{at}
+use Rattle.lapd_recovery_laws.proofs.LostExpires.{stream}
 use Rattle.lapd_recovery_laws.proofs.LostMoves.{moved_user, moved_network, weight_in_8}
-use Rattle.lapd_recovery_laws.proofs.SendsOn.{AreIgnored, IsUpWith}
-use Rattle.lapd_recovery_laws.proofs.Situations.{tries, twice, attempt_in, attempt, gone, again, Alone, Alone4, Alone5, Alone6, by_peer_5, Asks5, by_peer_6, Asks6, Accepted, Crossed, Refused, EndInAnswer, Parting, Closed, Half, alone_4, alone_5, alone_6, asks_5, asks_6, accepted, crossed, refused, parting, closed, NoneReleases, not_both, false_if, Coming, ComesOn}
-use Rattle.lapd_recovery_laws.proofs.TimersOfRuns.{timers_after_move}
-use Rattle.lapd_recovery_laws.proofs.Transitions.{literally, timers_in, empty_4, empty_4_too, attempt_is, state_of, by_user, by_network, open_peer_5, closed_peer_6, none_left, alone4_t200, alone5_t200, alone6_t200, alone4_t203, alone5_peer, alone6_peer, alone4_ignores, alone5_ignores, alone6_ignores}
+use Rattle.lapd_recovery_laws.proofs.SendsOn.{AreIgnored}
+use Rattle.lapd_recovery_laws.proofs.Situations.{tries, twice, attempt_in, attempt, gone, again, Alone4, Alone5, Alone6, by_peer_5, EndInAnswer, Closed, Half, alone_4, alone_5, alone_6, asks_5, asks_6, accepted, crossed, refused, parting, closed, not_both, Coming, ComesOn}
+use Rattle.lapd_recovery_laws.proofs.Transitions.{literally, timers_in, attempt_is, state_of, by_user, by_network, open_peer_5, closed_peer_6, none_left, alone4_t200, alone5_t200, alone6_t200, alone4_t203, alone5_peer, alone6_peer, alone4_ignores, alone5_ignores, alone6_ignores}
 use Rattle.lapd_recovery_laws.proofs.Exchanges.{asks5_delivered, asks6_delivered, asks6_ignores, parting_moves, refused_moves, accepted_moves, crossed_moves}
 
 -- ---- What every world keeps.

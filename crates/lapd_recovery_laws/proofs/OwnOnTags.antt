@@ -1,6 +1,6 @@
 -- The own moves on tags are those on whole numbers.
-use Rattle.std.proofs.Common.{◌≡◌, ◌⊎◌, inl, inr, ℕ, ◌+◌, ◌*◌, ◌≤◌, ◌&&◌, Bool, true, false, List, [], ◌∷◌, map, length, Result, Ok, Err, is_ok, refl, sym, ap, subst, ◌∙◌, arith}
-use Rattle.lapd_mod128.specs.Counting.{Reading, Whole, Tagged, tag}
+use Rattle.std.proofs.Common.{◌≡◌, ◌⊎◌, inl, inr, List, [], ◌∷◌, map, Result, Ok, Err, is_ok, refl, sym, ap, subst, ◌∙◌}
+use Rattle.lapd_mod128.specs.Counting.{Whole, Tagged, tag}
 use Rattle.lapd_supervision.specs.Tags.{tag_variables}
 use Rattle.lapd_link_definition.specs.End.{End}
 use Rattle.lapd_link_definition.specs.Tagging.{tag_end}
@@ -8,13 +8,13 @@ use Rattle.lapd_pair_laws.specs.Consistent.{IsConsistentWorld}
 use Rattle.lapd_pair_laws.specs.Line.{Flight}
 use Rattle.lapd_pair_laws.specs.Move.{PairEvent, Give, Establish, Release, Deliver, Lose, Expire200, Expire203, Busy, UnitData, Restart, Move, Refusal}
 use Rattle.lapd_pair_laws.specs.Tagged.{tag_flight, tag_world, tag_outcome}
-use Rattle.lapd_pair_laws.specs.World.{World, Happened, world_after, happens, run, left}
+use Rattle.lapd_pair_laws.specs.World.{World, Happened, world_after, happens, run}
 use Rattle.lapd_pair_laws.specs.Invariant.{IsInvariant}
 use Rattle.lapd_pair_laws.proofs.Consistency.{run_consistent}
 use Rattle.lapd_pair_laws.proofs.Nearness.{within_by_invariant}
 use Rattle.lapd_pair_laws.proofs.Reached.{near_moves}
-use Rattle.lapd_pair_laws.proofs.TaggedMoves.{move_on_tags, move_near, run_on_tags, left_on_tags, safe_on_tags}
-use Rattle.lapd_pair_laws.proofs.Whole.{each_move_preserves, each_run_preserves}
+use Rattle.lapd_pair_laws.proofs.TaggedMoves.{move_on_tags, move_near, run_on_tags, left_on_tags}
+use Rattle.lapd_pair_laws.proofs.Whole.{each_move_preserves}
 use Rattle.lapd_recovery_laws.specs.Own.{is_empty, is_due, IsOwn, AreOwn, Rests}
 use Rattle.lapd_recovery_laws.specs.Agreed.{IsLevel, AreLevel, AreReleased, AreAgreed}
 

@@ -1,25 +1,22 @@
 -- A line with both ends in states 4 and 6 is released by its own moves, in any order.
-use Rattle.std.proofs.Common.{◌≡◌, ◌⊎◌, inl, inr, ℕ, ◌+◌, ◌-◌, ◌<◌, ◌≤◌, nat_lt, not, ◌&&◌, ◌||◌, Bool, true, false, List, [], ◌∷◌, ◌++◌, length, is_ok, refl, sym, ap, subst, ◌∙◌, arith}
+use Rattle.std.proofs.Common.{◌≡◌, ◌⊎◌, inl, inr, ℕ, ◌+◌, ◌-◌, ◌≤◌, nat_lt, not, ◌&&◌, ◌||◌, Bool, true, false, List, [], ◌∷◌, length, is_ok, refl, sym, ap, subst, ◌∙◌, arith}
 use Rattle.lapd_frame.specs.declared.Side.{Side}
 use Rattle.lapd_frame.specs.declared.Side.TheVariants as side
 use Rattle.lapd_frame.specs.declared.Role.TheVariants.{Command, Answer}
 use Rattle.lapd_frame.specs.declared.Control.TheVariants.{Dm, Disc, Ua}
 use Rattle.lapd_mod128.specs.Counting.{Whole}
 use Rattle.lapd_link_definition.specs.declared.state.State.{State}
-use Rattle.lapd_link_definition.specs.declared.state.State.TheVariants.{TeiAssigned, AwaitingEstablishment, AwaitingRelease, MultipleFrameEstablished, TimerRecovery}
-use Rattle.lapd_link_definition.specs.EndOfStep.{end_step, is_established}
-use Rattle.lapd_link_definition.specs.End.{End, begin}
-use Rattle.lapd_link_definition.specs.Input.{Heard, Expiry}
+use Rattle.lapd_link_definition.specs.declared.state.State.TheVariants.{TeiAssigned, AwaitingRelease}
+use Rattle.lapd_link_definition.specs.EndOfStep.{is_established}
+use Rattle.lapd_link_definition.specs.End.{End}
 use Rattle.lapd_link_definition.specs.RunningTimers.{AreTimersOf, HasTimersOfState}
-use Rattle.lapd_link_definition.specs.Table.{row}
-use Rattle.lapd_link_definition.proofs.Sending.{both_true}
 use Rattle.lapd_pair_laws.specs.Conjuncts.{IsEmpty, IsConsistentSender}
 use Rattle.lapd_pair_laws.specs.Consistent.{AreSettled, IsConsistentWorld}
 use Rattle.lapd_pair_laws.specs.Invariant.{IsInvariant}
 use Rattle.lapd_pair_laws.specs.Line.{Flight, without_info}
-use Rattle.lapd_pair_laws.specs.Move.{PairEvent, Deliver, Expire200, Expire203, Move, Station, View, acts}
+use Rattle.lapd_pair_laws.specs.Move.{PairEvent, Deliver, Expire200, Expire203, Move, Station, acts}
 use Rattle.lapd_pair_laws.specs.Parties.{Party, party}
-use Rattle.lapd_pair_laws.specs.World.{World, swapped, view_of, with_view, world_after, happens, run, left, left_of}
+use Rattle.lapd_pair_laws.specs.World.{World, swapped, view_of, with_view, world_after, happens, run, left_of}
 use Rattle.lapd_pair_laws.proofs.Consistency.{run_consistent}
 use Rattle.lapd_pair_laws.proofs.Settled.{left_settled}
 use Rattle.lapd_pair_laws.proofs.Settles.{IsStill}
@@ -27,8 +24,8 @@ use Rattle.lapd_pair_laws.proofs.Stepping.{user_move, network_move}
 use Rattle.lapd_pair_laws.proofs.Swaps.{network_alike}
 use Rattle.lapd_pair_laws.proofs.Whole.{each_run_preserves}
 use Rattle.lapd_pair_laws.proofs.Worlds.{left_by}
-use Rattle.lapd_recovery_laws.specs.Agreed.{AreReleased, AreAgreed}
-use Rattle.lapd_recovery_laws.specs.Own.{are_apart, is_line_empty, is_due, IsOwn, AreOwn, Rests}
+use Rattle.lapd_recovery_laws.specs.Agreed.{AreReleased}
+use Rattle.lapd_recovery_laws.specs.Own.{are_apart, is_line_empty, is_due, AreOwn}
 use Rattle.lapd_recovery_laws.specs.ReleasedLine.{IsReleasing, IsReleasedLine, IsDown, ComesDown}
 use Rattle.lapd_recovery_laws.specs.Timers.{HaveTimersOfStates}
 use Rattle.lapd_recovery_laws.proofs.AnyOrder.{none_there, ok_in_world, runs_if_expires, rests_still}

@@ -1,6 +1,6 @@
 -- A line with both ends in states 4 and 6 is released after every run from a new world, on whole
 -- numbers and on tags.
-use Rattle.std.proofs.Common.{◌≡◌, ◌⊎◌, inl, inr, ℕ, ◌≤◌, List, [], ◌∷◌, map, length, refl, sym, ap, subst, ◌∙◌}
+use Rattle.std.proofs.Common.{◌≡◌, inl, inr, ◌≤◌, List, [], ◌∷◌, map, refl, sym, subst}
 use Rattle.lapd_mod128.specs.Counting.{Reading, Whole, Tagged}
 use Rattle.lapd_link_definition.specs.End.{End}
 use Rattle.lapd_link_definition.specs.Parameters.{Parameters}
@@ -15,7 +15,7 @@ use Rattle.lapd_pair_laws.proofs.Consistency.{new_world_consistent, run_consiste
 use Rattle.lapd_pair_laws.proofs.Reached.{reached_tags}
 use Rattle.lapd_pair_laws.proofs.Whole.{each_run_preserves}
 use Rattle.lapd_pair_laws.proofs.Worlds.{new_holds}
-use Rattle.lapd_recovery_laws.specs.Own.{AreOwn, Rests}
+use Rattle.lapd_recovery_laws.specs.Own.{Rests}
 use Rattle.lapd_recovery_laws.specs.ReleasedLine.{IsReleasing, IsReleasedLine, IsDown, ComesDown}
 use Rattle.lapd_recovery_laws.proofs.OwnOnTags.{are_own_by_tags, rests_by_tags, ran_on_tags, agreed_on_tags}
 use Rattle.lapd_recovery_laws.proofs.Releases.{released_line_comes_down}

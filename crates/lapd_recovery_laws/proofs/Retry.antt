@@ -1,5 +1,5 @@
 -- T200 expires in state 8 while the line is empty: the end polls again.
-use Rattle.std.proofs.Common.{◌≡◌, ℕ, ◌+◌, ◌-◌, ◌≤◌, nat_lt, Bool, true, false, [], ◌∷◌, ◌++◌, Result, refl, sym, ap, subst, ◌∙◌, arith}
+use Rattle.std.proofs.Common.{◌≡◌, ℕ, ◌+◌, ◌≤◌, nat_lt, true, false, [], ◌∷◌, ◌++◌, Result, refl, sym, ap, subst, ◌∙◌, arith}
 use Rattle.lapd_timers.specs.declared.timer.Timer.TheVariants.{T200}
 use Rattle.lapd_frame.specs.declared.Side.TheVariants as side
 use Rattle.lapd_frame.specs.declared.Role.TheVariants.{Command}

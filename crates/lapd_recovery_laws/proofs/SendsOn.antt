@@ -1,7 +1,6 @@
 -- What an end sends at the end of a step in which it establishes: its waiting messages, as far as
 -- the window allows.
-use Rattle.std.proofs.Common.{◌≡◌, ◌⊎◌, inl, inr, ℕ, zero, suc, ◌+◌, ◌-◌, ◌<◌, ◌≤◌, ◌==◌, ◌&&◌, nat_lt, if◌then◌else◌, Bool, true, false, List, [], ◌∷◌, ◌++◌, length, append_assoc, append-nil, refl, sym, ap, subst, ◌∙◌, arith}
-use Rattle.std.proofs.lemmas.Bool.Decides.{nat_tests}
+use Rattle.std.proofs.Common.{◌≡◌, ◌⊎◌, inl, inr, ℕ, zero, suc, ◌+◌, ◌-◌, ◌≤◌, ◌==◌, ◌&&◌, nat_lt, if◌then◌else◌, Bool, true, false, List, [], ◌∷◌, ◌++◌, length, append_assoc, append-nil, refl, sym, ap, subst, ◌∙◌, arith}
 use Rattle.lapd_timers.specs.declared.timer.Timer.TheVariants.{T200, T203}
 use Rattle.lapd_frame.specs.declared.Side.TheVariants as side
 use Rattle.lapd_frame.specs.declared.Role.TheVariants.{Command, Answer}
@@ -9,7 +8,6 @@ use Rattle.lapd_frame.specs.declared.Control.TheVariants.{Sabme, Ua}
 use Rattle.lapd_mod128.specs.Counting.{Whole, after}
 use Rattle.lapd_supervision.specs.StateVariables.{may_send, after_sending, without_exceptions, with_zero_counters}
 use Rattle.lapd_link_definition.specs.declared.out.Letter.TheVariants as letter
-use Rattle.lapd_link_definition.specs.declared.out.Out.{Out}
 use Rattle.lapd_link_definition.specs.declared.out.Out.TheVariants.{Send, Start, Stop, Report, Dropped, Confirmed, Established}
 use Rattle.lapd_link_definition.specs.declared.state.State.{State}
 use Rattle.lapd_link_definition.specs.declared.state.State.TheVariants.{TeiAssigned, AwaitingEstablishment, AwaitingRelease, MultipleFrameEstablished, TimerRecovery}
@@ -18,14 +16,14 @@ use Rattle.lapd_link_definition.specs.EndOfStep.{is_7_or_8, is_established, may_
 use Rattle.lapd_link_definition.specs.End.{End, StepState, ◌▷◌, begin, unsent, waiting}
 use Rattle.lapd_link_definition.specs.Established.{in_7_and_8, multiple_frame_established}
 use Rattle.lapd_link_definition.specs.Input.{Heard}
-use Rattle.lapd_link_definition.specs.Procedures.{out_where, counted, put, state_to, start, stop, clear_exception_conditions, zero_state_variables, discard_unacknowledged, transmit_i_frame, ensure_t200}
+use Rattle.lapd_link_definition.specs.Procedures.{out_where, put, state_to, start, stop, clear_exception_conditions, zero_state_variables, discard_unacknowledged, transmit_i_frame, ensure_t200}
 use Rattle.lapd_link_definition.specs.Table.{by_state, row, step}
 use Rattle.lapd_link_definition.specs.TimerRecovery.{timer_recovery}
 use Rattle.lapd_link_definition.proofs.Sending.{both_true, below}
 use Rattle.lapd_pair_laws.specs.Histories.{Occasion, Story, after_outputs}
 use Rattle.lapd_pair_laws.specs.Line.{Flight}
 use Rattle.lapd_pair_laws.specs.Move.{Deliver, Station, View, acts, receives, delivers, view_after, story_after}
-use Rattle.lapd_pair_laws.specs.Kinds.{Kind, kind, kinds, messages, rejections, tally, poll_of, final_of}
+use Rattle.lapd_pair_laws.specs.Kinds.{kinds, messages, rejections, tally, poll_of, final_of}
 use Rattle.lapd_pair_laws.proofs.ActionEffects.{Context, story}
 use Rattle.lapd_pair_laws.proofs.Draws.{AreReady}
 use Rattle.lapd_pair_laws.proofs.Flow.{IsWhole}

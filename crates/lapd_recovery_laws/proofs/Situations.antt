@@ -1,10 +1,10 @@
 -- The situations of a line after an outage, seen from one side, with bounds of what its own moves
 -- can still do.
-use Rattle.std.proofs.Common.{◌≡◌, ◌⊎◌, inl, inr, ℕ, zero, suc, ◌+◌, ◌*◌, ◌-◌, ◌<◌, ◌≤◌, ◌==◌, nat_lt, Bool, true, false, List, [], ◌∷◌, ◌++◌, length, refl, sym, ap, subst, ◌∙◌, arith}
+use Rattle.std.proofs.Common.{◌≡◌, ◌⊎◌, inl, inr, ℕ, zero, suc, ◌+◌, ◌*◌, ◌-◌, ◌<◌, ◌≤◌, ◌==◌, nat_lt, Bool, true, false, List, [], ◌∷◌, length, refl, sym, ap, subst, ◌∙◌, arith}
 use Rattle.std.proofs.lemmas.Bool.Decides.{nat_tests}
 use Rattle.lapd_frame.specs.declared.Side.TheVariants as side
 use Rattle.lapd_mod128.specs.Counting.{Whole}
-use Rattle.lapd_supervision.specs.StateVariables.{without_ack_pending, without_exceptions}
+use Rattle.lapd_supervision.specs.StateVariables.{without_ack_pending}
 use Rattle.lapd_link_definition.specs.declared.state.State.{State}
 use Rattle.lapd_link_definition.specs.declared.state.State.TheVariants.{TeiAssigned, AwaitingEstablishment, AwaitingRelease, MultipleFrameEstablished, TimerRecovery}
 use Rattle.lapd_link_definition.specs.EndOfStep.{is_7_or_8}
@@ -14,19 +14,17 @@ use Rattle.lapd_pair_laws.specs.Line.{Flight}
 use Rattle.lapd_pair_laws.specs.Move.{Expire200, Station, View, acts}
 use Rattle.lapd_pair_laws.specs.Timed.{AreSettledEnds}
 use Rattle.lapd_pair_laws.specs.World.{World, swapped}
-use Rattle.lapd_pair_laws.specs.Kinds.{Kind, Message, kinds, messages}
-use Rattle.lapd_pair_laws.proofs.Drains.{Seen, Drains}
-use Rattle.lapd_pair_laws.proofs.Flow.{Source, Sink, source, sink, IsWhole, IsJunkThenWhole, IsInTransit, Clean, Stream, Flow}
+use Rattle.lapd_pair_laws.specs.Kinds.{Message, kinds, messages}
+use Rattle.lapd_pair_laws.proofs.Drains.{Drains}
+use Rattle.lapd_pair_laws.proofs.Flow.{source, sink, IsWhole, IsJunkThenWhole, IsInTransit, Clean, Stream}
 use Rattle.lapd_pair_laws.proofs.Worlds.{left_by}
-use Rattle.lapd_recovery_laws.specs.Timers.{HaveTimersOfStates}
 use Rattle.lapd_recovery_laws.proofs.AnyOrder.{Draining}
 use Rattle.lapd_recovery_laws.proofs.Beside.{seeing}
-use Rattle.lapd_recovery_laws.proofs.Cleared.{AreClearIn5}
 use Rattle.lapd_recovery_laws.proofs.ClosedSteps.{Sees, seen_after_t200}
 use Rattle.lapd_recovery_laws.proofs.HalfSteps.{dm, disc}
 use Rattle.lapd_recovery_laws.proofs.LoneSteps.{is_ignored, Polls, polls_by_t200, polls_again, sabme, ua, asking, last_try_in_8}
 use Rattle.lapd_recovery_laws.proofs.Lost.{at, kinds_length}
-use Rattle.lapd_recovery_laws.proofs.SendsOn.{AreIgnored, AreMessages, IsUpWith}
+use Rattle.lapd_recovery_laws.proofs.SendsOn.{AreIgnored, IsUpWith}
 
 -- ---- What one end can still do by its timers.
 

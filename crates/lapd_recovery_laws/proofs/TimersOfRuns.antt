@@ -1,5 +1,5 @@
 -- The timers of an end's state run after each move of either side, and after each run.
-use Rattle.std.proofs.Common.{◌≡◌, ◌≤◌, ℕ, nat_lt, not, Option, Some, None, Result, Ok, Err, Bool, true, List, [], ◌∷◌, length, refl, ap, subst, sym}
+use Rattle.std.proofs.Common.{◌≡◌, ◌≤◌, ℕ, nat_lt, Option, Some, None, Result, Ok, Err, Bool, List, [], ◌∷◌, length, refl, ap, subst, sym}
 use Rattle.lapd_timers.specs.declared.timer.Timer.TheVariants.{T200, T203}
 use Rattle.lapd_frame.specs.declared.Side.{Side}
 use Rattle.lapd_frame.specs.declared.Side.TheVariants as side
@@ -20,7 +20,6 @@ use Rattle.lapd_link_definition.proofs.TimersOfStep.{timers_begin, timers_stay}
 use Rattle.lapd_pair_laws.specs.Line.{Flight, first_poll, first_final}
 use Rattle.lapd_pair_laws.specs.Move.{PairEvent, Give, Establish, Release, Deliver, Lose, Expire200, Expire203, Busy, UnitData, Restart, Move, View, ViewStep, Refusal, acts, stepped, view_after, receives, takes, delivers, loses, unless_under_way, expires_200, expires_203, restarts, busy_input}
 use Rattle.lapd_pair_laws.specs.World.{World, view_of, in_world, world_after, happens, run, new_world}
-use Rattle.lapd_pair_laws.specs.Tagged.{tag_world}
 use Rattle.lapd_pair_laws.proofs.Lists.{by_test}
 use Rattle.lapd_pair_laws.proofs.Reached.{reached_tags}
 use Rattle.lapd_pair_laws.proofs.Worlds.{left_by}

@@ -1,6 +1,6 @@
 -- The line's own moves: frames are delivered; while the line is empty, T200 expires; and if T200
 -- does not run and one end is in state 7 and the other is not, T203 expires.
-use Rattle.std.specs.Prelude.{◌≡◌, ℕ, zero, suc, ◌+◌, ◌*◌, ◌&&◌, ◌||◌, not, if◌then◌else◌, Bool, true, false, List, [], ◌∷◌, length, Option, Some, None, is_ok}
+use Rattle.std.specs.Prelude.{◌≡◌, ℕ, zero, suc, ◌+◌, ◌*◌, ◌&&◌, ◌||◌, not, if◌then◌else◌, Bool, true, false, List, [], ◌∷◌, Option, Some, None, is_ok}
 use Rattle.lapd_frame.specs.declared.Side.TheVariants.{User, Network}
 use Rattle.lapd_mod128.specs.Counting.{Reading}
 use Rattle.lapd_link_definition.specs.EndOfStep.{is_established, is_7_or_8}

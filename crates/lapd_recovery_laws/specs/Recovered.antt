@@ -1,7 +1,6 @@
 -- Worked worlds that try the line's own moves. N200 is three.
 use Rattle.std.specs.Prelude.{ℕ, nat_le, Bool, true, false, List, [], ◌∷◌, ◌++◌, length, is_none}
 use Rattle.lapd_mod128.specs.Counting.{Reading}
-use Rattle.lapd_link_definition.specs.declared.recovery.Recovery.{Recovery}
 use Rattle.lapd_link_definition.specs.declared.state.State.{State}
 use Rattle.lapd_link_definition.specs.declared.state.State.TheVariants.{TeiAssigned, MultipleFrameEstablished, TimerRecovery}
 use Rattle.lapd_pair_laws.specs.Move.{Move, Give, Establish, Release, Deliver, Lose, Restart, Expire200, Expire203}

@@ -1,9 +1,13 @@
 //! Laws of a data link that comes back, after ITU-T Q.921 (09/97), on the definitions of
 //! `lapd_pair_laws`. Nothing here runs.
 //!
-//! Whatever happened before, the line's own moves lead to a world in which both ends agree. Read
-//! specs/ in this order: `Own`, the moves that the line makes by itself; `Agreed`, the world that
-//! they lead to; and `Recovered`, worlds that try them. Begin with [`recovery_is_computed`].
+//! Whatever happened before, the line's own moves lead to a world in which both ends agree. Begin
+//! with [`every_line_comes_back`] and [`every_held_line_stays_up`]. Read specs/ in this order:
+//!
+//! - `Own`, the moves that the line makes by itself; `Agreed`, the world that they lead to;
+//!   `AfterOutage`, the worlds from which they do;
+//! - `OpenLine`, `LoneLine` and `ReleasedLine`, kinds of such worlds of which more is known;
+//! - `Timers`, the timers between two moves; and `Recovered`, worlds that try the moves.
 #![tactic(auto)]
 
 mod recovery;
