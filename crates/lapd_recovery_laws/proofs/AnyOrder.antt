@@ -202,7 +202,7 @@ pub ok_in_world : (s : Side) (w : World) (o : Result ViewStep Refusal) → is_ok
 ok_in_world s w (Ok acted) = refl
 ok_in_world s w (Err refusal) = refl
 
--- a frame is there to be delivered, and T200 that expires runs
+-- a delivery needs a frame, and T200 expires only if it runs
 pub none_there : (x y : Station) (to_network : List Flight) → is_ok (happens Whole (user_move Deliver) (at x y [] to_network)) ≡ false
 unfolding happens acts delivers
 none_there x y to_network = refl

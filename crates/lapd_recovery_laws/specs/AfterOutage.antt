@@ -30,7 +30,7 @@ pub record IsHeldUp (w : World) : Type 0 where
   pub network : IsKept w.network.end
   pub open_state : (is_7_or_8 w.user.end.state ≡ true) ⊎ (is_7_or_8 w.network.end.state ≡ true)
 
--- where no own move is possible any more, both ends are in state 7, with equal numbers
+-- when no own move is possible any more, both ends are in state 7, with equal numbers
 abbrev pub StaysUp : Reading → World → Type 0
 StaysUp r w = (moves : List Move) → AreOwn r moves w → Rests r (run r moves w)
     → AreLevel (run r moves w).user.end (run r moves w).network.end

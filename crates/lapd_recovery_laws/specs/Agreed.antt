@@ -1,4 +1,4 @@
--- What the line's own moves lead to: both ends agree.
+-- The worlds that the line's own moves lead to: both ends agree.
 use Rattle.std.specs.Prelude.{◌≡◌, ◌⊎◌, ℕ, ◌≤◌, false, List, [], length}
 use Rattle.lapd_mod128.specs.Counting.{Reading}
 use Rattle.lapd_link_definition.specs.declared.state.State.TheVariants.{TeiAssigned, MultipleFrameEstablished}
@@ -33,7 +33,7 @@ pub record AreAgreed (w : World) : Type 0 where
   pub network_stopped : w.network.end.t200 ≡ false
   pub ends : AreReleased w.user.end w.network.end ⊎ AreLevel w.user.end w.network.end
 
--- From this world the line's own moves, in any order, are few, and where none is possible any more
+-- From this world the line's own moves, in any order, are few, and when none is possible any more
 -- the ends agree.
 pub record ComesBack (r : Reading) (n200 : ℕ) (w : World) : Type 0 where
   pub few : (moves : List Move) → AreOwn r moves w → length moves ≤ most_own_moves n200 w

@@ -32,7 +32,7 @@ pub record IsUpAnew (w : World) : Type 0 where
   pub level : AreLevel w.user.end w.network.end
   pub safe : AreSafe w
 
--- From this world the line's own moves, in any order, are few, and where none is possible any more
+-- From this world the line's own moves, in any order, are few, and when none is possible any more
 -- the link is up.
 pub record ComesUpAnew (r : Reading) (n200 : ℕ) (w : World) : Type 0 where
   pub few : (moves : List Move) → AreOwn r moves w → length moves ≤ most_lone_moves n200 w

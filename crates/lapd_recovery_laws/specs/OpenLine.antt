@@ -33,7 +33,7 @@ pub record IsUp (before after : World) : Type 0 where
   pub network : IsServed before.network after.network
   pub safe : AreSafe after
 
--- From this world the line's own moves, in any order, are few, and where none is possible any more
+-- From this world the line's own moves, in any order, are few, and when none is possible any more
 -- the link is up.
 pub record ComesUp (r : Reading) (w : World) : Type 0 where
   pub few : (moves : List Move) → AreOwn r moves w → length moves ≤ most_moves w

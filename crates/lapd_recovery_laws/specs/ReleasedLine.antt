@@ -22,7 +22,7 @@ pub record IsDown (w : World) : Type 0 where
   pub agreed : AreAgreed w
   pub released : AreReleased w.user.end w.network.end
 
--- From this world the line's own moves, in any order, are at most six, and where none is possible
+-- From this world the line's own moves, in any order, are at most six, and when none is possible
 -- any more the link is released.
 pub record ComesDown (r : Reading) (w : World) : Type 0 where
   pub few : (moves : List Move) → AreOwn r moves w → length moves ≤ 6

@@ -60,7 +60,7 @@ pub fn timers_of_states_run()
 
 /// A line with both ends in states 7 and 8 and no frame in transit comes up by itself, if no end is
 /// own receiver busy or at its last try. Its own moves, in any order, are at most three per message
-/// left, and eight more. Where none is possible any more, both ends are in state 7 with equal
+/// left, and eight more. When none is possible any more, both ends are in state 7 with equal
 /// numbers, no message was dropped, and each was received and acknowledged. The run starts in a new
 /// world, on whole numbers or on tags, with windows of 1 to 127 and either `Recovery`.
 pub fn every_open_line_comes_up()
@@ -71,7 +71,7 @@ pub fn every_open_line_comes_up()
 {}
 
 /// A line with both ends in states 4 and 6 and no frame in transit is released by itself. Its own
-/// moves, in any order, are at most six, whatever N200 is. Where none is possible any more, both
+/// moves, in any order, are at most six, whatever N200 is. When none is possible any more, both
 /// ends are in state 4, and no message is left. The run starts in a new world, on whole numbers or
 /// on tags, with windows of at most 127.
 pub fn every_released_line_comes_down()
@@ -82,7 +82,7 @@ pub fn every_released_line_comes_down()
 
 /// A line with one end in state 7 or 8 and the other in state 4, as after a restart, comes up by
 /// itself, if no frame is in transit. Its own moves, in any order, are at most three per message
-/// left, two per retransmission that N200 allows, and five more. Where none is possible any more,
+/// left, two per retransmission that N200 allows, and five more. When none is possible any more,
 /// both ends are in state 7 with equal numbers, and no message is left: each was received and
 /// acknowledged, or dropped. The run starts in a new world, on whole numbers or on tags, with
 /// windows of 1 to 127 and either `Recovery`.
@@ -96,7 +96,7 @@ pub fn every_lone_line_comes_up()
 /// After an outage every link comes back by itself. Whatever happened before, if no frame is in
 /// transit and no end in state 7 or 8 is own receiver busy, then the line's own moves, in any order,
 /// are at most three per message left, six per retransmission that N200 allows, and eleven more.
-/// Where none is possible any more, both ends agree: both in state 4, or both in state 7 with equal
+/// When none is possible any more, both ends agree: both in state 4, or both in state 7 with equal
 /// numbers, and no message is left. The run starts in a new world, on whole numbers or on tags, with
 /// windows of 1 to 127 and either `Recovery`. The argument is at least N200 of both ends, and 1.
 pub fn every_line_comes_back()
@@ -106,7 +106,7 @@ pub fn every_line_comes_back()
         → ComesBack r n200 (run r moves (new_world user network)) }
 {}
 
-/// After an outage a link that one end holds up, and that neither end releases, stays up: where no
+/// After an outage a link that one end holds up, and that neither end releases, stays up: when no
 /// own move is possible any more, both ends are in state 7 with equal numbers. The premises are
 /// those of [`every_line_comes_back`].
 pub fn every_held_line_stays_up()
