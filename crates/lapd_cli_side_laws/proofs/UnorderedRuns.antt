@@ -3,6 +3,7 @@ use Rattle.std.proofs.Common.{◌≡◌, inl, inr, ℕ, ◌+◌, ◌*◌, ◌/�
 use Rattle.std.specs.Io.KnownBytes.{Appends, Consumes}
 use Rattle.std.proofs.KnownBytes.{Appends-trans}
 use Rattle.lapd_frame.specs.declared.Side.{Side}
+use Rattle.lapd_frame.specs.declared.Side.TheVariants as side
 use Rattle.lapd_frame.specs.Address.{other_side}
 use Rattle.lapd_port.specs.declared.port_fault.PortFault.TheVariants.{End}
 use Rattle.lapd_port.specs.Port.{Shows}
@@ -41,6 +42,7 @@ use Rattle.lapd_cli_side_lines.specs.SideTexts.{frame_text_line}
 use Rattle.lapd_cli_side_commands.specs.Served.{AtWork, Devices, LineDoes, NetHasServed, TakesNext, UserHasServed, at_work}
 use Rattle.lapd_cli_side_laws.specs.SideEvents.{ShowsNetwork, ShowsUser}
 use Rattle.lapd_cli_side_laws.specs.Transcripts.{PrintedLine, Frame, lines_text, primitives_in}
+use Rattle.lapd_cli_side_laws.specs.JoinedRuns.{AreServedInOrder, ReadsOnlyWritten}
 use Rattle.lapd_cli_side_laws.specs.UnorderedRuns.{AreOverUnorderedOctets, AreWrong, answering_script, early_script, network_sabme, user_ua}
 use Rattle.lapd_cli_side_laws.proofs.Joins.{rest_left}
 use Rattle.lapd_cli_side_laws.proofs.Lines.{Did, HasEvents, network_has, user_has}
@@ -96,21 +98,43 @@ abbrev k1 : SideView User
 k1 = does usr (Take 0) k0
 
 record UnorderedLines : Type 0 where
+  m1_line : IsLine m1 [] []
   m2_line : IsLine m2 [] (network_sabme ∷ [])
   k1_line : IsLine k1 [] (user_ua ∷ [])
   m1_reports : m1.delivered ≡ Of call (what.Report letter.C) ∷ []
 
 unordered_lines : UnorderedLines
 unfolding link_acts link_expires in_links with_tei without_tei primitive_of_tei manages assigner_acts link_of_network network_takes network_expires network_requested begin put state_to rc_to increment_rc layer3_initiated_to release_pending_to start stop expired clear_exception_conditions zero_state_variables set_peer_busy set_own_busy enquiry_response transmit_enquiry queue_up discard_i_queue acknowledge invoke_retransmission i_frame_ns discard_unacknowledged transmit_i_frame ensure_t200 transmit_rr establish_data_link reestablish_data_link end_establishment tei_assigned confirm_or_indicate ua_final awaiting_establishment_t200 awaiting_establishment confirm_release awaiting_release_t200 awaiting_release acknowledge_with_timers nr_error_recovery i_frame_nr i_frame_nr_in_recovery poll_or_final poll rr_nr rej_nr rnr_nr rr_nr_in_recovery rnr_nr_in_recovery timer_recovery_t200 busy_on busy_off in_7_and_8 established_t200 multiple_frame_established timer_recovery by_state report_fault row send_all acknowledge_pending end_step step initial_variables without_exceptions with_zero_counters status_frame acknowledgement without_ack_pending poll_response is_accepted is_rejected after_i_frame i_frame_response is_valid_nr with_va acknowledged_count acknowledges_all with_vs may_send next_i_frame after_sending with_own_busy with_peer_busy after steps lies_within link_of_user terminal_acts user_takes user_expires user_requested links_below does
-unordered_lines = record { m2_line = (refl, refl); k1_line = (refl, refl); m1_reports = refl }
+unordered_lines = record { m1_line = (refl, refl); m2_line = (refl, refl); k1_line = (refl, refl); m1_reports = refl }
 
 -- ---- The runs.
 
 reports_c : (others printed : List Primitive) → Of call (what.Report letter.C) ∷ [] ≡ printed → AreExpectedOfLink (link_primitives call (printed ++ others)) → ⊥
 reports_c others printed is h = (subst (λ (ps : List Primitive). AreExpectedOfLink (link_primitives call (ps ++ others))) (sym is) h).0
 
+-- the other program has yet to write, but all is read
+read_early : (reader writer end : Devices) (x : ℕ) (xs : List ℕ) → reader.rest ≡ Some [] → writer.written ≡ Some [] → end.written ≡ Some (x ∷ xs) → ReadsOnlyWritten reader writer end → ⊥
+read_early reader writer end x xs rest was is r =
+    let all : x ∷ xs ≡ r.later = subst (λ (o : Option (List ℕ)). Appends (Some []) o r.later) is (subst (λ (o : Option (List ℕ)). Appends o end.written r.later) was r.yet_to_write) in
+    none r.left (same_list (r.left ++ r.later) (sym r.rest ∙ rest)) all
+  where
+    same_list : (left : List ℕ) → Some left ≡ Some [] → left ≡ []
+    same_list left h = cc
+
+    none : (left : List ℕ) → left ++ r.later ≡ [] → x ∷ xs ≡ r.later → ⊥
+    none [] h all = cc
+    none (y ∷ ys) h all = cc
+
+no_order : (nb na ub ua_ : Devices) (network : NetHasServed configs.network (64 ∷ []) early_script nb na) (user : UserHasServed configs.user (Some 64) answering_script ub ua_)
+    → network.served.did.0.around.rest ≡ Some [] → user.served.did.0.around.rest ≡ Some [] → nb.written ≡ Some [] → ub.written ≡ Some []
+    → na.written ≡ Some (socket_text (network_sabme ∷ [])) → ua_.written ≡ Some (socket_text (user_ua ∷ []))
+    → (order : List Side) → AreServedInOrder order (either.Network network.began) (either.User user.began) early_script answering_script nb na ub ua_ network.served user.served → ⊥
+no_order nb na ub ua_ network user read_n read_u none_n none_u all_n all_u [] h = h
+no_order nb na ub ua_ network user read_n read_u none_n none_u all_n all_u (side.Network ∷ order) h = read_early network.served.did.0.around ub ua_ 0 _ read_n none_u all_u h.0
+no_order nb na ub ua_ network user read_n read_u none_n none_u all_n all_u (side.User ∷ order) h = read_early user.served.did.0.around nb na 0 _ read_u none_n all_n h.0
+
 pub wrong_runs : (nb na ub ua_ : Devices) (network : NetHasServed configs.network (64 ∷ []) early_script nb na) (user : UserHasServed configs.user (Some 64) answering_script ub ua_)
-    → AreOverUnorderedOctets nb ub → AreWrong nb na ub ua_
+    → AreOverUnorderedOctets nb ub → AreWrong nb na ub ua_ network user
 wrong_runs nb na ub ua_ network user over =
     let a : AtWork = at_work (either.Network network.began) 0 nb in
     let b : AtWork = at_work network.served.ended network.served.moment na in
@@ -138,6 +162,7 @@ wrong_runs nb na ub ua_ network user over =
         to_user = record { octets = socket_text (network_sabme ∷ []); known = is_known nb.written [] over.network_written; wrote = appends_so nb.written na.written [] (socket_text (network_sabme ∷ [])) (socket_text (network_sabme ∷ [])) over.network_written n.written refl; source = over.user_rest };
         to_network = record { octets = socket_text (user_ua ∷ []); known = is_known ub.written [] over.user_written; wrote = appends_so ub.written ua_.written [] (socket_text (user_ua ∷ [])) (socket_text (user_ua ∷ [])) over.user_written u.written refl; source = over.network_rest };
       };
+      unordered = no_order nb na ub ua_ network user (frames_at ShownN e.0 m1 [] [] unordered_lines.m1_line at1).rest (frames_at ShownU d.0 k1 [] (user_ua ∷ []) unordered_lines.k1_line at4).rest over.network_written over.user_written n.written u.written;
       wrong = record {
         transcript = record { line_request = Read; printed = first.printed } ∷ record { line_request = Establish call; printed = second.printed } ∷ [];
         printed = record {

@@ -162,5 +162,5 @@ pub fn order_is_needed()
         network_after)
         (user : UserHasServed configs.user (Some 64) answering_script user_before user_after)
         → AreOverUnorderedOctets network_before user_before
-        → AreWrong network_before network_after user_before user_after }
+        → AreWrong network_before network_after user_before user_after network user }
 {}
