@@ -12,7 +12,7 @@
 
 struct dl_callbacks {
 	void (*write)(void *user, const uint8_t *frame, size_t length);
-	void (*tell)(void *user, const lapd_primitive *primitive, const uint8_t *octets);
+	void (*deliver)(void *user, const lapd_primitive *primitive, const uint8_t *octets);
 };
 
 struct dl {
@@ -41,7 +41,7 @@ static bool dl_call_back(struct dl *dl)
 		return true;
 	}
 	if (lapd_side_primitive(&dl->side, &primitive, octets, sizeof octets) == LAPD_DONE && primitive.kind != LAPD_NOTHING) {
-		dl->callbacks.tell(dl->user, &primitive, octets);
+		dl->callbacks.deliver(dl->user, &primitive, octets);
 		return true;
 	}
 	return false;
@@ -115,22 +115,22 @@ static void on_write(void *user, const uint8_t *frame, size_t length)
 		dl_receive(&end->peer->dl, frame, length, 0);
 }
 
-static void on_tell(void *user, const lapd_primitive *told, const uint8_t *octets)
+static void on_deliver(void *user, const lapd_primitive *delivered, const uint8_t *octets)
 {
 	struct end *end = user;
 	static const uint8_t setup[] = { 0x08, 0x01 };
 
 	(void)octets;
-	printf("%s: kind %u, TEI %u\n", end->name, told->kind, told->tei);
-	if (told->kind == LAPD_ESTABLISH_CONF)
-		dl_send(&end->dl, 0, told->tei, setup, sizeof setup, 0);
-	if (told->kind == LAPD_DATA_IND)
+	printf("%s: kind %u, TEI %u\n", end->name, delivered->kind, delivered->tei);
+	if (delivered->kind == LAPD_ESTABLISH_CONF)
+		dl_send(&end->dl, 0, delivered->tei, setup, sizeof setup, 0);
+	if (delivered->kind == LAPD_DATA_IND)
 		end->peer->is_lost = true;
 }
 
 int main(void)
 {
-	static const struct dl_callbacks callbacks = { on_write, on_tell };
+	static const struct dl_callbacks callbacks = { on_write, on_deliver };
 	static struct end network, user;
 	lapd_settings settings = LAPD_BASIC;
 	const uint8_t tei = 64;

@@ -23,19 +23,19 @@ static void send_and_report(struct terminal *t)
 {
 	static const uint8_t setup[] = { 0x08, 0x01 };
 	uint8_t octets[LAPD_MOST_FRAME];
-	lapd_primitive told;
+	lapd_primitive delivered;
 	size_t length;
 
 	do {
 		while (check(lapd_side_frame(&t->side, octets, sizeof octets, &length), "frame"), length > 0)
 			write_frame(t->line.socket, octets, length);
-		check(lapd_side_primitive(&t->side, &told, octets, sizeof octets), "primitive");
-		if (told.kind != LAPD_NOTHING)
-			printf("kind %u, SAPI %u, TEI %u, %u octets\n", told.kind, told.sapi, told.tei, (unsigned)told.octets);
-		if (told.kind == LAPD_ESTABLISH_CONF)
+		check(lapd_side_primitive(&t->side, &delivered, octets, sizeof octets), "primitive");
+		if (delivered.kind != LAPD_NOTHING)
+			printf("kind %u, SAPI %u, TEI %u, %u octets\n", delivered.kind, delivered.sapi, delivered.tei, (unsigned)delivered.octets);
+		if (delivered.kind == LAPD_ESTABLISH_CONF)
 			check(lapd_side_give(&t->side, 0, 0, setup, sizeof setup, clock_now()), "give");
-		t->finished = t->finished || told.kind == LAPD_ACKNOWLEDGED;
-	} while (told.kind != LAPD_NOTHING);
+		t->finished = t->finished || delivered.kind == LAPD_ACKNOWLEDGED;
+	} while (delivered.kind != LAPD_NOTHING);
 }
 
 /* Passes in every frame that has arrived. Returns a moment for which timers may expire: no other

@@ -14,7 +14,7 @@ static void done(uint32_t code, const char *what)
 }
 
 /* Prints the primitives that a side reports to its layer 3. */
-static void tell(lapd_side *side, const char *name)
+static void print_primitives(lapd_side *side, const char *name)
 {
 	lapd_primitive primitive;
 	uint8_t octets[LAPD_MOST_MESSAGE];
@@ -44,19 +44,19 @@ static void carry(lapd_side *from, const char *from_name, lapd_side *to, const c
 	size_t length, more;
 
 	for (;;) {
-		lapd_side *turn = from;
-		const char *turn_name = from_name;
+		lapd_side *other = from;
+		const char *other_name = from_name;
 
 		done(lapd_side_frame(from, frame, sizeof frame, &length), "frame");
-		tell(from, from_name);
+		print_primitives(from, from_name);
 		if (length == 0)
 			return;
 		done(lapd_side_frame(from, none, sizeof none, &more), "no second frame");
 		done(lapd_side_take(to, frame, length, 0), "take");
 		from = to;
 		from_name = to_name;
-		to = turn;
-		to_name = turn_name;
+		to = other;
+		to_name = other_name;
 	}
 }
 

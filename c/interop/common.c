@@ -54,7 +54,7 @@ void row(const char *what, bool well, const char *format, ...)
 	rows_failed += !well;
 }
 
-void told(const char *what, const char *format, ...)
+void observe(const char *what, const char *format, ...)
 {
 	va_list words;
 

@@ -19,7 +19,7 @@ bool is_poll(const uint8_t *frame, size_t length, bool network);
 void row(const char *what, bool well, const char *format, ...);
 
 /* Prints a row with a result but without a verdict. */
-void told(const char *what, const char *format, ...);
+void observe(const char *what, const char *format, ...);
 
 /* The number of rows that said `no`. */
 extern int rows_failed;

@@ -71,17 +71,17 @@ static void refuse_call(const uint8_t *message)
 	check(lapd_side_give(&side, 0, tei, answer, at + sizeof busy, clock_now()), "give");
 }
 
-static void heard(const lapd_primitive *told, const uint8_t *message)
+static void count_message(const lapd_primitive *delivered, const uint8_t *message)
 {
-	size_t at = type_at(message, told->octets);
+	size_t at = type_at(message, delivered->octets);
 
 	if (at == 0)
 		return;
 	seen.clears += message[at] == 0x5a || message[at] == 0x4d;
 	if (message[at] != 0x05)
 		return;
-	seen.setups += told->kind == LAPD_DATA_IND;
-	seen.broadcast_setups += told->kind == LAPD_UNIT_DATA_IND && told->tei == LAPD_GROUP_TEI;
+	seen.setups += delivered->kind == LAPD_DATA_IND;
+	seen.broadcast_setups += delivered->kind == LAPD_UNIT_DATA_IND && delivered->tei == LAPD_GROUP_TEI;
 	refuse_call(message);
 }
 
@@ -110,7 +110,7 @@ static void give_setup(uint8_t reference)
 static void fetch(void)
 {
 	uint8_t octets[LAPD_MOST_FRAME];
-	lapd_primitive told;
+	lapd_primitive delivered;
 	size_t length;
 
 	for (;;) {
@@ -119,17 +119,17 @@ static void fetch(void)
 			send_frame(octets, length);
 			continue;
 		}
-		check(lapd_side_primitive(&side, &told, octets, sizeof octets), "primitive");
-		if (told.kind == LAPD_NOTHING)
+		check(lapd_side_primitive(&side, &delivered, octets, sizeof octets), "primitive");
+		if (delivered.kind == LAPD_NOTHING)
 			return;
-		if (told.kind == LAPD_TEI_GIVEN || told.kind == LAPD_TEI_GOT) {
-			tei = told.tei;
+		if (delivered.kind == LAPD_TEI_GIVEN || delivered.kind == LAPD_TEI_GOT) {
+			tei = delivered.tei;
 			seen.teis++;
 		}
-		seen.established += told.kind == LAPD_ESTABLISH_IND || told.kind == LAPD_ESTABLISH_CONF;
-		seen.reports += told.kind == LAPD_MDL_ERROR;
-		if (told.kind == LAPD_DATA_IND || told.kind == LAPD_UNIT_DATA_IND)
-			heard(&told, octets);
+		seen.established += delivered.kind == LAPD_ESTABLISH_IND || delivered.kind == LAPD_ESTABLISH_CONF;
+		seen.reports += delivered.kind == LAPD_MDL_ERROR;
+		if (delivered.kind == LAPD_DATA_IND || delivered.kind == LAPD_UNIT_DATA_IND)
+			count_message(&delivered, octets);
 	}
 }
 

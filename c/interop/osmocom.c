@@ -81,7 +81,7 @@ static void on_write(const uint8_t *frame, size_t length)
 	sent(THEIRS, frame, length);
 }
 
-static void on_tell(enum osmo_dl_prim primitive, const uint8_t *octets, size_t length)
+static void on_deliver(enum osmo_dl_prim primitive, const uint8_t *octets, size_t length)
 {
 	ends[THEIRS].established += primitive == PRIM_DL_EST;
 	ends[THEIRS].released += primitive == PRIM_DL_REL;
@@ -93,7 +93,7 @@ static void on_tell(enum osmo_dl_prim primitive, const uint8_t *octets, size_t l
 static void fetch(void)
 {
 	uint8_t octets[LAPD_MOST_FRAME];
-	lapd_primitive told;
+	lapd_primitive primitive;
 	size_t length;
 
 	for (;;) {
@@ -103,14 +103,14 @@ static void fetch(void)
 		sent(OURS, octets, length);
 	}
 	for (;;) {
-		check(lapd_side_primitive(&ours, &told, octets, sizeof octets), "primitive");
-		if (told.kind == LAPD_NOTHING)
+		check(lapd_side_primitive(&ours, &primitive, octets, sizeof octets), "primitive");
+		if (primitive.kind == LAPD_NOTHING)
 			return;
-		ends[OURS].established += told.kind == LAPD_ESTABLISH_IND || told.kind == LAPD_ESTABLISH_CONF;
-		ends[OURS].released += told.kind == LAPD_RELEASE_IND || told.kind == LAPD_RELEASE_CONF;
-		ends[OURS].reports += told.kind == LAPD_MDL_ERROR;
-		if (told.kind == LAPD_DATA_IND)
-			received(OURS, octets, told.octets);
+		ends[OURS].established += primitive.kind == LAPD_ESTABLISH_IND || primitive.kind == LAPD_ESTABLISH_CONF;
+		ends[OURS].released += primitive.kind == LAPD_RELEASE_IND || primitive.kind == LAPD_RELEASE_CONF;
+		ends[OURS].reports += primitive.kind == LAPD_MDL_ERROR;
+		if (primitive.kind == LAPD_DATA_IND)
+			received(OURS, octets, primitive.octets);
 	}
 }
 
@@ -173,7 +173,7 @@ static void pass(uint64_t milliseconds)
 
 static void begin_with(uint32_t our_t203, int their_t203)
 {
-	static const struct osmocom_calls calls = { on_write, on_tell };
+	static const struct osmocom_calls calls = { on_write, on_deliver };
 	lapd_settings settings = LAPD_BASIC;
 	const uint8_t tei = TEI;
 
@@ -307,7 +307,7 @@ static void try_busy(void)
 	    ends[THEIRS].i_frames);
 	check(lapd_side_busy(&ours, 0, TEI, 0, now), "busy");
 	pass(20000);
-	told("and then are busy no more", "%d of the 3 messages come", ends[OURS].received);
+	observe("and then are busy no more", "%d of the 3 messages come", ends[OURS].received);
 }
 
 int main(int count, char **words)

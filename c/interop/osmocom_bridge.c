@@ -20,7 +20,7 @@ static void on_write(const uint8_t *frame, size_t length)
 	write_frame(line.socket, frame, length);
 }
 
-static void on_tell(enum osmo_dl_prim primitive, const uint8_t *octets, size_t length)
+static void on_deliver(enum osmo_dl_prim primitive, const uint8_t *octets, size_t length)
 {
 	static const char *const words[] = { "unit data", "data", "established", "released", "suspended", "resumed", "reconnected",
 		                             "MDL-ERROR" };
@@ -33,7 +33,7 @@ static void on_tell(enum osmo_dl_prim primitive, const uint8_t *octets, size_t l
 
 int main(int count, char **words)
 {
-	static const struct osmocom_calls calls = { on_write, on_tell };
+	static const struct osmocom_calls calls = { on_write, on_deliver };
 	uint8_t frame[LAPD_MOST_FRAME];
 	int length;
 

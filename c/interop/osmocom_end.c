@@ -18,14 +18,14 @@ static void on_transmit(struct msgb *frame, void *calls)
 	msgb_free(frame);
 }
 
-static void on_receive(struct osmo_dlsap_prim *told, uint8_t tei, uint8_t sapi, void *calls)
+static void on_receive(struct osmo_dlsap_prim *delivered, uint8_t tei, uint8_t sapi, void *calls)
 {
-	struct msgb *message = told->oph.msg;
+	struct msgb *message = delivered->oph.msg;
 	const uint8_t *octets = message == NULL ? NULL : message->l3h;
 
 	(void)tei;
 	(void)sapi;
-	((const struct osmocom_calls *)calls)->tell(told->oph.primitive, octets, octets == NULL ? 0 : msgb_l3len(message));
+	((const struct osmocom_calls *)calls)->deliver(delivered->oph.primitive, octets, octets == NULL ? 0 : msgb_l3len(message));
 	if (message != NULL)
 		msgb_free(message);
 }

@@ -9,7 +9,7 @@
 
 struct osmocom_calls {
 	void (*write)(const uint8_t *frame, size_t length);
-	void (*tell)(enum osmo_dl_prim primitive, const uint8_t *octets, size_t length);
+	void (*deliver)(enum osmo_dl_prim primitive, const uint8_t *octets, size_t length);
 };
 
 /* Creates an end with SAPI 0 and this TEI. */

@@ -43,12 +43,12 @@ static void all_are_out_of_range(lapd_side *side)
 
 static void no_side(lapd_side *side)
 {
-	lapd_primitive told;
+	lapd_primitive delivered;
 	lapd_link_state state;
 	uint64_t moment = 0, count = 1;
 	size_t length = 1;
 
-	memset(&told, 1, sizeof told);
+	memset(&delivered, 1, sizeof delivered);
 	memset(&state, 1, sizeof state);
 	all_return(side, LAPD_NO_SIDE);
 	all_are_out_of_range(side);
@@ -60,8 +60,8 @@ static void no_side(lapd_side *side)
 	WANT(state.state == 0 && state.rc == 0 && state.waiting == 0);
 	WANT_CODE(lapd_side_frame(side, buffer, sizeof buffer, &length), LAPD_NO_SIDE);
 	WANT(length == 0);
-	WANT_CODE(lapd_side_primitive(side, &told, buffer, sizeof buffer), LAPD_NO_SIDE);
-	WANT(told.kind == LAPD_NOTHING && told.octets == 0);
+	WANT_CODE(lapd_side_primitive(side, &delivered, buffer, sizeof buffer), LAPD_NO_SIDE);
+	WANT(delivered.kind == LAPD_NOTHING && delivered.octets == 0);
 }
 
 /* Settings with one number out of range: no side is created, and the handle is unchanged. */
@@ -113,18 +113,18 @@ static void a_frame(lapd_side *side, const char *wanted, size_t wants, unsigned 
 /* Fetches a primitive of a side, with these octets. */
 static void a_primitive(lapd_side *side, unsigned kind, const uint8_t *wanted, size_t wants)
 {
-	lapd_primitive told;
+	lapd_primitive delivered;
 
 	memset(buffer, 0xa5, sizeof buffer);
 	if (wants > 0) {
-		WANT_CODE(lapd_side_primitive(side, &told, buffer, wants - 1), LAPD_OUT_OF_RANGE);
-		WANT(told.kind == kind && told.octets == wants && buffer[0] == 0xa5);
+		WANT_CODE(lapd_side_primitive(side, &delivered, buffer, wants - 1), LAPD_OUT_OF_RANGE);
+		WANT(delivered.kind == kind && delivered.octets == wants && buffer[0] == 0xa5);
 	}
-	DONE(lapd_side_primitive(side, &told, buffer, wants));
-	WANT(told.kind == kind && told.sapi == 0 && told.tei == 64 && told.octets == wants);
+	DONE(lapd_side_primitive(side, &delivered, buffer, wants));
+	WANT(delivered.kind == kind && delivered.sapi == 0 && delivered.tei == 64 && delivered.octets == wants);
 	WANT(memcmp(buffer, wanted, wants) == 0 && buffer[wants] == 0xa5);
-	DONE(lapd_side_primitive(side, &told, buffer, 0));
-	WANT(told.kind == LAPD_NOTHING);
+	DONE(lapd_side_primitive(side, &delivered, buffer, 0));
+	WANT(delivered.kind == LAPD_NOTHING);
 }
 
 static void a_link(lapd_side *side)

@@ -10,14 +10,14 @@ static long arrived, acknowledged, frames;
 static void fetch_told(lapd_side *side)
 {
 	uint8_t octets[LAPD_MOST_MESSAGE];
-	lapd_primitive told;
+	lapd_primitive delivered;
 
 	for (;;) {
-		DONE(lapd_side_primitive(side, &told, octets, sizeof octets));
-		if (told.kind == LAPD_NOTHING)
+		DONE(lapd_side_primitive(side, &delivered, octets, sizeof octets));
+		if (delivered.kind == LAPD_NOTHING)
 			return;
-		arrived += told.kind == LAPD_DATA_IND;
-		acknowledged += told.kind == LAPD_ACKNOWLEDGED;
+		arrived += delivered.kind == LAPD_DATA_IND;
+		acknowledged += delivered.kind == LAPD_ACKNOWLEDGED;
 	}
 }
 
@@ -26,7 +26,7 @@ static void fetch_told(lapd_side *side)
 static void carry(lapd_side *from, lapd_side *to)
 {
 	uint8_t frame[LAPD_MOST_FRAME];
-	lapd_side *turn;
+	lapd_side *other;
 	size_t length;
 	bool is_any;
 
@@ -41,9 +41,9 @@ static void carry(lapd_side *from, lapd_side *to)
 			frames++;
 		}
 		fetch_told(from);
-		turn = from;
+		other = from;
 		from = to;
-		to = turn;
+		to = other;
 	} while (is_any);
 }
 

@@ -39,9 +39,9 @@ static void append_octets(const uint8_t *octets, size_t count)
 	}
 }
 
-static const char *word_of(const lapd_primitive *told)
+static const char *word_of(const lapd_primitive *delivered)
 {
-	switch (told->kind) {
+	switch (delivered->kind) {
 	case LAPD_DATA_IND: return "data";
 	case LAPD_UNIT_DATA_IND: return "unit";
 	case LAPD_ESTABLISH_IND: return "established";
@@ -62,31 +62,31 @@ static const char *word_of(const lapd_primitive *told)
 	}
 }
 
-static void append_primitive(const lapd_primitive *told, const uint8_t *octets)
+static void append_primitive(const lapd_primitive *delivered, const uint8_t *octets)
 {
 	char words[64];
 
-	if (told->kind == LAPD_TEI_FAILED) {
-		WANT(told->tei == LAPD_GROUP_TEI && told->sapi == 63);
+	if (delivered->kind == LAPD_TEI_FAILED) {
+		WANT(delivered->tei == LAPD_GROUP_TEI && delivered->sapi == 63);
 		append("tei failed");
-	} else if (told->kind >= LAPD_TEI_GOT) {
-		WANT(told->sapi == 63);
-		sprintf(words, "tei %s %u", word_of(told), told->tei);
+	} else if (delivered->kind >= LAPD_TEI_GOT) {
+		WANT(delivered->sapi == 63);
+		sprintf(words, "tei %s %u", word_of(delivered), delivered->tei);
 		append(words);
 	} else {
-		sprintf(words, "%u %u %s", told->sapi, told->tei, word_of(told));
+		sprintf(words, "%u %u %s", delivered->sapi, delivered->tei, word_of(delivered));
 		append(words);
 	}
-	if (told->octets > 0) {
+	if (delivered->octets > 0) {
 		append(" ");
-		append_octets(octets, told->octets);
+		append_octets(octets, delivered->octets);
 	}
-	if (told->count > 0) {
-		sprintf(words, " %u", told->count);
+	if (delivered->count > 0) {
+		sprintf(words, " %u", delivered->count);
 		append(words);
 	}
-	if (told->letter > 0) {
-		sprintf(words, " %c", told->letter);
+	if (delivered->letter > 0) {
+		sprintf(words, " %c", delivered->letter);
 		append(words);
 	}
 	append(";");
@@ -95,7 +95,7 @@ static void append_primitive(const lapd_primitive *told, const uint8_t *octets)
 static void fetch(void)
 {
 	uint8_t octets[LAPD_MOST_FRAME];
-	lapd_primitive told;
+	lapd_primitive delivered;
 	size_t length;
 
 	for (;;) {
@@ -106,10 +106,10 @@ static void fetch(void)
 		append(";");
 	}
 	for (;;) {
-		DONE(lapd_side_primitive(&side, &told, octets, sizeof octets));
-		if (told.kind == LAPD_NOTHING)
+		DONE(lapd_side_primitive(&side, &delivered, octets, sizeof octets));
+		if (delivered.kind == LAPD_NOTHING)
 			return;
-		append_primitive(&told, octets);
+		append_primitive(&delivered, octets);
 	}
 }
 

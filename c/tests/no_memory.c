@@ -69,24 +69,24 @@ static int arrived;
 static void carry(lapd_side *from, lapd_side *to)
 {
 	uint8_t frame[LAPD_MOST_FRAME], octets[LAPD_MOST_FRAME];
-	lapd_primitive told;
-	lapd_side *turn;
+	lapd_primitive delivered;
+	lapd_side *other;
 	size_t length, more;
 
 	for (;;) {
 		DONE(lapd_side_frame(from, frame, sizeof frame, &length));
 		do {
-			DONE(lapd_side_primitive(from, &told, octets, sizeof octets));
-			arrived += told.kind == LAPD_DATA_IND;
-		} while (told.kind != LAPD_NOTHING);
+			DONE(lapd_side_primitive(from, &delivered, octets, sizeof octets));
+			arrived += delivered.kind == LAPD_DATA_IND;
+		} while (delivered.kind != LAPD_NOTHING);
 		if (length == 0)
 			return;
 		DONE(lapd_side_frame(from, octets, sizeof octets, &more));
 		WANT(more == 0);
 		TWICE(lapd_side_take(to, frame, length, 0));
-		turn = from;
+		other = from;
 		from = to;
-		to = turn;
+		to = other;
 	}
 }
 

@@ -17,24 +17,24 @@ struct pair {
 static void carry(struct pair *pair)
 {
 	uint8_t frame[LAPD_MOST_FRAME], octets[LAPD_MOST_FRAME];
-	lapd_side *from = &pair->user, *to = &pair->network, *turn;
-	lapd_primitive told;
+	lapd_side *from = &pair->user, *to = &pair->network, *other;
+	lapd_primitive delivered;
 	size_t length, more;
 
 	for (;;) {
 		DONE(lapd_side_frame(from, frame, sizeof frame, &length));
 		do {
-			DONE(lapd_side_primitive(from, &told, octets, sizeof octets));
-			pair->arrived += told.kind == LAPD_DATA_IND;
-		} while (told.kind != LAPD_NOTHING);
+			DONE(lapd_side_primitive(from, &delivered, octets, sizeof octets));
+			pair->arrived += delivered.kind == LAPD_DATA_IND;
+		} while (delivered.kind != LAPD_NOTHING);
 		if (length == 0)
 			return;
 		DONE(lapd_side_frame(from, octets, sizeof octets, &more));
 		WANT(more == 0);
 		DONE(lapd_side_take(to, frame, length, 0));
-		turn = from;
+		other = from;
 		from = to;
-		to = turn;
+		to = other;
 	}
 }
 
@@ -57,7 +57,7 @@ int main(void)
 	pthread_t threads[PAIRS];
 	lapd_settings settings = LAPD_BASIC;
 	const uint8_t tei = 64;
-	int at, turn;
+	int at, other;
 
 	for (at = 0; at < PAIRS; at++) {
 		DONE(lapd_side_network(&pairs[at].network, &settings, &tei, 1));
@@ -65,7 +65,7 @@ int main(void)
 		DONE(lapd_side_establish(&pairs[at].user, 0, 0, 0));
 		carry(&pairs[at]);
 	}
-	for (turn = 0; turn < TURNS; turn++) {
+	for (other = 0; other < TURNS; other++) {
 		for (at = 0; at < PAIRS; at++)
 			WANT(pthread_create(&threads[at], NULL, converse, &pairs[at]) == 0);
 		for (at = 0; at < PAIRS; at++)
