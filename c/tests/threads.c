@@ -57,7 +57,7 @@ int main(void)
 	pthread_t threads[PAIRS];
 	lapd_settings settings = LAPD_BASIC;
 	const uint8_t tei = 64;
-	int at, other;
+	int at, round;
 
 	for (at = 0; at < PAIRS; at++) {
 		DONE(lapd_side_network(&pairs[at].network, &settings, &tei, 1));
@@ -65,7 +65,7 @@ int main(void)
 		DONE(lapd_side_establish(&pairs[at].user, 0, 0, 0));
 		carry(&pairs[at]);
 	}
-	for (other = 0; other < TURNS; other++) {
+	for (round = 0; round < TURNS; round++) {
 		for (at = 0; at < PAIRS; at++)
 			WANT(pthread_create(&threads[at], NULL, converse, &pairs[at]) == 0);
 		for (at = 0; at < PAIRS; at++)
