@@ -198,7 +198,7 @@ impl<'a> Capture<'a> {
     }
 
     /// Moves this many octets on, and sets the byte order.
-    fn go_behind(&mut self, order: Order, count: usize)
+    fn advance(&mut self, order: Order, count: usize)
         requires { count ≤ left_of self.old }
         ensures { self.new ≡ behind count (record self.old { order = order }) }
     {
@@ -361,7 +361,7 @@ impl<'a> Capture<'a> {
         ensures other { IfOk result (λ item. item ≡ CaptureItem.Other) }
         ensures octets { self.new.octets ≡ self.old.octets }
     {
-        self.go_behind(order, count);
+        self.advance(order, count);
         Ok(CaptureItem::Other)
     }
 
@@ -377,7 +377,7 @@ impl<'a> Capture<'a> {
             return Err(CaptureFault::BadLength);
         }
         self.links.clear();
-        self.go_behind(order, count);
+        self.advance(order, count);
         Ok(CaptureItem::Other)
     }
 
@@ -397,7 +397,7 @@ impl<'a> Capture<'a> {
         }
         let number = order.u16_at(self.place + 8, self.octets);
         self.links.push(LinkType::of(number));
-        self.go_behind(order, count);
+        self.advance(order, count);
         Ok(CaptureItem::Other)
     }
 

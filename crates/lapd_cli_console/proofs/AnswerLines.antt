@@ -122,8 +122,8 @@ pub answer_lines : (s : Session) (line : List ℕ) → is_line_of Answer line �
 answer_lines s line = unless_passed (is_passed_over line) _ ([], s) (answer_step s line) (words_fit s (words_of line) (words_have_no_space line))
 
 -- a test of the form of `answer`'s lines is a test of whether `answer` has a step for the line
-pub answer_implied : (told : Bool) (script : Script) (line : List ℕ) → told ≡ is_line_of script line → script ≡ Answer
-    → (s : Session) → told ≡ is_some (outcome_of answer_step s line)
-answer_implied told script line e is s =
-    let P : Script → Type 0 = λ command. told ≡ is_line_of command line in
+pub answer_implied : (reported : Bool) (script : Script) (line : List ℕ) → reported ≡ is_line_of script line → script ≡ Answer
+    → (s : Session) → reported ≡ is_some (outcome_of answer_step s line)
+answer_implied reported script line e is s =
+    let P : Script → Type 0 = λ command. reported ≡ is_line_of command line in
     subst P is e ∙ answer_lines s line

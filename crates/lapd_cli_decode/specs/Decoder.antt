@@ -2,5 +2,5 @@
 use Rattle.lapd_cli_decode.specs.declared.line_decoder.LineDecoder.{LineDecoder}
 use Rattle.lapd_cli_decode.specs.Lines.{Decoding}
 
-abbrev pub stood_for : LineDecoder → Decoding
-stood_for decoder = record { form = decoder.form; style = decoder.style }
+abbrev pub decoding_of : LineDecoder → Decoding
+decoding_of decoder = record { form = decoder.form; style = decoder.style }

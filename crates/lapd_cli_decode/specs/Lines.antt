@@ -84,5 +84,5 @@ abbrev pub or_nothing : Decoding → LineOutcome Decoding → LineOutcome Decodi
 or_nothing s None = Some ([], s)
 or_nothing s (Some next) = Some next
 
-abbrev pub decode_step_keeping_going : Decoding → List ℕ → LineOutcome Decoding
-decode_step_keeping_going s line = or_nothing s (line_step s line)
+abbrev pub decode_step_skipping : Decoding → List ℕ → LineOutcome Decoding
+decode_step_skipping s line = or_nothing s (line_step s line)

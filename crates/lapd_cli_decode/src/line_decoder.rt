@@ -2,8 +2,8 @@
 
 ghost use Rattle.std.specs.Prelude.{◌≡◌, IfSome};
 ghost use Rattle.lapd_cli_script.specs.Script.{EndsAs, lines_of};
-ghost use Rattle.lapd_cli_decode.specs.Lines.{decode_step_keeping_going, line_step};
-ghost use Rattle.lapd_cli_decode.specs.Decoder.{stood_for};
+ghost use Rattle.lapd_cli_decode.specs.Lines.{decode_step_skipping, line_step};
+ghost use Rattle.lapd_cli_decode.specs.Decoder.{decoding_of};
 
 use crate::line_form::LineForm;
 use crate::style::Style;
@@ -57,7 +57,7 @@ pub fn decode_good_lines<R: Read, W: Write, E: Write + Drop>(
     style: Style,
     errors: E,
 ) -> Result<(), ScriptFault>
-    ensures { IfSome (R.remaining script.old) (λ octets. EndsAs decode_step_keeping_going
+    ensures { IfSome (R.remaining script.old) (λ octets. EndsAs decode_step_skipping
         (record { form = form; style = style }) result (lines_of octets)
         (W.contents out.old) (W.contents out.new)) }
 {
@@ -71,7 +71,7 @@ impl LineDecoder {
 
     /// Creates a decoder of lines of this form that prints each frame in this style.
     fn new(alloc: Global, form: LineForm, style: Style) -> LineDecoder
-        ensures { stood_for result ≡ record { form = form; style = style } }
+        ensures { decoding_of result ≡ record { form = form; style = style } }
     {
         LineDecoder {
             alloc,
@@ -84,10 +84,10 @@ impl LineDecoder {
 
     /// Prints the frame of a line.
     fn decode<W: Write>(&mut self, line: &[u8], out: &mut W) -> Result<(), LineFault>
-        ensures line { LineEndsAs (λ decoder state. state ≡ stood_for decoder)
-            (line_step (stood_for self.old) line.now) result self.new
+        ensures line { LineEndsAs (λ decoder state. state ≡ decoding_of decoder)
+            (line_step (decoding_of self.old) line.now) result self.new
             (W.contents out.old) (W.contents out.new) }
-        ensures kept { stood_for self.new ≡ stood_for self.old }
+        ensures preserved { decoding_of self.new ≡ decoding_of self.old }
     {
         let from = self.form.read(self.alloc, line, &mut self.octets)?;
         let octets = self.octets.as_slice();
@@ -105,7 +105,7 @@ impl Command for LineDecoder {
 
     ghost step = { line_step };
 
-    ghost represents = { λ decoder state. state ≡ stood_for decoder };
+    ghost represents = { λ decoder state. state ≡ decoding_of decoder };
 
     fn run<W: Write>(&mut self, line: &[u8], out: &mut W) -> Result<(), LineFault> {
         self.decode(line, out)
@@ -124,9 +124,9 @@ impl<E: Write> Command for GoodLines<E> {
 
     ghost State = { Decoding };
 
-    ghost step = { decode_step_keeping_going };
+    ghost step = { decode_step_skipping };
 
-    ghost represents = { λ lines state. state ≡ stood_for lines.decoder };
+    ghost represents = { λ lines state. state ≡ decoding_of lines.decoder };
 
     fn run<W: Write>(&mut self, line: &[u8], out: &mut W) -> Result<(), LineFault> {
         match self.decoder.decode(line, out) {

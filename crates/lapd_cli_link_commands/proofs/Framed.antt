@@ -37,7 +37,7 @@ use Rattle.lapd_pair_laws.specs.Consistent.{IsConsistentWorld}
 use Rattle.lapd_pair_laws.specs.Move.{PairEvent, UnitData, Move, Refusal, Station, View, stepped, takes, acts}
 use Rattle.lapd_pair_laws.specs.World.{World, Happened, view_of, in_world, happens}
 use Rattle.lapd_cli_link_commands.specs.Answer.{Session, IsSession, messages_of}
-use Rattle.lapd_cli_link_commands.specs.Outputs.{handed_in, out_line, outs_text}
+use Rattle.lapd_cli_link_commands.specs.Outputs.{input_as_octets, out_line, outs_text}
 use Rattle.lapd_cli_link_commands.specs.Pair.{move_made, move_printed, side_line, output_octets_of, printed_line, printed_lines, unit_of}
 use Rattle.lapd_cli_link_commands.specs.RepresentsWorld.{made_side_line, made_side_lines}
 use Rattle.lapd_cli_link_commands.specs.Session.{HasInputOctets, made_line, made_text}
@@ -45,7 +45,7 @@ use Rattle.lapd_cli_link_commands.specs.PrintedOutput.{OutputOctets, printed_out
 
 -- the frame built from an output is the specified one
 abbrev IsSent : Setup → List (List ℕ) → List ℕ → Out → Type 0
-IsSent setup messages handed output = made_frame setup messages handed output ≡ sent_frame setup messages handed output
+IsSent setup messages input_octets output = made_frame setup messages input_octets output ≡ sent_frame setup messages input_octets output
 
 -- two printers that agree on each output agree on all
 same_lines : {P : Out → Type 0} (f g : Out → List ℕ) (outs : List Out) → ((output : Out) → P output → f output ≡ g output) → All P outs → flat_map f outs ≡ flat_map g outs
@@ -56,20 +56,20 @@ same_lines {P} f g (output ∷ outs) same h =
 
 -- ---- One link.
 
-same_text : (setup : Setup) (messages : List (List ℕ)) (handed : List ℕ) (outs : List Out) → All (IsSent setup messages handed) outs → made_text setup messages handed outs ≡ outs_text setup messages handed outs
-same_text setup messages handed outs h =
-    let line : Option Fields → Out → List ℕ = λ made output. out_line setup.side (printed_with made (handed_in handed) output) in
-    same_lines (made_line setup messages (handed_in handed)) (λ output. line (sent_frame setup messages handed output) output) outs (λ output same. ap (λ made. line made output) same) h
+same_text : (setup : Setup) (messages : List (List ℕ)) (input_octets : List ℕ) (outs : List Out) → All (IsSent setup messages input_octets) outs → made_text setup messages input_octets outs ≡ outs_text setup messages input_octets outs
+same_text setup messages input_octets outs h =
+    let line : Option Fields → Out → List ℕ = λ made output. out_line setup.side (printed_with made (input_as_octets input_octets) output) in
+    same_lines (made_line setup messages (input_as_octets input_octets)) (λ output. line (sent_frame setup messages input_octets output) output) outs (λ output same. ap (λ made. line made output) same) h
 
-pub text_of_step : (link : Link) (s : Session) (handed : List ℕ) (outs : List Out) → HasFramesOf link outs → IsSession link s → length handed ≤ n201
-    → made_text s.setup (messages_of s.end) handed outs ≡ outs_text s.setup (messages_of s.end) handed outs
-text_of_step link s handed outs has session fits =
-    same_text s.setup (messages_of s.end) handed outs (subst (λ (setup : Setup). HaveFrames setup (messages_of s.end) outs) session.setup (has s.end session.end) handed fits)
+pub text_of_step : (link : Link) (s : Session) (input_octets : List ℕ) (outs : List Out) → HasFramesOf link outs → IsSession link s → length input_octets ≤ n201
+    → made_text s.setup (messages_of s.end) input_octets outs ≡ outs_text s.setup (messages_of s.end) input_octets outs
+text_of_step link s input_octets outs has session fits =
+    same_text s.setup (messages_of s.end) input_octets outs (subst (λ (setup : Setup). HaveFrames setup (messages_of s.end) outs) session.setup (has s.end session.end) input_octets fits)
 
 -- octets passed with an accepted input fit into a frame
-pub fits_with : (input : Input) (handed : List ℕ) (e : End) (s : StepState) → HasInputOctets input handed → step Tagged input e ≡ Ok s → length handed ≤ n201
-fits_with (input.UnitData len) handed e s same done = subst (λ (n : ℕ). n ≤ n201) same (short_unit len e s done)
-fits_with input handed e s fits done = fits
+pub fits_with : (input : Input) (input_octets : List ℕ) (e : End) (s : StepState) → HasInputOctets input input_octets → step Tagged input e ≡ Ok s → length input_octets ≤ n201
+fits_with (input.UnitData len) input_octets e s same done = subst (λ (n : ℕ). n ≤ n201) same (short_unit len e s done)
+fits_with input input_octets e s fits done = fits
 
 -- ---- A frame that is built.
 
@@ -86,11 +86,11 @@ message_has_content : (setup : Setup) (control : Control) (message : Option (Lis
 message_has_content setup control None = tt
 message_has_content setup control (Some message) = frame_has_content (link_address setup Command) control message _ refl
 
-made_has_content : (setup : Setup) (messages : List (List ℕ)) (handed : List ℕ) (output : Out) → HasContent (made_frame setup messages handed output)
-made_has_content setup messages handed (out.Send role control) = frame_has_content (link_address setup role) control [] _ refl
-made_has_content setup messages handed (out.SendMessage place control) = message_has_content setup control (slice_get messages place)
-made_has_content setup messages handed out.SendUnit = frame_has_content (link_address setup Command) (Ui false) handed _ refl
-made_has_content setup messages handed output = tt
+made_has_content : (setup : Setup) (messages : List (List ℕ)) (input_octets : List ℕ) (output : Out) → HasContent (made_frame setup messages input_octets output)
+made_has_content setup messages input_octets (out.Send role control) = frame_has_content (link_address setup role) control [] _ refl
+made_has_content setup messages input_octets (out.SendMessage place control) = message_has_content setup control (slice_get messages place)
+made_has_content setup messages input_octets out.SendUnit = frame_has_content (link_address setup Command) (Ui false) input_octets _ refl
+made_has_content setup messages input_octets output = tt
 
 -- an output without a frame has the same line in both forms
 line_of_unsent : (side : Side) (what : Option What) (output : Out) → side_line (frame_line side) side (printed_as what output) ≡ printed_line side (printed_as what output)
@@ -135,19 +135,19 @@ short_move move w happened is = short_event move.side move.event w happened is
 -- the printed lines of a move
 pub lines_of_move : (move : Move) (w : World) (happened : Happened) → IsConsistentWorld Tagged w → happens Tagged move w ≡ Ok happened
     → made_side_lines move.side (view_of move.side happened.world).station (unit_of move.event) happened.outs ≡ printed_lines move.side (view_of move.side happened.world).station (unit_of move.event) happened.outs
-lines_of_move move w happened kept is =
-    same_side_lines move.side (view_of move.side happened.world).station (unit_of move.event) happened.outs (frames_of_move move w happened kept is (unit_of move.event) (short_move move w happened is))
+lines_of_move move w happened preserved is =
+    same_side_lines move.side (view_of move.side happened.world).station (unit_of move.event) happened.outs (frames_of_move move w happened preserved is (unit_of move.event) (short_move move w happened is))
 
 -- the text that is written for a move
 pub move_written : (w : World) (move : Move) (happened : Happened) (p : Pair) (side : Side) (unit : List ℕ) (outs : List Out) (text written : List ℕ) (old new : Option (List ℕ))
     → IsConsistentWorld Tagged w → happens Tagged move w ≡ Ok happened → happened.outs ≡ outs → PairRepresents p happened.world → side ≡ move.side → unit ≡ unit_of move.event
     → text ≡ made_side_lines side (view_of side happened.world).station unit outs → written ≡ text → Appends old new written
     → PairRepresents p (move_made w move).1 × Appends old new (move_made w move).0
-move_written w move happened p side unit outs text written old new kept is given representation its_side its_unit made whole appends =
+move_written w move happened p side unit outs text written old new preserved is given representation its_side its_unit made whole appends =
     let Made : Result Happened Refusal → Type 0 = λ outcome. PairRepresents p (move_printed w move outcome).1 × Appends old new (move_printed w move outcome).0 in
     let lines = whole ∙ made
     ∙ ap (λ (s : Side). made_side_lines s (view_of s happened.world).station unit outs) its_side
     ∙ ap (λ (u : List ℕ). made_side_lines move.side (view_of move.side happened.world).station u outs) its_unit
     ∙ ap (λ (o : List Out). made_side_lines move.side (view_of move.side happened.world).station (unit_of move.event) o) (sym given)
-    ∙ lines_of_move move w happened kept is in
+    ∙ lines_of_move move w happened preserved is in
     subst Made (sym is) (representation, subst (λ (t : List ℕ). Appends old new t) lines appends)

@@ -45,25 +45,25 @@ messages_of e = drop e.first e.given
 
 -- the text of a step, and the session after it
 abbrev pub step_ended : Session → List ℕ → Result StepState LinkFault → List ℕ × Session
-step_ended s handed (Ok done) = (
-  outs_text s.setup (messages_of done.end) handed done.outs,
+step_ended s input_octets (Ok done) = (
+  outs_text s.setup (messages_of done.end) input_octets done.outs,
   record { setup = s.setup; end = done.end },
 )
-step_ended s handed (Err fault) = (refusal_line fault, s)
+step_ended s input_octets (Err fault) = (refusal_line fault, s)
 
 -- a step of the link, with the octets that the input carries
 abbrev pub link_step : Session → Input → List ℕ → List ℕ × Session
-link_step s input handed = step_ended s handed (step Tagged input s.end)
+link_step s input input_octets = step_ended s input_octets (step Tagged input s.end)
 
 -- ---- Octets received from the other side.
 
 abbrev pub if_mine : Session → Bool → List ℕ × Session → List ℕ × Session
-if_mine s mine heard = if mine then heard else (text_line (codes "not-mine"), s)
+if_mine s mine reception = if mine then reception else (text_line (codes "not-mine"), s)
 
 -- octets that do not form a valid frame: with no readable address, or with this address
-abbrev pub hear_fault : Session → FaultKind → Option Address → List ℕ × Session
-hear_fault s kind None = (text_line (codes "discarded " ++ fault_name kind), s)
-hear_fault s kind (Some a) = if_mine s (is_address_of s.setup a) (link_step s (Faulty kind) [])
+abbrev pub receive_fault : Session → FaultKind → Option Address → List ℕ × Session
+receive_fault s kind None = (text_line (codes "discarded " ++ fault_name kind), s)
+receive_fault s kind (Some a) = if_mine s (is_address_of s.setup a) (link_step s (Faulty kind) [])
 
 abbrev pub receive_frame : Session → Fields → List ℕ × Session
 receive_frame s f = if_mine s (is_address_of s.setup f.address)
@@ -72,7 +72,7 @@ receive_frame s f = if_mine s (is_address_of s.setup f.address)
 -- a valid frame, or the first fault of the octets
 abbrev pub receive_read : Session → Result Fields FrameFault → List ℕ × Session
 receive_read s (Ok f) = receive_frame s f
-receive_read s (Err fault) = hear_fault s fault.kind fault.address
+receive_read s (Err fault) = receive_fault s fault.kind fault.address
 
 abbrev pub receive : Session → List ℕ → List ℕ × Session
 receive s octets = receive_read s (frame_at (other_side s.setup.side) octets)

@@ -41,13 +41,13 @@ terminal_and_reference (t ∷ ri ∷ []) = both (parsed_number t) (reference_of 
 terminal_and_reference behind = None
 
 -- a message, then a terminal and a reference number
-abbrev pub hear_of : Option ℕ → Option (ℕ × ℕ) → Option BusMove
-hear_of (Some i) (Some (t, ri)) = Some (Hear i t ri)
-hear_of i answer = None
+abbrev pub hear_move : Option ℕ → Option (ℕ × ℕ) → Option BusMove
+hear_move (Some i) (Some (t, ri)) = Some (Hear i t ri)
+hear_move i answer = None
 
 abbrev pub receive : List (List ℕ) → Option BusMove
 receive [] = None
-receive (i ∷ behind) = hear_of (parsed_number i) (terminal_and_reference behind)
+receive (i ∷ behind) = hear_move (parsed_number i) (terminal_and_reference behind)
 
 -- a TEI, with nothing after it
 abbrev pub tei_behind : List (List ℕ) → Option ℕ

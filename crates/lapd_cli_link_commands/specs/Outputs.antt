@@ -20,14 +20,14 @@ out_line from (Timer line) = line
 out_line from Nothing = []
 
 -- the octets of the outputs, which are those the line carried: a frame's information or unit data
-abbrev pub handed_in : List ℕ → OutputOctets
-handed_in handed = record { message = handed; unit = handed; sent = handed }
+abbrev pub input_as_octets : List ℕ → OutputOctets
+input_as_octets input_octets = record { message = input_octets; unit = input_octets; sent = input_octets }
 
 -- `messages`: those neither acknowledged nor dropped after the step
 abbrev pub outs_text : Setup → List (List ℕ) → List ℕ → List Out → List ℕ
-outs_text setup messages handed outs =
+outs_text setup messages input_octets outs =
     flat_map (λ output. out_line setup.side
-    (printed_output setup messages (handed_in handed) output)) outs
+    (printed_output setup messages (input_as_octets input_octets) output)) outs
 
 -- a request refused by the link
 abbrev pub refusal_line : LinkFault → List ℕ

@@ -6,7 +6,7 @@ use Rattle.lapd_link.specs.Input.{Input, UnitData}
 use Rattle.lapd_link.specs.Link.{Setup}
 use Rattle.lapd_cli_link_commands.specs.declared.answerer.Answerer.{Answerer}
 use Rattle.lapd_cli_link_commands.specs.Answer.{Session, IsSession}
-use Rattle.lapd_cli_link_commands.specs.Outputs.{handed_in, out_line}
+use Rattle.lapd_cli_link_commands.specs.Outputs.{input_as_octets, out_line}
 use Rattle.lapd_cli_link_commands.specs.PrintedOutput.{OutputOctets}
 use Rattle.lapd_cli_link_commands.specs.PrintedOutputs.{made_output}
 
@@ -24,4 +24,5 @@ abbrev pub made_line : Setup → List (List ℕ) → OutputOctets → Out → Li
 made_line setup messages s output = out_line setup.side (made_output setup messages s output)
 
 abbrev pub made_text : Setup → List (List ℕ) → List ℕ → List Out → List ℕ
-made_text setup messages handed outs = flat_map (made_line setup messages (handed_in handed)) outs
+made_text setup messages input_octets outs = flat_map
+    (made_line setup messages (input_as_octets input_octets)) outs

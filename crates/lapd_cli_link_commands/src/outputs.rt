@@ -14,27 +14,27 @@ use lapd_frame::{Frame, MOST_OCTETS, Side, write};
 use lapd_link::{Link, LinkFault, Out};
 use std::io::Write;
 
-/// Prints the outputs of a link's last step, in which the octets `handed` were passed to the link.
+/// Prints the outputs of a link's last step, in which the octets `input_octets` were passed to the link.
 ///
 /// # Errors
 ///
 /// `Device` if the writer fails.
 pub fn put_outs<W: Write>(
     link: &Link,
-    handed: &[u8],
+    input_octets: &[u8],
     outs: &[Out],
     out: &mut W,
 ) -> Result<(), LineFault>
     ensures ok { (e : End) → LinkRepresents link.now e
         → OnOk result
         (Appends (W.contents out.old) (W.contents out.new)
-        (made_text (setup_of link.now) (messages_of e) handed.now outs.now)) }
+        (made_text (setup_of link.now) (messages_of e) input_octets.now outs.now)) }
     ensures err { IsOkUnless result LineFault.Device }
 {
     let output_octets = OutputOctets {
-        message: handed,
-        unit: handed,
-        sent: handed,
+        message: input_octets,
+        unit: input_octets,
+        sent: input_octets,
     };
     for given in outs {
         put_out(link, &output_octets, given, out)?;

@@ -24,7 +24,7 @@ use Rattle.lapd_cli_live.specs.declared.service.EndReason.TheVariants as end_rea
 use Rattle.lapd_cli_live.specs.Log.{Chain, HappenBeside, LiveState}
 use Rattle.lapd_cli_live.specs.LineDone.{HasOwnTei}
 use Rattle.lapd_cli_live.specs.Typed.{IsFirstLine}
-use Rattle.lapd_cli_live.specs.Sessions.{AreTaken, Awaits, AwaitsInput, AwaitsQuietly, DoesLine, GreetedAndEnds, Greets, Hears, InOrder, LineEnds, LinesEnd, LinesType, ObeysAs, Quits, ReadsPart, RequestEnds, ScriptEnds, ServesOn, Session, SessionEnds, StopsAt, StopsBy, TakesLines, Delivered, Types, TypesLast, TypesOn, stop_of}
+use Rattle.lapd_cli_live.specs.Sessions.{AreTaken, Awaits, AwaitsInput, AwaitsQuietly, DoesLine, GreetedAndEnds, Greets, AddsMessages, InOrder, LineEnds, LinesEnd, LinesType, ObeysAs, Quits, ReadsPart, RequestEnds, ScriptEnds, ServesOn, Session, SessionEnds, StopsAt, StopsBy, TakesLines, Delivered, Types, TypesLast, TypesOn, stop_of}
 
 -- ---- Waits.
 
@@ -222,14 +222,14 @@ next_stops result stop before now left line after n m k j a b c takes first stop
 -- ---- A whole script.
 
 -- the executed lines of a reader's octets, some of which are held and not executed yet
-pub record ComesTo {S : Type 0} (Waits : S → S → Type 0) (Does : List ℕ → S → S → Type 0) (initial now : Option (List ℕ)) (held : List ℕ) (n : ℕ) (a b : S) : Type 0 where
+pub record LeadsTo {S : Type 0} (Waits : S → S → Type 0) (Does : List ℕ → S → S → Type 0) (initial now : Option (List ℕ)) (held : List ℕ) (n : ℕ) (a b : S) : Type 0 where
   pub no_feed : HasNoFeed held
   pub so_far : IfSome initial (λ octets. (rest : List ℕ) × (now ≡ Some rest) × TakesLines Waits Does octets (held ++ rest) 0 n a b)
 
-pub comes_none : {S : Type 0} (Waits : S → S → Type 0) (can : CanWait Waits) (Does : List ℕ → S → S → Type 0) (initial : Option (List ℕ)) (held : List ℕ) (a : S) → held ≡ []
-    → ComesTo Waits Does initial initial held 0 a a
-comes_none Waits can Does None held a is = record { no_feed = subst HasNoFeed (sym is) tt; so_far = tt }
-comes_none Waits can Does (Some octets) held a is = record {
+pub leads_none : {S : Type 0} (Waits : S → S → Type 0) (can : CanWait Waits) (Does : List ℕ → S → S → Type 0) (initial : Option (List ℕ)) (held : List ℕ) (a : S) → held ≡ []
+    → LeadsTo Waits Does initial initial held 0 a a
+leads_none Waits can Does None held a is = record { no_feed = subst HasNoFeed (sym is) tt; so_far = tt }
+leads_none Waits can Does (Some octets) held a is = record {
   no_feed = subst HasNoFeed (sym is) tt;
   so_far = (octets, refl, subst (λ (x : List ℕ). TakesLines Waits Does octets (x ++ octets) 0 0 a a) (sym is) (takes_none Waits can Does octets 0 a));
 }
@@ -250,10 +250,10 @@ consumes_some rest part (Some ys) h = (ys, refl, h)
 
 -- input is awaited, and a part is read, after what is held
 pub part_read : {S : Type 0} (Waits : S → S → Type 0) (can : CanWait Waits) (Does : List ℕ → S → S → Type 0) (octets held holds : List ℕ) (now new : Option (List ℕ)) (n : ℕ)
-    (a b c : S) → ComesTo Waits Does (Some octets) now held n a b → Waits b c → ReadsPart true now new held holds
+    (a b c : S) → LeadsTo Waits Does (Some octets) now held n a b → Waits b c → ReadsPart true now new held holds
     → (ys : List ℕ) × (new ≡ Some ys) × TakesLines Waits Does octets (holds ++ ys) 0 n a c
-part_read Waits can Does octets held holds now new n a b c comes waits reads =
-    let p = comes.so_far in
+part_read Waits can Does octets held holds now new n a b c arrives waits reads =
+    let p = arrives.so_far in
     let w = consumes_some p.0 reads.0 new (subst (λ (x : Option (List ℕ)). Consumes x new reads.0) p.1 reads.1) in
     let e : held ++ p.0 ≡ holds ++ w.0 = ap (λ x. held ++ x) w.2 ∙ sym (append_assoc held reads.0 w.0) ∙ ap (λ x. x ++ w.0) (sym reads.2) in
     (w.0, w.1, subst (λ (x : List ℕ). TakesLines Waits Does octets x 0 n a c) e (takes_awaited Waits can Does octets (held ++ p.0) 0 n a b c p.2 waits))
@@ -268,25 +268,25 @@ takes_both Waits can Does octets held rest left n k m a b c p q = record {
 }
 
 -- input is awaited, a part is read, and the lines that end in it are executed
-pub comes_further : {S : Type 0} (Waits : S → S → Type 0) (can : CanWait Waits) (Does : List ℕ → S → S → Type 0) (initial now new : Option (List ℕ)) (held holds left : List ℕ)
-    (n k m j : ℕ) (a b c d : S) → ComesTo Waits Does initial now held n a b → Waits b c → ReadsPart true now new held holds → TakesLines Waits Does holds left k m c d
-    → HasNoFeed left → j ≡ n + (m - k) → ComesTo Waits Does initial new left j a d
-comes_further Waits can Does None now new held holds left n k m j a b c d comes waits reads takes none count = record { no_feed = none; so_far = tt }
-comes_further Waits can Does (Some octets) now new held holds left n k m j a b c d comes waits reads takes none count =
-    let w = part_read Waits can Does octets held holds now new n a b c comes waits reads in
+pub leads_further : {S : Type 0} (Waits : S → S → Type 0) (can : CanWait Waits) (Does : List ℕ → S → S → Type 0) (initial now new : Option (List ℕ)) (held holds left : List ℕ)
+    (n k m j : ℕ) (a b c d : S) → LeadsTo Waits Does initial now held n a b → Waits b c → ReadsPart true now new held holds → TakesLines Waits Does holds left k m c d
+    → HasNoFeed left → j ≡ n + (m - k) → LeadsTo Waits Does initial new left j a d
+leads_further Waits can Does None now new held holds left n k m j a b c d arrives waits reads takes none count = record { no_feed = none; so_far = tt }
+leads_further Waits can Does (Some octets) now new held holds left n k m j a b c d arrives waits reads takes none count =
+    let w = part_read Waits can Does octets held holds now new n a b c arrives waits reads in
     let all : TakesLines Waits Does octets (left ++ w.0) 0 (n + (m - k)) a d = takes_both Waits can Does octets holds w.0 left n k m a c d w.2 takes in
     record { no_feed = none; so_far = (w.0, w.1, subst (λ (x : ℕ). TakesLines Waits Does octets (left ++ w.0) 0 x a d) (sym count) all) }
 
 -- the reader has ended: what is held is the last line
 pub at_end : {S : Type 0} (Waits : S → S → Type 0) (can : CanWait Waits) (Does : List ℕ → S → S → Type 0) (octets held holds : List ℕ) (now new : Option (List ℕ)) (n : ℕ)
-    (a b c : S) → ComesTo Waits Does (Some octets) now held n a b → Waits b c → ReadsPart false now new held holds → TakesLines Waits Does octets holds 0 n a c × HasNoFeed holds
-at_end Waits can Does octets held holds now new n a b c comes waits reads =
-    let p = comes.so_far in
+    (a b c : S) → LeadsTo Waits Does (Some octets) now held n a b → Waits b c → ReadsPart false now new held holds → TakesLines Waits Does octets holds 0 n a c × HasNoFeed holds
+at_end Waits can Does octets held holds now new n a b c arrives waits reads =
+    let p = arrives.so_far in
     let w = consumes_some p.0 [] new (subst (λ (x : Option (List ℕ)). Consumes x new []) p.1 reads.0) in
     let none : w.0 ≡ [] = subst IsAtEnd w.1 reads.1 in
     let e : held ++ p.0 ≡ holds = ap (λ x. held ++ x) (w.2 ∙ none) ∙ append-nil held ∙ sym reads.2 in (
       subst (λ (x : List ℕ). TakesLines Waits Does octets x 0 n a c) e (takes_awaited Waits can Does octets (held ++ p.0) 0 n a b c p.2 waits),
-      subst HasNoFeed (sym reads.2) comes.no_feed,
+      subst HasNoFeed (sym reads.2) arrives.no_feed,
     )
 
 pub script_stops : (serve_on : Bool) (result : Result ⊤ LiveStop) (stop : LiveStop) (lines : List (List ℕ)) (a b : LiveState) → IsErrAnd result (λ x. x ≡ stop)
@@ -303,12 +303,12 @@ around_ends (Some octets) serve_on result fault a b is =
 
 -- one of the lines that end in a part stops the script
 pub part_stops : (initial now new : Option (List ℕ)) (held holds : List ℕ) (n : ℕ) (end_reason : EndReason) (serve_on : Bool) (result : Result ⊤ LiveStop) (stop : LiveStop)
-    (a b c d : LiveState) → ComesTo Awaits DoesLine initial now held n a b → AwaitsInput end_reason b c → ReadsPart true now new held holds
+    (a b c d : LiveState) → LeadsTo Awaits DoesLine initial now held n a b → AwaitsInput end_reason b c → ReadsPart true now new held holds
     → ((more : List ℕ) → StopsBy stop n (lines_of (holds ++ more)) c d) → IsErrAnd result (λ x. x ≡ stop)
     → IfSome initial (λ octets. ScriptEnds serve_on result (lines_of octets) a d)
-part_stops None now new held holds n end_reason serve_on result stop a b c d comes awaits reads stops is = tt
-part_stops (Some octets) now new held holds n end_reason serve_on result stop a b c d comes awaits reads stops is =
-    let w = part_read Awaits awaits_can DoesLine octets held holds now new n a b c comes (awaits_one end_reason b c awaits) reads in
+part_stops None now new held holds n end_reason serve_on result stop a b c d arrives awaits reads stops is = tt
+part_stops (Some octets) now new held holds n end_reason serve_on result stop a b c d arrives awaits reads stops is =
+    let w = part_read Awaits awaits_can DoesLine octets held holds now new n a b c arrives (awaits_one end_reason b c awaits) reads in
     let takes : TakesLines Awaits DoesLine octets (holds ++ w.0) 0 n a c = w.2 in
     script_stops serve_on result stop (lines_of octets) a d is
     (subst (λ (xs : List (List ℕ)). StopsBy stop 0 xs a d) (sym (taken_all takes.lines octets (holds ++ w.0) takes.taken))
@@ -335,36 +335,36 @@ last_stops stop octets (o ∷ held) n a b c none takes stops =
     subst (λ (xs : List (List ℕ)). StopsBy stop 0 xs a c) (sym all)
     (stops_after stop 0 n takes.lines ((o ∷ held) ∷ []) a b c takes.counted takes.done stops)
 
-pub script_further : (initial now new : Option (List ℕ)) (held holds left : List ℕ) (n m : ℕ) (end_reason : EndReason) (a b c d : LiveState) → ComesTo Awaits DoesLine initial now held n a b
+pub script_further : (initial now new : Option (List ℕ)) (held holds left : List ℕ) (n m : ℕ) (end_reason : EndReason) (a b c d : LiveState) → LeadsTo Awaits DoesLine initial now held n a b
     → AwaitsInput end_reason b c → ReadsPart true now new held holds → TakesLines Awaits DoesLine holds left n m c d × HasNoFeed left
-    → ComesTo Awaits DoesLine initial new left m a d
-script_further initial now new held holds left n m end_reason a b c d comes awaits reads ends =
+    → LeadsTo Awaits DoesLine initial new left m a d
+script_further initial now new held holds left n m end_reason a b c d arrives awaits reads ends =
     let takes : TakesLines Awaits DoesLine holds left n m c d = ends.0 in
     let counted = takes.counted in
-    comes_further Awaits awaits_can DoesLine initial now new held holds left n n m m a b c d comes (awaits_one end_reason b c awaits) reads ends.0 ends.1 (omega arith)
+    leads_further Awaits awaits_can DoesLine initial now new held holds left n n m m a b c d arrives (awaits_one end_reason b c awaits) reads ends.0 ends.1 (omega arith)
 
 pub script_ends : (initial now new : Option (List ℕ)) (held holds : List ℕ) (n m : ℕ) (end_reason : EndReason) (serve_on : Bool) (a b c d e : LiveState)
-    → ComesTo Awaits DoesLine initial now held n a b → AwaitsInput end_reason b c → ReadsPart false now new held holds → LineEnds (Ok tt) holds n m c d → ServesOn serve_on d e
+    → LeadsTo Awaits DoesLine initial now held n a b → AwaitsInput end_reason b c → ReadsPart false now new held holds → LineEnds (Ok tt) holds n m c d → ServesOn serve_on d e
     → IfSome initial (λ octets. ScriptEnds serve_on (Ok tt) (lines_of octets) a e)
-script_ends None now new held holds n m end_reason serve_on a b c d e comes awaits reads last serves = tt
-script_ends (Some octets) now new held holds n m end_reason serve_on a b c d e comes awaits reads last serves =
-    let w = at_end Awaits awaits_can DoesLine octets held holds now new n a b c comes (awaits_one end_reason b c awaits) reads in
+script_ends None now new held holds n m end_reason serve_on a b c d e arrives awaits reads last serves = tt
+script_ends (Some octets) now new held holds n m end_reason serve_on a b c d e arrives awaits reads last serves =
+    let w = at_end Awaits awaits_can DoesLine octets held holds now new n a b c arrives (awaits_one end_reason b c awaits) reads in
     (d, last_done octets holds n a c d w.1 w.0 last.0, serves)
 
 pub end_stops : (initial now new : Option (List ℕ)) (held holds : List ℕ) (n : ℕ) (end_reason : EndReason) (serve_on : Bool) (result : Result ⊤ LiveStop) (stop : LiveStop)
-    (a b c d : LiveState) → ComesTo Awaits DoesLine initial now held n a b → AwaitsInput end_reason b c → ReadsPart false now new held holds
+    (a b c d : LiveState) → LeadsTo Awaits DoesLine initial now held n a b → AwaitsInput end_reason b c → ReadsPart false now new held holds
     → ((behind : List (List ℕ)) → StopsBy stop n (holds ∷ behind) c d) → IsErrAnd result (λ x. x ≡ stop)
     → IfSome initial (λ octets. ScriptEnds serve_on result (lines_of octets) a d)
-end_stops None now new held holds n end_reason serve_on result stop a b c d comes awaits reads stops is = tt
-end_stops (Some octets) now new held holds n end_reason serve_on result stop a b c d comes awaits reads stops is =
-    let w = at_end Awaits awaits_can DoesLine octets held holds now new n a b c comes (awaits_one end_reason b c awaits) reads in
+end_stops None now new held holds n end_reason serve_on result stop a b c d arrives awaits reads stops is = tt
+end_stops (Some octets) now new held holds n end_reason serve_on result stop a b c d arrives awaits reads stops is =
+    let w = at_end Awaits awaits_can DoesLine octets held holds now new n a b c arrives (awaits_one end_reason b c awaits) reads in
     script_stops serve_on result stop (lines_of octets) a d is (last_stops stop octets holds n a c d w.1 w.0 (stops []))
 
 -- ---- Reads.
 
 -- an interrupted read returned no octets
 pub reads_nothing : (before after : Option (List ℕ)) (held : List ℕ) → Keeps before after → ReadsPart true before after held held
-reads_nothing before after held keeps = ([], Consumes-kept before before after [] (Consumes-nil before) keeps, sym (append-nil held))
+reads_nothing before after held preserves = ([], Consumes-kept before before after [] (Consumes-nil before) preserves, sym (append-nil held))
 
 pub reads_none : (before after : Option (List ℕ)) (part held : List ℕ) → Consumes before after part → length part ≡ 0 → IsAtEnd after → ReadsPart false before after held held
 reads_none before after [] held consumes none end = (consumes, end, refl)
@@ -428,18 +428,18 @@ types_all tidy before now left a b takes first =
 -- ---- A whole session.
 
 abbrev pub SessionComes : Tidy → Option (List ℕ) → Option (List ℕ) → List ℕ → Session → Session → Type 0
-SessionComes tidy initial now held a b = (n : ℕ) × ComesTo AwaitsQuietly (TypesOn tidy) initial now held n a b
+SessionComes tidy initial now held a b = (n : ℕ) × LeadsTo AwaitsQuietly (TypesOn tidy) initial now held n a b
 
 abbrev pub after_wait : LiveState → Session → Session
-after_wait live a = record { live = live; told = a.told }
+after_wait live a = record { live = live; reported = a.reported }
 
 pub session_further : (tidy : Tidy) (goes_on : Bool) (initial now new : Option (List ℕ)) (held holds left : List ℕ) (end_reason : EndReason) (a b : Session) (live : LiveState) (d : Session)
     → SessionComes tidy initial now held a b → AwaitsInput end_reason b.live live → ReadsPart true now new held holds → LinesType tidy goes_on holds left (after_wait live b) d
     → goes_on ≡ true → SessionComes tidy initial new left a d
-session_further tidy goes_on initial now new held holds left end_reason a b live d comes awaits reads types is =
+session_further tidy goes_on initial now new held holds left end_reason a b live d arrives awaits reads types is =
     let ends : LinesType tidy true holds left (after_wait live b) d = subst (λ (x : Bool). LinesType tidy x holds left (after_wait live b) d) is types in (
-      comes.0 + (ends.0 - 0),
-      comes_further AwaitsQuietly quiet_can (TypesOn tidy) initial now new held holds left comes.0 0 ends.0 (comes.0 + (ends.0 - 0)) a b (after_wait live b) d comes.1
+      arrives.0 + (ends.0 - 0),
+      leads_further AwaitsQuietly quiet_can (TypesOn tidy) initial now new held holds left arrives.0 0 ends.0 (arrives.0 + (ends.0 - 0)) a b (after_wait live b) d arrives.1
           (awaits_one end_reason b.live live awaits, refl) reads ends.1 ends.2 refl,
     )
 
@@ -457,10 +457,10 @@ more_quits tidy done lines a b c p q = record {
 pub session_quits : (tidy : Tidy) (serve_on goes_on : Bool) (initial now new : Option (List ℕ)) (held holds left : List ℕ) (end_reason : EndReason) (a b : Session) (live : LiveState)
     (d : Session) → SessionComes tidy initial now held a b → AwaitsInput end_reason b.live live → ReadsPart true now new held holds
     → LinesType tidy goes_on holds left (after_wait live b) d → goes_on ≡ false → IfSome initial (λ octets. SessionEnds tidy serve_on (lines_of octets) a d)
-session_quits tidy serve_on goes_on None now new held holds left end_reason a b live d comes awaits reads types is = tt
-session_quits tidy serve_on goes_on (Some octets) now new held holds left end_reason a b live d comes awaits reads types is =
-    let w = part_read AwaitsQuietly quiet_can (TypesOn tidy) octets held holds now new comes.0 a b (after_wait live b) comes.1 (awaits_one end_reason b.live live awaits, refl) reads in
-    let t : TakesLines AwaitsQuietly (TypesOn tidy) octets (holds ++ w.0) 0 comes.0 a (after_wait live b) = w.2 in
+session_quits tidy serve_on goes_on None now new held holds left end_reason a b live d arrives awaits reads types is = tt
+session_quits tidy serve_on goes_on (Some octets) now new held holds left end_reason a b live d arrives awaits reads types is =
+    let w = part_read AwaitsQuietly quiet_can (TypesOn tidy) octets held holds now new arrives.0 a b (after_wait live b) arrives.1 (awaits_one end_reason b.live live awaits, refl) reads in
+    let t : TakesLines AwaitsQuietly (TypesOn tidy) octets (holds ++ w.0) 0 arrives.0 a (after_wait live b) = w.2 in
     let quits : LinesType tidy false holds left (after_wait live b) d = subst (λ (x : Bool). LinesType tidy x holds left (after_wait live b) d) is types in
     inr (inl (subst (λ (xs : List (List ℕ)). Quits tidy xs a d) (sym (taken_all t.lines octets (holds ++ w.0) t.taken))
     (more_quits tidy t.lines (lines_of (holds ++ w.0)) a (after_wait live b) d t.done (quits w.0))))
@@ -468,11 +468,11 @@ session_quits tidy serve_on goes_on (Some octets) now new held holds left end_re
 pub session_closed : (tidy : Tidy) (serve_on : Bool) (initial now : Option (List ℕ)) (held : List ℕ) (why : EndReason) (a b : Session) (live : LiveState)
     → SessionComes tidy initial now held a b → AwaitsInput why b.live live → why ≡ end_reason.Closed
     → IfSome initial (λ octets. SessionEnds tidy serve_on (lines_of octets) a (after_wait live b))
-session_closed tidy serve_on None now held why a b live comes awaits is = tt
-session_closed tidy serve_on (Some octets) now held why a b live comes awaits is =
-    let c : ComesTo AwaitsQuietly (TypesOn tidy) (Some octets) now held comes.0 a b = comes.1 in
+session_closed tidy serve_on None now held why a b live arrives awaits is = tt
+session_closed tidy serve_on (Some octets) now held why a b live arrives awaits is =
+    let c : LeadsTo AwaitsQuietly (TypesOn tidy) (Some octets) now held arrives.0 a b = arrives.1 in
     let p = c.so_far in
-    let t : TakesLines AwaitsQuietly (TypesOn tidy) octets (held ++ p.0) 0 comes.0 a b = p.2 in
+    let t : TakesLines AwaitsQuietly (TypesOn tidy) octets (held ++ p.0) 0 arrives.0 a b = p.2 in
     inr (inr (record {
       before = t.lines;
       behind = lines_of (held ++ p.0);
@@ -480,7 +480,7 @@ session_closed tidy serve_on (Some octets) now held why a b live comes awaits is
       met = b;
       done = t.done;
       closes = subst (λ (x : EndReason). AwaitsInput x b.live live) is awaits;
-      told = refl;
+      reported = refl;
     }))
 
 last_typed : (tidy : Tidy) (octets held : List ℕ) (n : ℕ) (a b c : Session) → HasNoFeed held → TakesLines AwaitsQuietly (TypesOn tidy) octets held 0 n a b → TypesLast tidy held true b c
@@ -499,14 +499,14 @@ pub session_ended : (tidy : Tidy) (serve_on goes_on : Bool) (initial now new : O
     (last : LiveState) → SessionComes tidy initial now held a b → AwaitsInput end_reason b.live live → ReadsPart false now new held holds
     → TypesLast tidy holds goes_on (after_wait live b) d → goes_on ≡ true → ServesOn serve_on d.live last
     → IfSome initial (λ octets. SessionEnds tidy serve_on (lines_of octets) a (after_wait last d))
-session_ended tidy serve_on goes_on None now new held holds end_reason a b live d last comes awaits reads types is serves = tt
-session_ended tidy serve_on goes_on (Some octets) now new held holds end_reason a b live d last comes awaits reads types is serves =
-    let w = at_end AwaitsQuietly quiet_can (TypesOn tidy) octets held holds now new comes.0 a b (after_wait live b) comes.1 (awaits_one end_reason b.live live awaits, refl) reads in
+session_ended tidy serve_on goes_on None now new held holds end_reason a b live d last arrives awaits reads types is serves = tt
+session_ended tidy serve_on goes_on (Some octets) now new held holds end_reason a b live d last arrives awaits reads types is serves =
+    let w = at_end AwaitsQuietly quiet_can (TypesOn tidy) octets held holds now new arrives.0 a b (after_wait live b) arrives.1 (awaits_one end_reason b.live live awaits, refl) reads in
     inl (record {
       ended = d;
-      done = last_typed tidy octets holds comes.0 a (after_wait live b) d w.1 w.0 (subst (λ (x : Bool). TypesLast tidy holds x (after_wait live b) d) is types);
+      done = last_typed tidy octets holds arrives.0 a (after_wait live b) d w.1 w.0 (subst (λ (x : Bool). TypesLast tidy holds x (after_wait live b) d) is types);
       serves = serves;
-      told = refl;
+      reported = refl;
     })
 
 last_quits : (tidy : Tidy) (octets held : List ℕ) (n : ℕ) (a b c : Session) → HasNoFeed held → TakesLines AwaitsQuietly (TypesOn tidy) octets held 0 n a b → TypesLast tidy held false b c
@@ -520,10 +520,10 @@ last_quits tidy octets (o ∷ held) n a b c none takes types =
 pub session_last_quits : (tidy : Tidy) (serve_on goes_on : Bool) (initial now new : Option (List ℕ)) (held holds : List ℕ) (end_reason : EndReason) (a b : Session) (live : LiveState)
     (d : Session) → SessionComes tidy initial now held a b → AwaitsInput end_reason b.live live → ReadsPart false now new held holds
     → TypesLast tidy holds goes_on (after_wait live b) d → goes_on ≡ false → IfSome initial (λ octets. SessionEnds tidy serve_on (lines_of octets) a d)
-session_last_quits tidy serve_on goes_on None now new held holds end_reason a b live d comes awaits reads types is = tt
-session_last_quits tidy serve_on goes_on (Some octets) now new held holds end_reason a b live d comes awaits reads types is =
-    let w = at_end AwaitsQuietly quiet_can (TypesOn tidy) octets held holds now new comes.0 a b (after_wait live b) comes.1 (awaits_one end_reason b.live live awaits, refl) reads in
-    inr (inl (last_quits tidy octets holds comes.0 a (after_wait live b) d w.1 w.0 (subst (λ (x : Bool). TypesLast tidy holds x (after_wait live b) d) is types)))
+session_last_quits tidy serve_on goes_on None now new held holds end_reason a b live d arrives awaits reads types is = tt
+session_last_quits tidy serve_on goes_on (Some octets) now new held holds end_reason a b live d arrives awaits reads types is =
+    let w = at_end AwaitsQuietly quiet_can (TypesOn tidy) octets held holds now new arrives.0 a b (after_wait live b) arrives.1 (awaits_one end_reason b.live live awaits, refl) reads in
+    inr (inl (last_quits tidy octets holds arrives.0 a (after_wait live b) d w.1 w.0 (subst (λ (x : Bool). TypesLast tidy holds x (after_wait live b) d) is types)))
 
 -- an error implies nothing about a session
 pub err_says_nothing : {E : Type 0} (initial : Option (List ℕ)) (result : Result ⊤ E) (fault : E) (P : List ℕ → Type 0) → IsErrAnd result (λ x. x ≡ fault)
@@ -536,16 +536,16 @@ pub session_served : (tidy : Tidy) (serve_on goes_on : Bool) (result : Result �
     (live : LiveState) (d : Session) (last : LiveState) → SessionComes tidy initial now held a b → AwaitsInput end_reason b.live live → ReadsPart false now new held holds
     → TypesLast tidy holds goes_on (after_wait live b) d → goes_on ≡ true → OnOk result (ServesOn serve_on d.live last)
     → IfSome initial (λ octets. OnOk result (SessionEnds tidy serve_on (lines_of octets) a (after_wait last d)))
-session_served tidy serve_on goes_on (Ok done) initial now new held holds end_reason a b live d last comes awaits reads types is serves =
-    session_ended tidy serve_on goes_on initial now new held holds end_reason a b live d last comes awaits reads types is serves
-session_served tidy serve_on goes_on (Err fault) None now new held holds end_reason a b live d last comes awaits reads types is serves = tt
-session_served tidy serve_on goes_on (Err fault) (Some octets) now new held holds end_reason a b live d last comes awaits reads types is serves = tt
+session_served tidy serve_on goes_on (Ok done) initial now new held holds end_reason a b live d last arrives awaits reads types is serves =
+    session_ended tidy serve_on goes_on initial now new held holds end_reason a b live d last arrives awaits reads types is serves
+session_served tidy serve_on goes_on (Err fault) None now new held holds end_reason a b live d last arrives awaits reads types is serves = tt
+session_served tidy serve_on goes_on (Err fault) (Some octets) now new held holds end_reason a b live d last arrives awaits reads types is serves = tt
 
 pub last_by : (tidy : Tidy) (octets held : List ℕ) (goes_on : Bool) (a b : Session) → octets ≡ held → TypesLast tidy octets goes_on a b → TypesLast tidy held goes_on a b
 last_by tidy octets held goes_on a b is types = subst (λ (x : List ℕ). TypesLast tidy x goes_on a b) is types
 
-pub greeted_ends : (tidy : Tidy) (serve_on : Bool) (initial : Option (List ℕ)) (a : Session) (greeted : Option (List Delivered)) (b : Session) → Hears a.told greeted (Greets ∷ [])
-    → IfSome initial (λ octets. SessionEnds tidy serve_on (lines_of octets) (record { live = a.live; told = greeted }) b)
+pub greeted_ends : (tidy : Tidy) (serve_on : Bool) (initial : Option (List ℕ)) (a : Session) (greeted : Option (List Delivered)) (b : Session) → AddsMessages a.reported greeted (Greets ∷ [])
+    → IfSome initial (λ octets. SessionEnds tidy serve_on (lines_of octets) (record { live = a.live; reported = greeted }) b)
     → IfSome initial (λ octets. GreetedAndEnds tidy serve_on (lines_of octets) a b)
 greeted_ends tidy serve_on None a greeted b greets ends = tt
 greeted_ends tidy serve_on (Some octets) a greeted b greets ends = record { greeted = greeted; greets = greets; ends = ends }

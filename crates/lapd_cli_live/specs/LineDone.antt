@@ -18,8 +18,8 @@ use Rattle.lapd_cli_live.specs.WaitingLines.{Expects, Reads, Runs}
 
 -- `expect`: a line that begins with the words was printed, while the line of input was awaited or
 -- while the side ran since
-abbrev pub FindsLine : List ℕ → ℕ → Lines → LiveState → LiveState → Type 0
-FindsLine words ms lines a b = HappenBeside [] a b ⊎ Expects words ms lines true a b
+abbrev pub MatchesLine : List ℕ → ℕ → Lines → LiveState → LiveState → Type 0
+MatchesLine words ms lines a b = HappenBeside [] a b ⊎ Expects words ms lines true a b
 
 -- `expect` fails: the side prints no such line in time, and then prints the words
 pub record MissesLine (words : List ℕ) (ms : ℕ) (lines : Lines) (a b : LiveState) : Type 0 where
@@ -28,13 +28,13 @@ pub record MissesLine (words : List ℕ) (ms : ℕ) (lines : Lines) (a b : LiveS
   pub prints : HappenBeside (Shows (Named (codes "expected") (shown_words words)) ∷ []) served_to b
 
 abbrev pub ExpectDone : List ℕ → ℕ → Lines → Bool → LiveState → LiveState → Type 0
-ExpectDone words ms lines true a b = FindsLine words ms lines a b
+ExpectDone words ms lines true a b = MatchesLine words ms lines a b
 ExpectDone words ms lines false a b = MissesLine words ms lines a b
 
 abbrev pub LineDone : LiveLine → Lines → LiveState → LiveState → Type 0
 LineDone (line.Read ms) lines a b = Reads ms lines a b
 LineDone (line.Run ms) lines a b = Runs ms lines a b
-LineDone (line.Expect words ms) lines a b = FindsLine words.now ms lines a b
+LineDone (line.Expect words ms) lines a b = MatchesLine words.now ms lines a b
 LineDone (line.State (Some id)) lines a b = StatesLink id a b
 LineDone (line.State None) lines a b = StatesAll a b
 LineDone line.Stats lines a b = StatesCounts a b

@@ -177,26 +177,27 @@ pub data Delivered : Type 0 where
   Refuses : (octets : List ℕ) → Delivered
 
 -- if the messages are recorded, exactly these were sent since
-abbrev pub Hears : Option (List Delivered) → Option (List Delivered) → List Delivered → Type 0
-Hears None after told = ⊤
-Hears (Some before) None told = ⊥
-Hears (Some before) (Some after) told = after ≡ before ++ told
+abbrev pub AddsMessages : Option (List Delivered) → Option (List Delivered) → List Delivered
+    → Type 0
+AddsMessages None after reported = ⊤
+AddsMessages (Some before) None reported = ⊥
+AddsMessages (Some before) (Some after) reported = after ≡ before ++ reported
 
 -- a running side, and the messages to the person
 pub record Session : Type 0 where
   pub live : LiveState
-  pub told : Option (List Delivered)
+  pub reported : Option (List Delivered)
 
 abbrev pub session_of : {O W P : Type 0} → (O → Option (List IoEvent)) → (W → Option (List ℕ))
     → (P → Option (List Delivered)) → LiveSide O W → P → Session
-session_of io_events contents told live person = record {
+session_of io_events contents reported live person = record {
   live = state_of io_events contents live;
-  told = told person;
+  reported = reported person;
 }
 
 -- input is awaited, and no message is sent
 abbrev pub AwaitsQuietly : Session → Session → Type 0
-AwaitsQuietly a b = Awaits a.live b.live × (b.told ≡ a.told)
+AwaitsQuietly a b = Awaits a.live b.live × (b.reported ≡ a.reported)
 
 -- a bad line is refused
 abbrev pub refusals : Obeyed → List ℕ → List Delivered
@@ -208,10 +209,11 @@ refusals obeyed.Unmet octets = []
 abbrev pub TypedEnds : TypedAction → List ℕ → Bool → Session → Session → Type 0
 TypedEnds Pass octets goes_on a b = (goes_on ≡ true) × (b ≡ a)
 TypedEnds Help octets goes_on a b = (goes_on ≡ true) × (b.live ≡ a.live)
-    × Hears a.told b.told (Helps ∷ [])
+    × AddsMessages a.reported b.reported (Helps ∷ [])
 TypedEnds Quit octets goes_on a b = (goes_on ≡ false) × (b ≡ a)
 TypedEnds Obey octets goes_on a b = (goes_on ≡ true) × (why : Obeyed)
-    × ObeysAs why octets Awaited a.live b.live × Hears a.told b.told (refusals why octets)
+    × ObeysAs why octets Awaited a.live b.live × AddsMessages a.reported b.reported
+    (refusals why octets)
 
 -- a typed line, which the person's reader tidies first
 pub record Types (tidy : List ℕ → Option (List ℕ)) (octets : List ℕ) (goes_on : Bool)
@@ -252,7 +254,7 @@ pub record EndsByInput (tidy : List ℕ → Option (List ℕ)) (serve_on : Bool)
   pub ended : Session
   pub done : InOrder AwaitsQuietly (TypesOn tidy) lines a ended
   pub serves : ServesOn serve_on ended.live b.live
-  pub told : b.told ≡ ended.told
+  pub reported : b.reported ≡ ended.reported
 
 -- or the connection is closed while a line is awaited; the lines before it are executed
 pub record EndsByClose (tidy : List ℕ → Option (List ℕ)) (lines : List (List ℕ)) (a b : Session) :
@@ -263,7 +265,7 @@ pub record EndsByClose (tidy : List ℕ → Option (List ℕ)) (lines : List (Li
   pub met : Session
   pub done : InOrder AwaitsQuietly (TypesOn tidy) before a met
   pub closes : AwaitsInput end_reason.Closed met.live b.live
-  pub told : b.told ≡ met.told
+  pub reported : b.reported ≡ met.reported
 
 -- how a session ends without a fault
 abbrev pub SessionEnds : (List ℕ → Option (List ℕ)) → Bool → List (List ℕ) → Session → Session → Type 0
@@ -274,8 +276,8 @@ SessionEnds tidy serve_on lines a b = EndsByInput tidy serve_on lines a b ⊎ Qu
 pub record GreetedAndEnds (tidy : List ℕ → Option (List ℕ)) (serve_on : Bool)
     (lines : List (List ℕ)) (a b : Session) : Type 0 where
   pub greeted : Option (List Delivered)
-  pub greets : Hears a.told greeted (Greets ∷ [])
-  pub ends : SessionEnds tidy serve_on lines (record { live = a.live; told = greeted }) b
+  pub greets : AddsMessages a.reported greeted (Greets ∷ [])
+  pub ends : SessionEnds tidy serve_on lines (record { live = a.live; reported = greeted }) b
 
 -- ---- Faults that stop the input.
 

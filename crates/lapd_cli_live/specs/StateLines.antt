@@ -34,7 +34,7 @@ pub record LacksLink (id : LinkId) (s : LiveState) : Type 0 where
 -- the line of a link is printed
 pub record PutsLink (id : LinkId) (a b : LiveState) : Type 0 where
   pub words : List ℕ
-  pub tells : StatesOneLink id a words
+  pub reporting : StatesOneLink id a words
   pub prints : HappenBeside (Shows (Worded words) ∷ []) a b
 
 -- or nothing is printed, since the side does not have it

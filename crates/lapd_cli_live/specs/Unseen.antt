@@ -16,7 +16,7 @@ recent_lines unseen = line_octets unseen.lines.items
 -- A line is printed. If lines are kept, it is kept after the others; if these are 1,000, they are
 -- forgotten first.
 abbrev pub with_line : Bool → List ℕ → List (List ℕ) → List (List ℕ)
-with_line kept line lines = if kept
+with_line preserved line lines = if preserved
     then (if nat_le 1000 (length lines) then [] else lines) ++ line ∷ [] else lines
 
 -- a line begins with these words

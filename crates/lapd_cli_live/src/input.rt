@@ -5,7 +5,7 @@ ghost use Rattle.lapd_cli_script.specs.Script.{lines_of};
 ghost use Rattle.lapd_cli_script.specs.declared.script.ScriptFault.TheVariants.{Memory};
 ghost use Rattle.lapd_cli_live.specs.declared.input.LiveStop.TheVariants.{Script};
 ghost use Rattle.lapd_cli_live.specs.Log.{Between};
-ghost use Rattle.lapd_cli_live.specs.Sessions.{GreetedAndEnds, Greets, Hears, Helps, LineEnds, LinesEnd, LinesType, ReadsPart, Refuses, ScriptEnds, ServesOn, SessionEnds, Delivered, TypedEnds, Types, TypesLast, session_of, stop_of};
+ghost use Rattle.lapd_cli_live.specs.Sessions.{GreetedAndEnds, Greets, AddsMessages, Helps, LineEnds, LinesEnd, LinesType, ReadsPart, Refuses, ScriptEnds, ServesOn, SessionEnds, Delivered, TypedEnds, Types, TypesLast, session_of, stop_of};
 ghost use Rattle.lapd_cli_live.specs.declared.input.TypedAction.TheVariants.{Obey};
 ghost use Rattle.lapd_cli_live.specs.Typed.{typed_action_of};
 
@@ -61,11 +61,11 @@ pub trait Person {
     ghost tidy: { List ℕ → Option (List ℕ) } = { λ _. None };
 
     /// The messages so far, if they are recorded.
-    ghost told: { Self → Option (List Delivered) } = { λ _. None };
+    ghost reported: { Self → Option (List Delivered) } = { λ _. None };
 
     /// Says that lines can be typed.
     fn greet(&mut self)
-        ensures { Hears (told self.old) (told self.new) (Greets ∷ []) };
+        ensures { AddsMessages (reported self.old) (reported self.new) (Greets ∷ []) };
 
     /// Returns the line without spaces around it, and without `0x`, spaces and colons inside
     /// hexadecimal digits.
@@ -78,11 +78,11 @@ pub trait Person {
 
     /// Says why the line is not executed: it is not a line of the side.
     fn refuse_line(&mut self, line: &[u8])
-        ensures { Hears (told self.old) (told self.new) (Refuses line.now ∷ []) };
+        ensures { AddsMessages (reported self.old) (reported self.new) (Refuses line.now ∷ []) };
 
     /// Lists the lines of the side.
     fn help(&mut self)
-        ensures { Hears (told self.old) (told self.new) (Helps ∷ []) };
+        ensures { AddsMessages (reported self.old) (reported self.new) (Helps ∷ []) };
 }
 
 /// How a typed line is handled.
@@ -143,8 +143,8 @@ pub fn live_session<R: Read, P: Person, O: Outside, W: Write>(
 ) -> (Result<(), LiveStop>, LiveSide<O, W>)
     ensures { IfSome (R.remaining lines.old) (λ octets. OnOk result.0
         (GreetedAndEnds P.tidy serve_on (lines_of octets)
-        (session_of O.io_events W.contents P.told live person.old)
-        (session_of O.io_events W.contents P.told result.1 person.new))) }
+        (session_of O.io_events W.contents P.reported live person.old)
+        (session_of O.io_events W.contents P.reported result.1 person.new))) }
 {
     person.greet();
     match converse(alloc, &mut live, lines, person, serve_on) {
@@ -229,8 +229,8 @@ fn converse<R: Read, P: Person, O: Outside, W: Write>(
 ) -> Result<(), LiveFault>
     ensures { IfSome (R.remaining lines.old) (λ octets. OnOk result
         (SessionEnds P.tidy serve_on (lines_of octets)
-        (session_of O.io_events W.contents P.told live.old person.old)
-        (session_of O.io_events W.contents P.told live.new person.new))) }
+        (session_of O.io_events W.contents P.reported live.old person.old)
+        (session_of O.io_events W.contents P.reported live.new person.new))) }
 {
     let mut typed = TypedLines::new(alloc);
     for _read in 0..u64::MAX {
@@ -258,8 +258,8 @@ fn do_typed_lines<P: Person, O: Outside, W: Write>(
 ) -> Result<bool, LiveFault>
     ensures { IfOk result (λ goes_on.
         LinesType P.tidy goes_on typed.old.text.items typed.new.text.items
-        (session_of O.io_events W.contents P.told live.old person.old)
-        (session_of O.io_events W.contents P.told live.new person.new)) }
+        (session_of O.io_events W.contents P.reported live.old person.old)
+        (session_of O.io_events W.contents P.reported live.new person.new)) }
 {
     for _line in 0..u64::MAX {
         let Some(line) = typed.next_line()? else {
@@ -279,8 +279,8 @@ fn do_last<P: Person, O: Outside, W: Write>(
     person: &mut P,
 ) -> Result<bool, LiveFault>
     ensures { IfOk result (λ goes_on. TypesLast P.tidy line.now goes_on
-        (session_of O.io_events W.contents P.told live.old person.old)
-        (session_of O.io_events W.contents P.told live.new person.new)) }
+        (session_of O.io_events W.contents P.reported live.old person.old)
+        (session_of O.io_events W.contents P.reported live.new person.new)) }
 {
     match line {
         [] => Ok(true),
@@ -295,8 +295,8 @@ fn do_typed<P: Person, O: Outside, W: Write>(
     person: &mut P,
 ) -> Result<bool, LiveFault>
     ensures { IfOk result (λ goes_on. Types P.tidy line.now goes_on
-        (session_of O.io_events W.contents P.told live.old person.old)
-        (session_of O.io_events W.contents P.told live.new person.new)) }
+        (session_of O.io_events W.contents P.reported live.old person.old)
+        (session_of O.io_events W.contents P.reported live.new person.new)) }
 {
     let line = person.tidied(line)?;
     let line = line.as_slice();
@@ -336,8 +336,8 @@ fn obey_typed<P: Person, O: Outside, W: Write>(
     person: &mut P,
 ) -> Result<(), LiveFault>
     ensures { OnOk result (TypedEnds Obey line.now true
-        (session_of O.io_events W.contents P.told live.old person.old)
-        (session_of O.io_events W.contents P.told live.new person.new)) }
+        (session_of O.io_events W.contents P.reported live.old person.old)
+        (session_of O.io_events W.contents P.reported live.new person.new)) }
 {
     match live.obey(line, Lines::Awaited)? {
         Obeyed::Bad => {

@@ -56,7 +56,7 @@ impl<W: Write> Printer<W> {
         ensures style { result.style ≡ style }
         ensures moment { result.moment ≡ 0 }
         ensures lines { recent_lines result.unseen ≡ [] }
-        ensures kept { result.unseen.is_retained ≡ false }
+        ensures preserved { result.unseen.is_retained ≡ false }
     {
         Printer {
             alloc,
@@ -126,7 +126,7 @@ impl<W: Write> Printer<W> {
     pub(crate) fn retain_unseen(&mut self)
         ensures same { self.new ≡ record self.old { unseen = self.new.unseen } }
         ensures lines { recent_lines self.new.unseen ≡ recent_lines self.old.unseen }
-        ensures kept { self.new.unseen.is_retained ≡ true }
+        ensures preserved { self.new.unseen.is_retained ≡ true }
     {
         self.unseen.retain();
     }
@@ -135,7 +135,7 @@ impl<W: Write> Printer<W> {
     pub(crate) fn forget_unseen(&mut self)
         ensures same { self.new ≡ record self.old { unseen = self.new.unseen } }
         ensures lines { recent_lines self.new.unseen ≡ [] }
-        ensures kept { self.new.unseen.is_retained ≡ false }
+        ensures preserved { self.new.unseen.is_retained ≡ false }
     {
         self.unseen.forget();
     }
@@ -147,7 +147,7 @@ impl<W: Write> Printer<W> {
         ensures matched { result ≡ has_line words.now self.old.unseen }
         ensures lines { recent_lines self.new.unseen
             ≡ lines_behind words.now (recent_lines self.old.unseen) }
-        ensures kept { self.new.unseen.is_retained ≡ false }
+        ensures preserved { self.new.unseen.is_retained ≡ false }
     {
         self.unseen.take(words)
     }
@@ -415,7 +415,8 @@ impl<W: Write> Printer<W> {
         }) }
         ensures lines { OnOk result (recent_lines self.new.unseen ≡ with_line
             self.old.unseen.is_retained (string_bytes self.old.line) (recent_lines self.old.unseen)) }
-        ensures kept { OnOk result (self.new.unseen.is_retained ≡ self.old.unseen.is_retained) }
+        ensures preserved { OnOk result
+            (self.new.unseen.is_retained ≡ self.old.unseen.is_retained) }
     {
         if begins_so(self.awaited.as_slice(), self.line.as_bytes()) {
             self.is_matched = true;

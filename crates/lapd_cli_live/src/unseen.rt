@@ -23,7 +23,7 @@ impl Unseen {
     /// No lines. Printed lines are not kept yet.
     pub(crate) fn new(alloc: Global) -> Unseen
         ensures lines { recent_lines result ≡ [] }
-        ensures kept { result.is_retained ≡ false }
+        ensures preserved { result.is_retained ≡ false }
     {
         Unseen {
             alloc,
@@ -35,7 +35,7 @@ impl Unseen {
     /// Keeps the lines that are printed from now on.
     pub(crate) fn retain(&mut self)
         ensures lines { recent_lines self.new ≡ recent_lines self.old }
-        ensures kept { self.new.is_retained ≡ true }
+        ensures preserved { self.new.is_retained ≡ true }
     {
         self.is_retained = true;
     }
@@ -43,7 +43,7 @@ impl Unseen {
     /// Forgets all lines, and stops keeping them.
     pub(crate) fn forget(&mut self)
         ensures lines { recent_lines self.new ≡ [] }
-        ensures kept { self.new.is_retained ≡ false }
+        ensures preserved { self.new.is_retained ≡ false }
     {
         self.is_retained = false;
         self.lines.clear();
@@ -57,7 +57,7 @@ impl Unseen {
     pub(crate) fn add(&mut self, line: &[u8]) -> Result<(), AllocError>
         ensures lines { OnOk result (recent_lines self.new
             ≡ with_line self.old.is_retained line.now (recent_lines self.old)) }
-        ensures kept { self.new.is_retained ≡ self.old.is_retained }
+        ensures preserved { self.new.is_retained ≡ self.old.is_retained }
     {
         if !self.is_retained {
             return Ok(());
@@ -76,7 +76,7 @@ impl Unseen {
     pub(crate) fn take(&mut self, words: &[u8]) -> bool
         ensures matched { result ≡ has_line words.now self.old }
         ensures lines { recent_lines self.new ≡ lines_behind words.now (recent_lines self.old) }
-        ensures kept { self.new.is_retained ≡ false }
+        ensures preserved { self.new.is_retained ≡ false }
     {
         self.is_retained = false;
         match place_of(self.lines.as_slice(), words) {

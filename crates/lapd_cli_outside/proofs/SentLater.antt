@@ -94,8 +94,8 @@ still_indirect before mid drawn indirect = subst (λ (x : Delays). is_direct x �
 pub puts_off : (octets : List ℕ) (lost direct : Bool) (before mid after : Delays) (old new : Option (List IoEvent)) → IsDrawn lost before mid
     → lost ≡ false → direct ≡ is_direct mid → direct ≡ false → AddsSome old new (PutsOff octets mid after)
     → AddsSome old new (PassesFrame octets Sent before after)
-puts_off octets lost direct before mid after old new drawn kept is indirect put =
-    let whole : PutsFrameOff octets Sent before after put.0 = record { mid = mid; drawn = subst (λ (x : Bool). IsDrawn x before mid) kept drawn; indirect = still_indirect before mid drawn.drawn (sym is ∙ indirect); put_off = put.2; fate = refl } in
+puts_off octets lost direct before mid after old new drawn preserved is indirect put =
+    let whole : PutsFrameOff octets Sent before after put.0 = record { mid = mid; drawn = subst (λ (x : Bool). IsDrawn x before mid) preserved drawn; indirect = still_indirect before mid drawn.drawn (sym is ∙ indirect); put_off = put.2; fate = refl } in
     (put.0, put.1, inr (inr whole))
 
 -- ---- Rounds.

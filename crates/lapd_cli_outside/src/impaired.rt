@@ -2,7 +2,7 @@
 
 ghost use Rattle.std.specs.Prelude.{◌≡◌, ◌≤◌, length, IfOk, IfSome, OnOk};
 ghost use Rattle.lapd_port.specs.SocketText.{IsFrameLength};
-ghost use Rattle.lapd_cli_outside.specs.Delays.{is_reached as come_by};
+ghost use Rattle.lapd_cli_outside.specs.Delays.{is_reached as is_past};
 
 use crate::delays::Delays;
 use crate::impairment::Impairment;
@@ -177,7 +177,7 @@ impl<O: Outside> Outside for Impaired<O> {
 
 /// Whether an optional moment is reached.
 fn is_reached(until: Option<u64>, now: u64) -> bool
-    ensures { result ≡ come_by until now }
+    ensures { result ≡ is_past until now }
 {
     match until {
         Some(until) => until <= now,

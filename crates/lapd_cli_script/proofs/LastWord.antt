@@ -74,7 +74,7 @@ bad_rest (Ok b) (Ok rest) h = absurd (cc)
 undecoded_behind : (i high low : ℕ) (octets : List ℕ) → has_space (high ∷ low ∷ octets) ≡ true → (has_space octets ≡ true → result_ok (decode_pairs (i + 2) octets) ≡ None) → IsSpaceOrNone high → IsSpaceOrNone low
     → result_ok (decode_pairs i (high ∷ low ∷ octets)) ≡ None
 unfolding decode_pairs
-undecoded_behind i high low octets h rest (inl is) tells = rw is.1 refl
+undecoded_behind i high low octets h rest (inl is) reporting = rw is.1 refl
 undecoded_behind i high low octets h rest (inr not) (inl is) = rw is.1 (bad_second (value_at high i) i _)
 undecoded_behind i high low octets h rest (inr not) (inr neither) =
     let first = not.0 in

@@ -79,8 +79,8 @@ Walk-trans step s lines mid more t u n i m a b c p q = record {
   grew = Appends-trans a b c p.text q.text p.grew q.grew;
 }
 
-pub Walk-kept : {S : Type 0} (step : Step S) (s : S) (lines more : List (List ℕ)) (t : S) (n m : ℕ) (a b c : Option (List ℕ)) → Walk step s lines more t n m a b → Keeps b c → Walk step s lines more t n m a c
-Walk-kept step s lines more t n m a b c p k = record {
+pub Walk-unchanged : {S : Type 0} (step : Step S) (s : S) (lines more : List (List ℕ)) (t : S) (n m : ℕ) (a b c : Option (List ℕ)) → Walk step s lines more t n m a b → Keeps b c → Walk step s lines more t n m a c
+Walk-unchanged step s lines more t n m a b c p k = record {
   finished = p.finished;
   text = p.text;
   parted = p.parted;
@@ -140,16 +140,16 @@ WalkEnds-after represents step s t (Err Device) lines mid last command n i m a b
 WalkEnds-after represents step s t (Err (Port fault)) lines mid last command n i m a b c p q = q
 
 -- a run whose output was flushed
-pub WalkEnds-kept : {C S : Type 0} (represents : C → S → Type 0) (step : Step S) (s : S) (result : Result ⊤ ScriptFault) (lines last : List (List ℕ)) (command : C) (n m : ℕ) (a b c : Option (List ℕ))
+pub WalkEnds-unchanged : {C S : Type 0} (represents : C → S → Type 0) (step : Step S) (s : S) (result : Result ⊤ ScriptFault) (lines last : List (List ℕ)) (command : C) (n m : ℕ) (a b c : Option (List ℕ))
     → WalkEnds represents step s result lines last command n m a b → Keeps b c → WalkEnds represents step s result lines last command n m a c
-WalkEnds-kept represents step s (Ok done) lines last command n m a b c q k =
-    (q.0, q.1, Walk-kept step s lines last q.0 n m a b c q.2 k)
-WalkEnds-kept represents step s (Err (BadLine number)) lines last command n m a b c q k =
-    (q.0, q.1, q.2, q.3, Walk-kept step s lines (q.1 ∷ q.2) q.0 n q.3 a b c q.4 k, q.5, q.6)
-WalkEnds-kept represents step s (Err Memory) lines last command n m a b c q k =
-    (q.0, q.1, q.2, Walk-kept step s lines q.1 q.0 n q.2 a b c q.3 k)
-WalkEnds-kept represents step s (Err Device) lines last command n m a b c q k = tt
-WalkEnds-kept represents step s (Err (Port fault)) lines last command n m a b c q k = q
+WalkEnds-unchanged represents step s (Ok done) lines last command n m a b c q k =
+    (q.0, q.1, Walk-unchanged step s lines last q.0 n m a b c q.2 k)
+WalkEnds-unchanged represents step s (Err (BadLine number)) lines last command n m a b c q k =
+    (q.0, q.1, q.2, q.3, Walk-unchanged step s lines (q.1 ∷ q.2) q.0 n q.3 a b c q.4 k, q.5, q.6)
+WalkEnds-unchanged represents step s (Err Memory) lines last command n m a b c q k =
+    (q.0, q.1, q.2, Walk-unchanged step s lines q.1 q.0 n q.2 a b c q.3 k)
+WalkEnds-unchanged represents step s (Err Device) lines last command n m a b c q k = tt
+WalkEnds-unchanged represents step s (Err (Port fault)) lines last command n m a b c q k = q
 
 -- a run to the end of a script
 EndsAs-walk : {C S : Type 0} (represents : C → S → Type 0) (step : Step S) (s : S) (result : Result ⊤ ScriptFault) (lines : List (List ℕ)) (command : C) (m : ℕ) (a b : Option (List ℕ))
@@ -183,7 +183,7 @@ pub WalkEnds-handed : {C S : Type 0} (represents : C → S → Type 0) (step : S
     → WalkEnds represents step s ended lines [] command 0 m a b → Keeps b c → PreservesFault ended result → EndsAs step s result lines a c
 WalkEnds-handed {C} {S} represents step s ended result lines command m a b c q k (inl same) =
     let F : Result ⊤ ScriptFault → Type 0 = λ x. EndsAs step s x lines a c in
-    subst F (sym same) (EndsAs-walk represents step s ended lines command m a c (WalkEnds-kept represents step s ended lines [] command 0 m a b c q k))
+    subst F (sym same) (EndsAs-walk represents step s ended lines command m a c (WalkEnds-unchanged represents step s ended lines [] command 0 m a b c q k))
 WalkEnds-handed {C} {S} represents step s ended result lines command m a b c q k (inr fault) =
     let F : Result ⊤ ScriptFault → Type 0 = λ x. EndsAs step s x lines a c in
     subst F (sym fault) tt
@@ -265,17 +265,17 @@ consumes_some rest part None h = absurd h
 consumes_some rest part (Some ys) h = (ys, refl, h)
 
 -- the output is flushed
-pub WalkIsAt-kept : {C S : Type 0} (represents : C → S → Type 0) (step : Step S) (s : S) (initial now : Option (List ℕ)) (command : C) (cut : List ℕ) (n : ℕ) (a b c : Option (List ℕ)) → WalkIsAt represents step s initial now command cut n a b → Keeps b c → WalkIsAt represents step s initial now command cut n a c
-WalkIsAt-kept represents step s None now command cut n a b c p k = tt
-WalkIsAt-kept represents step s (Some octets) now command cut n a b c p k =
-    (p.0, p.1, p.2, p.3, Walk-kept step s (walk_lines octets) (walk_lines (cut ++ p.0)) p.1 0 n a b c p.4 k)
+pub WalkIsAt-unchanged : {C S : Type 0} (represents : C → S → Type 0) (step : Step S) (s : S) (initial now : Option (List ℕ)) (command : C) (cut : List ℕ) (n : ℕ) (a b c : Option (List ℕ)) → WalkIsAt represents step s initial now command cut n a b → Keeps b c → WalkIsAt represents step s initial now command cut n a c
+WalkIsAt-unchanged represents step s None now command cut n a b c p k = tt
+WalkIsAt-unchanged represents step s (Some octets) now command cut n a b c p k =
+    (p.0, p.1, p.2, p.3, Walk-unchanged step s (walk_lines octets) (walk_lines (cut ++ p.0)) p.1 0 n a b c p.4 k)
 
 -- a read that fails changes nothing
 pub WalkIsAt-unread : {C S : Type 0} (represents : C → S → Type 0) (step : Step S) (s : S) (initial now new : Option (List ℕ)) (command : C) (cut : List ℕ) (n : ℕ) (a b : Option (List ℕ)) → WalkIsAt represents step s initial now command cut n a b → Keeps now new → WalkIsAt represents step s initial new command cut n a b
 WalkIsAt-unread represents step s None now new command cut n a b p k = tt
 WalkIsAt-unread represents step s (Some octets) now new command cut n a b p k =
-    let kept : Keeps (Some p.0) new = subst (λ x. Keeps x new) p.2 k in
-    (p.0, p.1, same_preserved p.0 new kept, p.3, p.4)
+    let unchanged : Keeps (Some p.0) new = subst (λ x. Keeps x new) p.2 k in
+    (p.0, p.1, same_preserved p.0 new unchanged, p.3, p.4)
   where
     same_preserved : (rest : List ℕ) (new : Option (List ℕ)) → Keeps (Some rest) new → new ≡ Some rest
     same_preserved rest None h = absurd h

@@ -45,8 +45,8 @@ pub one_preserved : {F : Type 0} (octets : F → List ℕ) (frames : List F) (at
     → frame ≡ get_or frames at frame → item ≡ octets frame → mid ≡ before ++ map octets (take at frames) → after ≡ mid ++ item ∷ []
     → after ≡ before ++ map octets (take (at + 1) frames)
 one_preserved octets frames at frame item before mid after within is says so more =
-    more ∙ ap (λ (kept : List (List ℕ)). kept ++ item ∷ []) so ∙ append_assoc before (map octets (take at frames)) (item ∷ [])
-    ∙ ap (λ (kept : List (List ℕ)). before ++ kept) (sym (one_of_all octets frames at frame item within is says))
+    more ∙ ap (λ (preserved : List (List ℕ)). preserved ++ item ∷ []) so ∙ append_assoc before (map octets (take at frames)) (item ∷ [])
+    ∙ ap (λ (preserved : List (List ℕ)). before ++ preserved) (sym (one_of_all octets frames at frame item within is says))
 
 -- its text is kept
 pub one_traced : {F : Type 0} (line : List ℕ → List ℕ) (octets : F → List ℕ) (frames : List F) (at : ℕ) (frame : F) (item : List ℕ) (before mid after : List ℕ) → at < length frames
@@ -92,16 +92,16 @@ on_both (Err fault) P Q R f p q = tt
 -- ---- Expiries.
 
 -- the timers that expired so far, with their output kept
-pub record ExpiresSome (style : LineStyle) (now : ℕ) (side : Side) (old new : EitherSide) (kept : List (List ℕ)) (traced delivered : List ℕ) : Type 0 where
+pub record ExpiresSome (style : LineStyle) (now : ℕ) (side : Side) (old new : EitherSide) (preserved : List (List ℕ)) (traced delivered : List ℕ) : Type 0 where
   pub calls : List Effects
   pub are : AreExpired now calls old new
-  pub gave : kept ≡ frames_given calls
+  pub gave : preserved ≡ frames_given calls
   pub lines : traced ≡ frames_text style side (frames_given calls)
   pub says : delivered ≡ primitives_text style (primitives_given calls)
 
-pub none_yet : (style : LineStyle) (now : ℕ) (side : Side) (old : EitherSide) (kept : List (List ℕ)) (traced delivered : List ℕ) → kept ≡ [] → traced ≡ [] → delivered ≡ []
-    → ExpiresSome style now side old old kept traced delivered
-none_yet style now side old kept traced delivered no_frames no_lines no_words = record { calls = []; are = refl; gave = no_frames; lines = no_lines; says = no_words }
+pub none_yet : (style : LineStyle) (now : ℕ) (side : Side) (old : EitherSide) (preserved : List (List ℕ)) (traced delivered : List ℕ) → preserved ≡ [] → traced ≡ [] → delivered ≡ []
+    → ExpiresSome style now side old old preserved traced delivered
+none_yet style now side old preserved traced delivered no_frames no_lines no_words = record { calls = []; are = refl; gave = no_frames; lines = no_lines; says = no_words }
 
 pub some_more : (style : LineStyle) (now : ℕ) (side : Side) (old mid new : EitherSide) (acts : Effects) (before after : List (List ℕ)) (traced lines delivered words : List ℕ)
     → ExpiresSome style now side old mid before traced delivered → Expires now mid new acts
@@ -115,7 +115,7 @@ some_more style now side old mid new acts before after traced lines delivered wo
     record {
       calls = some.calls ++ acts ∷ [];
       are = one_more now some.calls acts old mid new some.are due;
-      gave = more ∙ ap (λ (kept : List (List ℕ)). kept ++ acts.frames) some.gave ∙ sym all_frames;
+      gave = more ∙ ap (λ (preserved : List (List ℕ)). preserved ++ acts.frames) some.gave ∙ sym all_frames;
       lines = and_lines ∙ ap (λ (text : List ℕ). text ++ frames_text style side acts.frames) some.lines
           ∙ sym (ap (frames_text style side) all_frames ∙ flat_map-append (frame_text_line style side) frames acts.frames);
       says = and_words ∙ ap (λ (text : List ℕ). text ++ primitives_text style acts.primitives) some.says
@@ -123,10 +123,10 @@ some_more style now side old mid new acts before after traced lines delivered wo
     }
 
 -- no timer is due any more, and the kept output is sent and printed
-pub all_expired : (now at : ℕ) (old mid after_idle new : EitherSide) (kept : List (List ℕ)) (traced delivered : List ℕ) (start here end : Devices) → at ≡ now
-    → ExpiresSome start.style now (side_of old) old mid kept traced delivered → StaysIdle at mid after_idle → new ≡ after_idle → end.style ≡ start.style → here.written ≡ start.written → here.printed ≡ start.printed
-    → Appends here.written end.written (socket_text kept) → Appends here.printed end.printed (traced ++ delivered) → ExpiresAll now old new start end
-all_expired now at old mid after_idle new kept traced delivered start here end same some rests own style port out sent printed =
+pub all_expired : (now at : ℕ) (old mid after_idle new : EitherSide) (preserved : List (List ℕ)) (traced delivered : List ℕ) (start here end : Devices) → at ≡ now
+    → ExpiresSome start.style now (side_of old) old mid preserved traced delivered → StaysIdle at mid after_idle → new ≡ after_idle → end.style ≡ start.style → here.written ≡ start.written → here.printed ≡ start.printed
+    → Appends here.written end.written (socket_text preserved) → Appends here.printed end.printed (traced ++ delivered) → ExpiresAll now old new start end
+all_expired now at old mid after_idle new preserved traced delivered start here end same some rests own style port out sent printed =
     let text : traced ++ delivered ≡ acts_text start.style (side_of old) (frames_given some.calls) (primitives_given some.calls) =
     ap (λ (front : List ℕ). front ++ delivered) some.lines ∙ ap (λ (back : List ℕ). frames_text start.style (side_of old) (frames_given some.calls) ++ back) some.says in
     record {
@@ -187,7 +187,7 @@ styles_preserved (line_request ∷ line_requests) a b h = styles_preserved line_
 pub line_done : (s : Progress) (line : List ℕ) (asked : SideLine) (a b : AtWork) (old new : Option (List ℕ)) → HasReached s a
     → request_of_line (side_of a.side) line ≡ Some (request_of asked) → moment_after a.now (request_of asked) ≡ Some b.now → side_of b.side ≡ side_of a.side
     → LineDoes (request_of asked) a b → Appends old new [] → IsSomeAnd (side_step s line) (λ next. HasReached next.1 b × Appends old new next.0)
-line_done s line asked a b old new come asks moves same does kept =
+line_done s line asked a b old new come asks moves same does preserved =
     let line_request : LineRequest = request_of asked in
     let clock : Clocked = record { side = s.clock.side; now = b.now } in
     let here : request_of_line s.clock.side line ≡ Some line_request = subst (λ (side : Side). request_of_line side line ≡ Some line_request) come.of_side asks in
@@ -198,4 +198,4 @@ line_done s line asked a b old new come asks moves same does kept =
     let did : LinesDo (s.line_requests ++ request_list (request_of_line s.clock.side line)) s.begun b =
     subst (λ (o : Option LineRequest). LinesDo (s.line_requests ++ request_list o) s.begun b) (sym here) (lines_more s.line_requests line_request s.begun a b come.did does) in
     subst (λ (o : LineOutcome Clocked). IsSomeAnd (option_map (after_line s line) o) (λ next. HasReached next.1 b × Appends old new next.0)) (sym clock_is)
-    (record { of_side = same ∙ come.of_side; moment = refl; did = did }, kept)
+    (record { of_side = same ∙ come.of_side; moment = refl; did = did }, preserved)

@@ -38,14 +38,14 @@ ended side before None result a b q = tt
 ended side before (Some octets) result a b q = ended_so (new_progress side before) result (lines_of octets) a b refl q
 
 -- and what the side has done by then
-served_so : (side : EitherSide) (before : Devices) (kept : LineStyle) (rest written printed : Option (List ℕ)) (now : ℕ) (after : EitherSide) (result : Result ⊤ ScriptFault) (lines : List (List ℕ)) (a b : Option (List ℕ))
+served_so : (side : EitherSide) (before : Devices) (preserved : LineStyle) (rest written printed : Option (List ℕ)) (now : ℕ) (after : EitherSide) (result : Result ⊤ ScriptFault) (lines : List (List ℕ)) (a b : Option (List ℕ))
     → EndsAs side_step (new_progress side before) result lines a b
-    → OnOk result (HasReached (state_after side_step (new_progress side before) lines) (at_work after now (devices kept rest written printed)))
+    → OnOk result (HasReached (state_after side_step (new_progress side before) lines) (at_work after now (devices preserved rest written printed)))
     → OnOk result (HasServed side (requests_of (side_of side) lines) before (devices before.style rest written printed))
-served_so side before kept rest written printed now after (Ok done) lines a b q come =
+served_so side before preserved rest written printed now after (Ok done) lines a b q come =
     let s : Progress = new_progress side before in
     let is = progress_after 1 s lines (sym (same_from 1 s lines) ∙ q.0) in
-    let end : AtWork = at_work after now (devices kept rest written printed) in
+    let end : AtWork = at_work after now (devices preserved rest written printed) in
     let did : LinesDo (requests_of (side_of side) lines) (at_work side 0 before) end =
     subst (λ (line_requests : List LineRequest). LinesDo line_requests (at_work side 0 before) end) is.line_requests
     (subst (λ (begun : AtWork). LinesDo (state_after side_step s lines).line_requests begun end) is.begun come.did) in
@@ -55,14 +55,14 @@ served_so side before kept rest written printed now after (Ok done) lines a b q 
       did = subst (λ (style : LineStyle). LinesDo (requests_of (side_of side) lines) (at_work side 0 before) (at_work after now (devices style rest written printed)))
           (styles_preserved (requests_of (side_of side) lines) (at_work side 0 before) end did) did;
     }
-served_so side before kept rest written printed now after (Err fault) lines a b q come = tt
+served_so side before preserved rest written printed now after (Err fault) lines a b q come = tt
 
-pub served : (side : EitherSide) (before : Devices) (kept : LineStyle) (rest written printed : Option (List ℕ)) (now : ℕ) (after : EitherSide) (known : Option (List ℕ)) (result : Result ⊤ ScriptFault) (a b : Option (List ℕ))
+pub served : (side : EitherSide) (before : Devices) (preserved : LineStyle) (rest written printed : Option (List ℕ)) (now : ℕ) (after : EitherSide) (known : Option (List ℕ)) (result : Result ⊤ ScriptFault) (a b : Option (List ℕ))
     → IfSome known (λ octets. EndsAs side_step (new_progress side before) result (lines_of octets) a b)
-    → IfSome known (λ octets. OnOk result (HasReached (state_after side_step (new_progress side before) (lines_of octets)) (at_work after now (devices kept rest written printed))))
+    → IfSome known (λ octets. OnOk result (HasReached (state_after side_step (new_progress side before) (lines_of octets)) (at_work after now (devices preserved rest written printed))))
     → IfSome known (λ octets. OnOk result (HasServed side (requests_of (side_of side) (lines_of octets)) before (devices before.style rest written printed)))
-served side before kept rest written printed now after None result a b q come = tt
-served side before kept rest written printed now after (Some octets) result a b q come = served_so side before kept rest written printed now after result (lines_of octets) a b q come
+served side before preserved rest written printed now after None result a b q come = tt
+served side before preserved rest written printed now after (Some octets) result a b q come = served_so side before preserved rest written printed now after result (lines_of octets) a b q come
 
 -- ---- The commands.
 

@@ -49,12 +49,12 @@ same_first f g r s h =
       sym (drop-append_seam f r) ∙ ap (λ (n : ℕ). drop n (f ++ r)) same ∙ ap (drop (length g)) octets ∙ drop-append_seam g s,
     )
 
-parted : (xs heard : List (List ℕ)) (ys : List ℕ) → socket_text xs ≡ socket_text heard ++ ys → (left : List (List ℕ)) × (xs ≡ heard ++ left) × (ys ≡ socket_text left)
+parted : (xs reception : List (List ℕ)) (ys : List ℕ) → socket_text xs ≡ socket_text reception ++ ys → (left : List (List ℕ)) × (xs ≡ reception ++ left) × (ys ≡ socket_text left)
 parted xs [] ys h = (xs, refl, sym h)
-parted [] (frame ∷ heard) ys h = no_head (length frame / 256) ((length frame % 256) ∷ ((frame ++ socket_text heard) ++ ys)) h
-parted (first ∷ xs) (frame ∷ heard) ys h =
-    let both = same_first first frame (socket_text xs) (socket_text heard ++ ys) (h ∙ append_assoc (frame_text frame) (socket_text heard) ys) in
-    let more = parted xs heard ys both.1 in
+parted [] (frame ∷ reception) ys h = no_head (length frame / 256) ((length frame % 256) ∷ ((frame ++ socket_text reception) ++ ys)) h
+parted (first ∷ xs) (frame ∷ reception) ys h =
+    let both = same_first first frame (socket_text xs) (socket_text reception ++ ys) (h ∙ append_assoc (frame_text frame) (socket_text reception) ys) in
+    let more = parted xs reception ys both.1 in
     (more.0, ap (λ (f : List ℕ). f ∷ xs) both.0 ∙ ap (λ (fs : List (List ℕ)). frame ∷ fs) more.1, more.2)
 
 same_octets : (x y : List ℕ) → Some x ≡ Some y → x ≡ y
@@ -62,15 +62,15 @@ same_octets x y h = cc
 
 -- If a source holds frames on their way and then later octets, it can only lose the first of these
 -- frames, and the octets of the others are left.
-pub rest_left : (old new : Option (List ℕ)) (xs heard : List (List ℕ)) (left later : List ℕ) → old ≡ Some (socket_text xs ++ later) → new ≡ Some (left ++ later) → Consumes old new (socket_text heard)
-    → (others : List (List ℕ)) × (xs ≡ heard ++ others) × (new ≡ Some (socket_text others ++ later))
-rest_left old None xs heard left later is ends taken = let no : ⊥ = cc in absurd no
-rest_left old (Some ys) xs heard left later is ends taken =
-    let lost : socket_text xs ++ later ≡ socket_text heard ++ ys = subst (λ (o : Option (List ℕ)). Consumes o (Some ys) (socket_text heard)) is taken in
+pub rest_left : (old new : Option (List ℕ)) (xs reception : List (List ℕ)) (left later : List ℕ) → old ≡ Some (socket_text xs ++ later) → new ≡ Some (left ++ later) → Consumes old new (socket_text reception)
+    → (others : List (List ℕ)) × (xs ≡ reception ++ others) × (new ≡ Some (socket_text others ++ later))
+rest_left old None xs reception left later is ends taken = let no : ⊥ = cc in absurd no
+rest_left old (Some ys) xs reception left later is ends taken =
+    let lost : socket_text xs ++ later ≡ socket_text reception ++ ys = subst (λ (o : Option (List ℕ)). Consumes o (Some ys) (socket_text reception)) is taken in
     let end : ys ≡ left ++ later = same_octets ys (left ++ later) ends in
-    let all : socket_text xs ++ later ≡ (socket_text heard ++ left) ++ later =
-    lost ∙ ap (λ (zs : List ℕ). socket_text heard ++ zs) end ∙ sym (append_assoc (socket_text heard) left later) in
-    let p = parted xs heard left (append_cancel_right (socket_text xs) (socket_text heard ++ left) later all) in
+    let all : socket_text xs ++ later ≡ (socket_text reception ++ left) ++ later =
+    lost ∙ ap (λ (zs : List ℕ). socket_text reception ++ zs) end ∙ sym (append_assoc (socket_text reception) left later) in
+    let p = parted xs reception left (append_cancel_right (socket_text xs) (socket_text reception ++ left) later all) in
     (p.0, p.1, ends ∙ ap (λ (zs : List ℕ). Some (zs ++ later)) p.2)
 
 -- ---- What is written.
@@ -88,8 +88,8 @@ still_known (Some x) (Some y) text known p = refl
 -- the octets written are the next ones that the other program reads
 grows : (rest after : Option (List ℕ)) (line sent : List (List ℕ)) (octets before later : List ℕ) → after ≡ rest → rest ≡ Some (socket_text line ++ before) → before ≡ octets ++ later
     → octets ≡ socket_text sent → after ≡ Some (socket_text (line ++ sent) ++ later)
-grows rest after line sent octets before later stays is comes same =
-    let text : before ≡ socket_text sent ++ later = comes ∙ ap (λ (t : List ℕ). t ++ later) same in
+grows rest after line sent octets before later stays is arrives same =
+    let text : before ≡ socket_text sent ++ later = arrives ∙ ap (λ (t : List ℕ). t ++ later) same in
     stays ∙ is ∙ ap (λ (t : List ℕ). Some (socket_text line ++ t)) text
     ∙ ap Some (sym (append_assoc (socket_text line) (socket_text sent) later) ∙ ap (λ (t : List ℕ). t ++ later) (sym (text_of_both line sent)))
 
@@ -130,7 +130,7 @@ pub record IsStepped (c : Configs) (s : Side) (line_request : LineRequest) (a b 
   pub style : (program_of s b).around.style ≡ (program_of s a).around.style
   pub text : Appends (program_of s a).around.printed (program_of s b).around.printed (lines_text (program_of s a).around.style printed)
   pub other : program_of (other_side s) b ≡ program_of (other_side s) a
-  pub told : IsTold s line_request printed i (run c (moves_of s events) i)
+  pub reported : IsTold s line_request printed i (run c (moves_of s events) i)
 
 network_steps : (c : Configs) (line_request : LineRequest) (a b : Programs) (i : Interface) → AreAt c a i → WritesTo line_request a.network b.network a.user b.user → IsStepped c side.Network line_request a b i
 network_steps c line_request a b i at w =
@@ -138,9 +138,9 @@ network_steps c line_request a b i at w =
     let after : AtWork = b.network.at in
     let pr = network_prints c.network line_request before after w.does in
     let x = pr.by_events in
-    let r = rest_left before.around.rest after.around.rest i.to_network x.heard w.left a.network.later at.to_network w.reads x.read in
+    let r = rest_left before.around.rest after.around.rest i.to_network x.reception w.left a.network.later at.to_network w.reads x.read in
     let d = x.are (by_network i) r.0 at.network r.1 in
-    let t = pr.told (by_network i) r.0 at.network r.1 in
+    let t = pr.reported (by_network i) r.0 at.network r.1 in
     let moved = network_moves c d.0 i in
     let u : SideView Network = does_all (network_behaviour c.network) d.0 (by_network i) in
     let same : w.octets ≡ socket_text x.sent = same_text before.around.written after.around.written w.octets (socket_text x.sent) at.by_network w.wrote x.written in
@@ -149,7 +149,7 @@ network_steps c line_request a b i at w =
       user = subst (λ (p : AtWork). ShowsUser c.user p.side i.user) (sym w.stays) at.user;
       to_network = r.2 ∙ ap (λ (line : List (List ℕ)). Some (socket_text line ++ a.network.later)) (sym d.2.incoming)
           ∙ ap (λ (later : List ℕ). Some (socket_text u.incoming ++ later)) (sym w.later);
-      to_user = grows a.user.at.around.rest b.user.at.around.rest i.to_user x.sent w.octets a.user.later b.user.later (ap (λ (p : AtWork). p.around.rest) w.stays) at.to_user w.comes same
+      to_user = grows a.user.at.around.rest b.user.at.around.rest i.to_user x.sent w.octets a.user.later b.user.later (ap (λ (p : AtWork). p.around.rest) w.stays) at.to_user w.arrives same
           ∙ ap (λ (line : List (List ℕ)). Some (socket_text line ++ b.user.later)) (sym d.2.outgoing);
       by_network = still_known before.around.written after.around.written w.octets at.by_network w.wrote;
       by_user = subst (λ (p : AtWork). IsSome p.around.written) (sym w.stays) at.by_user;
@@ -164,7 +164,7 @@ network_steps c line_request a b i at w =
       style = pr.style;
       text = pr.text;
       other = w.stays;
-      told = record {
+      reported = record {
         delivered = ap (λ (j : Interface). j.delivered_to_network) moved ∙ t.delivered;
         given = ap (λ (j : Interface). j.given_to_network) moved ∙ t.given;
         others_delivered = ap (λ (j : Interface). j.delivered_to_user) moved;
@@ -178,16 +178,16 @@ user_steps c line_request a b i at w =
     let after : AtWork = b.user.at in
     let pr = user_prints c.user line_request before after w.does in
     let x = pr.by_events in
-    let r = rest_left before.around.rest after.around.rest i.to_user x.heard w.left a.user.later at.to_user w.reads x.read in
+    let r = rest_left before.around.rest after.around.rest i.to_user x.reception w.left a.user.later at.to_user w.reads x.read in
     let d = x.are (by_user i) r.0 at.user r.1 in
-    let t = pr.told (by_user i) r.0 at.user r.1 in
+    let t = pr.reported (by_user i) r.0 at.user r.1 in
     let moved = user_moves c d.0 i in
     let u : SideView User = does_all (user_behaviour c.user) d.0 (by_user i) in
     let same : w.octets ≡ socket_text x.sent = same_text before.around.written after.around.written w.octets (socket_text x.sent) at.by_user w.wrote x.written in
     let now : AreAt c b (with_user u i) = record {
       network = subst (λ (p : AtWork). ShowsNetwork c.network p.side i.network) (sym w.stays) at.network;
       user = d.2.is_so;
-      to_network = grows a.network.at.around.rest b.network.at.around.rest i.to_network x.sent w.octets a.network.later b.network.later (ap (λ (p : AtWork). p.around.rest) w.stays) at.to_network w.comes same
+      to_network = grows a.network.at.around.rest b.network.at.around.rest i.to_network x.sent w.octets a.network.later b.network.later (ap (λ (p : AtWork). p.around.rest) w.stays) at.to_network w.arrives same
           ∙ ap (λ (line : List (List ℕ)). Some (socket_text line ++ b.network.later)) (sym d.2.outgoing);
       to_user = r.2 ∙ ap (λ (line : List (List ℕ)). Some (socket_text line ++ a.user.later)) (sym d.2.incoming)
           ∙ ap (λ (later : List ℕ). Some (socket_text u.incoming ++ later)) (sym w.later);
@@ -204,7 +204,7 @@ user_steps c line_request a b i at w =
       style = pr.style;
       text = pr.text;
       other = w.stays;
-      told = record {
+      reported = record {
         delivered = ap (λ (j : Interface). j.delivered_to_user) moved ∙ t.delivered;
         given = ap (λ (j : Interface). j.given_to_user) moved ∙ t.given;
         others_delivered = ap (λ (j : Interface). j.delivered_to_network) moved;

@@ -173,7 +173,7 @@ all_expire {S} w Shows has now (acts ∷ calls) old new h v left shown are =
 
 unfoldable pub takes_next : {S : Type 0} (w : Behaviour S) (Shows : EitherSide → S → Type 0) → HasEvents w Shows → (a b : AtWork) → TakesNext a b → IsByEvents w Shows (AreFor Read a.now) a b
 takes_next w Shows has a b h = record {
-  heard = h.frame ∷ [];
+  reception = h.frame ∷ [];
   sent = h.takes.acts.frames;
   read = subst (Consumes a.around.rest b.around.rest) (sym (append-nil (frame_text h.frame))) h.read;
   written = h.takes.puts.sent;
@@ -186,7 +186,7 @@ takes_next w Shows has a b h = record {
 
 unfoldable pub finds_none : {S : Type 0} (w : Behaviour S) (Shows : EitherSide → S → Type 0) → HasEvents w Shows → (a b : AtWork) → FindsNone a b → IsByEvents w Shows (AreFor Read a.now) a b
 finds_none {S} w Shows has a b h = record {
-  heard = [];
+  reception = [];
   sent = [];
   read = h.read;
   written = h.puts.sent;
@@ -195,7 +195,7 @@ finds_none {S} w Shows has a b h = record {
 
 unfoldable pub ticks : {S : Type 0} (w : Behaviour S) (Shows : EitherSide → S → Type 0) → HasEvents w Shows → (ms : ℕ) (a b : AtWork) → Ticks ms a b → IsByEvents w Shows (AreFor (Tick ms) a.now) a b
 ticks w Shows has ms a b h = record {
-  heard = [];
+  reception = [];
   sent = frames_given h.due.calls;
   read = h.read;
   written = h.due.puts.sent;
@@ -208,7 +208,7 @@ IsOneRequest line_request now events = (request : Request) × (line_request_of r
 
 unfoldable pub asks_one : {S : Type 0} (w : Behaviour S) (Shows : EitherSide → S → Type 0) → HasEvents w Shows → (line_request : LineRequest) (a b : AtWork) → Asks line_request a b → IsByEvents w Shows (IsOneRequest line_request a.now) a b
 asks_one w Shows has line_request a b h = record {
-  heard = [];
+  reception = [];
   sent = h.acts.frames;
   read = h.read;
   written = h.puts.sent;
@@ -266,19 +266,19 @@ both_lead {S} w Mid IsSo mid left sent more xs ys v p q =
 two_parts : {S : Type 0} (w : Behaviour S) (Shows : EitherSide → S → Type 0) (line_request : LineRequest) (Others : List SideEvent → Type 0) (a mid b : AtWork) → IsByEvents w Shows (AreFor line_request a.now) a mid
     → IsByEvents w Shows Others mid b → IsByEvents w Shows (ArePartedFor line_request a.now Others) a b
 two_parts {S} w Shows line_request Others a mid b x y = record {
-  heard = x.heard ++ y.heard;
+  reception = x.reception ++ y.reception;
   sent = x.sent ++ y.sent;
-  read = subst (Consumes a.around.rest b.around.rest) (sym (text_of_both x.heard y.heard))
-      (Consumes-trans a.around.rest mid.around.rest b.around.rest (socket_text x.heard) (socket_text y.heard) x.read y.read);
+  read = subst (Consumes a.around.rest b.around.rest) (sym (text_of_both x.reception y.reception))
+      (Consumes-trans a.around.rest mid.around.rest b.around.rest (socket_text x.reception) (socket_text y.reception) x.read y.read);
   written = subst (Appends a.around.written b.around.written) (sym (text_of_both x.sent y.sent))
       (Appends-trans a.around.written mid.around.written b.around.written (socket_text x.sent) (socket_text y.sent) x.written y.written);
   are = λ v left shown are.
-      let first = x.are v (y.heard ++ left) shown (are ∙ append_assoc x.heard y.heard left) in
+      let first = x.are v (y.reception ++ left) shown (are ∙ append_assoc x.reception y.reception left) in
       let u : SideView S = does_all w first.0 v in
       let others = y.are u left first.2.is_so first.2.incoming in (
         first.0 ++ others.0,
         record { first = first.0; others = others.0; both = refl; for_first = first.1; for_others = others.1 },
-        both_lead w (Shows mid.side) (Shows b.side) (y.heard ++ left) left x.sent y.sent first.0 others.0 v first.2 others.2,
+        both_lead w (Shows mid.side) (Shows b.side) (y.reception ++ left) left x.sent y.sent first.0 others.0 v first.2 others.2,
       );
 }
 
@@ -291,7 +291,7 @@ appends_none a b same = subst (λ (at : AtWork). Appends a.around.written at.aro
 lines : {S : Type 0} (w : Behaviour S) (Shows : EitherSide → S → Type 0) → HasEvents w Shows → (line_requests : List LineRequest) (a b : AtWork) → LinesDo line_requests a b
     → IsByEvents w Shows (AreForAll line_requests a.now) a b
 lines w Shows has [] a b same = record {
-  heard = [];
+  reception = [];
   sent = [];
   read = consumes_none a b same;
   written = appends_none a b same;

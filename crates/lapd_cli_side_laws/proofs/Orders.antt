@@ -64,7 +64,7 @@ writes_to n a mid b p q octets later line w reads known will = record {
   octets = w.first;
   wrote = w.wrote;
   stays = refl;
-  comes = w.both;
+  arrives = w.both;
 }
 
 no_more : (a b : AtWork) (octets : List ℕ) → b ≡ a → IsSome a.around.written → Appends a.around.written b.around.written octets → octets ≡ []
@@ -145,10 +145,10 @@ printed_together c fixed known ns us nb na ub ua net user order joined ordered =
       by_user = record { lines = t.of_user.lines_are ∙ user_script order ns a b net.served.did us p q user.served.did ordered; text = t.of_user.text };
       moves = t.runs.moves;
       asked = t.runs.asked;
-      told = record {
-        delivered_to_network = t.told.delivered_to_network;
-        delivered_to_user = t.told.delivered_to_user;
-        given_to_network = t.told.given_to_network;
-        given_to_user = t.told.given_to_user;
+      reported = record {
+        delivered_to_network = t.reported.delivered_to_network;
+        delivered_to_user = t.reported.delivered_to_user;
+        given_to_network = t.reported.given_to_network;
+        given_to_user = t.reported.given_to_user;
       };
     }

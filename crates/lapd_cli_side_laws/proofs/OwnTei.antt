@@ -211,13 +211,13 @@ pending_after_op now (tei.Stop timer ∷ outs) s = pending_after_op now outs s
 
 -- ---- A user side.
 
-abbrev Tells : User → Reaction User → Type 0
-Tells s a = tei_of a.after.terminal ≡ own_tei (tei_of s.terminal) a.effects.primitives
+abbrev States : User → Reaction User → Type 0
+States s a = tei_of a.after.terminal ≡ own_tei (tei_of s.terminal) a.effects.primitives
 
-by_op : (s : User) (a : Reaction User) → IsOp s a → Tells s a
+by_op : (s : User) (a : Reaction User) → IsOp s a → States s a
 by_op s a op = ap tei_of op.terminal ∙ sym (op.silent (tei_of s.terminal))
 
-acting : (config : Config) (s : User) (now : ℕ) (e : ℕ → TerminalEvent) → Tells s (terminal_acts config now e s)
+acting : (config : Config) (s : User) (now : ℕ) (e : ℕ → TerminalEvent) → States s (terminal_acts config now e s)
 unfolding terminal_acts manages
 acting config s now e =
     let done : TerminalStep = terminal_step s.terminal (e (next_reference s.random)) in
@@ -233,31 +233,31 @@ acting config s now e =
     ∙ own_of_both own outcomes removals ∙ removals_are_silent (tei_freed done.outs) (links_with config (tei_given done.outs) s.served.links) (own_tei own outcomes))
 
 module _ (config : Config) (s : User) where
-  still : Tells s (user.unmoved s)
+  still : States s (user.unmoved s)
   still = refl
 
-  message : (now : ℕ) (r : Result TeiMessage TeiFault) → Tells s (message_received config now r s)
+  message : (now : ℕ) (r : Result TeiMessage TeiFault) → States s (message_received config now r s)
   message now (Ok m) = acting config s now (event.Heard m)
   message now (Err fault) = refl
 
-  either : (test : Bool) (x y : Reaction User) → Tells s x → Tells s y → Tells s (if test then x else y)
+  either : (test : Bool) (x y : Reaction User) → States s x → States s y → States s (if test then x else y)
   either true x y hx hy = hx
   either false x y hx hy = hy
 
-  receives_op : (now : ℕ) (other : LinkId) (input : Input) (octets : List ℕ) → Tells s (or_discarded s (link_of_user now other input octets s))
+  receives_op : (now : ℕ) (other : LinkId) (input : Input) (octets : List ℕ) → States s (or_discarded s (link_of_user now other input octets s))
   receives_op now other input octets = by_op s _ (received_op now other input octets s)
 
-  faulty : (now : ℕ) (kind : FaultKind) (address : Option Address) → Tells s (fault_received now kind address s)
+  faulty : (now : ℕ) (kind : FaultKind) (address : Option Address) → States s (fault_received now kind address s)
   faulty now kind None = refl
   faulty now kind (Some address) = receives_op now (of_sapi address.sapi address.tei) (Faulty kind) []
 
-  hears : (now : ℕ) (r : Result Fields FrameFault) → Tells s (received config now r s)
+  hears : (now : ℕ) (r : Result Fields FrameFault) → States s (received config now r s)
   hears now (Ok frame) = either (carries_message frame) (message_received config now (message_at frame.info) s) (data_received config now frame s) (message now (message_at frame.info))
       (either (for_layer_3 config frame) (unit_from_group frame.address.sapi frame.info s) _ refl
       (receives_op now (of_sapi frame.address.sapi frame.address.tei) (Heard frame.control frame.address.role) frame.info))
   hears now (Err fault) = faulty now fault.kind fault.address
 
-  takes : (octets : List ℕ) (now : ℕ) → Tells s (user_takes config octets now s)
+  takes : (octets : List ℕ) (now : ℕ) → States s (user_takes config octets now s)
   unfolding user_takes
   takes octets now = hears now (frame_at side.Network octets)
 
@@ -267,16 +267,16 @@ module _ (config : Config) (s : User) where
   same_user : (x y : Reaction User) → Grants x ≡ Grants y → x ≡ y
   same_user x y h = cc
 
-  granted_by : (a : Reaction User) (r : Result (Reaction Links) SideKind) → ((b : Reaction Links) → r ≡ Ok b → AreSilent b.effects.primitives) → among_links s r ≡ Ok a → Tells s a
-  granted_by a (Ok b) op is = subst (Tells s) (same_user (with_links s b) a is) (by_op s (with_links s b) (links_op s b (op b refl)))
+  granted_by : (a : Reaction User) (r : Result (Reaction Links) SideKind) → ((b : Reaction Links) → r ≡ Ok b → AreSilent b.effects.primitives) → among_links s r ≡ Ok a → States s a
+  granted_by a (Ok b) op is = subst (States s) (same_user (with_links s b) a is) (by_op s (with_links s b) (links_op s b (op b refl)))
   granted_by a (Err kind) op is = cc
 
-  link_granted : (now : ℕ) (other : LinkId) (input : Input) (octets : List ℕ) (a : Reaction User) → link_of_user now other input octets s ≡ Ok a → Tells s a
+  link_granted : (now : ℕ) (other : LinkId) (input : Input) (octets : List ℕ) (a : Reaction User) → link_of_user now other input octets s ≡ Ok a → States s a
   unfolding link_of_user
   link_granted now other input octets a is = granted_by a (in_links other (link_acts side.User other now input octets) s.served.links) (λ b op. acts_silently other s.served.links now input octets b op) is
 
-  with_own : (now : ℕ) (phase : Phase) (at : Sapi) (input : Input) (octets : List ℕ) (otherwise : Result (Reaction User) SideKind) (a : Reaction User) → (otherwise ≡ Ok a → Tells s a)
-      → with_tei_or now phase at input octets otherwise s ≡ Ok a → Tells s a
+  with_own : (now : ℕ) (phase : Phase) (at : Sapi) (input : Input) (octets : List ℕ) (otherwise : Result (Reaction User) SideKind) (a : Reaction User) → (otherwise ≡ Ok a → States s a)
+      → with_tei_or now phase at input octets otherwise s ≡ Ok a → States s a
   with_own now (Assigned by tei) at input octets otherwise a else_ is = link_granted now (of_sapi at tei) input octets a is
   with_own now Unassigned at input octets otherwise a else_ is = else_ is
   with_own now (Awaiting purpose count ri) at input octets otherwise a else_ is = else_ is
@@ -284,24 +284,24 @@ module _ (config : Config) (s : User) where
   abbrev Refuses : SideKind → Result (Reaction User) SideKind
   Refuses kind = Err kind
 
-  refused : (kind : SideKind) (a : Reaction User) → Refuses kind ≡ Grants a → Tells s a
+  refused : (kind : SideKind) (a : Reaction User) → Refuses kind ≡ Grants a → States s a
   refused kind a is = cc
 
   forgetting : (at : Sapi) (a : Reaction User) (pending : Bool)
-      → (if pending then Ok (record { after = record s { pending = with_pending at false s.pending }; effects = record no_effects { primitives = primitive_of_group at what.ReleaseConfirm } }) else Err NoLink) ≡ Ok a → Tells s a
-  forgetting at a true is = subst (Tells s) (same_user (record { after = record s { pending = with_pending at false s.pending }; effects = record no_effects { primitives = primitive_of_group at what.ReleaseConfirm } }) a is) refl
+      → (if pending then Ok (record { after = record s { pending = with_pending at false s.pending }; effects = record no_effects { primitives = primitive_of_group at what.ReleaseConfirm } }) else Err NoLink) ≡ Ok a → States s a
+  forgetting at a true is = subst (States s) (same_user (record { after = record s { pending = with_pending at false s.pending }; effects = record no_effects { primitives = primitive_of_group at what.ReleaseConfirm } }) a is) refl
   forgetting at a false is = cc
 
-  requested : (r : Result (Reaction User) SideKind) → ((a : Reaction User) → r ≡ Ok a → Tells s a) → Tells s (or_unmoved s r)
+  requested : (r : Result (Reaction User) SideKind) → ((a : Reaction User) → r ≡ Ok a → States s a) → States s (or_unmoved s r)
   requested (Ok a) each = each a refl
   requested (Err kind) each = refl
 
 wanting : (config : Config) (s : User) (now : ℕ) (at : Sapi) (a : Reaction User) (served : Bool)
-    → (if served then Ok (terminal_acts config now event.Want (record s { pending = with_pending at true s.pending })) else Err NoLink) ≡ Ok a → Tells s a
-wanting config s now at a true is = subst (Tells s) (same_user config s (terminal_acts config now event.Want (record s { pending = with_pending at true s.pending })) a is) (acting config (record s { pending = with_pending at true s.pending }) now event.Want)
+    → (if served then Ok (terminal_acts config now event.Want (record s { pending = with_pending at true s.pending })) else Err NoLink) ≡ Ok a → States s a
+wanting config s now at a true is = subst (States s) (same_user config s (terminal_acts config now event.Want (record s { pending = with_pending at true s.pending })) a is) (acting config (record s { pending = with_pending at true s.pending }) now event.Want)
 wanting config s now at a false is = cc
 
-granted : (config : Config) (s : User) (request : Request) (now : ℕ) (a : Reaction User) → user_requested config request now s ≡ Ok a → Tells s a
+granted : (config : Config) (s : User) (request : Request) (now : ℕ) (a : Reaction User) → user_requested config request now s ≡ Ok a → States s a
 unfolding user_requested
 granted config s (request.Establish other) now a is = with_own config s now s.terminal other.sapi Establish [] (wants config now other.sapi s) a (wanting config s now other.sapi a (is_served config other.sapi)) is
 granted config s (request.Release other) now a is = with_own config s now s.terminal other.sapi input.Release [] (forgets other.sapi s) a (forgetting config s other.sapi a (is_pending other.sapi s.pending)) is
@@ -309,18 +309,18 @@ granted config s (request.Unit other octets) now a is = with_own config s now s.
 granted config s (request.Give other message) now a is = with_own config s now s.terminal other.sapi (Give message.items) [] (Err (Link NotEstablished)) a (refused config s (Link NotEstablished) a) is
 granted config s (request.Busy other true) now a is = with_own config s now s.terminal other.sapi input.BusyOn [] (Err NoLink) a (refused config s NoLink a) is
 granted config s (request.Busy other false) now a is = with_own config s now s.terminal other.sapi input.BusyOff [] (Err NoLink) a (refused config s NoLink a) is
-granted config s request.AskTei now a is = subst (Tells s) (same_user config s (terminal_acts config now event.Ask s) a is) (acting config s now event.Ask)
-granted config s (request.Check tei) now a is = subst (Tells s) (same_user config s (user.unmoved s) a is) refl
+granted config s request.AskTei now a is = subst (States s) (same_user config s (terminal_acts config now event.Ask s) a is) (acting config s now event.Ask)
+granted config s (request.Check tei) now a is = subst (States s) (same_user config s (user.unmoved s) a is) refl
 
-expires : (config : Config) (s : User) (now : ℕ) (timer : Timer) (of : Option LinkId) → Tells s (user_expires config now timer of s)
+expires : (config : Config) (s : User) (now : ℕ) (timer : Timer) (of : Option LinkId) → States s (user_expires config now timer of s)
 unfolding user_expires
 expires config s now timer None = acting config (record s { served = record { links = s.served.links; timers = stopped timer s.served.timers } }) now event.T202
 expires config s now timer (Some other) = by_op s _ (ignored_op s (in_links other (link_expires side.User other now timer) s.served.links) (λ b is. expires_silently other s.served.links now timer b is))
 
-reaction_tells : (config : Config) (v : SideView User) (side_event : SideEvent) → Tells v.now (reaction (user_behaviour config) side_event v)
+reaction_tells : (config : Config) (v : SideView User) (side_event : SideEvent) → States v.now (reaction (user_behaviour config) side_event v)
 reaction_tells config v (Take now) = first v.incoming
   where
-    first : (line : List (List ℕ)) → Tells v.now (takes_first (user_behaviour config) now line v.now)
+    first : (line : List (List ℕ)) → States v.now (takes_first (user_behaviour config) now line v.now)
     first [] = refl
     first (octets ∷ rest) = takes config v.now octets now
 reaction_tells config v (Lose at) = refl

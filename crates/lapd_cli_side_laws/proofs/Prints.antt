@@ -136,7 +136,7 @@ asked_prints {S} w Shows has answers line_request a b h =
       printed = printed;
       style = h.puts.style;
       text = reads_as a.around.printed b.around.printed _ _ (answer_read a.around.style side h.result h.acts) h.puts.printed;
-      told = λ v left shown are.
+      reported = λ v left shown are.
           let d = has.asks h.request a.now h.result a.side b.side h.acts h.answers v shown in
           let as_ = answers h.request a.now h.result a.side b.side h.acts h.answers v.now shown in record {
             delivered = answer_delivers w side h.request a.now h.result h.acts v as_ d.puts.delivered;
@@ -159,7 +159,7 @@ take_prints {S} w Shows has a b h =
       printed = Frame (other_side side) h.frame ∷ acts_lines side acts.frames acts.primitives;
       style = h.takes.puts.style;
       text = reads_as a.around.printed b.around.printed _ _ (ap (λ (text : List ℕ). frame_text_line a.around.style (other_side side) h.frame ++ text) (acts_read a.around.style side acts.frames acts.primitives)) h.takes.puts.printed;
-      told = λ v left shown are.
+      reported = λ v left shown are.
           let d = has.takes h.frame a.now a.side b.side acts h.takes.takes v left shown are in record {
             delivered = d.puts.delivered ∙ ap (λ (primitives : List Primitive). v.delivered ++ primitives) (sym (acts_are side acts.frames acts.primitives));
             given = take_gives w a.now v;
@@ -173,7 +173,7 @@ end_prints w Shows has a b h = record {
   printed = InputEnd ∷ [];
   style = h.puts.style;
   text = reads_as a.around.printed b.around.printed _ _ (append-nil (line_text a.around.style InputEnd)) h.puts.printed;
-  told = λ v left shown are. record { delivered = sym (append-nil v.delivered); given = sym (append-nil v.given) };
+  reported = λ v left shown are. record { delivered = sym (append-nil v.delivered); given = sym (append-nil v.given) };
 }
 
 expiry_gives : {S : Type 0} (w : Behaviour S) (e : RunningTimer) (now : ℕ) (v : SideView S) → (does w (Expire e.timer e.of now) v).given ≡ v.given
@@ -206,7 +206,7 @@ tick_prints w Shows has ms a b h =
       printed = acts_lines side (frames_given calls) (primitives_given calls);
       style = h.due.puts.style;
       text = reads_as a.around.printed b.around.printed _ _ (acts_read a.around.style side (frames_given calls) (primitives_given calls)) h.due.puts.printed;
-      told = λ v left shown are.
+      reported = λ v left shown are.
           let all = all_told w Shows has (a.now + ms) calls a.side b.side h.due.in_order v left shown are in record {
             delivered = all.delivered ∙ ap (λ (primitives : List Primitive). v.delivered ++ primitives) (sym (acts_are side (frames_given calls) (primitives_given calls)));
             given = all.given ∙ sym (append-nil v.given);

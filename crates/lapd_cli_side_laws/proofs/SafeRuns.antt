@@ -38,18 +38,18 @@ received_so id given gave sent_in own owned other others numbers same_given same
     (subst (λ (ps : List Primitive). IsReceivedUnskipped (given_to id given) sent_in (known_of id own).acked (known_of id ps).received numbers) same_other h))
 
 in_print : (c : Configs) (id : LinkId) (fixed : Option ℕ) (network user : List ExecutedLine) (moves : List Move) (i : Interface) → ArePrinted fixed network user (run c moves i) → IsRight c id moves i → IsRightInPrint c id fixed network user moves i
-in_print c id fixed network user moves i told right = record {
-  to_network = received_so id _ _ _ _ _ _ _ _ told.given_to_user told.delivered_to_user told.delivered_to_network right.to_network;
-  to_user = received_so id _ _ _ _ _ _ _ _ told.given_to_network told.delivered_to_network told.delivered_to_user right.to_user;
-  reports_to_user = subst (λ (ps : List Primitive). AreExpectedOfLink (link_primitives id ps)) told.delivered_to_user right.reports_to_user;
-  reports_to_network = subst (λ (ps : List Primitive). AreExpectedOfLink (link_primitives id ps)) told.delivered_to_network right.reports_to_network;
+in_print c id fixed network user moves i reported right = record {
+  to_network = received_so id _ _ _ _ _ _ _ _ reported.given_to_user reported.delivered_to_user reported.delivered_to_network right.to_network;
+  to_user = received_so id _ _ _ _ _ _ _ _ reported.given_to_network reported.delivered_to_network reported.delivered_to_user right.to_user;
+  reports_to_user = subst (λ (ps : List Primitive). AreExpectedOfLink (link_primitives id ps)) reported.delivered_to_user right.reports_to_user;
+  reports_to_network = subst (λ (ps : List Primitive). AreExpectedOfLink (link_primitives id ps)) reported.delivered_to_network right.reports_to_network;
 }
 
 pub right_in_print : (c : Configs) (fixed : Option ℕ) (known : List ℕ) (lines : List ProgramLine) (ns us : List LineRequest) (nb na ub ua : Devices) (runs : AreMovesInPrint c fixed known lines ns us nb na ub ua)
     (id : LinkId) → id.tei < 127 → (parameters_for c.user id.sapi).k ≤ 127 → (parameters_for c.network id.sapi).k ≤ 127 → SatisfyPremisesAsMade c id runs.moves (sides_at_first c fixed known)
     → IsSafeInPrint c id fixed runs.network runs.user runs.moves (sides_at_first c fixed known)
-right_in_print c fixed known lines ns us nb na ub ua runs id low few_u few_n kept =
-    let safe = made_link_safe c id fixed known (seeded c.user.seed) low few_u few_n runs.moves kept in record {
+right_in_print c fixed known lines ns us nb na ub ua runs id low few_u few_n preserved =
+    let safe = made_link_safe c id fixed known (seeded c.user.seed) low few_u few_n runs.moves preserved in record {
       safe = safe;
-      in_print = in_print c id fixed runs.network runs.user runs.moves (sides_at_first c fixed known) runs.told safe.right;
+      in_print = in_print c id fixed runs.network runs.user runs.moves (sides_at_first c fixed known) runs.reported safe.right;
     }

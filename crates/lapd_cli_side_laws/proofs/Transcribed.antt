@@ -82,7 +82,7 @@ pub record AreTranscribed (c : Configs) (fixed : Option ℕ) (lines : List Progr
   pub user : List ExecutedLine
   pub of_network : IsOfProgram side.Network lines a b network
   pub of_user : IsOfProgram side.User lines a b user
-  pub told : Tell fixed network user i (run c runs.moves i)
+  pub reported : Tell fixed network user i (run c runs.moves i)
 
 -- a list grows by one part, and then by another
 grows_twice : {X : Type 0} (i mid j more others : List X) → mid ≡ i ++ more → j ≡ mid ++ others → j ≡ i ++ (more ++ others)
@@ -119,13 +119,13 @@ adds c fixed side.Network line_request lines a mid b i t known more =
         lines_are = more.of_user.lines_are;
         text = unchanged a.user.at mid.user.at b.user.at more.user t.other more.of_user.text;
       };
-      told = subst (Tell fixed (e ∷ more.network) more.user i) (sym (run_of_both c (moves_of side.Network t.events) more.runs.moves i)) (record {
-        delivered_to_network = grows_twice i.delivered_to_network m.delivered_to_network _ (primitives_in t.printed) (primitives_of more.network) t.told.delivered more.told.delivered_to_network;
-        delivered_to_user = more.told.delivered_to_user ∙ ap (λ (ps : List Primitive). ps ++ primitives_of more.user) t.told.others_delivered;
-        given_to_network = grows_twice i.given_to_network m.given_to_network _ (submitted_in (named_link i.delivered_to_network) line_request (is_refused t.printed)) (submitted_after named_link (i.delivered_to_network ++ primitives_in t.printed) more.network) t.told.given
-            (more.told.given_to_network ∙ ap (λ (ps : List Primitive). m.given_to_network ++ submitted_after named_link ps more.network) t.told.delivered);
-        given_to_user = more.told.given_to_user ∙ ap (λ (gs : List (LinkId × List ℕ)). gs ++ submitted_after (own_link fixed) m.delivered_to_user more.user) t.told.others_given
-            ∙ ap (λ (ps : List Primitive). i.given_to_user ++ submitted_after (own_link fixed) ps more.user) t.told.others_delivered;
+      reported = subst (Tell fixed (e ∷ more.network) more.user i) (sym (run_of_both c (moves_of side.Network t.events) more.runs.moves i)) (record {
+        delivered_to_network = grows_twice i.delivered_to_network m.delivered_to_network _ (primitives_in t.printed) (primitives_of more.network) t.reported.delivered more.reported.delivered_to_network;
+        delivered_to_user = more.reported.delivered_to_user ∙ ap (λ (ps : List Primitive). ps ++ primitives_of more.user) t.reported.others_delivered;
+        given_to_network = grows_twice i.given_to_network m.given_to_network _ (submitted_in (named_link i.delivered_to_network) line_request (is_refused t.printed)) (submitted_after named_link (i.delivered_to_network ++ primitives_in t.printed) more.network) t.reported.given
+            (more.reported.given_to_network ∙ ap (λ (ps : List Primitive). m.given_to_network ++ submitted_after named_link ps more.network) t.reported.delivered);
+        given_to_user = more.reported.given_to_user ∙ ap (λ (gs : List (LinkId × List ℕ)). gs ++ submitted_after (own_link fixed) m.delivered_to_user more.user) t.reported.others_given
+            ∙ ap (λ (ps : List Primitive). i.given_to_user ++ submitted_after (own_link fixed) ps more.user) t.reported.others_delivered;
       });
     }
 adds c fixed side.User line_request lines a mid b i t known more =
@@ -143,14 +143,14 @@ adds c fixed side.User line_request lines a mid b i t known more =
         lines_are = ap (λ (rs : List LineRequest). line_request ∷ rs) more.of_user.lines_are;
         text = one_more_line line_request t.printed more.user a.user.at mid.user.at b.user.at t.text t.style more.of_user.text;
       };
-      told = subst (Tell fixed more.network (e ∷ more.user) i) (sym (run_of_both c (moves_of side.User t.events) more.runs.moves i)) (record {
-        delivered_to_user = grows_twice i.delivered_to_user m.delivered_to_user _ (primitives_in t.printed) (primitives_of more.user) t.told.delivered more.told.delivered_to_user;
-        delivered_to_network = more.told.delivered_to_network ∙ ap (λ (ps : List Primitive). ps ++ primitives_of more.network) t.told.others_delivered;
+      reported = subst (Tell fixed more.network (e ∷ more.user) i) (sym (run_of_both c (moves_of side.User t.events) more.runs.moves i)) (record {
+        delivered_to_user = grows_twice i.delivered_to_user m.delivered_to_user _ (primitives_in t.printed) (primitives_of more.user) t.reported.delivered more.reported.delivered_to_user;
+        delivered_to_network = more.reported.delivered_to_network ∙ ap (λ (ps : List Primitive). ps ++ primitives_of more.network) t.reported.others_delivered;
         given_to_user = grows_twice i.given_to_user m.given_to_user _ (submitted_in (own_link fixed i.delivered_to_user) line_request (is_refused t.printed)) (submitted_after (own_link fixed) (i.delivered_to_user ++ primitives_in t.printed) more.user)
-            (t.told.given ∙ ap (λ (gs : List (LinkId × List ℕ)). i.given_to_user ++ gs) (user_submits fixed i line_request (is_refused t.printed) known))
-            (more.told.given_to_user ∙ ap (λ (ps : List Primitive). m.given_to_user ++ submitted_after (own_link fixed) ps more.user) t.told.delivered);
-        given_to_network = more.told.given_to_network ∙ ap (λ (gs : List (LinkId × List ℕ)). gs ++ submitted_after named_link m.delivered_to_network more.network) t.told.others_given
-            ∙ ap (λ (ps : List Primitive). i.given_to_network ++ submitted_after named_link ps more.network) t.told.others_delivered;
+            (t.reported.given ∙ ap (λ (gs : List (LinkId × List ℕ)). i.given_to_user ++ gs) (user_submits fixed i line_request (is_refused t.printed) known))
+            (more.reported.given_to_user ∙ ap (λ (ps : List Primitive). m.given_to_user ++ submitted_after (own_link fixed) ps more.user) t.reported.delivered);
+        given_to_network = more.reported.given_to_network ∙ ap (λ (gs : List (LinkId × List ℕ)). gs ++ submitted_after named_link m.delivered_to_network more.network) t.reported.others_given
+            ∙ ap (λ (ps : List Primitive). i.given_to_network ++ submitted_after named_link ps more.network) t.reported.others_delivered;
       });
     }
 
@@ -165,7 +165,7 @@ transcribed c fixed [] a b i at known same = record {
   user = [];
   of_network = record { lines_are = refl; text = appends_none side.Network a b same };
   of_user = record { lines_are = refl; text = appends_none side.User a b same };
-  told = record {
+  reported = record {
     delivered_to_network = sym (append-nil i.delivered_to_network);
     delivered_to_user = sym (append-nil i.delivered_to_user);
     given_to_network = sym (append-nil i.given_to_network);

@@ -394,5 +394,5 @@ premises_met nb na ub ua_ network user over =
           ),
         ),
       );
-      kept = all_keep;
+      preserved = all_keep;
     }

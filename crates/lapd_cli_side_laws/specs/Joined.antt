@@ -38,7 +38,7 @@ pub record WritesTo (line_request : LineRequest) (a b other after : Program) : T
   pub octets : List ℕ
   pub wrote : Appends a.at.around.written b.at.around.written octets
   pub stays : after.at ≡ other.at
-  pub comes : other.later ≡ octets ++ after.later
+  pub arrives : other.later ≡ octets ++ after.later
 
 abbrev pub ProgramDoes : Side → LineRequest → Programs → Programs → Type 0
 ProgramDoes side.Network line_request a b = WritesTo line_request a.network b.network a.user b.user

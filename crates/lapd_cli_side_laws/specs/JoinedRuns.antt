@@ -129,4 +129,4 @@ pub record AreMovesInPrint (c : Configs) (fixed : Option ℕ) (known : List ℕ)
   pub by_user : IsTranscript user user_lines user_before user_after
   pub moves : List Move
   pub asked : AreMovesFor lines 0 0 moves
-  pub told : ArePrinted fixed network user (run c moves (sides_at_first c fixed known))
+  pub reported : ArePrinted fixed network user (run c moves (sides_at_first c fixed known))

@@ -26,6 +26,6 @@ pub record IsPrinted {S : Type 0} (w : Behaviour S) (Shows : EitherSide → S �
     pub printed : List PrintedLine
     pub style : b.around.style ≡ a.around.style
     pub text : Appends a.around.printed b.around.printed (lines_text a.around.style printed)
-    pub told : (v : SideView S) (left : List (List ℕ)) (shown : Shows a.side v.now)
-        (are : v.incoming ≡ by_events.heard ++ left)
+    pub reported : (v : SideView S) (left : List (List ℕ)) (shown : Shows a.side v.now)
+        (are : v.incoming ≡ by_events.reception ++ left)
         → AreTold w line_request printed (by_events.are v left shown are).0 v

@@ -78,12 +78,12 @@ pub record LeadTo {S : Type 0} (w : Behaviour S) (IsSo : S → Type 0) (left sen
 -- frames of `sent` on the line.
 pub record IsByEvents {S : Type 0} (w : Behaviour S) (Shows : EitherSide → S → Type 0)
     (AreAskedFor : List SideEvent → Type 0) (a b : AtWork) : Type 0 where
-  pub heard : List (List ℕ)
+  pub reception : List (List ℕ)
   pub sent : List (List ℕ)
-  pub read : Consumes a.around.rest b.around.rest (socket_text heard)
+  pub read : Consumes a.around.rest b.around.rest (socket_text reception)
   pub written : Appends a.around.written b.around.written (socket_text sent)
   pub are : (v : SideView S) (left : List (List ℕ)) → Shows a.side v.now
-      → v.incoming ≡ heard ++ left
+      → v.incoming ≡ reception ++ left
       → (events : List SideEvent) × AreAskedFor events × LeadTo w (Shows b.side) left sent events v
 
 -- ---- For either side.

@@ -63,6 +63,6 @@ pub record MeetPremises (network_before network_after user_before user_after : D
   pub in_order : AreServedInOrder in_turn (either.Network network.began) (either.User user.began)
       network_script user_script network_before network_after user_before user_after
       network.served user.served
-  pub kept : (moves : List Move)
+  pub preserved : (moves : List Move)
       → AreMovesFor (lines_in in_turn network_script user_script) 0 0 moves
       → SatisfyPremisesAsMade configs call moves (sides_at_first configs (Some 64) (64 ∷ []))

@@ -37,12 +37,12 @@ const FROM_USER: &[u8; 34] =
     \x00\x04\x02\x81\x01\x02\x00\x03\x00\x81\x53";
 
 /// Whether both ends run as in the help, and the user sends these octets.
-fn both_go(rt: &HostRuntime) -> io::Result<bool> {
+fn both_exchange(rt: &HostRuntime) -> io::Result<bool> {
     let (near, far) = to_itself(rt)?;
-    Ok(both_go_over(rt.alloc(), &near, &far))
+    Ok(both_exchange_over(rt.alloc(), &near, &far))
 }
 
-fn both_go_over(alloc: Global, mut near: &TcpStream, mut far: &TcpStream) -> bool {
+fn both_exchange_over(alloc: Global, mut near: &TcpStream, mut far: &TcpStream) -> bool {
     let mut sent = [0; 34];
     let (net, user) = (text_of(Script::Net), text_of(Script::User));
     far.write_all(FROM_USER).is_ok()
@@ -65,7 +65,7 @@ fn scenarios_over_connections(rt: HostRuntime) -> Result<(), Fail> {
             return Err(Fail::new(format_args!("{row}\nit goes otherwise as `loop`")));
         }
     }
-    if both_go(&rt)? {
+    if both_exchange(&rt)? {
         Ok(())
     } else {
         Err(Fail::new(format_args!("both ends of the help's dialogue")))

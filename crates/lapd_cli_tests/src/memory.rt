@@ -15,7 +15,7 @@ use std::test::Fail;
 /// Fails the test unless a scenario runs as written. If an allocation fails, the earlier lines must
 /// be answered, and nothing of the current line's answer printed. A side may have printed a part of
 /// it, in whole lines.
-fn keeps(rt: &HostRuntime, job: Job, text: &str) -> Result<(), Fail> {
+fn preserves(rt: &HostRuntime, job: Job, text: &str) -> Result<(), Fail> {
     let is_side = matches!(job, Job::Net(_) | Job::User(_));
     let chosen = Invocation {
         job,
@@ -78,7 +78,7 @@ fn scenarios_while_there_is_memory(rt: HostRuntime) -> Result<(), Fail> {
         user: params,
         network: params,
     };
-    keeps(&rt, job, MESSAGE)
+    preserves(&rt, job, MESSAGE)
 }
 
 const MESSAGE: &str = "\
@@ -114,7 +114,7 @@ fn end_of(side: Side) -> Job {
 
 #[test]
 fn requests_while_there_is_memory(rt: HostRuntime) -> Result<(), Fail> {
-    keeps(&rt, end_of(Side::User), REQUESTS)
+    preserves(&rt, end_of(Side::User), REQUESTS)
 }
 
 const REQUESTS: &str = "\
@@ -139,7 +139,7 @@ state
 
 #[test]
 fn memory_runs_out(rt: HostRuntime) -> Result<(), Fail> {
-    keeps(&rt, end_of(Side::Network), FRAMES)
+    preserves(&rt, end_of(Side::Network), FRAMES)
 }
 
 const FRAMES: &str = "\
@@ -160,7 +160,7 @@ fn decodes_while_there_is_memory(rt: HostRuntime) -> Result<(), Fail> {
         json: false,
         keep_going: false,
     };
-    keeps(&rt, Job::Decode(options), OCTETS)
+    preserves(&rt, Job::Decode(options), OCTETS)
 }
 
 const OCTETS: &str = "\
@@ -174,8 +174,8 @@ user
 
 #[test]
 fn sides_without_memory(rt: HostRuntime) -> Result<(), Fail> {
-    keeps(&rt, Job::Net(basic_access(rt.alloc())), NETWORK)?;
-    keeps(&rt, Job::User(basic_access(rt.alloc())), USER)
+    preserves(&rt, Job::Net(basic_access(rt.alloc())), NETWORK)?;
+    preserves(&rt, Job::User(basic_access(rt.alloc())), USER)
 }
 
 fn basic_access(alloc: Global) -> Interface {

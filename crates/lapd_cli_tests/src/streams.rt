@@ -46,7 +46,7 @@ fn long_text(alloc: Global, lines: u32) -> Result<String, AllocError> {
 
 /// Whether a text is passed on in parts of at most `most` octets, and its last lines are kept as
 /// long as they should be.
-fn keeps(text: &str, most: usize) -> bool {
+fn preserves(text: &str, most: usize) -> bool {
     let mut recent = RecentLines::new(Parts {
         octets: text.as_bytes(),
         most,
@@ -76,22 +76,22 @@ fn has_last_lines(recent: &RecentLines<Parts<'_>>, front: &str, part: usize) -> 
     let feeds = front.split('\n').count().saturating_sub(1) as u64;
     let mut lines = front.rsplit('\n');
     let (last, before) = (lines.next().unwrap_or(""), lines.next().unwrap_or(""));
-    let is_gone = part <= last.len();
+    let is_removed = part <= last.len();
     recent.line(feeds.saturating_add(1)) == Some(last.as_bytes())
-        && (is_gone || recent.line(feeds) == Some(before.as_bytes()))
+        && (is_removed || recent.line(feeds) == Some(before.as_bytes()))
         && recent.line(feeds.saturating_add(2)).is_none()
         && recent.line(0).is_none()
 }
 
 /// Whether the last lines of long texts are kept, with parts of these lengths.
-fn keeps_long(alloc: Global) -> Result<bool, AllocError> {
+fn takes_long(alloc: Global) -> Result<bool, AllocError> {
     let (short, long) = (long_text(alloc, 30)?, long_text(alloc, 400)?);
     Ok(
-        keeps(short.as_str(), 2)
-            && keeps(short.as_str(), 7)
-            && keeps(short.as_str(), 100)
-            && keeps(long.as_str(), 8191)
-            && keeps(long.as_str(), 8192),
+        preserves(short.as_str(), 2)
+            && preserves(short.as_str(), 7)
+            && preserves(short.as_str(), 100)
+            && preserves(long.as_str(), 8191)
+            && preserves(long.as_str(), 8192),
     )
 }
 
@@ -247,7 +247,7 @@ fn wrong(alloc: Global, chosen: &Invocation<'_>) -> Result<&'static str, AllocEr
             return Ok("a session");
         }
     }
-    Ok(if !keeps_long(alloc)? {
+    Ok(if !takes_long(alloc)? {
         "the last lines of a long text"
     } else if !cuts(alloc, chosen)? {
         "notes, and a long line"

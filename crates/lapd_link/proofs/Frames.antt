@@ -47,26 +47,26 @@ short_at (message ∷ messages) (suc at) short = short_at messages at short.1
 unit_is_proper : (len : ℕ) → len ≤ n201 → at_most_n201 len ≡ None
 unit_is_proper len short = let no : nat_lt 260 len ≡ false = grind (arith, nat_tests) in rw no refl
 
-has_frame : (setup : Setup) (messages : List (List ℕ)) (handed : List ℕ) (output : Out) → length handed ≤ n201 → AreShort messages → IsWellFormed output → IsPlaced (length messages) output
-    → made_frame setup messages handed output ≡ sent_frame setup messages handed output
-has_frame setup messages handed (Send role control) fits short spoken placed = frame_of_parts setup role control [] spoken
-has_frame setup messages handed (SendMessage place control) fits short spoken placed =
+has_frame : (setup : Setup) (messages : List (List ℕ)) (input_octets : List ℕ) (output : Out) → length input_octets ≤ n201 → AreShort messages → IsWellFormed output → IsPlaced (length messages) output
+    → made_frame setup messages input_octets output ≡ sent_frame setup messages input_octets output
+has_frame setup messages input_octets (Send role control) fits short spoken placed = frame_of_parts setup role control [] spoken
+has_frame setup messages input_octets (SendMessage place control) fits short spoken placed =
     rw (slice_get-get_or messages place [] placed) (frame_of_parts setup Command control (get_or messages place []) (spoken (length (get_or messages place [])) (short_at messages place short)))
-has_frame setup messages handed SendUnit fits short spoken placed = frame_of_parts setup Command (Ui false) handed (unit_is_proper (length handed) fits)
-has_frame setup messages handed output fits short spoken placed = refl
+has_frame setup messages input_octets SendUnit fits short spoken placed = frame_of_parts setup Command (Ui false) input_octets (unit_is_proper (length input_octets) fits)
+has_frame setup messages input_octets output fits short spoken placed = refl
 
 -- ---- The outputs of a step.
 
 all_have_frames : (setup : Setup) (messages : List (List ℕ)) (outs : List Out) → AreShort messages → AreWellFormed outs → ArePlaced (length messages) outs → HaveFrames setup messages outs
-all_have_frames setup messages [] short spoken placed handed fits = All-nil (λ output. made_frame setup messages handed output ≡ sent_frame setup messages handed output)
-all_have_frames setup messages (output ∷ outs) short spoken placed handed fits =
-    All-cons (λ output. made_frame setup messages handed output ≡ sent_frame setup messages handed output) output outs
-    (has_frame setup messages handed output fits short spoken.0 placed.0) (all_have_frames setup messages outs short spoken.1 placed.1 handed fits)
+all_have_frames setup messages [] short spoken placed input_octets fits = All-nil (λ output. made_frame setup messages input_octets output ≡ sent_frame setup messages input_octets output)
+all_have_frames setup messages (output ∷ outs) short spoken placed input_octets fits =
+    All-cons (λ output. made_frame setup messages input_octets output ≡ sent_frame setup messages input_octets output) output outs
+    (has_frame setup messages input_octets output fits short spoken.0 placed.0) (all_have_frames setup messages outs short spoken.1 placed.1 input_octets fits)
 
 pub frames_of_step : (setup : Setup) (input : Input) (e : End) (s : StepState) → AllowsFrames e → step Tagged input e ≡ Ok s → HaveFrames setup (drop s.end.first s.end.given) s.outs
-frames_of_step setup input e s keeps done =
-    all_have_frames setup (drop s.end.first s.end.given) s.outs (short_behind s.end.first s.end.given (step_is_short Tagged input e s keeps.short done)) (step_is_well_formed Tagged input e s done)
-    (subst (λ (n : ℕ). ArePlaced n s.outs) (sym (length-drop s.end.first s.end.given)) (messages_are_there Tagged input e s keeps.few keeps.sound keeps.numbers done))
+frames_of_step setup input e s preserves done =
+    all_have_frames setup (drop s.end.first s.end.given) s.outs (short_behind s.end.first s.end.given (step_is_short Tagged input e s preserves.short done)) (step_is_well_formed Tagged input e s done)
+    (subst (λ (n : ℕ). ArePlaced n s.outs) (sym (length-drop s.end.first s.end.given)) (messages_are_there Tagged input e s preserves.few preserves.sound preserves.numbers done))
 
 -- ---- From a new end.
 
@@ -75,13 +75,13 @@ unfolding initial_variables
 allows_new p few = record { few = few; sound = sound_new Tagged p; numbers = (omega arith, omega arith, omega arith); short = tt }
 
 pub allows_after : (input : Input) (e : End) (s : StepState) → AllowsFrames e → CarriesNumbers Tagged input → step Tagged input e ≡ Ok s → AllowsFrames s.end
-allows_after input e s keeps heard done =
+allows_after input e s preserves reception done =
     let Few : Parameters → Type 0 = λ p. p.k ≤ 127 in
     record {
-      few = subst Few (sym (step_preserves_parameters Tagged input e s done)) keeps.few;
-      sound = sound_step Tagged input e s keeps.few keeps.sound done;
-      numbers = numbers_stay Tagged input e s keeps.numbers heard done;
-      short = step_is_short Tagged input e s keeps.short done;
+      few = subst Few (sym (step_preserves_parameters Tagged input e s done)) preserves.few;
+      sound = sound_step Tagged input e s preserves.few preserves.sound done;
+      numbers = numbers_stay Tagged input e s preserves.numbers reception done;
+      short = step_is_short Tagged input e s preserves.short done;
     }
 
 -- ---- Unit data.
@@ -110,9 +110,9 @@ pub frames_of_machine : (setup : Setup) (old new : Machine) (input : Input) (out
     → (e : End) → Represents new [] (begin e) → HaveFrames setup (drop e.first e.given) outs
 frames_of_machine setup old new input outs between steps e representation =
     let done = steps (end_of old) (shows_end old between) in
-    let keeps : AllowsFrames (end_of old) = record { few = between.few; sound = is_sound old between; numbers = between.numbers; short = are_short old.queue.messages between.short } in
+    let preserves : AllowsFrames (end_of old) = record { few = between.few; sound = is_sound old between; numbers = between.numbers; short = are_short old.queue.messages between.short } in
     subst (λ (messages : List (List ℕ)). HaveFrames setup messages outs) (same_messages new done.0.end e done.3 representation)
-    (subst (λ (given : List Out). HaveFrames setup (drop done.0.end.first done.0.end.given) given) done.2 (frames_of_step setup input (end_of old) done.0 keeps done.1))
+    (subst (λ (given : List Out). HaveFrames setup (drop done.0.end.first done.0.end.given) given) done.2 (frames_of_step setup input (end_of old) done.0 preserves done.1))
 
 pub frames_of_link : (old new : Link) (input : Input) (outs : List Out) → Steps old new input outs → HasFramesOf new outs
 frames_of_link old new input outs steps = frames_of_machine (setup_of new) old.machine new.machine input outs old.between steps

@@ -32,14 +32,16 @@ link_parts setup role control info = record {
 }
 
 -- The frame of each output that is sent, and `None` for any other output. `messages` are those that
--- are neither acknowledged nor dropped after the step, and `handed` are the octets of the unit data
+-- are neither acknowledged nor dropped after the step, and `input_octets` are the octets of the unit data
 -- of the step.
 abbrev pub sent_frame : Setup → List (List ℕ) → List ℕ → Out → Option Fields
-sent_frame setup messages handed (out.Send role control) = Some (link_parts setup role control [])
-sent_frame setup messages handed (out.SendMessage place control) =
+sent_frame setup messages input_octets (out.Send role control) = Some
+    (link_parts setup role control [])
+sent_frame setup messages input_octets (out.SendMessage place control) =
     Some (link_parts setup Command control (get_or messages place []))
-sent_frame setup messages handed out.SendUnit = Some (link_parts setup Command (Ui false) handed)
-sent_frame setup messages handed other = None
+sent_frame setup messages input_octets out.SendUnit = Some
+    (link_parts setup Command (Ui false) input_octets)
+sent_frame setup messages input_octets other = None
 
 -- ---- The frame made from any output.
 
@@ -56,20 +58,21 @@ message_frame setup control (Some message) = link_frame setup Command control me
 -- the frame made from an output; `None` also if its message does not exist, or its parts do not
 -- form a frame
 abbrev pub made_frame : Setup → List (List ℕ) → List ℕ → Out → Option Fields
-made_frame setup messages handed (out.Send role control) = link_frame setup role control []
-made_frame setup messages handed (out.SendMessage place control) =
+made_frame setup messages input_octets (out.Send role control) = link_frame setup role control []
+made_frame setup messages input_octets (out.SendMessage place control) =
     message_frame setup control (slice_get messages place)
-made_frame setup messages handed out.SendUnit = link_frame setup Command (Ui false) handed
-made_frame setup messages handed other = None
+made_frame setup messages input_octets out.SendUnit = link_frame setup Command
+    (Ui false) input_octets
+made_frame setup messages input_octets other = None
 
 -- ---- The outputs of a step.
 
 -- Each of these outputs that is sent has its frame: its message exists, and its parts form a frame.
 -- This holds for any unit data of up to N201 octets.
 abbrev pub HaveFrames : Setup → List (List ℕ) → List Out → Type 0
-HaveFrames setup messages outs = (handed : List ℕ) → length handed ≤ n201
-    → All (λ output. made_frame setup messages handed output
-    ≡ sent_frame setup messages handed output) outs
+HaveFrames setup messages outs = (input_octets : List ℕ) → length input_octets ≤ n201
+    → All (λ output. made_frame setup messages input_octets output
+    ≡ sent_frame setup messages input_octets output) outs
 
 -- a link has the frames of these outputs, after the step that returned them
 abbrev pub HasFramesOf : Link → List Out → Type 0

@@ -11,27 +11,28 @@ use lapd_link_definition::Out;
 
 impl Link {
     /// The frame that an output of the last step sends, or `None` for an output that is not sent.
-    /// Write it by [`lapd_frame::write`] as this side sends it. `handed` are the octets of the unit
+    /// Write it by [`lapd_frame::write`] as this side sends it. `input_octets` are the octets of the unit
     /// data of the step (empty for any other event). The frame borrows its information.
     ///
-    /// Each output of the last step that is sent has its frame, if `handed` has at most 260 octets.
+    /// Each output of the last step that is sent has its frame, if `input_octets` has at most 260 octets.
     ///
     /// - `Send`: with this role and control field, without information.
     /// - `SendMessage`: the I command with the message at this place of the queue (Q.921 5.6.1).
-    /// - `SendUnit`: the UI command with P=0 and the octets of `handed` (Q.921 5.2).
+    /// - `SendUnit`: the UI command with P=0 and the octets of `input_octets` (Q.921 5.2).
     ///
     /// For an output of another step it also returns `None` if the parts do not form a frame of the
     /// control table (Q.921 Table 5): the wrong role, more than 260 octets, or a place without a
     /// message.
     #[inline(always)]
-    pub fn frame<'a>(&'a self, out: &Out, handed: &'a [u8]) -> Option<Frame<'a>>
+    pub fn frame<'a>(&'a self, out: &Out, input_octets: &'a [u8]) -> Option<Frame<'a>>
         ensures { (e : End) → LinkRepresents self.now e
-            → result ≡ made_frame (setup_of self.now) (drop e.first e.given) handed.now out.now }
+            → result ≡ made_frame (setup_of self.now)
+            (drop e.first e.given) input_octets.now out.now }
     {
         match out {
             Out::Send(role, control) => self.frame_with(*role, *control, &[]),
             Out::SendMessage(place, control) => self.message_frame(*place, *control),
-            Out::SendUnit => self.frame_with(Role::Command, Control::Ui { p: false }, handed),
+            Out::SendUnit => self.frame_with(Role::Command, Control::Ui { p: false }, input_octets),
             _ => None,
         }
     }

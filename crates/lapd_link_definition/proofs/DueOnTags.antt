@@ -43,7 +43,7 @@ numbered_on_tags AwaitingEstablishment control m window near valid = tt
 numbered_on_tags AwaitingRelease control m window near valid = tt
 
 pub due_on_tags : (input : Input) (e : End) → IsNear input e → IsDue Whole input e → IsDue Tagged (tag_input input) (tag_end e)
-due_on_tags (Heard control Command) e near due = numbered_on_tags e.state control e.window (window_in e.state e near.sound) near.heard due
-due_on_tags (Heard control Answer) e near due = (unasked_on_tags control e.state ∙ due.0, numbered_on_tags e.state control e.window (window_in e.state e near.sound) near.heard due.1)
+due_on_tags (Heard control Command) e near due = numbered_on_tags e.state control e.window (window_in e.state e near.sound) near.reception due
+due_on_tags (Heard control Answer) e near due = (unasked_on_tags control e.state ∙ due.0, numbered_on_tags e.state control e.window (window_in e.state e near.sound) near.reception due.1)
 due_on_tags (Faulty kind) e near due = absurd due
 due_on_tags input e near due = tt

@@ -87,7 +87,7 @@ pub record PreservedByActions (r : Reading) (E : Timer → StepState → Type 0)
   pub stops_then : (timer : Timer) (s : StepState) → Q s → Q (stop timer s)
   pub sends : (s : StepState) → G → may_send_next r s ≡ true → Q s → Q (transmit_i_frame r s)
   pub ensures_t200 : (s : StepState) → Q s → Q (ensure_t200 s)
-  pub tells : (s : StepState) → Q s → Q (transmit_rr s)
+  pub reporting : (s : StepState) → Q s → Q (transmit_rr s)
 
 -- both branches of a row with a test
 pub either : (F : StepState → Type 0) (test : Bool) (x y : StepState) → (test ≡ true → F x) → (test ≡ false → F y) → F (if test then x else y)
@@ -330,4 +330,4 @@ module _ (r : Reading) (E : Timer → StepState → Type 0) (P Q : StepState →
   unfolding end_step acknowledge_pending
   close_preserves s g h =
       let sent = all_sent (unsent s.end) s g h in
-      either Q (is_7_or_8 (send_all r (unsent s.end) s).end.state && (send_all r (unsent s.end) s).end.window.ack_pending) _ _ (λ _. w.tells _ sent) (λ _. sent)
+      either Q (is_7_or_8 (send_all r (unsent s.end) s).end.state && (send_all r (unsent s.end) s).end.window.ack_pending) _ _ (λ _. w.reporting _ sent) (λ _. sent)

@@ -25,7 +25,7 @@ use Rattle.lapd_link_definition.specs.SentFrames.{AreWellFormed}
 use Rattle.lapd_link_definition.specs.Table.{by_state, row, step}
 use Rattle.lapd_link_definition.specs.TeiAssigned.{tei_assigned}
 use Rattle.lapd_link_definition.specs.TimerRecovery.{timer_recovery}
-use Rattle.lapd_link_definition.proofs.PreservedByStep.{AreQuiet, response_is_quiet, IsKept, kept, is_give, preserved_by_row, preserved_by_step, closed, taken}
+use Rattle.lapd_link_definition.proofs.PreservedByStep.{AreQuiet, response_is_quiet, IsKept, preserved, is_give, preserved_by_row, preserved_by_step, closed, taken}
 use Rattle.lapd_link_definition.proofs.EachAction.{i_frame_numbered, i_frame_in_recovery}
 
 -- ---- An establishment begins.
@@ -185,8 +185,8 @@ frame_ups r ns p e = frame_outs (is_accepted ns e.window) (response_of (i_frame_
 frame_in : (r : Reading) (state : State) (ns nr : ℕ) (p : Bool) (s : StepState) (e : End) → is_7_or_8 state ≡ true → AreWellFormed (i_frame_ns r ns p s).outs
     → IsKept r e (ups (i_frame_ns r ns p s).outs) true true false (Unit {0}) (i_frame_ns r ns p s) → ups (row r state (Heard (I ns nr p) Command) s).outs ≡ ups (i_frame_ns r ns p s).outs
 unfolding row by_state multiple_frame_established timer_recovery
-frame_in r MultipleFrameEstablished ns nr p s e h spoken before = (i_frame_numbered r _ (IsKept r e (ups (i_frame_ns r ns p s).outs) true true false (Unit {0})) (IsKept r e (ups (i_frame_ns r ns p s).outs) true true false (Unit {0})) _ _ _ _ _ _ (kept r e _ true true false (Unit {0})) nr (i_frame_ns r ns p s) tt before).same_ups refl
-frame_in r TimerRecovery ns nr p s e h spoken before = (i_frame_in_recovery r _ (IsKept r e (ups (i_frame_ns r ns p s).outs) true true false (Unit {0})) (IsKept r e (ups (i_frame_ns r ns p s).outs) true true false (Unit {0})) _ _ _ _ _ _ (kept r e _ true true false (Unit {0})) nr (i_frame_ns r ns p s) tt before).same_ups refl
+frame_in r MultipleFrameEstablished ns nr p s e h spoken before = (i_frame_numbered r _ (IsKept r e (ups (i_frame_ns r ns p s).outs) true true false (Unit {0})) (IsKept r e (ups (i_frame_ns r ns p s).outs) true true false (Unit {0})) _ _ _ _ _ _ (preserved r e _ true true false (Unit {0})) nr (i_frame_ns r ns p s) tt before).same_ups refl
+frame_in r TimerRecovery ns nr p s e h spoken before = (i_frame_in_recovery r _ (IsKept r e (ups (i_frame_ns r ns p s).outs) true true false (Unit {0})) (IsKept r e (ups (i_frame_ns r ns p s).outs) true true false (Unit {0})) _ _ _ _ _ _ (preserved r e _ true true false (Unit {0})) nr (i_frame_ns r ns p s) tt before).same_ups refl
 frame_in r TeiAssigned ns nr p s e h spoken before = cc
 frame_in r AwaitingEstablishment ns nr p s e h spoken before = cc
 frame_in r AwaitingRelease ns nr p s e h spoken before = cc

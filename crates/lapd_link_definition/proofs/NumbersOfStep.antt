@@ -147,7 +147,7 @@ tags = record {
   sends = λ s g go h. sending (SendMessage (s.end.next - s.end.first) (next_i_frame s.end.window) ∷ []) (i_frame_is_tagged s.end.window h.tags, tt) (changed _ (after_sending_are_tags s.end.window h.tags) h);
   ensures_t200 = λ s h. sending (if s.end.t200 then [] else Start T200 ∷ []) (tagged_unless s.end.t200 (Start T200 ∷ []) (tt, tt))
       (sending (if s.end.t200 then [] else out_where s.end.t203 (Stop T203)) (tagged_unless s.end.t200 (out_where s.end.t203 (Stop T203)) (tagged_where s.end.t203 (Stop T203) tt)) h);
-  tells = λ s h. sending (Send Answer (acknowledgement s.end.window) ∷ []) (rr_is_tagged s.end.window h.tags, tt) (changed _ (without_ack_pending_are_tags s.end.window h.tags) h);
+  reporting = λ s h. sending (Send Answer (acknowledgement s.end.window) ∷ []) (rr_is_tagged s.end.window h.tags, tt) (changed _ (without_ack_pending_are_tags s.end.window h.tags) h);
 }
 
 -- ---- A whole step.
@@ -167,10 +167,10 @@ received_is_tag input nr h same = cc
 
 tags_of_step : (input : Input) (e : End) (s : StepState) → AreTags e.window → CarriesNumbers Tagged input → step Tagged input e ≡ Ok s → AllTags s
 unfolding step begin
-tags_of_step input e s numbers heard done =
+tags_of_step input e s numbers reception done =
     subst AllTags (taken (refused input e) (end_step Tagged (row Tagged e.state input (begin e))) s done).1
     (close_preserves Tagged _ AllTags AllTags _ _ _ _ _ _ tags (row Tagged e.state input (begin e)) tt
-    (row_preserves Tagged _ AllTags AllTags _ _ _ _ _ _ tags e.state input (begin e) (λ message same. tt) (λ b. tt) (λ opened ns nr p same. tt) (λ u. tt) (λ there same. tt) (λ nr same. received_is_tag input nr heard same) (λ timer same. tt)
+    (row_preserves Tagged _ AllTags AllTags _ _ _ _ _ _ tags e.state input (begin e) (λ message same. tt) (λ b. tt) (λ opened ns nr p same. tt) (λ u. tt) (λ there same. tt) (λ nr same. received_is_tag input nr reception same) (λ timer same. tt)
     (record { tags = numbers; sent = tt })))
 
 any_numbers : (outs : List Out) → AreNumbered Whole outs
@@ -191,9 +191,9 @@ any_numbers (Stop timer ∷ outs) = (tt, any_numbers outs)
 any_numbers (Report letter ∷ outs) = (tt, any_numbers outs)
 
 pub numbers_stay : (r : Reading) (input : Input) (e : End) (s : StepState) → AreNumbers r e.window → CarriesNumbers r input → step r input e ≡ Ok s → AreNumbers r s.end.window
-numbers_stay Whole input e s numbers heard done = tt
-numbers_stay Tagged input e s numbers heard done = (tags_of_step input e s numbers heard done).tags
+numbers_stay Whole input e s numbers reception done = tt
+numbers_stay Tagged input e s numbers reception done = (tags_of_step input e s numbers reception done).tags
 
 pub numbers_are_sent : (r : Reading) (input : Input) (e : End) (s : StepState) → AreNumbers r e.window → CarriesNumbers r input → step r input e ≡ Ok s → AreNumbered r s.outs
-numbers_are_sent Whole input e s numbers heard done = any_numbers s.outs
-numbers_are_sent Tagged input e s numbers heard done = (tags_of_step input e s numbers heard done).sent
+numbers_are_sent Whole input e s numbers reception done = any_numbers s.outs
+numbers_are_sent Tagged input e s numbers reception done = (tags_of_step input e s numbers reception done).sent

@@ -168,7 +168,7 @@ orders r silence = record {
       let stopped = calm_unless s.end.t200 (out_where s.end.t203 (Stop T203)) (calm_where s.end.t203 (Stop T203) refl (tt, tt)) in
       let started = calm_unless s.end.t200 (Start T200 ∷ []) (refl, (tt, tt)) in
       ordered (if s.end.t200 then [] else Start T200 ∷ []) started.0 started.1 (ordered (if s.end.t200 then [] else out_where s.end.t203 (Stop T203)) stopped.0 stopped.1 h);
-  tells = λ s h. ordered (Send Answer (acknowledgement s.end.window) ∷ []) refl (tt, tt) h;
+  reporting = λ s h. ordered (Send Answer (acknowledgement s.end.window) ∷ []) refl (tt, tt) h;
 }
 
 begins_silent : (e : End) → IsSilent (begin e).outs

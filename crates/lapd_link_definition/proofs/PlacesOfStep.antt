@@ -163,7 +163,7 @@ module _ (r : Reading) (from : ℕ) where
     sends = λ s g go h. moved (SendMessage (s.end.next - s.end.first) (next_i_frame s.end.window) ∷ []) refl h;
     ensures_t200 = λ s h. moved (if s.end.t200 then [] else Start T200 ∷ []) (none_unless s.end.t200 (Start T200 ∷ []) refl)
         (moved (if s.end.t200 then [] else out_where s.end.t203 (Stop T203)) (none_unless s.end.t200 (out_where s.end.t203 (Stop T203)) (none_where s.end.t203 (Stop T203) refl)) h);
-    tells = λ s h. moved (Send Answer (acknowledgement s.end.window) ∷ []) refl h;
+    reporting = λ s h. moved (Send Answer (acknowledgement s.end.window) ∷ []) refl h;
   }
 
 placed_by_row : (r : Reading) (input : Input) (e : End) → e.first ≤ length e.given → Then r e.first (row r e.state input (begin e))

@@ -164,9 +164,9 @@ module _ (r : Reading) (e : End) (n : ℕ) (gives begins takes : Bool) (Fits : T
   timed T202 on s h = h
   timed T203 on s h = h
 
-  pub kept : PreservedByActions r (λ timer s. Unit {0}) IsKept IsKept (λ message. (gives ≡ true) × (Fits → length message ≤ n201)) (begins ≡ true) (takes ≡ true) (Unit {0}) (Unit {0}) (λ nr. Unit {0})
+  pub preserved : PreservedByActions r (λ timer s. Unit {0}) IsKept IsKept (λ message. (gives ≡ true) × (Fits → length message ≤ n201)) (begins ≡ true) (takes ≡ true) (Unit {0}) (Unit {0}) (λ nr. Unit {0})
   unfolding put state_to rc_to increment_rc layer3_initiated_to release_pending_to start stop expired clear_exception_conditions zero_state_variables set_peer_busy set_own_busy enquiry_response transmit_enquiry retransmit_last_i_frame transmit_rr queue_up discard_i_queue acknowledge invoke_retransmission discard_unacknowledged i_frame_ns transmit_i_frame ensure_t200
-  kept = record {
+  preserved = record {
     puts = λ out s ok h. added (out ∷ []) (put_is_quiet out ok) h;
     unit_ups = λ s u h. added (UnitUp ∷ []) ((tt, tt), refl) h;
     states = λ state s h. h;
@@ -213,7 +213,7 @@ module _ (r : Reading) (e : End) (n : ℕ) (gives begins takes : Bool) (Fits : T
     sends = λ s g go h. added _ ((i_frame_is_well_formed s.end.window, tt), refl) h;
     ensures_t200 = λ s h. added (if s.end.t200 then [] else Start T200 ∷ []) (unless_quiet s.end.t200 (Start T200 ∷ []) ((tt, tt), refl))
         (added (if s.end.t200 then [] else out_where s.end.t203 (Stop T203)) (unless_quiet s.end.t200 (out_where s.end.t203 (Stop T203)) (quiet_where s.end.t203 (Stop T203) ((tt, tt), refl))) h);
-    tells = λ s h. added (Send Answer (acknowledgement s.end.window) ∷ []) ((rr_is_well_formed s.end.window, tt), refl) h;
+    reporting = λ s h. added (Send Answer (acknowledgement s.end.window) ∷ []) ((rr_is_well_formed s.end.window, tt), refl) h;
   }
 
 -- ---- A row, the end of a step, and a whole step.
@@ -236,14 +236,14 @@ PreservedBy r input e s = IsKept r e 0 (is_give input) (begins e.state e.release
 pub preserved_by_row : (r : Reading) (input : Input) (e : End) → PreservedBy r input e (row r e.state input (begin e))
 unfolding begin
 preserved_by_row r input e =
-    row_preserves r _ (PreservedBy r input e) (PreservedBy r input e) _ _ _ _ _ _ (kept r e 0 (is_give input) (begins e.state e.release_pending input) (is_taken e.state input) (Fits input)) e.state input (begin e)
+    row_preserves r _ (PreservedBy r input e) (PreservedBy r input e) _ _ _ _ _ _ (preserved r e 0 (is_give input) (begins e.state e.release_pending input) (is_taken e.state input) (Fits input)) e.state input (begin e)
     (λ message same. (rw same refl, λ fit. fit message same)) (λ b. b) (λ opened ns nr p same. rw same opened) (λ u. tt) (λ there same. tt) (λ nr same. tt) (λ timer same. tt)
     (record { same_parameters = refl; same_given = λ _. refl; short = λ _ before. before; same_establishment = λ _. refl; spoken = tt; same_ups = λ _. refl })
 
 -- the end of a step keeps all of these properties
 pub closed : (r : Reading) (s : StepState) → AreWellFormed s.outs → IsKept r s.end (ups s.outs) false false false (Unit {0}) (end_step r s)
 closed r s spoken =
-    close_preserves r _ (IsKept r s.end (ups s.outs) false false false (Unit {0})) (IsKept r s.end (ups s.outs) false false false (Unit {0})) _ _ _ _ _ _ (kept r s.end (ups s.outs) false false false (Unit {0})) s tt
+    close_preserves r _ (IsKept r s.end (ups s.outs) false false false (Unit {0})) (IsKept r s.end (ups s.outs) false false false (Unit {0})) _ _ _ _ _ _ (preserved r s.end (ups s.outs) false false false (Unit {0})) s tt
     (record { same_parameters = refl; same_given = λ _. refl; short = λ _ before. before; same_establishment = λ _. refl; spoken = spoken; same_ups = λ _. refl })
 
 abbrev Done : StepState → Result StepState LinkFault
@@ -259,7 +259,7 @@ taken (Some fault) s t h = cc
 
 pub preserved_by_close : (r : Reading) (input : Input) (e : End) → PreservedBy r input e (end_step r (row r e.state input (begin e)))
 preserved_by_close r input e =
-    close_preserves r _ (PreservedBy r input e) (PreservedBy r input e) _ _ _ _ _ _ (kept r e 0 (is_give input) (begins e.state e.release_pending input) (is_taken e.state input) (Fits input))
+    close_preserves r _ (PreservedBy r input e) (PreservedBy r input e) _ _ _ _ _ _ (preserved r e 0 (is_give input) (begins e.state e.release_pending input) (is_taken e.state input) (Fits input))
     (row r e.state input (begin e)) tt (preserved_by_row r input e)
 
 pub preserved_by_step : (r : Reading) (input : Input) (e : End) (s : StepState) → step r input e ≡ Ok s → PreservedBy r input e s

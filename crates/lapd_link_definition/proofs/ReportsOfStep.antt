@@ -114,9 +114,9 @@ enquires : (s : StepState) → P s → P (transmit_enquiry s)
 unfolding transmit_enquiry
 enquires s h = both s.outs _ h (tt, (tt, tt))
 
-tells : (s : StepState) → P s → P (transmit_rr s)
+reporting : (s : StepState) → P s → P (transmit_rr s)
 unfolding transmit_rr
-tells s h = both s.outs _ h (tt, tt)
+reporting s h = both s.outs _ h (tt, tt)
 
 queues : (message : List ℕ) (s : StepState) → P s → P (queue_up message s)
 unfolding queue_up
@@ -413,7 +413,7 @@ module _ (r : Reading) where
   closes : (s : StepState) → P s → P (end_step r s)
   unfolding end_step acknowledge_pending
   closes s h = let t = send_all r (unsent s.end) s in let sent : P t = all_sent (unsent s.end) s h in
-      either P (is_7_or_8 t.end.state && t.end.window.ack_pending) _ _ (λ _. tells t sent) (λ _. sent)
+      either P (is_7_or_8 t.end.state && t.end.window.ack_pending) _ _ (λ _. reporting t sent) (λ _. sent)
 
   pub due_is_expected : (input : Input) (e : End) (s : StepState) → IsDue r input e → step r input e ≡ Ok s → AreExpected s.outs
   unfolding step begin

@@ -30,13 +30,13 @@ use Rattle.lapd_link_definition.proofs.Soundness.{sound_row, sound_send_next}
 by_state_on_tags : (state : State) (input : Input) (s : StepState) → IsSoundIn Whole state s.end → (is_7_or_8 state ≡ true → IsReceivedNear input s.end.window)
     → tag_step_state (by_state Whole state input s) ≡ by_state Tagged state (tag_input input) (tag_step_state s)
 unfolding by_state
-by_state_on_tags TeiAssigned input s sound heard = tei_assigned_on_tags input s
-by_state_on_tags AwaitingEstablishment input s sound heard = awaiting_establishment_on_tags input s sound
-by_state_on_tags AwaitingRelease input s sound heard = awaiting_release_on_tags input s
-by_state_on_tags MultipleFrameEstablished input s sound heard =
-    multiple_frame_established_on_tags input s (window_of s.end.first s.end.next (length s.end.given) s.end.window.va s.end.window.vs sound) (heard refl)
-by_state_on_tags TimerRecovery input s sound heard =
-    timer_recovery_on_tags input s (window_of s.end.first s.end.next (length s.end.given) s.end.window.va s.end.window.vs sound) (heard refl)
+by_state_on_tags TeiAssigned input s sound reception = tei_assigned_on_tags input s
+by_state_on_tags AwaitingEstablishment input s sound reception = awaiting_establishment_on_tags input s sound
+by_state_on_tags AwaitingRelease input s sound reception = awaiting_release_on_tags input s
+by_state_on_tags MultipleFrameEstablished input s sound reception =
+    multiple_frame_established_on_tags input s (window_of s.end.first s.end.next (length s.end.given) s.end.window.va s.end.window.vs sound) (reception refl)
+by_state_on_tags TimerRecovery input s sound reception =
+    timer_recovery_on_tags input s (window_of s.end.first s.end.next (length s.end.given) s.end.window.va s.end.window.vs sound) (reception refl)
 
 report_fault_on_tags : (state : State) (kind : FaultKind) (s : StepState) → tag_step_state (report_fault state kind s) ≡ report_fault state kind (tag_step_state s)
 unfolding report_fault
@@ -63,13 +63,13 @@ is_unit_data_on_tags (Xid pf) role = refl
 row_on_tags : (state : State) (input : Input) (s : StepState) → IsSoundIn Whole state s.end → (is_7_or_8 state ≡ true → IsReceivedNear input s.end.window)
     → tag_step_state (row Whole state input s) ≡ row Tagged state (tag_input input) (tag_step_state s)
 unfolding row tag_step_state
-row_on_tags state (Heard control role) s sound heard =
-    by_test (is_unit_data control role) (is_unit_data (tag_control control) role) _ _ _ _ (is_unit_data_on_tags control role) (λ _. put_on_tags _ s) (λ _. by_state_on_tags state (Heard control role) s sound heard)
-row_on_tags state (UnitData len) s sound heard = put_on_tags _ s
-row_on_tags state (Faulty kind) s sound heard = report_fault_on_tags state kind s
-row_on_tags state (Expiry timer) s sound heard =
-    by_test (runs timer s.end) (runs timer (tag_end s.end)) _ _ _ _ (runs_on_tags timer s.end) (λ _. by_state_on_tags state (Expiry timer) s sound heard) (λ _. refl)
-row_on_tags state input s sound heard = by_state_on_tags state input s sound heard
+row_on_tags state (Heard control role) s sound reception =
+    by_test (is_unit_data control role) (is_unit_data (tag_control control) role) _ _ _ _ (is_unit_data_on_tags control role) (λ _. put_on_tags _ s) (λ _. by_state_on_tags state (Heard control role) s sound reception)
+row_on_tags state (UnitData len) s sound reception = put_on_tags _ s
+row_on_tags state (Faulty kind) s sound reception = report_fault_on_tags state kind s
+row_on_tags state (Expiry timer) s sound reception =
+    by_test (runs timer s.end) (runs timer (tag_end s.end)) _ _ _ _ (runs_on_tags timer s.end) (λ _. by_state_on_tags state (Expiry timer) s sound reception) (λ _. refl)
+row_on_tags state input s sound reception = by_state_on_tags state input s sound reception
 
 -- ---- The end of a step.
 
@@ -127,7 +127,7 @@ unfolding begin
 done_on_tags input e near =
     let small : (row Whole e.state input (begin e)).end.parameters.k ≤ 127 = rw (row_preserves_parameters Whole input e) near.window in
     close_on_tags (row Whole e.state input (begin e)) small (sound_row Whole e.state input (begin e) refl near.sound)
-    ∙ ap (λ t. end_step Tagged t) (row_on_tags e.state input (begin e) near.sound near.heard ∙ ap (λ t. row Tagged e.state (tag_input input) t) (begin_on_tags e))
+    ∙ ap (λ t. end_step Tagged t) (row_on_tags e.state input (begin e) near.sound near.reception ∙ ap (λ t. row Tagged e.state (tag_input input) t) (begin_on_tags e))
 
 pub step_on_tags : (input : Input) (e : End) → IsNear input e → step Tagged (tag_input input) (tag_end e) ≡ tag_result (step Whole input e)
 unfolding step

@@ -113,16 +113,16 @@ module _ (r : Reading) (b c : Bool) (Numbers : Type 0) where
   abbrev After : StepState → Type 0
   After s = Walked b c Numbers s
 
-  tells : {q : State} {t u level : Bool} {state : State} {t200 t203 : Bool} {vs va : ℕ} {outs : List Out} (more : List Out) → AreNoTimers more → Timed r b c Numbers q t u level state t200 t203 vs va outs → Timed r b c Numbers q t u level state t200 t203 vs va (outs ++ more)
-  tells {t200 = t200} {t203 = t203} more none h = record { in_state = h.in_state; t200_is = h.t200_is; t203_is = h.t203_is; number = h.number; same = h.same; follow = then_follow more (alone more t200 t203 none) h.follow }
+  reporting : {q : State} {t u level : Bool} {state : State} {t200 t203 : Bool} {vs va : ℕ} {outs : List Out} (more : List Out) → AreNoTimers more → Timed r b c Numbers q t u level state t200 t203 vs va outs → Timed r b c Numbers q t u level state t200 t203 vs va (outs ++ more)
+  reporting {t200 = t200} {t203 = t203} more none h = record { in_state = h.in_state; t200_is = h.t200_is; t203_is = h.t203_is; number = h.number; same = h.same; follow = then_follow more (alone more t200 t203 none) h.follow }
 
   puts : {q : State} {t u level : Bool} (out : Out) (s : StepState) → IsPut out → P q t u level s → P q t u level (put out s)
   unfolding put
-  puts out s is k = let h = k.known in record { known = tells (out ∷ []) (put_is_no_timer out is) h }
+  puts out s is k = let h = k.known in record { known = reporting (out ∷ []) (put_is_no_timer out is) h }
 
   unit_ups : {q : State} {t u level : Bool} (s : StepState) → P q t u level s → P q t u level (put UnitUp s)
   unfolding put
-  unit_ups s k = let h = k.known in record { known = tells (UnitUp ∷ []) (λ timer running. refl) h }
+  unit_ups s k = let h = k.known in record { known = reporting (UnitUp ∷ []) (λ timer running. refl) h }
 
   states : {q : State} {t u level : Bool} (state : State) (s : StepState) → P q t u level s → P state t u level (state_to state s)
   unfolding state_to
@@ -154,11 +154,11 @@ module _ (r : Reading) (b c : Bool) (Numbers : Type 0) where
 
   owns : {q : State} {t u level : Bool} (on : Bool) (s : StepState) → P q t u level s → P q t u level (set_own_busy on s)
   unfolding set_own_busy with_own_busy
-  owns on s k = let h = k.known in record { known = tells _ (λ timer running. refl) h }
+  owns on s k = let h = k.known in record { known = reporting _ (λ timer running. refl) h }
 
   responds : {q : State} {t u level : Bool} (s : StepState) → P q t u level s → P q t u level (enquiry_response s)
   unfolding enquiry_response without_ack_pending
-  responds s k = let h = k.known in record { known = tells _ (λ timer running. refl) h }
+  responds s k = let h = k.known in record { known = reporting _ (λ timer running. refl) h }
 
   queues : {q : State} {t u level : Bool} (message : List ℕ) (s : StepState) → P q t u level s → P q t u level (queue_up message s)
   unfolding queue_up
@@ -166,17 +166,17 @@ module _ (r : Reading) (b c : Bool) (Numbers : Type 0) where
 
   discards : {q : State} {t u level : Bool} (s : StepState) → P q t u level s → P q t u level (discard_i_queue s)
   unfolding discard_i_queue
-  discards s k = let h = k.known in record { known = tells _ (where_is_no_timer (nat_lt 0 (waiting s.end)) (Dropped (waiting s.end)) (λ timer running. refl)) h }
+  discards s k = let h = k.known in record { known = reporting _ (where_is_no_timer (nat_lt 0 (waiting s.end)) (Dropped (waiting s.end)) (λ timer running. refl)) h }
 
   loses : {q : State} {t u level : Bool} (s : StepState) → P q t u level s → P q t u level (discard_unacknowledged s)
   unfolding discard_unacknowledged
-  loses s k = let h = k.known in record { known = tells _ (lost_are_no_timers (s.end.window.vs == s.end.window.va) (waiting s.end)) h }
+  loses s k = let h = k.known in record { known = reporting _ (lost_are_no_timers (s.end.window.vs == s.end.window.va) (waiting s.end)) h }
 
   takes : {q : State} {t u level : Bool} (ns : ℕ) (p : Bool) (s : StepState) → P q t u level s → P q t u level (i_frame_ns r ns p s)
   unfolding i_frame_ns after_i_frame
   takes ns p s k = let h = k.known in record {
-    known = tells (response_of (i_frame_response r ns p s.end.window)) (response_is_no_timer (i_frame_response r ns p s.end.window))
-        (tells (out_where (is_accepted ns s.end.window) Up) (where_is_no_timer (is_accepted ns s.end.window) Up (λ timer running. refl)) h);
+    known = reporting (response_of (i_frame_response r ns p s.end.window)) (response_is_no_timer (i_frame_response r ns p s.end.window))
+        (reporting (out_where (is_accepted ns s.end.window) Up) (where_is_no_timer (is_accepted ns s.end.window) Up (λ timer running. refl)) h);
   }
 
   -- ---- Timers.
@@ -525,9 +525,9 @@ module _ (r : Reading) (b c : Bool) (Numbers : Type 0) where
 
   -- ---- The end of a step.
 
-  told : (s : StepState) → After s → After (transmit_rr s)
+  reported : (s : StepState) → After s → After (transmit_rr s)
   unfolding transmit_rr without_ack_pending
-  told s h = record { timers = h.timers; follow = then_follow _ (alone _ s.end.t200 s.end.t203 (λ timer running. refl)) h.follow }
+  reported s h = record { timers = h.timers; follow = then_follow _ (alone _ s.end.t200 s.end.t203 (λ timer running. refl)) h.follow }
 
   one_sent : (s : StepState) → is_established s.end.state ≡ true → After s → After (s ▷ transmit_i_frame r ▷ ensure_t200)
   unfolding transmit_i_frame ensure_t200 after_sending
@@ -547,7 +547,7 @@ module _ (r : Reading) (b c : Bool) (Numbers : Type 0) where
   unfolding end_step acknowledge_pending
   closes s h =
       let sent = all_sent (unsent s.end) s h in
-      either After (is_7_or_8 (send_all r (unsent s.end) s).end.state && (send_all r (unsent s.end) s).end.window.ack_pending) _ _ (λ pending. told _ sent) (λ none. sent)
+      either After (is_7_or_8 (send_all r (unsent s.end) s).end.state && (send_all r (unsent s.end) s).end.window.ack_pending) _ _ (λ pending. reported _ sent) (λ none. sent)
 
 -- ---- A whole step.
 
@@ -648,7 +648,7 @@ pub timers_begin : (p : Parameters) → HasTimersOfState (new_end p)
 timers_begin p = (refl, refl)
 
 pub timers_stay : (r : Reading) (input : Input) (e : End) (s : StepState) → AreNumbers r e.window → CarriesNumbers r input → HasTimersOfState e → step r input e ≡ Ok s → HasTimersOfState s.end
-timers_stay r input e s numbers heard has done = (step_of r input e s has done).timers (numbers, heard)
+timers_stay r input e s numbers reception has done = (step_of r input e s has done).timers (numbers, reception)
 
 pub timers_follow : (r : Reading) (input : Input) (e : End) (s : StepState) → HasTimersOfState e → step r input e ≡ Ok s → TimersFollow input e s
 timers_follow r input e s has done = (step_of r input e s has done).follow

@@ -113,7 +113,7 @@ units r n = record {
   sends = λ s g go h. more (SendMessage (s.end.next - s.end.first) (next_i_frame s.end.window) ∷ []) refl h;
   ensures_t200 = λ s h. more (if s.end.t200 then [] else Start T200 ∷ []) (none_unless s.end.t200 (Start T200 ∷ []) refl)
       (more (if s.end.t200 then [] else out_where s.end.t203 (Stop T203)) (none_unless s.end.t200 (out_where s.end.t203 (Stop T203)) (none_where s.end.t203 (Stop T203) refl)) h);
-  tells = λ s h. more (Send Answer (acknowledgement s.end.window) ∷ []) refl h;
+  reporting = λ s h. more (Send Answer (acknowledgement s.end.window) ∷ []) refl h;
 }
 
 -- ---- A whole step.

@@ -64,4 +64,4 @@ HasNumbersWithin k control m = Unit {0}
 pub record IsNear (input : Input) (e : End) : Type 0 where
   pub window : e.parameters.k ≤ 127
   pub sound : IsSound Whole e
-  pub heard : is_7_or_8 e.state ≡ true → IsReceivedNear input e.window
+  pub reception : is_7_or_8 e.state ≡ true → IsReceivedNear input e.window

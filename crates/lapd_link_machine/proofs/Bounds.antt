@@ -33,5 +33,5 @@ pub bounded : (input : Input) (established : Bool) (of_row outs : List Out) → 
     → IsBounded input outs
 bounded input established of_row outs six waits few quiet same = record {
   all = all_of input (length outs) few (λ h. let one = quiet (waits h) in omega (arith, one, six));
-  told = let n = primitives_among of_row in rw same (omega (arith, n, six));
+  reported = let n = primitives_among of_row in rw same (omega (arith, n, six));
 }

@@ -27,4 +27,4 @@ most_outputs input = MOST_OUTPUTS
 -- the bounds of the outputs for this input
 pub record IsBounded (input : Input) (outs : List Out) : Type 0 where
   pub all : length outs ≤ most_outputs input
-  pub told : primitive_count outs ≤ 6
+  pub reported : primitive_count outs ≤ 6

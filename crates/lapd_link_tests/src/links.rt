@@ -143,13 +143,13 @@ fn release(text: &mut Text, link: &mut Link) {
 /// Receives octets of the other side.
 fn receive(text: &mut Text, alloc: Global, link: &mut Link, digits: &str) {
     match hex::decode(alloc, digits) {
-        Ok(octets) => hear_octets(text, link, octets.as_slice()),
+        Ok(octets) => receive_octets(text, link, octets.as_slice()),
         Err(_) => text.put(" no octets"),
     }
 }
 
 /// Receives a frame of the user, if it is for the link.
-fn hear_octets(text: &mut Text, link: &mut Link, octets: &[u8]) {
+fn receive_octets(text: &mut Text, link: &mut Link, octets: &[u8]) {
     match lapd_frame::read(octets, Side::User) {
         Ok(frame) if link.side() == Side::Network && link.is_for(&frame.address()) => {
             let answer = link.handle(Event::Heard(&frame));
@@ -189,11 +189,11 @@ fn put_outs(text: &mut Text, link: &Link, outs: &Outs) {
     }
 }
 
-/// Appends the frame of an output, with the octets `handed` for unit data, or `-` if it sends none.
-fn put_out(text: &mut Text, link: &Link, out: Out, handed: &[u8]) {
+/// Appends the frame of an output, with the octets `input_octets` for unit data, or `-` if it sends none.
+fn put_out(text: &mut Text, link: &Link, out: Out, input_octets: &[u8]) {
     let mut octets = [0; 264];
     text.put(" ");
-    match link.frame(&out, handed) {
+    match link.frame(&out, input_octets) {
         Some(frame) => {
             let length = write(&frame, link.side(), &mut octets);
             text.hex(&octets[..length]);

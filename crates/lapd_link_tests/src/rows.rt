@@ -74,19 +74,19 @@ struct Place {
 }
 
 impl Subject for Place {
-    fn keeps(&mut self, row: &'static str) -> bool {
+    fn preserves(&mut self, row: &'static str) -> bool {
         match row.strip_prefix("at ") {
             Some(place) => {
                 self.place = place;
                 true
             }
-            None => keeps(self.alloc, self.place, row),
+            None => preserves(self.alloc, self.place, row),
         }
     }
 }
 
 /// Whether a row holds at a place.
-fn keeps(alloc: Global, place: &str, row: &str) -> bool {
+fn preserves(alloc: Global, place: &str, row: &str) -> bool {
     match with_octets(alloc, row, "+260*aa", 260) {
         Some(row) => holds(alloc, parts_of(place, row.as_str())),
         None => false,

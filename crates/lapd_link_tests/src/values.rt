@@ -51,7 +51,7 @@ impl Bench {
 
 impl Subject for Bench {
     /// A row is the name of a subject, an operation on it, ` |`, and the result.
-    fn keeps(&mut self, row: &'static str) -> bool {
+    fn preserves(&mut self, row: &'static str) -> bool {
         let (words, wanted) = split(row, " |");
         let (subject, action) = split(words, " ");
         let mut text = Text::new();

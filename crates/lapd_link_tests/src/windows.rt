@@ -64,7 +64,7 @@ window zero |
 pub(crate) fn put(text: &mut Text, window: &mut Window, action: &str, words: &str) {
     let (word, poll) = split(words, " ");
     let after = match Number::new((number_of(word) & 0xff) as u8) {
-        Some(number) => after_deed(text, *window, action, number, poll == "P=1"),
+        Some(number) => after_action(text, *window, action, number, poll == "P=1"),
         None => Window::new(),
     };
     put_window(text, &after);
@@ -74,7 +74,7 @@ pub(crate) fn put(text: &mut Text, window: &mut Window, action: &str, words: &st
 }
 
 /// The window after an operation with this number and P.
-fn after_deed(text: &mut Text, window: Window, action: &str, number: Number, p: bool) -> Window {
+fn after_action(text: &mut Text, window: Window, action: &str, number: Number, p: bool) -> Window {
     match action {
         "hear" => received(text, window, number, p),
         "take" | "try" => taken(text, window, number),

@@ -104,8 +104,8 @@ pub request_acts : (i : Input) (octets : List ℕ) (old made new : RecordedLink)
     → IfOk r (StepsTo i octets None made outward_made new outward_new) → IfOk r (Acts old outward new outward_new (λ side v. takes Tagged i octets v))
 unfolding takes
 request_acts i octets old made new outward outward_made outward_new (Err fault) asked free station line h = tt
-request_acts i octets old made new outward outward_made outward_new (Ok outs) asked free station line h = λ side v kept shown on.
-    h side 0 v kept (station side v.station shown) (line side v.outgoing on) (asked_is_short i octets v asked (free v.station.end shown.link)) (asked_has_octets i octets asked)
+request_acts i octets old made new outward outward_made outward_new (Ok outs) asked free station line h = λ side v preserved shown on.
+    h side 0 v preserved (station side v.station shown) (line side v.outgoing on) (asked_is_short i octets v asked (free v.station.end shown.link)) (asked_has_octets i octets asked)
 
 pub request_refused : (i : Input) (octets : List ℕ) (old made : RecordedLink) (r : Result (ArrayVec Out) PairFault) → StationsSame old made
     → IfErr r (StepRefuses i made) → IfErr r (StationRefusesAs old (λ side v. takes Tagged i octets v))
@@ -123,9 +123,9 @@ unfolding receives
 frame_acts f octets copy old made new outward outward_made outward_new (Err fault) whole same station line h = tt
 frame_acts f octets copy old made new outward outward_made outward_new (Ok outs) whole same station line h = λ flight is short.
     let Is : Fields → Type 0 = λ g. (copy.items ≡ g.info) × StepsTo (input.Heard g.control g.address.role) g.info (Some copy) made outward_made new outward_new outs in
-    let told = subst (λ (info : List ℕ). StepsTo (input.Heard f.control f.address.role) info (Some copy) made outward_made new outward_new outs) whole h in
-    let all = subst Is (sym is) (same, told) in
-    λ side v kept shown on. all.1 side flight.place v kept (station side v.station shown) (line side v.outgoing on) short all.0
+    let reported = subst (λ (info : List ℕ). StepsTo (input.Heard f.control f.address.role) info (Some copy) made outward_made new outward_new outs) whole h in
+    let all = subst Is (sym is) (same, reported) in
+    λ side v preserved shown on. all.1 side flight.place v preserved (station side v.station shown) (line side v.outgoing on) short all.0
 
 pub frame_refused : (f : Fields) (old made : RecordedLink) (r : Result (ArrayVec Out) PairFault) → StationsSame old made → IfErr r (StepRefuses (input.Heard f.control f.address.role) made)
     → IfErr r (λ fault. (flight : Flight) → fields_of flight ≡ f → StationRefusesAs old (λ side v. receives Tagged flight v) fault)
@@ -149,7 +149,7 @@ unfolding takes
 message_acts message queued copy old made new outward outward_made outward_new (Err fault) is same station line h = tt
 message_acts message queued copy old made new outward outward_made outward_new (Ok outs) is same station line h =
     let all = subst (λ (m : List ℕ). GivesTo m copy made outward_made new outward_new outs) is h in
-    λ side v kept shown on. all side v kept (station side v.station shown) (line side v.outgoing on) same
+    λ side v preserved shown on. all side v preserved (station side v.station shown) (line side v.outgoing on) same
 
 pub message_refused : (message queued : List ℕ) (old made : RecordedLink) (r : Result (ArrayVec Out) PairFault) → queued ≡ message → StationsSame old made
     → IfErr r (λ fault. (side : Side) (v : View) → IsStation side made v.station → IsRefusedAs fault (stepped [] 0 v (step Tagged (input.Give queued) v.station.end)))

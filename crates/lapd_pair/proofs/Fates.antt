@@ -156,28 +156,28 @@ sent_fates h all at establishment fates fate e lt read =
 
 -- ---- A recorded history.
 
-pub fates_len : {kept : Log} {messages : List (List ℕ)} {h : world.History} → IsHistory kept messages h → vec_len kept.fates ≡ length messages
-fates_len {kept} {messages} {h} is = kept.fates.ok.0 ∙ ap length is.fates ∙ length-map-range_with_len (fate_at h) 0 (length messages)
+pub fates_len : {preserved : Log} {messages : List (List ℕ)} {h : world.History} → IsHistory preserved messages h → vec_len preserved.fates ≡ length messages
+fates_len {preserved} {messages} {h} is = preserved.fates.ok.0 ∙ ap length is.fates ∙ length-map-range_with_len (fate_at h) 0 (length messages)
 
-pub settled_is : {kept : Log} {messages : List (List ℕ)} {h : world.History} → IsHistory kept messages h → AreSettled h → kept.acknowledged + kept.dropped ≡ h.passed
+pub settled_is : {preserved : Log} {messages : List (List ℕ)} {h : world.History} → IsHistory preserved messages h → AreSettled h → preserved.acknowledged + preserved.dropped ≡ h.passed
 settled_is is are = let a = is.acknowledged in let d = is.dropped in let p = are.counted in omega arith
 
-pub passed_within : {kept : Log} {messages : List (List ℕ)} {h : world.History} → IsHistory kept messages h → AreSettled h → h.passed ≤ length messages
-passed_within {kept} is are = let len = fates_len is in let passed = settled_is is are in let within = kept.within in omega arith
+pub passed_within : {preserved : Log} {messages : List (List ℕ)} {h : world.History} → IsHistory preserved messages h → AreSettled h → h.passed ≤ length messages
+passed_within {preserved} is are = let len = fates_len is in let passed = settled_is is are in let within = preserved.within in omega arith
 
-pub acked_after : (kept : Log) {messages : List (List ℕ)} {h : world.History} → IsHistory kept messages h → AreSettled h → (n : ℕ) (after : List Fate)
-    → kept.acknowledged + kept.dropped + n ≤ vec_len kept.fates → after ≡ with_endings Acked (kept.acknowledged + kept.dropped) n kept.fates.items
+pub acked_after : (preserved : Log) {messages : List (List ℕ)} {h : world.History} → IsHistory preserved messages h → AreSettled h → (n : ℕ) (after : List Fate)
+    → preserved.acknowledged + preserved.dropped + n ≤ vec_len preserved.fates → after ≡ with_endings Acked (preserved.acknowledged + preserved.dropped) n preserved.fates.items
     → after ≡ fates_of (length messages) (with_acked n h)
-acked_after kept {messages} {h} is are n after le e =
+acked_after preserved {messages} {h} is are n after le e =
     let len = fates_len is in
     let passed = settled_is is are in
     let all = acked_fates h n (length messages) (omega arith) in
     e ∙ rw (passed, is.fates) all
 
-pub dropped_after : (kept : Log) {messages : List (List ℕ)} {h : world.History} → IsHistory kept messages h → AreSettled h → (n : ℕ) (after : List Fate)
-    → kept.acknowledged + kept.dropped + n ≤ vec_len kept.fates → after ≡ with_endings Dropped (kept.acknowledged + kept.dropped) n kept.fates.items
+pub dropped_after : (preserved : Log) {messages : List (List ℕ)} {h : world.History} → IsHistory preserved messages h → AreSettled h → (n : ℕ) (after : List Fate)
+    → preserved.acknowledged + preserved.dropped + n ≤ vec_len preserved.fates → after ≡ with_endings Dropped (preserved.acknowledged + preserved.dropped) n preserved.fates.items
     → after ≡ fates_of (length messages) (with_dropped n h)
-dropped_after kept {messages} {h} is are n after le e =
+dropped_after preserved {messages} {h} is are n after le e =
     let len = fates_len is in
     let passed = settled_is is are in
     let all = dropped_fates h n (length messages) are (omega arith) in
@@ -189,26 +189,26 @@ acked_count h n count e = let l = length-append h.acked (range_with_len h.passed
 pub dropped_count : (h : world.History) (n count : ℕ) → count ≡ length h.dropped → count + n ≡ length (with_dropped n h).dropped
 dropped_count h n count e = let l = length-append h.dropped (range_with_len h.passed n) in let r = length-range_with_len h.passed n in omega arith
 
-pub given_after : (kept : Log) {messages : List (List ℕ)} {h : world.History} → IsHistory kept messages h → AreSettled h → h.sent_in (length messages) ≡ None
-    → (message : List ℕ) → kept.fates.items ++ fate_with None Waiting ∷ [] ≡ fates_of (length (messages ++ message ∷ [])) h
-given_after kept {messages} {h} is are unsent message =
+pub given_after : (preserved : Log) {messages : List (List ℕ)} {h : world.History} → IsHistory preserved messages h → AreSettled h → h.sent_in (length messages) ≡ None
+    → (message : List ℕ) → preserved.fates.items ++ fate_with None Waiting ∷ [] ≡ fates_of (length (messages ++ message ∷ [])) h
+given_after preserved {messages} {h} is are unsent message =
     rw (is.fates, length-append messages (message ∷ [])) (given_fates h (length messages) are (passed_within is are) unsent)
 
-pub unsent_after : (kept : Log) {messages : List (List ℕ)} {h : world.History} → IsHistory kept messages h → AreSettled h → (place waiting establishment : ℕ)
-    → kept.acknowledged + kept.dropped + waiting ≡ vec_len kept.fates → waiting ≤ place → kept.fates.items ≡ fates_of (length messages) (with_sending (h.passed + place) establishment h)
-unsent_after kept {messages} {h} is are place waiting establishment counted le =
+pub unsent_after : (preserved : Log) {messages : List (List ℕ)} {h : world.History} → IsHistory preserved messages h → AreSettled h → (place waiting establishment : ℕ)
+    → preserved.acknowledged + preserved.dropped + waiting ≡ vec_len preserved.fates → waiting ≤ place → preserved.fates.items ≡ fates_of (length messages) (with_sending (h.passed + place) establishment h)
+unsent_after preserved {messages} {h} is are place waiting establishment counted le =
     let len = fates_len is in
     let passed = settled_is is are in
     is.fates ∙ unsent_fates h (length messages) (h.passed + place) establishment (omega arith)
 
-pub sent_after : (kept : Log) {messages : List (List ℕ)} {h : world.History} → IsHistory kept messages h → AreSettled h → (place waiting count at establishment : ℕ) (fate : Fate)
-    → kept.acknowledged + kept.dropped + waiting ≡ vec_len kept.fates → place < waiting → at ≡ kept.acknowledged + kept.dropped + place
-    → length h.begun ≡ establishment → count ≡ vec_len kept.begun → fate ≡ get_or kept.fates.items at fate
-    → set kept.fates.items at (fate_with (Some count) fate.end) ≡ fates_of (length messages) (with_sending (h.passed + place) establishment h)
-sent_after kept {messages} {h} is are place waiting count at establishment fate counted lt there begun counts read =
+pub sent_after : (preserved : Log) {messages : List (List ℕ)} {h : world.History} → IsHistory preserved messages h → AreSettled h → (place waiting count at establishment : ℕ) (fate : Fate)
+    → preserved.acknowledged + preserved.dropped + waiting ≡ vec_len preserved.fates → place < waiting → at ≡ preserved.acknowledged + preserved.dropped + place
+    → length h.begun ≡ establishment → count ≡ vec_len preserved.begun → fate ≡ get_or preserved.fates.items at fate
+    → set preserved.fates.items at (fate_with (Some count) fate.end) ≡ fates_of (length messages) (with_sending (h.passed + place) establishment h)
+sent_after preserved {messages} {h} is are place waiting count at establishment fate counted lt there begun counts read =
     let len = fates_len is in
     let passed = settled_is is are in
     let here : at ≡ h.passed + place = omega arith in
-    let number : count ≡ establishment = counts ∙ kept.begun.ok.0 ∙ ap length is.begun ∙ begun in
-    let read_there : fate ≡ get_or kept.fates.items (h.passed + place) fate = rw (← here) read in
-    rw (here, number) (sent_fates h (length messages) (h.passed + place) establishment kept.fates.items fate is.fates (omega arith) read_there)
+    let number : count ≡ establishment = counts ∙ preserved.begun.ok.0 ∙ ap length is.begun ∙ begun in
+    let read_there : fate ≡ get_or preserved.fates.items (h.passed + place) fate = rw (← here) read in
+    rw (here, number) (sent_fates h (length messages) (h.passed + place) establishment preserved.fates.items fate is.fates (omega arith) read_there)

@@ -35,28 +35,28 @@ same_acted a b h = cc
 stepped_framed : (setup : Setup) (input : Input) (octets : List ℕ) (place : ℕ) (v : View) (acted : ViewStep) (result : Result StepState LinkFault) → IsConsistent Tagged v.station
     → step Tagged input v.station.end ≡ result → stepped octets place v result ≡ Ok acted → HasFrames setup acted
 unfolding view_after
-stepped_framed setup input octets place v acted (Ok s) kept done is =
-    let keeps : AllowsFrames v.station.end = record { few = kept.window; sound = kept.sound; numbers = kept.numbers; short = kept.short } in
-    subst (HasFrames setup) (same_acted (record { view = view_after octets place v s; outs = s.outs }) acted is) (frames_of_step setup input v.station.end s keeps done)
-stepped_framed setup input octets place v acted (Err fault) kept done is = cc
+stepped_framed setup input octets place v acted (Ok s) preserved done is =
+    let preserves : AllowsFrames v.station.end = record { few = preserved.window; sound = preserved.sound; numbers = preserved.numbers; short = preserved.short } in
+    subst (HasFrames setup) (same_acted (record { view = view_after octets place v s; outs = s.outs }) acted is) (frames_of_step setup input v.station.end s preserves done)
+stepped_framed setup input octets place v acted (Err fault) preserved done is = cc
 
 -- ---- The moves.
 
 takes_framed : (setup : Setup) (input : Input) (octets : List ℕ) (v : View) (acted : ViewStep) → IsConsistent Tagged v.station → takes Tagged input octets v ≡ Ok acted → HasFrames setup acted
 unfolding takes
-takes_framed setup input octets v acted kept is = stepped_framed setup input octets 0 v acted (step Tagged input v.station.end) kept refl is
+takes_framed setup input octets v acted preserved is = stepped_framed setup input octets 0 v acted (step Tagged input v.station.end) preserved refl is
 
 delivers_framed : (setup : Setup) (frames : List Flight) (v : View) (acted : ViewStep) → IsConsistent Tagged v.station → delivers Tagged frames v ≡ Ok acted → HasFrames setup acted
 unfolding delivers receives
-delivers_framed setup [] v acted kept is = cc
-delivers_framed setup (frame ∷ rest) v acted kept is =
-    stepped_framed setup (input.Heard frame.control frame.role) frame.info frame.place (record v { incoming = rest }) acted (step Tagged (input.Heard frame.control frame.role) v.station.end) kept refl is
+delivers_framed setup [] v acted preserved is = cc
+delivers_framed setup (frame ∷ rest) v acted preserved is =
+    stepped_framed setup (input.Heard frame.control frame.role) frame.info frame.place (record v { incoming = rest }) acted (step Tagged (input.Heard frame.control frame.role) v.station.end) preserved refl is
 
 -- an action without outputs
 quietly_framed : (setup : Setup) (now : View) (acted : ViewStep) → quietly now ≡ Ok acted → HasFrames setup acted
 quietly_framed setup now acted is =
     subst (HasFrames setup) (same_acted (record { view = now; outs = [] }) acted is)
-    (λ handed fits. All-nil (λ (output : Out). made_frame setup (drop now.station.end.first now.station.end.given) handed output ≡ sent_frame setup (drop now.station.end.first now.station.end.given) handed output))
+    (λ input_octets fits. All-nil (λ (output : Out). made_frame setup (drop now.station.end.first now.station.end.given) input_octets output ≡ sent_frame setup (drop now.station.end.first now.station.end.given) input_octets output))
 
 where_there : (setup : Setup) (there : Bool) (now : View) (other : Refusal) (acted : ViewStep) → (if there then quietly now else Err other) ≡ Ok acted → HasFrames setup acted
 where_there setup true now other acted is = quietly_framed setup now acted is
@@ -77,31 +77,31 @@ where_runs false outcome other acted is = cc
 
 expires_200_framed : (setup : Setup) (who : Side) (v : View) (acted : ViewStep) → IsConsistent Tagged v.station → expires_200 Tagged who v ≡ Ok acted → HasFrames setup acted
 unfolding expires_200
-expires_200_framed setup who v acted kept is = takes_framed setup (input.Expiry T200) [] v acted kept
+expires_200_framed setup who v acted preserved is = takes_framed setup (input.Expiry T200) [] v acted preserved
     (not_under_way who (first_poll v.outgoing) (first_final v.incoming) (takes Tagged (input.Expiry T200) [] v) acted (where_runs v.station.end.t200 _ _ acted is))
 
 expires_203_framed : (setup : Setup) (v : View) (acted : ViewStep) → IsConsistent Tagged v.station → expires_203 Tagged v ≡ Ok acted → HasFrames setup acted
 unfolding expires_203
-expires_203_framed setup v acted kept is = takes_framed setup (input.Expiry T203) [] v acted kept (where_runs v.station.end.t203 _ _ acted is)
+expires_203_framed setup v acted preserved is = takes_framed setup (input.Expiry T203) [] v acted preserved (where_runs v.station.end.t203 _ _ acted is)
 
 acts_framed : (setup : Setup) (who : Side) (event : PairEvent) (v : View) (acted : ViewStep) → IsConsistent Tagged v.station → acts Tagged who event v ≡ Ok acted → HasFrames setup acted
 unfolding acts
-acts_framed setup who (Give message) v acted kept is = takes_framed setup (input.Give message) [] v acted kept is
-acts_framed setup who Establish v acted kept is = takes_framed setup input.Establish [] v acted kept is
-acts_framed setup who Release v acted kept is = takes_framed setup input.Release [] v acted kept is
-acts_framed setup who Deliver v acted kept is = delivers_framed setup v.incoming v acted kept is
-acts_framed setup who (Lose at) v acted kept is = loses_framed setup at v acted is
-acts_framed setup who Expire200 v acted kept is = expires_200_framed setup who v acted kept is
-acts_framed setup who Expire203 v acted kept is = expires_203_framed setup v acted kept is
-acts_framed setup who (Busy on) v acted kept is = takes_framed setup (busy_input on) [] v acted kept is
-acts_framed setup who (UnitData octets) v acted kept is = takes_framed setup (input.UnitData (length octets)) octets v acted kept is
-acts_framed setup who Restart v acted kept is = quietly_framed setup (restarts v) acted is
+acts_framed setup who (Give message) v acted preserved is = takes_framed setup (input.Give message) [] v acted preserved is
+acts_framed setup who Establish v acted preserved is = takes_framed setup input.Establish [] v acted preserved is
+acts_framed setup who Release v acted preserved is = takes_framed setup input.Release [] v acted preserved is
+acts_framed setup who Deliver v acted preserved is = delivers_framed setup v.incoming v acted preserved is
+acts_framed setup who (Lose at) v acted preserved is = loses_framed setup at v acted is
+acts_framed setup who Expire200 v acted preserved is = expires_200_framed setup who v acted preserved is
+acts_framed setup who Expire203 v acted preserved is = expires_203_framed setup v acted preserved is
+acts_framed setup who (Busy on) v acted preserved is = takes_framed setup (busy_input on) [] v acted preserved is
+acts_framed setup who (UnitData octets) v acted preserved is = takes_framed setup (input.UnitData (length octets)) octets v acted preserved is
+acts_framed setup who Restart v acted preserved is = quietly_framed setup (restarts v) acted is
 
 -- ---- The world.
 
 consistent_station : (who : Side) (w : World) → IsConsistentWorld Tagged w → IsConsistent Tagged (view_of who w).station
-consistent_station side.User w kept = kept.user
-consistent_station side.Network w kept = kept.network
+consistent_station side.User w preserved = preserved.user
+consistent_station side.Network w preserved = preserved.network
 
 -- the outputs have their frames, by the end of the side that made the move
 abbrev Framed : Side → Happened → Type 0
@@ -126,5 +126,5 @@ in_world_framed who w (Err refusal) happened has is = cc
 pub frames_of_move : (move : Move) (w : World) (happened : Happened) → IsConsistentWorld Tagged w → happens Tagged move w ≡ Ok happened
     → HaveFrames (setup_for move.side) (drop (view_of move.side happened.world).station.end.first (view_of move.side happened.world).station.end.given) happened.outs
 unfolding happens
-frames_of_move move w happened kept is = in_world_framed move.side w (acts Tagged move.side move.event (view_of move.side w)) happened
-    (λ acted done. acts_framed (setup_for move.side) move.side move.event (view_of move.side w) acted (consistent_station move.side w kept) done) is
+frames_of_move move w happened preserved is = in_world_framed move.side w (acts Tagged move.side move.event (view_of move.side w)) happened
+    (λ acted done. acts_framed (setup_for move.side) move.side move.event (view_of move.side w) acted (consistent_station move.side w preserved) done) is

@@ -30,7 +30,7 @@ begun_no_more begun before n lt =
 
 begins_numbered : (received : List Received) (begun : List ℕ) (before : ℕ) → before ≡ length received → AreNumbered received begun → AreNumbered received (begun ++ before ∷ [])
 begins_numbered received begun before is are = record {
-  came = λ n lt. are.came n lt ∙ ap (λ number. Some number) (sym (begun_no_more begun before n (omega (arith, is, lt))));
+  arrived = λ n lt. are.arrived n lt ∙ ap (λ number. Some number) (sym (begun_no_more begun before n (omega (arith, is, lt))));
   next = λ n le. begun_more begun before n (omega (arith, is, le)) ∙ rw (are.next n le) (sym (length-append begun (before ∷ [])));
 }
 
@@ -44,14 +44,14 @@ either_by : (less : Bool) (n len : ℕ) → nat_lt n len ≡ less → n < len + 
 either_by true n len is lt = inl (grind (arith, nat_tests))
 either_by false n len is lt = inr (grind (arith, nat_tests))
 
-message_came : (received : List Received) (begun : List ℕ) (message : Received) → message.establishment ≡ length begun → AreNumbered received begun
+message_arrived : (received : List Received) (begun : List ℕ) (message : Received) → message.establishment ≡ length begun → AreNumbered received begun
     → (n : ℕ) → (n < length received) ⊎ (n ≡ length received) → establishment_at (received ++ message ∷ []) n ≡ Some (begun_at begun n)
-message_came received begun message is are n (inl lt) = ap establishment_of (read_before received message n lt) ∙ are.came n lt
-message_came received begun message is are n (inr here) = rw here (ap establishment_of (read_last received message) ∙ ap (λ number. Some number) (is ∙ sym (are.next (length received) (omega arith))))
+message_arrived received begun message is are n (inl lt) = ap establishment_of (read_before received message n lt) ∙ are.arrived n lt
+message_arrived received begun message is are n (inr here) = rw here (ap establishment_of (read_last received message) ∙ ap (λ number. Some number) (is ∙ sym (are.next (length received) (omega arith))))
 
 receives_numbered : (received : List Received) (begun : List ℕ) (message : Received) → message.establishment ≡ length begun → AreNumbered received begun → AreNumbered (received ++ message ∷ []) begun
 receives_numbered received begun message is are = record {
-  came = λ n lt. message_came received begun message is are n (either_by (nat_lt n (length received)) n (length received) refl (omega (arith, lt, length-append received (message ∷ []))));
+  arrived = λ n lt. message_arrived received begun message is are n (either_by (nat_lt n (length received)) n (length received) refl (omega (arith, lt, length-append received (message ∷ []))));
   next = λ n le. are.next n (omega (arith, le, length-append received (message ∷ [])));
 }
 

@@ -25,7 +25,7 @@ pub new_represents : (user_parameters network_parameters : Parameters) (user net
     → IsStation User user (new_station user_parameters) → IsStation Network network (new_station network_parameters) → IsOn Network to_user [] → IsOn User to_network []
     → RepresentWorld user network to_user to_network (new_world user_parameters network_parameters)
 new_represents user_parameters network_parameters user network to_user to_network small_user small_network is_user is_network none_to_user none_to_network =
-    record { user = is_user; network = is_network; to_user = none_to_user; to_network = none_to_network; kept = new_world_consistent Tagged user_parameters network_parameters small_user small_network }
+    record { user = is_user; network = is_network; to_user = none_to_user; to_network = none_to_network; preserved = new_world_consistent Tagged user_parameters network_parameters small_user small_network }
 
 -- ---- A move.
 
@@ -37,7 +37,7 @@ pub record Did (user network : RecordedLink) (to_user to_network : Line) (outcom
   pub happened : Happened
   pub is : outcome ≡ Happens happened
   pub same : happened.outs ≡ outs
-  pub stand : RepresentWorld user network to_user to_network happened.world
+  pub represent : RepresentWorld user network to_user to_network happened.world
 
 -- the views of the user and of the network
 pub user_sees : {user network : RecordedLink} {to_user to_network : Line} {w : World} → RepresentWorld user network to_user to_network w → IsView User user to_user to_network (view_of User w)
@@ -56,27 +56,27 @@ in_world_did who w outcome acted is = rw is refl
 pub user_did : (m : Move) (w : World) (user network after : RecordedLink) (to_user to_network to_user_after to_network_after : Line) (outs : ArrayVec Out) → m.side ≡ User → RepresentWorld user network to_user to_network w
     → ActsInView user to_user to_network after to_user_after to_network_after (λ side v. acts Tagged side m.event v) outs → Did after network to_user_after to_network_after (happens Tagged m w) outs.items
 user_did m w user network after to_user to_network to_user_after to_network_after outs is s acts_so =
-    let d = acts_so User (view_of User w) s.kept.user (user_sees s) in
+    let d = acts_so User (view_of User w) s.preserved.user (user_sees s) in
     let happened : Happened = record { world = with_view User d.acted.view w; outs = d.acted.outs } in
     let it = of_side m w User is ∙ in_world_did User w (acts Tagged User m.event (view_of User w)) d.acted d.is in
     record {
       happened = happened;
       is = it;
       same = d.same;
-      stand = record { user = d.view.station; network = s.network; to_user = d.view.incoming; to_network = d.view.outgoing; kept = move_consistent Tagged m w happened s.kept it };
+      represent = record { user = d.view.station; network = s.network; to_user = d.view.incoming; to_network = d.view.outgoing; preserved = move_consistent Tagged m w happened s.preserved it };
     }
 
 pub network_did : (m : Move) (w : World) (user network after : RecordedLink) (to_user to_network to_user_after to_network_after : Line) (outs : ArrayVec Out) → m.side ≡ Network → RepresentWorld user network to_user to_network w
     → ActsInView network to_network to_user after to_network_after to_user_after (λ side v. acts Tagged side m.event v) outs → Did user after to_user_after to_network_after (happens Tagged m w) outs.items
 network_did m w user network after to_user to_network to_user_after to_network_after outs is s acts_so =
-    let d = acts_so Network (view_of Network w) s.kept.network (network_sees s) in
+    let d = acts_so Network (view_of Network w) s.preserved.network (network_sees s) in
     let happened : Happened = record { world = with_view Network d.acted.view w; outs = d.acted.outs } in
     let it = of_side m w Network is ∙ in_world_did Network w (acts Tagged Network m.event (view_of Network w)) d.acted d.is in
     record {
       happened = happened;
       is = it;
       same = d.same;
-      stand = record { user = s.user; network = d.view.station; to_user = d.view.outgoing; to_network = d.view.incoming; kept = move_consistent Tagged m w happened s.kept it };
+      represent = record { user = s.user; network = d.view.station; to_user = d.view.outgoing; to_network = d.view.incoming; preserved = move_consistent Tagged m w happened s.preserved it };
     }
 
 -- a refusal by the side refuses the move in the world
@@ -102,13 +102,13 @@ pub user_still : (w : World) (user network after : RecordedLink) (to_user to_net
     → RepresentWorld after network to_user_after to_network_after w
 user_still w user network after to_user to_network to_user_after to_network_after s shows =
     let v = shows User (view_of User w) (user_sees s) in
-    record { user = v.station; network = s.network; to_user = v.incoming; to_network = v.outgoing; kept = s.kept }
+    record { user = v.station; network = s.network; to_user = v.incoming; to_network = v.outgoing; preserved = s.preserved }
 
 pub network_still : (w : World) (user network after : RecordedLink) (to_user to_network to_user_after to_network_after : Line) → RepresentWorld user network to_user to_network w → ShowsViewAsBefore network to_network to_user after to_network_after to_user_after
     → RepresentWorld user after to_user_after to_network_after w
 network_still w user network after to_user to_network to_user_after to_network_after s shows =
     let v = shows Network (view_of Network w) (network_sees s) in
-    record { user = s.user; network = v.station; to_user = v.outgoing; to_network = v.incoming; kept = s.kept }
+    record { user = s.user; network = v.station; to_user = v.outgoing; to_network = v.incoming; preserved = s.preserved }
 
 -- ---- A pair that moves can reach stays one after a move.
 
@@ -124,28 +124,28 @@ reached_more : (user network user_after network_after : RecordedLink) (to_user t
 reached_more user network user_after network_after to_user to_network to_user_after to_network_after m outs x d =
     let start = new_world x.user x.network in
     let there = after_did (run Tagged x.moves start) (happens Tagged m (run Tagged x.moves start)) d.happened d.is ∙ sym (run_more x.moves m start) in
-    record { user = x.user; network = x.network; few_of_user = x.few_of_user; few_of_network = x.few_of_network; some_of_user = x.some_of_user; some_of_network = x.some_of_network; moves = x.moves ++ m ∷ []; stand = subst (RepresentWorld user_after network_after to_user_after to_network_after) there d.stand }
+    record { user = x.user; network = x.network; few_of_user = x.few_of_user; few_of_network = x.few_of_network; some_of_user = x.some_of_user; some_of_network = x.some_of_network; moves = x.moves ++ m ∷ []; represent = subst (RepresentWorld user_after network_after to_user_after to_network_after) there d.represent }
 
 reached_still : (user network user_after network_after : RecordedLink) (to_user to_network to_user_after to_network_after : Line) (x : IsReached user network to_user to_network)
     → RepresentWorld user_after network_after to_user_after to_network_after (run Tagged x.moves (new_world x.user x.network)) → IsReached user_after network_after to_user_after to_network_after
-reached_still user network user_after network_after to_user to_network to_user_after to_network_after x stand =
-    record { user = x.user; network = x.network; few_of_user = x.few_of_user; few_of_network = x.few_of_network; some_of_user = x.some_of_user; some_of_network = x.some_of_network; moves = x.moves; stand = stand }
+reached_still user network user_after network_after to_user to_network to_user_after to_network_after x represent =
+    record { user = x.user; network = x.network; few_of_user = x.few_of_user; few_of_network = x.few_of_network; some_of_user = x.some_of_user; some_of_network = x.some_of_network; moves = x.moves; represent = represent }
 
 user_reaches : (m : Move) (user network after : RecordedLink) (to_user to_network to_user_after to_network_after : Line) (r : Result (ArrayVec Out) PairFault) → m.side ≡ User
     → IfOk r (ActsInView user to_user to_network after to_user_after to_network_after (λ side v. acts Tagged side m.event v)) → OnErr r (ShowsViewAsBefore user to_user to_network after to_user_after to_network_after)
     → IsReached user network to_user to_network → IsReached after network to_user_after to_network_after
 user_reaches m user network after to_user to_network to_user_after to_network_after (Ok outs) is acts_so shows x =
-    reached_more user network after network to_user to_network to_user_after to_network_after m outs.items x (user_did m (run Tagged x.moves (new_world x.user x.network)) user network after to_user to_network to_user_after to_network_after outs is x.stand acts_so)
+    reached_more user network after network to_user to_network to_user_after to_network_after m outs.items x (user_did m (run Tagged x.moves (new_world x.user x.network)) user network after to_user to_network to_user_after to_network_after outs is x.represent acts_so)
 user_reaches m user network after to_user to_network to_user_after to_network_after (Err fault) is acts_so shows x =
-    reached_still user network after network to_user to_network to_user_after to_network_after x (user_still (run Tagged x.moves (new_world x.user x.network)) user network after to_user to_network to_user_after to_network_after x.stand shows)
+    reached_still user network after network to_user to_network to_user_after to_network_after x (user_still (run Tagged x.moves (new_world x.user x.network)) user network after to_user to_network to_user_after to_network_after x.represent shows)
 
 network_reaches : (m : Move) (user network after : RecordedLink) (to_user to_network to_user_after to_network_after : Line) (r : Result (ArrayVec Out) PairFault) → m.side ≡ Network
     → IfOk r (ActsInView network to_network to_user after to_network_after to_user_after (λ side v. acts Tagged side m.event v)) → OnErr r (ShowsViewAsBefore network to_network to_user after to_network_after to_user_after)
     → IsReached user network to_user to_network → IsReached user after to_user_after to_network_after
 network_reaches m user network after to_user to_network to_user_after to_network_after (Ok outs) is acts_so shows x =
-    reached_more user network user after to_user to_network to_user_after to_network_after m outs.items x (network_did m (run Tagged x.moves (new_world x.user x.network)) user network after to_user to_network to_user_after to_network_after outs is x.stand acts_so)
+    reached_more user network user after to_user to_network to_user_after to_network_after m outs.items x (network_did m (run Tagged x.moves (new_world x.user x.network)) user network after to_user to_network to_user_after to_network_after outs is x.represent acts_so)
 network_reaches m user network after to_user to_network to_user_after to_network_after (Err fault) is acts_so shows x =
-    reached_still user network user after to_user to_network to_user_after to_network_after x (network_still (run Tagged x.moves (new_world x.user x.network)) user network after to_user to_network to_user_after to_network_after x.stand shows)
+    reached_still user network user after to_user to_network to_user_after to_network_after x (network_still (run Tagged x.moves (new_world x.user x.network)) user network after to_user to_network to_user_after to_network_after x.represent shows)
 
 pub user_reached : (m : Move) (user network after : RecordedLink) (to_user to_network to_user_after to_network_after : Line) (r : Result (ArrayVec Out) PairFault) → m.side ≡ User
     → IfOk r (ActsInView user to_user to_network after to_user_after to_network_after (λ side v. acts Tagged side m.event v)) → OnErr r (ShowsViewAsBefore user to_user to_network after to_user_after to_network_after)
@@ -161,5 +161,5 @@ network_reached m user network after to_user to_network to_user_after to_network
 
 pub new_reached : (user_parameters network_parameters : Parameters) (user network : RecordedLink) (to_user to_network : Line) → user_parameters.k ≤ 127 → network_parameters.k ≤ 127 → 1 ≤ user_parameters.k → 1 ≤ network_parameters.k
     → RepresentWorld user network to_user to_network (new_world user_parameters network_parameters) → ∥ IsReached user network to_user to_network ∥₁
-new_reached user_parameters network_parameters user network to_user to_network few_of_user few_of_network some_of_user some_of_network stand =
-    ∣ record { user = user_parameters; network = network_parameters; few_of_user = few_of_user; few_of_network = few_of_network; some_of_user = some_of_user; some_of_network = some_of_network; moves = []; stand = stand } ∣₁
+new_reached user_parameters network_parameters user network to_user to_network few_of_user few_of_network some_of_user some_of_network represent =
+    ∣ record { user = user_parameters; network = network_parameters; few_of_user = few_of_user; few_of_network = few_of_network; some_of_user = some_of_user; some_of_network = some_of_network; moves = []; represent = represent } ∣₁

@@ -56,7 +56,7 @@ outs_of_admitted outcome happened outs is same expected = subst AreExpected same
 reached_reports : (p q : Pair) (move : Move) (outs : List Out) → ((w : World) → PairRepresents p w → HasHappened q (happens Tagged move w) outs) → IsReached p.user p.network p.to_user p.to_network → AreExpected outs
 reached_reports p q move outs happened x =
     let start = new_world x.user x.network in
-    let h = happened (run Tagged x.moves start) x.stand in
+    let h = happened (run Tagged x.moves start) x.represent in
     outs_of_admitted (happens Tagged move (run Tagged x.moves start)) h.happened outs h.is h.same
     (last_reports x.moves move start (every_run_reports Tagged x.user x.network x.few_of_user x.few_of_network (x.moves ++ move ∷ [])))
 

@@ -51,7 +51,7 @@ pub started_anew : (side own : Side) (parameters : Parameters) (v : View) (old :
     → ((from : Side) → IsOn from inward_new []) → ((from : Side) → IsOn from outward_new []) → IsConsistent Tagged v.station → IsView side old inward outward v
     → IsDone side (record { link = link; history = history }) inward_new outward_new (quietly (restarts v)) []
 unfolding restarts
-started_anew side own parameters v old link history inward outward inward_new outward_new mine with_them representation setup drops empty_in empty_out kept shown =
+started_anew side own parameters v old link history inward outward inward_new outward_new mine with_them representation setup drops empty_in empty_out preserved shown =
     let e = v.station.end in
     let New : Parameters → Type 0 = λ p. LinkRepresents link (new_end p) in
     let sides : own ≡ side = mine ∙ ap (λ (x : Setup). x.side) shown.station.setup in
@@ -63,7 +63,7 @@ started_anew side own parameters v old link history inward outward inward_new ou
         station = record {
           link = new_represents link e (subst New (with_them e shown.station.link) representation);
           setup = setup ∙ ap setup_for sides;
-          history = drops e.given v.station.history kept.settled shown.station.history;
+          history = drops e.given v.station.history preserved.settled shown.station.history;
         };
         incoming = empty_in (other_side side);
         outgoing = empty_out side;

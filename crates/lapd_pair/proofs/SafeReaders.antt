@@ -157,17 +157,17 @@ safe_reading sender receiver messages others h g sends receives safe =
           safe.prefix place smaller among less (same_Some _ _ (sym read_smaller ∙ rw (← sends.fates) same ∙ read));
       acknowledged_was_received = λ place is. safe.acknowledged place (acked_at h (length messages) place (rw (← sends.fates) is));
       fate_of_each = ap length sends.fates ∙ length-map-range_with_len (fate_at h) 0 (length messages) ∙ sym (ap length sends.given) ∙ length-map sender.given.items (λ message. message.items);
-      numbered = receiver.numbered.came;
+      numbered = receiver.numbered.arrived;
     }
 
 reached_readings : (p : Pair) (sender : Side) → IsReached p.user p.network p.to_user p.to_network → IsSafelyReadFrom sender (other_side sender) p
 reached_readings p User x =
     let w = run Tagged x.moves (new_world x.user x.network) in
-    safe_reading p.user.history p.network.history w.user.end.given w.network.end.given w.user.history w.network.history x.stand.user.history x.stand.network.history
+    safe_reading p.user.history p.network.history w.user.end.given w.network.end.given w.user.history w.network.history x.represent.user.history x.represent.network.history
     (every_run_safe Tagged x.user x.network x.few_of_user x.few_of_network x.moves).0
 reached_readings p Network x =
     let w = run Tagged x.moves (new_world x.user x.network) in
-    safe_reading p.network.history p.user.history w.network.end.given w.user.end.given w.network.history w.user.history x.stand.network.history x.stand.user.history
+    safe_reading p.network.history p.user.history w.network.end.given w.user.end.given w.network.history w.user.history x.represent.network.history x.represent.user.history
     (every_run_safe Tagged x.user x.network x.few_of_user x.few_of_network x.moves).1
 
 pub readings_are_safe : (p : Pair) → AreSafeReadings p

@@ -82,10 +82,10 @@ nothing_next w n u off none = sym (lines_are (λ v. next_move Tagged v ≡ no_mo
 pub bound_is : (p : Pair) (w : World) (user network : ℕ) → PairRepresents p w
     → user ≡ length w.user.end.given - w.user.end.first → network ≡ length w.network.end.given - w.network.end.first → 8 * (user + network + 4) ≡ bound w
 bound_is p w user network s user_waits network_waits =
-    let a = left_settled w.user s.kept.user.settled in
-    let b = left_settled w.network s.kept.network.settled in
-    let c = s.kept.user.first in
-    let d = s.kept.network.first in
+    let a = left_settled w.user s.preserved.user.settled in
+    let b = left_settled w.network s.preserved.network.settled in
+    let c = s.preserved.user.first in
+    let d = s.preserved.network.first in
     omega (arith, user_waits, network_waits, a, b, c, d)
 
 -- ---- The moves made.
@@ -95,10 +95,10 @@ none_mapped f None = refl
 none_mapped f (Some a) = refl
 
 pub none_is_not_some : {A : Type 0} (o : Option A) (b : Bool) → is_some o ≡ not b → b ≡ is_none o
-none_is_not_some None true told = refl
-none_is_not_some None false told = cc
-none_is_not_some (Some a) true told = cc
-none_is_not_some (Some a) false told = refl
+none_is_not_some None true reported = refl
+none_is_not_some None false reported = cc
+none_is_not_some (Some a) true reported = cc
+none_is_not_some (Some a) false reported = refl
 
 pub record AreMade (before : Pair) (n : ℕ) (now : Pair) : Type 0 where
   pub representation : (w : World) → PairRepresents before w → PairRepresents now (run Tagged (settling Tagged n w) w)
@@ -144,13 +144,13 @@ no_move_is_left before now n made none w s few =
 
 -- all moves within the bound are made
 pub all_made : (before now : Pair) (n : ℕ) (rest : Bool) → AreMade before n now → ((w : World) → PairRepresents now w → rest ≡ is_none (next_move Tagged w)) → (w : World) → PairRepresents before w → n ≡ bound w → HasSettled now (record { moves = n; rest = rest }) w
-all_made before now n rest made tells w s all =
+all_made before now n rest made reporting w s all =
     let u = run Tagged (settling Tagged n w) w in
     let there : u ≡ settled w = ap (λ k. run Tagged (settling Tagged k w) w) all in
     record {
       representation = subst (PairRepresents now) there (made.representation w s);
       moves = sym (made.counted w s) ∙ ap (λ k. length (settling Tagged k w)) all;
-      rest = tells u (made.representation w s) ∙ ap (λ v. is_none (next_move Tagged v)) there;
+      rest = reporting u (made.representation w s) ∙ ap (λ v. is_none (next_move Tagged v)) there;
     }
 
 -- ---- An allocation fails.
@@ -198,8 +198,8 @@ drained_pair old new done settles = ∥∥₁_map old.reached (λ x.
       user = x.user;
       network = x.network;
       moves = x.moves;
-      representation = x.stand;
-      after = (settles w x.stand).representation;
+      representation = x.represent;
+      after = (settles w x.represent).representation;
       drained = λ q. every_quiet_line_drains Tagged x.user x.network x.few_of_user x.few_of_network x.some_of_user x.some_of_network x.moves q;
     })
 
@@ -228,14 +228,14 @@ left_again p w v s t =
       arith,
       given_user,
       given_network,
-      left_settled w.user s.kept.user.settled,
-      left_settled w.network s.kept.network.settled,
-      left_settled v.user t.kept.user.settled,
-      left_settled v.network t.kept.network.settled,
-      s.kept.user.settled.counted,
-      s.kept.network.settled.counted,
-      t.kept.user.settled.counted,
-      t.kept.network.settled.counted,
+      left_settled w.user s.preserved.user.settled,
+      left_settled w.network s.preserved.network.settled,
+      left_settled v.user t.preserved.user.settled,
+      left_settled v.network t.preserved.network.settled,
+      s.preserved.user.settled.counted,
+      s.preserved.network.settled.counted,
+      t.preserved.user.settled.counted,
+      t.preserved.network.settled.counted,
       s.user.history.acknowledged,
       s.user.history.dropped,
       s.network.history.acknowledged,
@@ -250,17 +250,17 @@ module _ (old new : Pair) (done : Settled) (settles : Settles old new done) (w :
   emptied_by : IsReached old.user old.network old.to_user old.to_network → IsEmptied done w (settled w)
   emptied_by x =
       let v = run Tagged x.moves (new_world x.user x.network) in
-      let d = every_quiet_line_drains Tagged x.user x.network x.few_of_user x.few_of_network x.some_of_user x.some_of_network x.moves (quiet_again old w v s x.stand q) in
+      let d = every_quiet_line_drains Tagged x.user x.network x.few_of_user x.few_of_network x.some_of_user x.some_of_network x.moves (quiet_again old w v s x.represent q) in
       let h = settles w s in
-      let i = settles v x.stand in
+      let i = settles v x.represent in
       let moves = i.moves in
       let few = d.few in
       record {
         rest = i.rest ∙ ap is_none d.drained.rests;
-        few = omega (arith, moves, few, left_again old w v s x.stand);
+        few = omega (arith, moves, few, left_again old w v s x.represent);
         empty = left_again new (settled w) (settled v) h.representation i.representation ∙ d.drained.empty;
-        user = sym h.representation.user.history.dropped ∙ i.representation.user.history.dropped ∙ ap length d.drained.user.dropped ∙ sym x.stand.user.history.dropped ∙ s.user.history.dropped;
-        network = sym h.representation.network.history.dropped ∙ i.representation.network.history.dropped ∙ ap length d.drained.network.dropped ∙ sym x.stand.network.history.dropped ∙ s.network.history.dropped;
+        user = sym h.representation.user.history.dropped ∙ i.representation.user.history.dropped ∙ ap length d.drained.user.dropped ∙ sym x.represent.user.history.dropped ∙ s.user.history.dropped;
+        network = sym h.representation.network.history.dropped ∙ i.representation.network.history.dropped ∙ ap length d.drained.network.dropped ∙ sym x.represent.network.history.dropped ∙ s.network.history.dropped;
       }
 
   pub emptied : IsEmptied done w (settled w)

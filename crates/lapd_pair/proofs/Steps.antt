@@ -90,21 +90,21 @@ between_outputs_begins : (side : Side) (place : ℕ) (input : Input) (octets : L
     → IsConsistent Tagged v.station → IsStation side before v.station → IsOn side outward v.outgoing → length octets ≤ n201 → HasOctets input octets copy → step Tagged input v.station.end ≡ Ok s
     → LinkRepresents now.link s.end → setup_of now.link ≡ setup_of before.link → IsHistory now.history s.end.given (with_beginning v.station.end.establishments s.end.establishments v.station.history)
     → IsBetweenOutputs side s.end (occasion_of octets place s) s.outs now outward copy (story_before v s)
-between_outputs_begins side place input octets copy v s before now outward kept shown on few handed done link setup history =
+between_outputs_begins side place input octets copy v s before now outward preserved shown on few input_octets done link setup history =
     let e = v.station.end in
     record {
       link = link;
       setup = setup ∙ shown.setup;
       history = history;
       line = on;
-      order = outputs_in_order Tagged input v.station s kept done;
-      within = first_within Tagged s.end.state s.end (sound_step Tagged input e s kept.window kept.sound done);
-      settled = settled_alike v.station.history (with_beginning e.establishments s.end.establishments v.station.history) refl refl refl kept.settled;
-      begun = begun_counted e.establishments s.end.establishments v.station.history kept.begun (counted_by Tagged input e s (begins e.state e.release_pending input) refl done);
+      order = outputs_in_order Tagged input v.station s preserved done;
+      within = first_within Tagged s.end.state s.end (sound_step Tagged input e s preserved.window preserved.sound done);
+      settled = settled_alike v.station.history (with_beginning e.establishments s.end.establishments v.station.history) refl refl refl preserved.settled;
+      begun = begun_counted e.establishments s.end.establishments v.station.history preserved.begun (counted_by Tagged input e s (begins e.state e.release_pending input) refl done);
       given = refl;
-      short = step_is_short Tagged input e s kept.short done;
+      short = step_is_short Tagged input e s preserved.short done;
       fits = few;
-      copied = copied input e s octets copy done handed;
+      copied = copied input e s octets copy done input_octets;
     }
 
 -- ---- After all outputs are executed.
@@ -131,7 +131,7 @@ RecordsAll octets outs now outward copy after outward_after copy_after =
 
 pub records_of : (octets : List ℕ) (these those : List Out) (now : RecordedLink) (outward : Line) (copy : Option (Vec ℕ Global)) (after : RecordedLink) (outward_after : Line) (copy_after : Option (Vec ℕ Global)) → these ≡ those
     → RecordsAll octets these now outward copy after outward_after copy_after → RecordsAll octets those now outward copy after outward_after copy_after
-records_of octets these those now outward copy after outward_after copy_after same tells = subst (λ (x : List Out). RecordsAll octets x now outward copy after outward_after copy_after) same tells
+records_of octets these those now outward copy after outward_after copy_after same reporting = subst (λ (x : List Out). RecordsAll octets x now outward copy after outward_after copy_after) same reporting
 
 -- a step for an event, with its outputs
 pub step_acted : (side : Side) (place : ℕ) (input : Input) (octets : List ℕ) (copy copy_after : Option (Vec ℕ Global)) (v : View) (outs : List Out) (starts : Bool) (before now after : RecordedLink) (outward outward_after : Line)
@@ -141,15 +141,15 @@ pub step_acted : (side : Side) (place : ℕ) (input : Input) (octets : List ℕ)
     → ((messages : List (List ℕ)) (h : world.History) (was is : ℕ) → starts ≡ not (was == is) → IsHistory before.history messages h → IsHistory now.history messages (with_beginning was is h))
     → RecordsAll octets outs now outward copy after outward_after copy_after
     → IsActed side after outward_after (stepped octets place v (step Tagged input v.station.end)) outs
-step_acted side place input octets copy copy_after v outs starts before now after outward outward_after none kept shown on few handed steps setup tests notes tells =
+step_acted side place input octets copy copy_after v outs starts before now after outward outward_after none preserved shown on few input_octets steps setup tests notes reporting =
     let e = v.station.end in
     let done = steps e shown.link in
     let s = done.0 in
     let starting : starts ≡ not (e.establishments == s.end.establishments) = beginning_by input e s starts (sym (tests e shown.link)) done.1 in
     let given : s.end.given ≡ e.given = given_after Tagged input e s done.1 ∙ ap (λ m. e.given ++ m) none ∙ append-nil e.given in
     let history : IsHistory now.history s.end.given (with_beginning e.establishments s.end.establishments v.station.history) = rw given (notes e.given v.station.history e.establishments s.end.establishments starting shown.history) in
-    let start = between_outputs_begins side place input octets copy v s before now outward kept shown on few handed done.1 done.3 setup history in
-    let telling = records_of octets outs s.outs now outward copy after outward_after copy_after (sym done.2) tells in
+    let start = between_outputs_begins side place input octets copy v s before now outward preserved shown on few input_octets done.1 done.3 setup history in
+    let telling = records_of octets outs s.outs now outward copy after outward_after copy_after (sym done.2) reporting in
     acted_by side place octets copy_after v s after outward_after (step Tagged input e) outs done.1 done.2 (telling side s.end (occasion_of octets place s) (story_before v s) refl start)
 
 -- no event submits a message
@@ -166,9 +166,9 @@ no_message (event.Unit len) = refl
 
 -- ---- A message is submitted.
 
-unless_begun : (same : Bool) (kept : Log) (messages : List (List ℕ)) (h : world.History) (n : ℕ) → same ≡ true → IsHistory kept messages h → IsHistory kept messages (record h { begun = if same then h.begun else h.begun ++ n ∷ [] })
-unless_begun true kept messages h n is shown = shown
-unless_begun false kept messages h n is shown = cc
+unless_begun : (same : Bool) (preserved : Log) (messages : List (List ℕ)) (h : world.History) (n : ℕ) → same ≡ true → IsHistory preserved messages h → IsHistory preserved messages (record h { begun = if same then h.begun else h.begun ++ n ∷ [] })
+unless_begun true preserved messages h n is shown = shown
+unless_begun false preserved messages h n is shown = cc
 
 begins_none : (state : State) (release_pending : Bool) (message : List ℕ) → begins state release_pending (input.Give message) ≡ false
 begins_none TeiAssigned release_pending message = refl
@@ -184,16 +184,16 @@ pub give_acted : (side : Side) (message : List ℕ) (copy copy_after : Option (V
     → ((messages : List (List ℕ)) (h : world.History) → AreSettled h → h.sent_in (length messages) ≡ None → IsHistory before.history messages h → IsHistory now.history (messages ++ message ∷ []) h)
     → RecordsAll [] outs now outward copy after outward_after copy_after
     → IsActed side after outward_after (stepped [] 0 v (step Tagged (input.Give message) v.station.end)) outs
-give_acted side message copy copy_after v outs before now after outward outward_after none kept shown on steps setup gives tells =
+give_acted side message copy copy_after v outs before now after outward outward_after none preserved shown on steps setup gives reporting =
     let e = v.station.end in
     let done = steps e shown.link in
     let s = done.0 in
     let same = begun_by_no_step Tagged (input.Give message) e s (begins_none e.state e.release_pending message) done.1 in
     let equal : (e.establishments == s.end.establishments) ≡ true = grind (arith, nat_tests) in
     let given : s.end.given ≡ e.given ++ message ∷ [] = given_after Tagged (input.Give message) e s done.1 in
-    let unsent = kept.unsent (length e.given) (omega arith) in
+    let unsent = preserved.unsent (length e.given) (omega arith) in
     let history : IsHistory now.history s.end.given (with_beginning e.establishments s.end.establishments v.station.history) =
-    rw given (unless_begun (e.establishments == s.end.establishments) now.history (e.given ++ message ∷ []) v.station.history (length v.station.history.received) equal (gives e.given v.station.history kept.settled unsent shown.history)) in
-    let start = between_outputs_begins side 0 (input.Give message) [] copy v s before now outward kept shown on (omega arith) none done.1 done.3 setup history in
-    let telling = records_of [] outs s.outs now outward copy after outward_after copy_after (sym done.2) tells in
+    rw given (unless_begun (e.establishments == s.end.establishments) now.history (e.given ++ message ∷ []) v.station.history (length v.station.history.received) equal (gives e.given v.station.history preserved.settled unsent shown.history)) in
+    let start = between_outputs_begins side 0 (input.Give message) [] copy v s before now outward preserved shown on (omega arith) none done.1 done.3 setup history in
+    let telling = records_of [] outs s.outs now outward copy after outward_after copy_after (sym done.2) reporting in
     acted_by side 0 [] copy_after v s after outward_after (step Tagged (input.Give message) e) outs done.1 done.2 (telling side s.end (occasion_of [] 0 s) (story_before v s) refl start)

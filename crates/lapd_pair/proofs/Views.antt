@@ -59,8 +59,8 @@ request_takes_none i octets side v acted is = stepped_takes_none octets 0 v (ste
 pub acts_in_view : (mv : ViewMove) (old new : RecordedLink) (inward outward outward_new : Line) (r : Result (ArrayVec Out) PairFault) → TakesNone mv
     → IfOk r (Acts old outward new outward_new mv) → IfOk r (ActsInView old inward outward new inward outward_new mv)
 acts_in_view mv old new inward outward outward_new (Err fault) none h = tt
-acts_in_view mv old new inward outward outward_new (Ok outs) none h = λ side v kept shown.
-    let a = h side v kept shown.station shown.outgoing in
+acts_in_view mv old new inward outward outward_new (Ok outs) none h = λ side v preserved shown.
+    let a = h side v preserved shown.station shown.outgoing in
     record {
       acted = a.acted;
       is = a.is;
@@ -83,16 +83,16 @@ shows_view old new inward outward outward_new (Err fault) h = λ side v shown.
 -- the view is the same if each line still represents the same frames of its sender
 pub seen_alike : (side own other : Side) (s : RecordedLink) (inward inward_seen outward outward_seen : Line) (v : View) → own ≡ side → other_side side ≡ other
     → (IsOn other inward v.incoming → IsOn other inward_seen v.incoming) → (IsOn own outward v.outgoing → IsOn own outward_seen v.outgoing) → IsView side s inward outward v → IsView side s inward_seen outward_seen v
-seen_alike side own other s inward inward_seen outward outward_seen v mine theirs comes goes shown = record {
+seen_alike side own other s inward inward_seen outward outward_seen v mine theirs arrives goes shown = record {
   station = shown.station;
-  incoming = subst (λ (x : Side). IsOn x inward_seen v.incoming) (sym theirs) (comes (subst (λ (x : Side). IsOn x inward v.incoming) theirs shown.incoming));
+  incoming = subst (λ (x : Side). IsOn x inward_seen v.incoming) (sym theirs) (arrives (subst (λ (x : Side). IsOn x inward v.incoming) theirs shown.incoming));
   outgoing = subst (λ (x : Side). IsOn x outward_seen v.outgoing) mine (goes (subst (λ (x : Side). IsOn x outward v.outgoing) (sym mine) shown.outgoing));
 }
 
 pub acts_as_seen : (mv : ViewMove) (old new : RecordedLink) (inward inward_seen inward_new outward outward_seen outward_new : Line) (r : Result (ArrayVec Out) PairFault) → ShowsViewAsBefore old inward outward old inward_seen outward_seen
     → IfOk r (ActsInView old inward_seen outward_seen new inward_new outward_new mv) → IfOk r (ActsInView old inward outward new inward_new outward_new mv)
 acts_as_seen mv old new inward inward_seen inward_new outward outward_seen outward_new (Err fault) seen h = tt
-acts_as_seen mv old new inward inward_seen inward_new outward outward_seen outward_new (Ok outs) seen h = λ side v kept shown. h side v kept (seen side v shown)
+acts_as_seen mv old new inward inward_seen inward_new outward outward_seen outward_new (Ok outs) seen h = λ side v preserved shown. h side v preserved (seen side v shown)
 
 pub shows_as_seen : (old new : RecordedLink) (inward inward_seen inward_new outward outward_seen outward_new : Line) (r : Result (ArrayVec Out) PairFault) → ShowsViewAsBefore old inward outward old inward_seen outward_seen
     → OnErr r (ShowsViewAsBefore old inward_seen outward_seen new inward_new outward_new) → OnErr r (ShowsViewAsBefore old inward outward new inward_new outward_new)
@@ -104,7 +104,7 @@ shows_as_seen old new inward inward_seen inward_new outward outward_seen outward
 pub acts_as : (these those : ViewMove) (old new : RecordedLink) (outward outward_new : Line) (r : Result (ArrayVec Out) PairFault) → ((side : Side) (v : View) → IsStation side old v.station → those side v ≡ these side v)
     → IfOk r (Acts old outward new outward_new these) → IfOk r (Acts old outward new outward_new those)
 acts_as these those old new outward outward_new (Err fault) same h = tt
-acts_as these those old new outward outward_new (Ok outs) same h = λ side v kept shown on. subst (λ (x : Result ViewStep Refusal). IsActed side new outward_new x outs.items) (sym (same side v shown)) (h side v kept shown on)
+acts_as these those old new outward outward_new (Ok outs) same h = λ side v preserved shown on. subst (λ (x : Result ViewStep Refusal). IsActed side new outward_new x outs.items) (sym (same side v shown)) (h side v preserved shown on)
 
 pub refuses_as : (these those : ViewMove) (old : RecordedLink) (r : Result (ArrayVec Out) PairFault) → ((side : Side) (v : View) → IsStation side old v.station → those side v ≡ these side v)
     → IfErr r (StationRefusesAs old these) → IfErr r (StationRefusesAs old those)
@@ -114,7 +114,7 @@ refuses_as these those old (Err fault) same h = λ side v shown. subst (λ (x : 
 pub acts_as_in_view : (these those : ViewMove) (old new : RecordedLink) (inward outward inward_new outward_new : Line) (r : Result (ArrayVec Out) PairFault) → ((side : Side) (v : View) → IsView side old inward outward v → those side v ≡ these side v)
     → IfOk r (ActsInView old inward outward new inward_new outward_new these) → IfOk r (ActsInView old inward outward new inward_new outward_new those)
 acts_as_in_view these those old new inward outward inward_new outward_new (Err fault) same h = tt
-acts_as_in_view these those old new inward outward inward_new outward_new (Ok outs) same h = λ side v kept shown. subst (λ (x : Result ViewStep Refusal). IsDone side new inward_new outward_new x outs.items) (sym (same side v shown)) (h side v kept shown)
+acts_as_in_view these those old new inward outward inward_new outward_new (Ok outs) same h = λ side v preserved shown. subst (λ (x : Result ViewStep Refusal). IsDone side new inward_new outward_new x outs.items) (sym (same side v shown)) (h side v preserved shown)
 
 pub refuses_as_in_view : (these those : ViewMove) (old : RecordedLink) (inward outward : Line) (r : Result (ArrayVec Out) PairFault) → ((side : Side) (v : View) → IsView side old inward outward v → those side v ≡ these side v)
     → IfErr r (RefusesInView old inward outward these) → IfErr r (RefusesInView old inward outward those)
@@ -187,8 +187,8 @@ receives_first v frame rest h = rw h refl
 pub delivered : (side : Side) (v : View) (frame : Flight) (rest : List Flight) (old new : RecordedLink) (inward inward_new outward outward_new : Line) (outs : ArrayVec Out) → v.incoming ≡ frame ∷ rest → IsConsistent Tagged v.station → IsView side old inward outward v
     → Acts old outward new outward_new (λ side v. receives Tagged frame v) outs → ((from : Side) (frame : Flight) (rest : List Flight) → IsOn from inward (frame ∷ rest) → IsOn from inward_new rest)
     → IsDone side new inward_new outward_new (delivers Tagged v.incoming v) outs.items
-delivered side v frame rest old new inward inward_new outward outward_new outs is kept shown acts takes =
-    let a = acts side (record v { incoming = rest }) kept shown.station shown.outgoing in
+delivered side v frame rest old new inward inward_new outward outward_new outs is preserved shown acts takes =
+    let a = acts side (record v { incoming = rest }) preserved shown.station shown.outgoing in
     let left : IsOn (other_side side) inward_new rest = takes (other_side side) frame rest (subst (IsOn (other_side side) inward) is shown.incoming) in
     record {
       acted = a.acted;

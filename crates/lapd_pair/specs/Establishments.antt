@@ -14,5 +14,6 @@ begun_at begun n = count_by (λ before. nat_le before n) begun
 -- Each message arrived in the establishment that was then the latest. The same holds for the next
 -- message, whatever its number.
 pub record AreNumbered (received : List Received) (begun : List ℕ) : Type 0 where
-  pub came : (n : ℕ) → n < length received → establishment_at received n ≡ Some (begun_at begun n)
+  pub arrived : (n : ℕ) → n < length received → establishment_at received n ≡ Some
+      (begun_at begun n)
   pub next : (n : ℕ) → length received ≤ n → begun_at begun n ≡ length begun

@@ -33,14 +33,14 @@ abbrev pub of_received : Received → List ℕ × ℕ
 of_received message = (message.octets.items, message.establishment)
 
 -- The recorded history represents the history h of a side that submitted these messages.
-pub record IsHistory (kept : Log) (messages : List (List ℕ)) (h : world.History) : Type 0 where
-  pub given : map (λ message. message.items) kept.given.items ≡ messages
-  pub received : map of_received kept.received.items ≡ map octets_and_establishment h.received
-  pub units : map (λ unit. unit.items) kept.units.items ≡ h.units
-  pub fates : kept.fates.items ≡ fates_of (length messages) h
-  pub begun : kept.begun.items ≡ h.begun
-  pub acknowledged : kept.acknowledged ≡ length h.acked
-  pub dropped : kept.dropped ≡ length h.dropped
+pub record IsHistory (preserved : Log) (messages : List (List ℕ)) (h : world.History) : Type 0 where
+  pub given : map (λ message. message.items) preserved.given.items ≡ messages
+  pub received : map of_received preserved.received.items ≡ map octets_and_establishment h.received
+  pub units : map (λ unit. unit.items) preserved.units.items ≡ h.units
+  pub fates : preserved.fates.items ≡ fates_of (length messages) h
+  pub begun : preserved.begun.items ≡ h.begun
+  pub acknowledged : preserved.acknowledged ≡ length h.acked
+  pub dropped : preserved.dropped ≡ length h.dropped
 
 -- Nothing was recorded: all items are equal, and only the capacity may differ.
 pub record AreSame (old new : Log) : Type 0 where

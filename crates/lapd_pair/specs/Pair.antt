@@ -20,7 +20,7 @@ pub record RepresentWorld (user_side network_side : RecordedLink)
   pub network : IsStation Network network_side w.network
   pub to_user : IsOn Network line_to_user w.to_user
   pub to_network : IsOn User line_to_network w.to_network
-  pub kept : IsConsistentWorld Tagged w
+  pub preserved : IsConsistentWorld Tagged w
 
 -- The pair represents the world that some moves lead to from a new one, with windows of 1 to 127.
 pub record IsReached (user_side network_side : RecordedLink) (line_to_user line_to_network : Line) :
@@ -32,5 +32,5 @@ pub record IsReached (user_side network_side : RecordedLink) (line_to_user line_
   pub some_of_user : 1 ≤ user.k
   pub some_of_network : 1 ≤ network.k
   pub moves : List Move
-  pub stand : RepresentWorld user_side network_side line_to_user line_to_network
+  pub represent : RepresentWorld user_side network_side line_to_user line_to_network
       (run Tagged moves (new_world user network))

@@ -138,7 +138,7 @@ impl RecordedLink {
         if let Some(fault) = self.link.give_refusal(message.len()) {
             return Err(PairFault::Refused(fault));
         }
-        let Ok(kept) = Vec::from_slice(alloc, message) else {
+        let Ok(preserved) = Vec::from_slice(alloc, message) else {
             return Err(PairFault::Memory);
         };
         let Ok(queued) = Vec::from_slice(alloc, message) else {
@@ -147,11 +147,11 @@ impl RecordedLink {
         let Ok(()) = self.make_room_for_message(outward) else {
             return Err(PairFault::Memory);
         };
-        self.give(queued, kept, outward, outs)
+        self.give(queued, preserved, outward, outs)
     }
 
     /// Processes a frame from the other side.
-    fn hear(
+    fn receive(
         &mut self,
         alloc: Global,
         frame: &Frame<'_>,
@@ -204,7 +204,7 @@ impl RecordedLink {
         if !self.link.is_for(&frame.address()) {
             return Err(PairFault::NothingThere);
         }
-        match self.hear(alloc, &frame, outward, outs) {
+        match self.receive(alloc, &frame, outward, outs) {
             Ok(()) => {
                 inward.take_first();
                 Ok(())

@@ -47,7 +47,7 @@ preserves_acknowledging x y out nr ks m =
     let z = acknowledging nr x in
     let now = reception_now z ks in
     let n : IsNumbering x.sends = numbering m in
-    let acks = m.its.heard.acks in
+    let acks = m.its.reception.acks in
     let low : x.sends.va ≤ nr = acks.climb.0 in
     let high_ : nr ≤ x.sends.vs = climb_top nr x.sends.vs (numbers ks) acks.climb.1 in
     let got : IsGot x.sends.base nr y.takes.received = acks.known.0 in
@@ -55,7 +55,7 @@ preserves_acknowledging x y out nr ks m =
     record {
       opened = m.opened;
       mine = record {
-        kept = open_consistent x.state x.asked x.leaving z.sends m.opened (record {
+        preserved = open_consistent x.state x.asked x.leaving z.sends m.opened (record {
           first = omega (arith, n.first, low);
           next = n.next;
           ordered = high_;
@@ -68,7 +68,7 @@ preserves_acknowledging x y out nr ks m =
         lately = m.mine.lately;
         none_yet = m.mine.none_yet;
         below = m.mine.below;
-        heard = on_both (λ h. nr ≤ h.vr) (IsReceivable x y (Some was)) (IsReceivable z y (Some now)) (receives y out) (λ h above i. record {
+        reception = on_both (λ h. nr ≤ h.vr) (IsReceivable x y (Some was)) (IsReceivable z y (Some now)) (receives y out) (λ h above i. record {
           stream = record {
             placed = each_map (IsPlaced x.sends) (IsPlaced z.sends) (messages h.frames) (λ m. placed_acknowledging nr x.sends m) i.stream.placed;
             near = i.stream.near;
@@ -79,7 +79,7 @@ preserves_acknowledging x y out nr ks m =
           acks = i.acks;
           asked = asked_less y.state y.sends.base x.takes.received (part_first (Status nr) ks) (part_whole h.frames) i.asked;
           rejected = rejected_map y.state y.sends.vs y.sends.base x.takes.received (Some now) (Some was) (rejections h.frames) (λ r. awaiting_acknowledging x nr ks r) i.rejected;
-        }) reached m.mine.heard;
+        }) reached m.mine.reception;
         exchange = exchange_less (most_asks x.state) (part_whole out) (part_first (Status nr) ks) m.mine.exchange;
         histories = record {
           as_given = m.mine.histories.as_given;
@@ -92,17 +92,17 @@ preserves_acknowledging x y out nr ks m =
         };
       };
       its = record {
-        kept = m.its.kept;
+        preserved = m.its.preserved;
         passed = m.its.passed;
         past = m.its.past;
         lately = m.its.lately;
         none_yet = m.its.none_yet;
         below = m.its.below;
-        heard = record {
-          stream = m.its.heard.stream;
+        reception = record {
+          stream = m.its.reception.stream;
           acks = record { climb = acks.climb.1; known = acks.known.1; top = λ opened. ((acks.top opened).0.1, (acks.top opened).1) };
-          asked = asked_less x.state x.sends.base y.takes.received (part_whole (frames_received (receives y out))) (part_first (Status nr) ks) m.its.heard.asked;
-          rejected = m.its.heard.rejected;
+          asked = asked_less x.state x.sends.base y.takes.received (part_whole (frames_received (receives y out))) (part_first (Status nr) ks) m.its.reception.asked;
+          rejected = m.its.reception.rejected;
         };
         exchange = exchange_less (most_asks y.state) (part_first (Status nr) ks) (part_whole out) m.its.exchange;
         histories = m.its.histories;
@@ -115,4 +115,4 @@ preserves_acknowledging x y out nr ks m =
         let n : IsNumbering x.sends = numbering m in
         let passed_ : x.sends.passed ≡ x.sends.first = m.mine.passed in
         let here : place ≡ x.sends.base + (x.sends.va + at.0) = omega (arith, at.2, passed_, n.first) in
-        subst (λ p. HasPlace p y.takes.received) (sym here) (m.its.heard.acks.known.0 (x.sends.va + at.0) (omega (arith, at.1)))
+        subst (λ p. HasPlace p y.takes.received) (sym here) (m.its.reception.acks.known.0 (x.sends.va + at.0) (omega (arith, at.1)))

@@ -160,10 +160,10 @@ put_blind s out one blind = blind_more s.outs (out ∷ []) blind one
 
 -- what the invariant states in state 5
 holding_in_5 : (state : State) (asked leaving : Bool) (s : Sender) → state ≡ AwaitingEstablishment → leaving ≡ false → asked ≡ false → IsConsistentSender state asked leaving s → IsHolding s
-holding_in_5 state asked leaving s is stays itself kept = subst (λ a. IsConsistentSender AwaitingEstablishment a false s) itself (subst (λ on. IsConsistentSender AwaitingEstablishment asked on s) stays (subst (λ st. IsConsistentSender st asked leaving s) is kept))
+holding_in_5 state asked leaving s is stays itself preserved = subst (λ a. IsConsistentSender AwaitingEstablishment a false s) itself (subst (λ on. IsConsistentSender AwaitingEstablishment asked on s) stays (subst (λ st. IsConsistentSender st asked leaving s) is preserved))
 
 empty_in_5 : (state : State) (asked leaving : Bool) (s : Sender) → state ≡ AwaitingEstablishment → leaving ≡ false → asked ≡ true → IsConsistentSender state asked leaving s → IsEmpty s
-empty_in_5 state asked leaving s is stays by_layer3 kept = subst (λ a. IsConsistentSender AwaitingEstablishment a false s) by_layer3 (subst (λ on. IsConsistentSender AwaitingEstablishment asked on s) stays (subst (λ st. IsConsistentSender st asked leaving s) is kept))
+empty_in_5 state asked leaving s is stays by_layer3 preserved = subst (λ a. IsConsistentSender AwaitingEstablishment a false s) by_layer3 (subst (λ on. IsConsistentSender AwaitingEstablishment asked on s) stays (subst (λ st. IsConsistentSender st asked leaving s) is preserved))
 
 -- the establishment is confirmed or indicated, and the link is established
 pub ends_established : (c : Context) (ks : List Kind) (s : StepState) → s.end.state ≡ AwaitingEstablishment → s.end.release_pending ≡ false → AreBlind s.outs → Both (seen c s) c.peer (line c s) (Accepts ∷ ks)
@@ -177,10 +177,10 @@ ends_established c ks s is stays blind b =
     let After : StepState → Type 0 = λ d. Ends c ks (end_step Whole (d ▷ zero_state_variables ▷ stop T200 ▷ start T203 ▷ state_to MultipleFrameEstablished)) in
     by_test After s.end.layer3_initiated (put Confirmed s) (discard_unacknowledged s)
     (λ by_layer3. begun_by_ua c ks s (put Confirmed s) s.end.first s.end.next x.sends.passed is stays (put_blind s Confirmed (λ o u b t. refl) blind) (seems_put c Confirmed s x l (λ o t. refl) (here c s))
-    (fresh_empty x y l (Accepts ∷ ks) b (empty_in_5 s.end.state s.end.layer3_initiated s.end.release_pending x.sends is stays by_layer3 b.mine.kept)) b)
+    (fresh_empty x y l (Accepts ∷ ks) b (empty_in_5 s.end.state s.end.layer3_initiated s.end.release_pending x.sends is stays by_layer3 b.mine.preserved)) b)
     (λ itself. by_outstanding After s
     (λ none. begun_by_ua c ks s (discards_by true s) s.end.first s.end.next x.sends.passed is stays (preserved_blind s blind) (seems_preserved c s x l (here c s))
-    (fresh_settled x y l (Accepts ∷ ks) b none (holding_in_5 s.end.state s.end.layer3_initiated s.end.release_pending x.sends is stays itself b.mine.kept) (b.mine.below (holds s.end.state s.end.layer3_initiated s.end.release_pending is stays itself))) b)
+    (fresh_settled x y l (Accepts ∷ ks) b none (holding_in_5 s.end.state s.end.layer3_initiated s.end.release_pending x.sends is stays itself b.mine.preserved) (b.mine.below (holds s.end.state s.end.layer3_initiated s.end.release_pending is stays itself))) b)
     (begun_by_ua c ks s (discards_by false s) n n (all_passed x.sends) is stays (all_dropped_blind s blind) (seems_all_dropped c s x l (here c s)) (fresh_dropped x y l (Accepts ∷ ks) b) b))
   where
     holds : (state : State) (asked leaving : Bool) → state ≡ AwaitingEstablishment → leaving ≡ false → asked ≡ false → is_holding state asked leaving ≡ true
@@ -206,12 +206,12 @@ ends_sabme_in_4 c ks s is blind b =
     let s4 = s3 ▷ put Established in
     let s5 = s4 ▷ start T203 in
     let p = zeroed n (cleared x) in
-    let kept : IsEmpty x.sends = subst (λ st. IsConsistentSender st s.end.layer3_initiated s.end.release_pending x.sends) is b.mine.kept in
+    let preserved : IsEmpty x.sends = subst (λ st. IsConsistentSender st s.end.layer3_initiated s.end.release_pending x.sends) is b.mine.preserved in
     let said : Seems c s2 (cleared x) k = seems_clear c s1 x k (seems_send c Answer (Ua true) Accepts s x l refl (here c s)) in
     ends_begun c n ks (s5 ▷ state_to MultipleFrameEstablished) (beginning s.end.first s.end.next x.sends.passed false x) k
     (seems_state e MultipleFrameEstablished s5 p k (seems_start e T203 s4 p k (seems_put e Established s3 p k (λ o t. refl)
     (seems_zero c n s2 (cleared x) k (clear_blind s1 (put_blind s (Send Answer (Ua true)) (λ o u b t. refl) blind)) said))))
-    (by_asking x c.peer l ks s.end.first s.end.next x.sends.passed false (fresh_empty x c.peer l (Asks ∷ ks) b kept) (ap (λ st. most_asks st) is) b)
+    (by_asking x c.peer l ks s.end.first s.end.next x.sends.passed false (fresh_empty x c.peer l (Asks ∷ ks) b preserved) (ap (λ st. most_asks st) is) b)
 
 timers_blind : (d : StepState) → AreBlind d.outs → AreBlind (d ▷ stop T200 ▷ start T203).outs
 unfolding stop start
@@ -250,7 +250,7 @@ ends_sabme_in_7_8 c ks s opened blind b =
     let s2 = s1 ▷ clear_exception_conditions in
     let s3 = s2 ▷ put (Report letter.F) in
     let n = length s.end.given in
-    let numbers_ : IsNumbering x.sends = open_numbering s.end.state s.end.layer3_initiated s.end.release_pending x.sends opened b.mine.kept in
+    let numbers_ : IsNumbering x.sends = open_numbering s.end.state s.end.layer3_initiated s.end.release_pending x.sends opened b.mine.preserved in
     let said : Seems c s3 (cleared x) k = seems_put c (Report letter.F) s2 (cleared x) k (λ o t. refl) (seems_clear c s1 x k (seems_send c Answer (Ua true) Accepts s x l refl (here c s))) in
     let unheeded : AreBlind s3.outs = put_blind s2 (Report letter.F) (λ o u b t. refl) (clear_blind s1 (put_blind s (Send Answer (Ua true)) (λ o u b t. refl) blind)) in
     by_outstanding (λ d. Ends c ks (end_step Whole (d ▷ stop T200 ▷ start T203 ▷ zero_state_variables ▷ state_to MultipleFrameEstablished))) s3

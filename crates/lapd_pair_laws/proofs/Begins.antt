@@ -126,41 +126,41 @@ module _ (x y : Party) (out back : List Kind) (first next passed : ℕ) (rejecti
       let its : IsSpeaking y x (Accepts ∷ back) out (receives y out) was = subst (λ o. IsSpeaking y x (Accepts ∷ back) out (receives y out) o) come b.its in
       let most : most_asks x.state ≡ 1 = ap (λ st. most_asks st) is in
       let silent : numbers out ≡ [] = mine.exchange.before (omega arith) in
-      let heard : IsReceivable y x (receives y out) (next_reception back) = its.heard in
+      let reception : IsReceivable y x (receives y out) (next_reception back) = its.reception in
       let None_ : Reception → Type 0 = λ h. numbers h.frames ≡ [] in
       let Facts : Reception → Type 0 = λ h. AreZero h × (numbers h.frames ≡ []) in
-      let facts : OnReception Facts (receives y out) = on_both (IsReceivedAs y out) None_ Facts (receives y out) (λ h as_ none. (received_from_start x y out (receives y out) back heard h as_, none))
+      let facts : OnReception Facts (receives y out) = on_both (IsReceivedAs y out) None_ Facts (receives y out) (λ h as_ none. (received_from_start x y out (receives y out) back reception h as_, none))
       (received_as y out) (polls_received (λ l. numbers l ≡ []) (receives y out) (nothing_received y out silent)) in
       record {
         opened = refl;
         mine = record {
-          kept = numbering_from first next passed x y fresh;
+          preserved = numbering_from first next passed x y fresh;
           passed = fresh.gone;
           past = past_from first next passed x.sends mine.past;
           lately = omega (arith, mine.lately);
           none_yet = λ _ _. omega (arith, mine.lately);
           below = λ _. omega (arith, fresh.above);
-          heard = on_both Facts (IsReceivable x y was) (IsReceivable z y now) (receives y out) (λ h f i. record {
+          reception = on_both Facts (IsReceivable x y was) (IsReceivable z y now) (receives y out) (λ h f i. record {
             stream = silent_stream z y first h.vr h.rejecting (messages h.frames) (unsaid_messages h.frames f.1) f.0.vr refl refl fresh.above;
             acks = silent_acks z y h.va h.vs (numbers h.frames) f.1 f.0.va refl;
             asked = i.asked;
             rejected = no_rejections y.state y.sends.vs y.sends.base x.takes.received now (rejections h.frames) (unsaid_rejections h.frames f.1);
-          }) facts mine.heard;
+          }) facts mine.reception;
           exchange = record { one = omega (arith, mine.exchange.one, most); behind = mine.exchange.behind; before = λ answer. silent; clean = mine.exchange.clean };
           histories = mine.histories;
         };
         its = record {
-          kept = its.kept;
+          preserved = its.preserved;
           passed = its.passed;
           past = its.past;
           lately = its.lately;
           none_yet = its.none_yet;
           below = its.below;
-          heard = record {
-            stream = let w = heard.stream in record { placed = w.placed; near = w.near; order = run_is_order rejecting 0 y.sends.vs (messages back) w.order; step = w.step; between = w.between };
-            acks = let w = heard.acks in record { climb = w.climb; known = known_of_none first 0 y.takes.received (numbers back) w.climb; top = w.top };
-            asked = let w = none_asked x.state x.sends.base y.takes.received (frames_received (receives y out)) back is heard.asked in record { polls = w.polls; finals = w.finals };
-            rejected = no_rejections MultipleFrameEstablished 0 first y.takes.received (receives y out) (rejections back) (none_rejected x.state x.sends.vs x.sends.base y.takes.received (receives y out) (rejections back) is heard.rejected);
+          reception = record {
+            stream = let w = reception.stream in record { placed = w.placed; near = w.near; order = run_is_order rejecting 0 y.sends.vs (messages back) w.order; step = w.step; between = w.between };
+            acks = let w = reception.acks in record { climb = w.climb; known = known_of_none first 0 y.takes.received (numbers back) w.climb; top = w.top };
+            asked = let w = none_asked x.state x.sends.base y.takes.received (frames_received (receives y out)) back is reception.asked in record { polls = w.polls; finals = w.finals };
+            rejected = no_rejections MultipleFrameEstablished 0 first y.takes.received (receives y out) (rejections back) (none_rejected x.state x.sends.vs x.sends.base y.takes.received (receives y out) (rejections back) is reception.rejected);
           };
           exchange = exchange_less (most_asks y.state) (part_first Accepts back) (part_whole out) its.exchange;
           histories = its.histories;
@@ -181,13 +181,13 @@ module _ (x y : Party) (out back : List Kind) (first next passed : ℕ) (rejecti
       record {
         opened = refl;
         mine = record {
-          kept = numbering_from first next passed x y fresh;
+          preserved = numbering_from first next passed x y fresh;
           passed = fresh.gone;
           past = past_from first next passed x.sends b.mine.past;
           lately = omega (arith, b.mine.lately);
           none_yet = λ _ _. omega (arith, b.mine.lately);
           below = λ _. omega (arith, fresh.above);
-          heard = nothing_behind_answer (IsReceivable z y now) y out i.closed i.answers (record {
+          reception = nothing_behind_answer (IsReceivable z y now) y out i.closed i.answers (record {
             stream = silent_stream z y first 0 false [] refl refl refl refl fresh.above;
             acks = silent_acks z y 0 0 [] refl refl refl;
             asked = unasked y.state y.sends.base x.takes.received back i.closed (unsaid_polls back i.nothing);
@@ -197,13 +197,13 @@ module _ (x y : Party) (out back : List Kind) (first next passed : ℕ) (rejecti
           histories = b.mine.histories;
         };
         its = record {
-          kept = b.its.kept;
+          preserved = b.its.preserved;
           passed = b.its.passed;
           past = b.its.past;
           lately = b.its.lately;
           none_yet = b.its.none_yet;
           below = b.its.below;
-          heard = record {
+          reception = record {
             stream = subst (λ ms. IsStream (is_7_or_8 y.state) y.sends x.takes.received 0 rejecting ms) (sym (unsaid_messages back i.nothing)) (closed_stream_of_none (is_7_or_8 y.state) y.sends x.takes.received rejecting i.closed);
             acks = subst (λ ns. AreAcknowledging (is_7_or_8 y.state) y.takes first 0 0 ns) (sym i.nothing) (closed_acks_of_none (is_7_or_8 y.state) y.takes first i.closed);
             asked = record { polls = frames_nothing (receives y l) there; finals = unsaid_finals back i.nothing };

@@ -300,27 +300,27 @@ module _ (x y : Party) (out now back_was back : List Kind) (state : State) (aske
   pub closing : IsConsistentSender state asked leaving z.sends → passed ≡ first → (is_holding state asked leaving ≡ true → is_holding x.state x.asked x.leaving ≡ true) → Less state x.state (receives z back) (receives x back_was)
       → tally ask_of now + tally answer_of back ≤ most_asks state → tally ask_of back + tally answer_of now ≤ most_asks y.state → (0 < tally answer_of now → numbers back ≡ [])
       → Both x y out back_was → Both z y now back
-  closing kept passed_ holds less one its_one before b = record {
+  closing preserved passed_ holds less one its_one before b = record {
     mine = record {
-      kept = kept;
+      preserved = preserved;
       passed = passed_;
       past = b.mine.past;
       lately = b.mine.lately;
       none_yet = λ opened. cc;
       below = λ holding. b.mine.below (holds holding);
-      heard = received_answered z y back out now closed said (on_map (IsReceivable x y (receives x back_was)) (IsReceivable z y (receives z back)) (receives y out)
-          (λ h i. received_closed x y state asked leaving first next passed rejecting closed (receives z back) (receives x back_was) h (less_received state x.state (receives z back) (receives x back_was) less) i) b.mine.heard);
+      reception = received_answered z y back out now closed said (on_map (IsReceivable x y (receives x back_was)) (IsReceivable z y (receives z back)) (receives y out)
+          (λ h i. received_closed x y state asked leaving first next passed rejecting closed (receives z back) (receives x back_was) h (less_received state x.state (receives z back) (receives x back_was) less) i) b.mine.reception);
       exchange = exchange_closed (most_asks state) (most_asks x.state) y.state back back_was out now part said one b.mine.exchange;
       histories = b.mine.histories;
     };
     its = record {
-      kept = b.its.kept;
+      preserved = b.its.preserved;
       passed = b.its.passed;
       past = b.its.past;
       lately = b.its.lately;
       none_yet = b.its.none_yet;
       below = b.its.below;
-      heard = its_received less b.its.heard;
+      reception = its_received less b.its.reception;
       exchange = let foreign = part_tally foreign_of part in record { one = its_one; behind = part_behind_ask part b.its.exchange.behind; before = before; clean = omega (arith, foreign, b.its.exchange.clean) };
       histories = b.its.histories;
     };

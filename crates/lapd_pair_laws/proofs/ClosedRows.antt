@@ -44,14 +44,14 @@ pub ends_refusing : (c : Context) (ks : List Kind) (s : StepState) → is_7_or_8
 ends_refusing c ks s closed b =
     let x = seen c s in
     ends_closed c ks (put (Send Answer (Dm true)) s) x (line c s ++ Refuses ∷ []) closed (seems_send c Answer (Dm true) Refuses s x (line c s) refl (here c s))
-    (refusing x c.peer (line c s) ks s.end.state s.end.layer3_initiated s.end.release_pending x.sends.first x.sends.next x.sends.passed x.takes.rejecting b closed (omega (arith, b.mine.exchange.one)) b.mine.kept b.mine.passed (λ h. h)
+    (refusing x c.peer (line c s) ks s.end.state s.end.layer3_initiated s.end.release_pending x.sends.first x.sends.next x.sends.passed x.takes.rejecting b closed (omega (arith, b.mine.exchange.one)) b.mine.preserved b.mine.passed (λ h. h)
     (same refl (receives_less x (part_first Asks ks))))
 
 pub ends_accepting : (c : Context) (ks : List Kind) (s : StepState) → is_7_or_8 s.end.state ≡ false → Both (seen c s) c.peer (line c s) (Asks ∷ ks) → Ends c ks (end_step Whole (put (Send Answer (Ua true)) s))
 ends_accepting c ks s closed b =
     let x = seen c s in
     ends_closed c ks (put (Send Answer (Ua true)) s) x (line c s ++ Accepts ∷ []) closed (seems_send c Answer (Ua true) Accepts s x (line c s) refl (here c s))
-    (accepts x c.peer (line c s) ks s.end.state s.end.layer3_initiated s.end.release_pending x.sends.first x.sends.next x.sends.passed x.takes.rejecting b closed (omega (arith, b.mine.exchange.one)) b.mine.kept b.mine.passed (λ h. h)
+    (accepts x c.peer (line c s) ks s.end.state s.end.layer3_initiated s.end.release_pending x.sends.first x.sends.next x.sends.passed x.takes.rejecting b closed (omega (arith, b.mine.exchange.one)) b.mine.preserved b.mine.passed (λ h. h)
     (same refl (receives_less x (part_first Asks ks))))
 
 -- ---- Layer 3 requests establishment or release.
@@ -152,7 +152,7 @@ ends_reestablishing c ks s t opened w b =
     let l = line c s in
     let one = b.mine.exchange.one in
     let none = open_asks_none s.end.state opened in
-    let n : IsNumbering x.sends = open_numbering s.end.state s.end.layer3_initiated s.end.release_pending x.sends opened b.mine.kept in
+    let n : IsNumbering x.sends = open_numbering s.end.state s.end.layer3_initiated s.end.release_pending x.sends opened b.mine.preserved in
     ends_closed c ks (reestablish_data_link t) (still AwaitingEstablishment false false x.sends.first x.sends.next x.sends.passed false x) (l ++ Asks ∷ []) refl (seems_reestablish c t x l w)
     (asking x c.peer l ks ks AwaitingEstablishment false false x.sends.first x.sends.next x.sends.passed false (part_whole ks) b refl refl (omega (arith, one, none)) (omega (arith, one, none))
     (record { first = n.first; next = n.next; ordered = n.ordered; within = n.within }) b.mine.passed (λ h. open_holds s.end.state s.end.layer3_initiated s.end.release_pending opened))
@@ -201,11 +201,11 @@ ends_released_by_ua c ks s is pending b =
     let s2 = s1 ▷ rc_to 0 in
     let s3 = s2 ▷ put (Send Command (Disc true)) in
     let s4 = s3 ▷ start T200 in
-    let kept : IsEmpty x.sends = empty_where_leaving s.end.layer3_initiated x.sends (subst (λ on. IsConsistentSender AwaitingEstablishment s.end.layer3_initiated on x.sends) pending (subst (λ st. IsConsistentSender st s.end.layer3_initiated s.end.release_pending x.sends) is b.mine.kept)) in
+    let preserved : IsEmpty x.sends = empty_where_leaving s.end.layer3_initiated x.sends (subst (λ on. IsConsistentSender AwaitingEstablishment s.end.layer3_initiated on x.sends) pending (subst (λ st. IsConsistentSender st s.end.layer3_initiated s.end.release_pending x.sends) is b.mine.preserved)) in
     ends_closed c ks (s4 ▷ state_to AwaitingRelease) (still AwaitingRelease s.end.layer3_initiated false x.sends.first x.sends.next x.sends.passed x.takes.rejecting x) k refl
     (seems_state c AwaitingRelease s4 p k (seems_start c T200 s3 p k (seems_send c Command (Disc true) Asks s2 p l refl (seems_rc c 0 s1 p l (seems_pending c false s x l (here c s))))))
     (asking x c.peer l ks (Accepts ∷ ks) AwaitingRelease s.end.layer3_initiated false x.sends.first x.sends.next x.sends.passed x.takes.rejecting (part_first Accepts ks) b refl refl (omega (arith, one, most)) (omega (arith, one, most))
-    kept b.mine.passed (λ h. cc))
+    preserved b.mine.passed (λ h. cc))
 
 -- a UA or DM in state 6
 pub ends_released : (c : Context) (k : Kind) (ks : List Kind) (s : StepState) → s.end.state ≡ AwaitingRelease → answer_of k ≡ 1 → Both (seen c s) c.peer (line c s) (k ∷ ks) → Ends c ks (end_step Whole (confirm_release s))
@@ -217,11 +217,11 @@ ends_released c k ks s is answers b =
     let most : most_asks s.end.state ≡ 1 = ap (λ st. most_asks st) is in
     let s1 = s ▷ stop T200 in
     let s2 = s1 ▷ put ReleaseConfirm in
-    let kept : IsEmpty x.sends = subst (λ st. IsConsistentSender st s.end.layer3_initiated s.end.release_pending x.sends) is b.mine.kept in
+    let preserved : IsEmpty x.sends = subst (λ st. IsConsistentSender st s.end.layer3_initiated s.end.release_pending x.sends) is b.mine.preserved in
     ends_closed c ks (s2 ▷ state_to TeiAssigned) (still TeiAssigned s.end.layer3_initiated s.end.release_pending x.sends.first x.sends.next x.sends.passed x.takes.rejecting x) l refl
     (seems_state c TeiAssigned s2 x l (seems_put c ReleaseConfirm s1 x l (λ o t. refl) (seems_stop c T200 s x l (here c s))))
     (settling x c.peer l ks (k ∷ ks) TeiAssigned s.end.layer3_initiated s.end.release_pending x.sends.first x.sends.next x.sends.passed x.takes.rejecting (part_first k ks) b refl (omega (arith, one, most, answers))
-    kept b.mine.passed (λ h. cc) (deaf refl))
+    preserved b.mine.passed (λ h. cc) (deaf refl))
 
 -- ---- T200 expires in states 5 and 6, with no frame of the exchange in transit.
 
@@ -229,7 +229,7 @@ pub ends_asking_again : (c : Context) (ks : List Kind) (s t : StepState) → is_
 ends_asking_again c ks s t closed most no_ask no_answer w b =
     let x = seen c s in
     ends_closed c ks t x (line c s ++ Asks ∷ []) closed w
-    (asking x c.peer (line c s) ks ks s.end.state s.end.layer3_initiated s.end.release_pending x.sends.first x.sends.next x.sends.passed x.takes.rejecting (part_whole ks) b closed most no_ask no_answer b.mine.kept b.mine.passed (λ h. h))
+    (asking x c.peer (line c s) ks ks s.end.state s.end.layer3_initiated s.end.release_pending x.sends.first x.sends.next x.sends.passed x.takes.rejecting (part_whole ks) b closed most no_ask no_answer b.mine.preserved b.mine.passed (λ h. h))
 
 pub ends_t200_in_5 : (c : Context) (ks : List Kind) (s : StepState) → s.end.state ≡ AwaitingEstablishment → tally ask_of (line c s) ≡ 0 → tally answer_of ks ≡ 0 → Both (seen c s) c.peer (line c s) ks → Ends c ks (end_step Whole (awaiting_establishment_t200 s))
 unfolding awaiting_establishment_t200
@@ -270,10 +270,10 @@ ends_t200_in_6 c ks s is no_ask no_answer b =
     let t1 = s ▷ expired T200 in
     let t2 = t1 ▷ put (Report letter.H) in
     let t3 = t2 ▷ put ReleaseConfirm in
-    let kept : IsEmpty x.sends = subst (λ st. IsConsistentSender st s.end.layer3_initiated s.end.release_pending x.sends) is b.mine.kept in
+    let preserved : IsEmpty x.sends = subst (λ st. IsConsistentSender st s.end.layer3_initiated s.end.release_pending x.sends) is b.mine.preserved in
     by_test (λ (t : StepState). Ends c ks (end_step Whole t)) (nat_lt s.end.rc s.end.parameters.n200) _ _
     (λ _. ends_asking_again c ks s (s3 ▷ start T200) closed most no_ask no_answer (seems_start c T200 s3 x k (seems_send c Command (Disc true) Asks s2 x l refl (seems_expired c s1 x l (seems_increment c s x l (here c s))))) b)
     (λ _. ends_closed c ks (state_to TeiAssigned t3) (still TeiAssigned s.end.layer3_initiated s.end.release_pending x.sends.first x.sends.next x.sends.passed x.takes.rejecting x) l refl
     (seems_state c TeiAssigned t3 x l (seems_put c ReleaseConfirm t2 x l (λ o t. refl) (seems_put c (Report letter.H) t1 x l (λ o t. refl) (seems_expired c s x l (here c s)))))
     (settling x c.peer l ks ks TeiAssigned s.end.layer3_initiated s.end.release_pending x.sends.first x.sends.next x.sends.passed x.takes.rejecting (part_whole ks) b refl (omega (arith, no_ask, no_answer))
-    kept b.mine.passed (λ h. cc) (deaf refl)))
+    preserved b.mine.passed (λ h. cc) (deaf refl)))

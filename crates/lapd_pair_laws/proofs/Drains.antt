@@ -36,8 +36,8 @@ pub record Seen (n : ℕ) (v : View) (peer : Station) : Type 0 where
   pub flow : Flow v.station.end peer.end (kinds v.outgoing) (kinds v.incoming) n
   pub idle : v.station.end.window.own_busy ≡ false
   pub its_idle : peer.end.window.own_busy ≡ false
-  pub going : AreReady v.outgoing
-  pub coming : AreReady v.incoming
+  pub proceeding : AreReady v.outgoing
+  pub arriving : AreReady v.incoming
 
 pub record Drains (n : ℕ) (w : World) : Type 0 where
   pub holds : IsInvariant w
@@ -64,7 +64,7 @@ pub drains_swapped : (n : ℕ) (w : World) → Drains n w → Drains n (swapped 
 drains_swapped n w d = record {
   holds = exchanged w d.holds;
   ends_settled = record { user = d.ends_settled.network; network = d.ends_settled.user };
-  sees = let s = d.sees in record { flow = turned s.flow; idle = s.its_idle; its_idle = s.idle; going = s.coming; coming = s.going };
+  sees = let s = d.sees in record { flow = turned s.flow; idle = s.its_idle; its_idle = s.idle; proceeding = s.arriving; arriving = s.proceeding };
 }
 
 -- ---- A step.
@@ -81,21 +81,21 @@ not_unit control role plain unit = cc
 pub after_step : (octets : List ℕ) (place n : ℕ) (v : View) (peer : Station) (incoming : List Flight) (base its_base : ℕ) (s : StepState) → IsClosed s.end → is_7_or_8 s.end.state ≡ true → peer.end.window.own_busy ≡ false → AreReady incoming
     → Draws (context base octets place v incoming peer its_base) peer.end (kinds incoming) n s → Seen n (view_after octets place (record v { incoming = incoming }) s) peer
 unfolding view_after
-after_step octets place n v peer incoming base its_base s closed opened its_idle coming d =
+after_step octets place n v peer incoming base its_base s closed opened its_idle arriving d =
     let bare : Flow s.end peer.end (kinds d.frames) (kinds incoming) n = subst (λ b. Flow s.end peer.end (with_pending b s.end.window.vr (kinds d.frames)) (kinds incoming) n) (closed.acknowledged opened) d.flow in
     record {
       flow = subst (λ l. Flow s.end peer.end (kinds l) (kinds incoming) n) (sym d.so) bare;
       idle = d.idle;
       its_idle = its_idle;
-      going = subst AreReady (sym d.so) d.ready;
-      coming = coming;
+      proceeding = subst AreReady (sym d.so) d.ready;
+      arriving = arriving;
     }
 
 -- and the step drops no message
-pub kept_after : (octets : List ℕ) (place n : ℕ) (v : View) (peer : Station) (incoming : List Flight) (base its_base : ℕ) (s : StepState)
+pub preserved_after : (octets : List ℕ) (place n : ℕ) (v : View) (peer : Station) (incoming : List Flight) (base its_base : ℕ) (s : StepState)
     → Draws (context base octets place v incoming peer its_base) peer.end (kinds incoming) n s → (view_after octets place (record v { incoming = incoming }) s).station.history.dropped ≡ v.station.history.dropped
 unfolding view_after
-kept_after octets place n v peer incoming base its_base s d = d.kept
+preserved_after octets place n v peer incoming base its_base s d = d.preserved
 
 -- ---- A frame is delivered.
 
@@ -129,18 +129,18 @@ module _ (station peer : Station) (frame : Flight) (rest outgoing : List Flight)
       let d : Draws c peer.end (kind frame ∷ kinds rest) n (begin e) = record {
         frames = outgoing;
         so = refl;
-        kept = refl;
+        preserved = refl;
         flow = subst (λ b. Flow e peer.end (with_pending b e.window.vr (kinds outgoing)) (kind frame ∷ kinds rest) n) (sym (ends_settled.closed.acknowledged opened)) s.flow;
         idle = s.idle;
-        ready = s.going;
+        ready = s.proceeding;
       } in
       draws_close c peer.end (kinds rest) (n - 1) _ (by_test (λ (t : StepState). Draws c peer.end (kinds rest) (n - 1) t) (is_unit_data frame.control frame.role) _ _
-      (λ unit. absurd (not_unit frame.control frame.role s.coming.0 unit)) (λ _. by_open_state e.state refl opened (its_open s.flow) s.coming.0 m d))
+      (λ unit. absurd (not_unit frame.control frame.role s.arriving.0 unit)) (λ _. by_open_state e.state refl opened (its_open s.flow) s.arriving.0 m d))
 
   pub seen_delivered : Seen n v peer → Seen (n - 1) (left_by v (acts Whole side.User Deliver v)) peer
   unfolding acts delivers receives step
-  seen_delivered s = let d = draws_row s in after_step frame.info frame.place (n - 1) v peer rest base its_base done (closed_step (Heard frame.control frame.role) e done refl) (mine_open d.flow) s.its_idle s.coming.1 d
+  seen_delivered s = let d = draws_row s in after_step frame.info frame.place (n - 1) v peer rest base its_base done (closed_step (Heard frame.control frame.role) e done refl) (mine_open d.flow) s.its_idle s.arriving.1 d
 
   pub preserved_delivered : Seen n v peer → (left_by v (acts Whole side.User Deliver v)).station.history.dropped ≡ v.station.history.dropped
   unfolding acts delivers receives step
-  preserved_delivered s = kept_after frame.info frame.place (n - 1) v peer rest base its_base done (draws_row s)
+  preserved_delivered s = preserved_after frame.info frame.place (n - 1) v peer rest base its_base done (draws_row s)

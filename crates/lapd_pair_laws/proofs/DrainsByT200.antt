@@ -18,7 +18,7 @@ use Rattle.lapd_pair_laws.proofs.Worlds.{left_by}
 use Rattle.lapd_pair_laws.proofs.Flow.{source, sink, Stage, Clean, Waiting, Polling, Answered, IsAt, Stream}
 use Rattle.lapd_pair_laws.proofs.Draws.{Draws}
 use Rattle.lapd_pair_laws.proofs.DrawCloses.{draws_close, draws_t200}
-use Rattle.lapd_pair_laws.proofs.Drains.{Seen, mine_open, after_step, kept_after}
+use Rattle.lapd_pair_laws.proofs.Drains.{Seen, mine_open, after_step, preserved_after}
 use Rattle.lapd_pair_laws.proofs.SettledEnds.{closed_step}
 
 module _ (station peer : Station) (n : ℕ) where
@@ -69,4 +69,4 @@ module _ (station peer : Station) (n : ℕ) where
 
   pub preserved_expired : e.t200 ≡ true → Seen n v peer → (left_by v (acts Whole side.User Expire200 v)).station.history.dropped ≡ v.station.history.dropped
   unfolding acts expires_200 takes step
-  preserved_expired on s = by_test (λ (r : Result ViewStep Refusal). (left_by v r).station.history.dropped ≡ v.station.history.dropped) e.t200 _ _ (λ _. kept_after [] 0 (n - 1) v peer [] 0 0 done (draws_row on s)) (λ off. cc)
+  preserved_expired on s = by_test (λ (r : Result ViewStep Refusal). (left_by v r).station.history.dropped ≡ v.station.history.dropped) e.t200 _ _ (λ _. preserved_after [] 0 (n - 1) v peer [] 0 0 done (draws_row on s)) (λ off. cc)

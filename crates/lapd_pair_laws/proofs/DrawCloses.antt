@@ -22,7 +22,7 @@ use Rattle.lapd_pair_laws.proofs.Flow.{source, sink, Stream, Lighter, Flow}
 use Rattle.lapd_pair_laws.proofs.StreamReceipts as receives
 use Rattle.lapd_pair_laws.proofs.Speaks as speaks
 use Rattle.lapd_pair_laws.proofs.Draws.{with_pending, is_ready, ready_more, Draws}
-use Rattle.lapd_pair_laws.proofs.Tells.{rr_puts, enquiry_puts, next_sent, next_puts, last_sent, last_puts, ensure_puts}
+use Rattle.lapd_pair_laws.proofs.States.{rr_puts, enquiry_puts, next_sent, next_puts, last_sent, last_puts, ensure_puts}
 use Rattle.lapd_pair_laws.proofs.DrawRows.{pending_messages}
 
 -- ---- A message is sent, and with it the pending acknowledgement.
@@ -76,7 +76,7 @@ module _ (c : Context) (peer : End) (ks : List Kind) (n : ℕ) where
       record {
         frames = d.frames ++ f ∷ [];
         so = (ensure_puts c (transmit_i_frame Whole s)).line ∙ (next_puts c s).line ∙ ap (λ l. l ++ f ∷ []) d.so;
-        kept = (ensure_puts c (transmit_i_frame Whole s)).dropped ∙ (next_puts c s).dropped ∙ d.kept;
+        preserved = (ensure_puts c (transmit_i_frame Whole s)).dropped ∙ (next_puts c s).dropped ∙ d.preserved;
         flow = subst (λ l. Flow t.end peer l ks n) (sym (kinds_more d.frames f))
             (flow_sent s.end t.end peer s.end.window.ack_pending m ks (kinds d.frames) n (length s.end.given - (s.end.next + 1)) is left refl refl refl d.flow);
         idle = d.idle;
@@ -97,7 +97,7 @@ module _ (c : Context) (peer : End) (ks : List Kind) (n : ℕ) where
       record {
         frames = d.frames ++ f ∷ [];
         so = (rr_puts c s).line ∙ ap (λ l. l ++ f ∷ []) d.so;
-        kept = (rr_puts c s).dropped ∙ d.kept;
+        preserved = (rr_puts c s).dropped ∙ d.preserved;
         flow = subst (λ l. Flow t.end peer l ks n) (sym (kinds_more d.frames f)) (record { a = now.a; b = now.b; mine = now.mine; its = now.its; most = now.most });
         idle = d.idle;
         ready = ready_more d.frames f refl d.ready;
@@ -131,12 +131,12 @@ ready_enquiry w free = rw free refl
 
 pub draws_t200 : (c : Context) (peer : End) (n : ℕ) (s : StepState) → s.end.t200 ≡ true → s.end.window.own_busy ≡ false → (story c s).line ≡ [] → (story c s).history.dropped ≡ c.view.station.history.dropped → Flow s.end peer [] [] n → Draws c peer [] (n - 1) (established_t200 Whole s)
 unfolding established_t200 story_after expired transmit_enquiry retransmit_last_i_frame last_i_frame without_ack_pending before rc_to state_to
-draws_t200 c peer n s runs idle none kept f =
+draws_t200 c peer n s runs idle none preserved f =
     by_test (λ (t : StepState). Draws c peer [] (n - 1) t) (sends_last s.end.parameters.recovery s.end.window) _ _
     (λ _. let u = last_sent c s in record {
       frames = u ∷ [];
       so = (last_puts c (expired T200 s)).line ∙ ap (λ l. l ++ u ∷ []) none;
-      kept = (last_puts c (expired T200 s)).dropped ∙ kept;
+      preserved = (last_puts c (expired T200 s)).dropped ∙ preserved;
       flow = flow_polled s.end (state_to TimerRecovery (rc_to 1 (retransmit_last_i_frame Whole (expired T200 s)))).end peer (kind u) s.end.window.vr n runs refl refl refl refl refl f;
       idle = idle;
       ready = (refl, tt);
@@ -144,7 +144,7 @@ draws_t200 c peer n s runs idle none kept f =
     (λ _. let u = without_info Command (status_frame true s.end.window) in record {
       frames = u ∷ [];
       so = (enquiry_puts c (expired T200 s)).line ∙ ap (λ l. l ++ u ∷ []) none;
-      kept = (enquiry_puts c (expired T200 s)).dropped ∙ kept;
+      preserved = (enquiry_puts c (expired T200 s)).dropped ∙ preserved;
       flow = let z = (state_to TimerRecovery (rc_to 1 (transmit_enquiry (expired T200 s)))).end in subst (λ k. Flow z peer (k ∷ []) [] (n - 1)) (sym (enquiry_kind s.end.window)) (flow_polled s.end z peer (Enquiry s.end.window.vr) s.end.window.vr n runs refl refl refl refl refl f);
       idle = idle;
       ready = (ready_enquiry s.end.window idle, tt);

@@ -30,7 +30,7 @@ use Rattle.lapd_pair_laws.proofs.StreamReceipts as receives
 use Rattle.lapd_pair_laws.proofs.Speaks as speaks
 use Rattle.lapd_pair_laws.proofs.Facts.{AllArrive, between_open, number_open, acknowledged_so, rejected_so, final_so}
 use Rattle.lapd_pair_laws.proofs.Draws.{with_pending, sent_by, is_ready, Draws, draws_ns, draws_response}
-use Rattle.lapd_pair_laws.proofs.Tells.{PutsNoFrame, then_no_frame, start_200_puts, start_203_puts, stop_200_puts, acknowledge_puts}
+use Rattle.lapd_pair_laws.proofs.States.{PutsNoFrame, then_no_frame, start_200_puts, start_203_puts, stop_200_puts, acknowledge_puts}
 
 other_number : (a b : ℕ) → (a == b) ≡ false → a ≡ b → ⊥
 other_number a b h same = grind (arith, h, same)
@@ -76,7 +76,7 @@ module _ (base its_base place : ℕ) (octets : List ℕ) (view : View) (peer : S
   in_transit_sent : (s : StepState) (k : Kind) (top : ℕ) (d : CurrentFrame k s) → AllArrive (seen c s) c.peer (line c s) ks top → IsInTransit peer.end.window.rejecting peer.end.window.vr top (messages (sent_by s.end (kinds d.frames)))
   in_transit_sent s k top d all =
       subst (λ ms. IsInTransit peer.end.window.rejecting peer.end.window.vr top ms) (sym (pending_messages s.end.window.ack_pending s.end.window.vr (kinds d.frames)))
-      (subst (λ l. IsInTransit peer.end.window.rejecting peer.end.window.vr top (messages (kinds l))) d.so all.coming)
+      (subst (λ l. IsInTransit peer.end.window.rejecting peer.end.window.vr top (messages (kinds l))) d.so all.arriving)
 
   -- ---- In state 7.
 
@@ -84,12 +84,12 @@ module _ (base its_base place : ℕ) (octets : List ℕ) (view : View) (peer : S
   unfolding start stop acknowledge with_va
   acked_all nr s is free all m d =
       let t = start T203 (stop T200 (acknowledge Whole nr s)) in
-      let tells = then_no_frame (acknowledge_puts c s nr) (timers_put (acknowledge Whole nr s)) in
+      let reporting = then_no_frame (acknowledge_puts c s nr) (timers_put (acknowledge Whole nr s)) in
       let so = acknowledged_so {x = seen c s} {y = c.peer} {out = line c s} nr ks is opened all m in
       record {
         frames = d.frames;
-        so = tells.line ∙ d.so;
-        kept = tells.dropped ∙ d.kept;
+        so = reporting.line ∙ d.so;
+        preserved = reporting.dropped ∙ d.preserved;
         flow = flow_done s.end t.end peer.end (Status nr) ks (sent_by s.end (kinds d.frames)) n refl refl refl
             (λ a st. speaks.acked_all (source s.end) (sink peer.end) (sent_by s.end (kinds d.frames)) nr ks a is free (sym all) (in_transit_sent s (Status nr) s.end.window.vs d so) so.none st) d.flow;
         idle = d.idle;
@@ -100,7 +100,7 @@ module _ (base its_base place : ℕ) (octets : List ℕ) (view : View) (peer : S
   acked_none nr s is other d = record {
     frames = d.frames;
     so = d.so;
-    kept = d.kept;
+    preserved = d.preserved;
     flow = flow_done s.end s.end peer.end (Status nr) ks (sent_by s.end (kinds d.frames)) n refl refl refl
         (λ a st. speaks.acked_none (source s.end) (sink peer.end) (sent_by s.end (kinds d.frames)) nr ks a is other st) d.flow;
     idle = d.idle;
@@ -111,15 +111,15 @@ module _ (base its_base place : ℕ) (octets : List ℕ) (view : View) (peer : S
   unfolding start acknowledge with_va
   acked_some nr s is other m d =
       let t = start T200 (acknowledge Whole nr s) in
-      let tells = then_no_frame (acknowledge_puts c s nr) (start_200_puts c (acknowledge Whole nr s)) in
+      let reporting = then_no_frame (acknowledge_puts c s nr) (start_200_puts c (acknowledge Whole nr s)) in
       let number = number_open {x = seen c s} {y = c.peer} {out = line c s} nr (numbers ks) (Status nr ∷ ks) refl opened m in
       let between = between_open {x = seen c s} {y = c.peer} {out = line c s} opened m in
       let low : s.end.window.va ≤ nr = number.0 in
       let high : nr ≤ s.end.window.vs = omega (arith, number.1, between.1) in
       record {
         frames = d.frames;
-        so = tells.line ∙ d.so;
-        kept = tells.dropped ∙ d.kept;
+        so = reporting.line ∙ d.so;
+        preserved = reporting.dropped ∙ d.preserved;
         flow = flow_done s.end t.end peer.end (Status nr) ks (sent_by s.end (kinds d.frames)) n refl refl refl
             (λ a st. speaks.acked_some (source s.end) (sink peer.end) (sent_by s.end (kinds d.frames)) nr ks a is other low high st) d.flow;
         idle = d.idle;
@@ -138,7 +138,7 @@ module _ (base its_base place : ℕ) (octets : List ℕ) (view : View) (peer : S
   acked_busy nr s busy d = record {
     frames = d.frames;
     so = (acknowledge_puts c s nr).line ∙ d.so;
-    kept = (acknowledge_puts c s nr).dropped ∙ d.kept;
+    preserved = (acknowledge_puts c s nr).dropped ∙ d.preserved;
     flow = flow_done s.end (acknowledge Whole nr s).end peer.end (Status nr) ks (sent_by s.end (kinds d.frames)) n refl refl refl
         (λ a st. speaks.acked_busy (source s.end) (sink peer.end) (sent_by s.end (kinds d.frames)) nr ks a busy st) d.flow;
     idle = d.idle;
@@ -159,7 +159,7 @@ module _ (base its_base place : ℕ) (octets : List ℕ) (view : View) (peer : S
   draws_freed k s d = record {
     frames = d.frames;
     so = d.so;
-    kept = d.kept;
+    preserved = d.preserved;
     flow = let f = d.flow in record { a = f.a; b = f.b; mine = speaks.freed (source s.end) (sink peer.end) (sent_by s.end (kinds d.frames)) (k ∷ ks) f.a f.mine; its = f.its; most = f.most };
     idle = d.idle;
     ready = d.ready;
@@ -200,7 +200,7 @@ module _ (base its_base place : ℕ) (octets : List ℕ) (view : View) (peer : S
       when_valid nr s _ _ t (record {
         frames = d.frames;
         so = (timers_put back).line ∙ (acknowledge_puts c s nr).line ∙ d.so;
-        kept = (timers_put back).dropped ∙ (acknowledge_puts c s nr).dropped ∙ d.kept;
+        preserved = (timers_put back).dropped ∙ (acknowledge_puts c s nr).dropped ∙ d.preserved;
         flow = flow_back (Rejection nr) nr s s.end.state d refl refl is free (λ cl. let none = cl.wanted in cc) t all;
         idle = d.idle;
         ready = d.ready;
@@ -215,7 +215,7 @@ module _ (base its_base place : ℕ) (octets : List ℕ) (view : View) (peer : S
       when_valid nr s _ _ t (record {
         frames = d.frames;
         so = (timers_put back).line ∙ (acknowledge_puts c s nr).line ∙ d.so;
-        kept = (timers_put back).dropped ∙ (acknowledge_puts c s nr).dropped ∙ d.kept;
+        preserved = (timers_put back).dropped ∙ (acknowledge_puts c s nr).dropped ∙ d.preserved;
         flow = flow_back (Final nr) nr s MultipleFrameEstablished d refl refl refl free (λ cl. let in_7 = cl.in_7 in cc) t all;
         idle = d.idle;
         ready = d.ready;
@@ -228,7 +228,7 @@ module _ (base its_base place : ℕ) (octets : List ℕ) (view : View) (peer : S
   acked_in_8 k nr s no_message no_poll no_final is d = record {
     frames = d.frames;
     so = (acknowledge_puts c s nr).line ∙ d.so;
-    kept = (acknowledge_puts c s nr).dropped ∙ d.kept;
+    preserved = (acknowledge_puts c s nr).dropped ∙ d.preserved;
     flow = flow_done s.end (acknowledge Whole nr s).end peer.end k ks (sent_by s.end (kinds d.frames)) n no_message no_poll refl
         (λ a st. speaks.acked_in_8 (source s.end) (sink peer.end) (sent_by s.end (kinds d.frames)) k nr ks a is no_final st) d.flow;
     idle = d.idle;
@@ -254,14 +254,14 @@ module _ (base its_base place : ℕ) (octets : List ℕ) (view : View) (peer : S
   no_foreign : (s : StepState) → HoldsMid c (Foreign ∷ ks) s → ⊥
   no_foreign s m = let clean = m.its.exchange.clean in omega (arith, clean)
 
-  abbrev Comes : Role → Control → StepState → Type 0
-  Comes role control s = HoldsMid c (kind_of role control octets place ∷ ks) s × CurrentFrame (kind_of role control octets place) s
+  abbrev Arrives : Role → Control → StepState → Type 0
+  Arrives role control s = HoldsMid c (kind_of role control octets place ∷ ks) s × CurrentFrame (kind_of role control octets place) s
 
-  i_in_7 : (ns nr : ℕ) (p : Bool) (s : StepState) → s.end.state ≡ MultipleFrameEstablished → s.end.window.ack_pending ≡ false → Comes Command (I ns nr p) s → Done (multiple_frame_established Whole (Heard (I ns nr p) Command) s)
+  i_in_7 : (ns nr : ℕ) (p : Bool) (s : StepState) → s.end.state ≡ MultipleFrameEstablished → s.end.window.ack_pending ≡ false → Arrives Command (I ns nr p) s → Done (multiple_frame_established Whole (Heard (I ns nr p) Command) s)
   unfolding multiple_frame_established i_frame_ns
   i_in_7 ns nr p s is none h = draws_i_nr nr (i_frame_ns Whole ns p s) is (mid_ns c ns p nr ks s h.0) (draws_ns base its_base place octets view peer opened ns p nr ks n s none h.0 h.1)
 
-  i_in_8 : (ns nr : ℕ) (p : Bool) (s : StepState) → s.end.state ≡ TimerRecovery → s.end.window.ack_pending ≡ false → Comes Command (I ns nr p) s → Done (timer_recovery Whole (Heard (I ns nr p) Command) s)
+  i_in_8 : (ns nr : ℕ) (p : Bool) (s : StepState) → s.end.state ≡ TimerRecovery → s.end.window.ack_pending ≡ false → Arrives Command (I ns nr p) s → Done (timer_recovery Whole (Heard (I ns nr p) Command) s)
   unfolding timer_recovery i_frame_ns
   i_in_8 ns nr p s is none h = draws_i_nr_in_8 nr (i_frame_ns Whole ns p s) is (mid_ns c ns p nr ks s h.0) (draws_ns base its_base place octets view peer opened ns p nr ks n s none h.0 h.1)
 
@@ -273,35 +273,35 @@ module _ (base its_base place : ℕ) (octets : List ℕ) (view : View) (peer : S
       let go : HoldsMid c (Enquiry nr ∷ ks) b = mid_peer_busy c false s (Enquiry nr ∷ ks) m in
       (mid_response c b nr ks go, draws_response base its_base place octets view peer opened nr ks n b none go (draws_freed (Enquiry nr) s d))
 
-  rr_in_7 : (nr : ℕ) (pf : Bool) (role : Role) (s : StepState) → s.end.state ≡ MultipleFrameEstablished → s.end.window.ack_pending ≡ false → Comes role (Rr nr pf) s → Done (multiple_frame_established Whole (Heard (Rr nr pf) role) s)
+  rr_in_7 : (nr : ℕ) (pf : Bool) (role : Role) (s : StepState) → s.end.state ≡ MultipleFrameEstablished → s.end.window.ack_pending ≡ false → Arrives role (Rr nr pf) s → Done (multiple_frame_established Whole (Heard (Rr nr pf) role) s)
   unfolding multiple_frame_established poll_or_final set_peer_busy with_peer_busy enquiry_response without_ack_pending
   rr_in_7 nr true Command s is none h = let p = polled nr s none h.0 h.1 in draws_rr_nr nr (enquiry_response (set_peer_busy false s)) is refl p.0 p.1
   rr_in_7 nr true Answer s is none h = absurd (no_final_in_7 c nr ks s is h.0)
   rr_in_7 nr false Answer s is none h = draws_rr_nr nr (set_peer_busy false s) is refl (mid_peer_busy c false s (Status nr ∷ ks) h.0) (draws_freed (Status nr) s h.1)
   rr_in_7 nr false Command s is none h = absurd (no_foreign s h.0)
 
-  rej_in_7 : (nr : ℕ) (pf : Bool) (role : Role) (s : StepState) → s.end.state ≡ MultipleFrameEstablished → Comes role (Rej nr pf) s → Done (multiple_frame_established Whole (Heard (Rej nr pf) role) s)
+  rej_in_7 : (nr : ℕ) (pf : Bool) (role : Role) (s : StepState) → s.end.state ≡ MultipleFrameEstablished → Arrives role (Rej nr pf) s → Done (multiple_frame_established Whole (Heard (Rej nr pf) role) s)
   unfolding multiple_frame_established poll_or_final set_peer_busy with_peer_busy
   rej_in_7 nr true Command s is h = absurd (no_foreign s h.0)
   rej_in_7 nr true Answer s is h = absurd (no_final_in_7 c nr ks s is h.0)
   rej_in_7 nr false Answer s is h = draws_rej_nr nr (set_peer_busy false s) is refl (mid_peer_busy c false s (Rejection nr ∷ ks) h.0) (draws_freed (Rejection nr) s h.1)
   rej_in_7 nr false Command s is h = absurd (no_foreign s h.0)
 
-  rr_in_8 : (nr : ℕ) (pf : Bool) (role : Role) (s : StepState) → s.end.state ≡ TimerRecovery → s.end.window.ack_pending ≡ false → Comes role (Rr nr pf) s → Done (timer_recovery Whole (Heard (Rr nr pf) role) s)
+  rr_in_8 : (nr : ℕ) (pf : Bool) (role : Role) (s : StepState) → s.end.state ≡ TimerRecovery → s.end.window.ack_pending ≡ false → Arrives role (Rr nr pf) s → Done (timer_recovery Whole (Heard (Rr nr pf) role) s)
   unfolding timer_recovery poll set_peer_busy with_peer_busy enquiry_response without_ack_pending
   rr_in_8 nr true Command s is none h = let p = polled nr s none h.0 h.1 in draws_status_in_8 nr (enquiry_response (set_peer_busy false s)) is p.0 p.1
   rr_in_8 nr true Answer s is none h = draws_final nr (set_peer_busy false s) is refl (mid_peer_busy c false s (Final nr ∷ ks) h.0) (draws_freed (Final nr) s h.1)
   rr_in_8 nr false Answer s is none h = draws_status_in_8 nr (set_peer_busy false s) is (mid_peer_busy c false s (Status nr ∷ ks) h.0) (draws_freed (Status nr) s h.1)
   rr_in_8 nr false Command s is none h = absurd (no_foreign s h.0)
 
-  rej_in_8 : (nr : ℕ) (pf : Bool) (role : Role) (s : StepState) → s.end.state ≡ TimerRecovery → Comes role (Rej nr pf) s → Done (timer_recovery Whole (Heard (Rej nr pf) role) s)
+  rej_in_8 : (nr : ℕ) (pf : Bool) (role : Role) (s : StepState) → s.end.state ≡ TimerRecovery → Arrives role (Rej nr pf) s → Done (timer_recovery Whole (Heard (Rej nr pf) role) s)
   unfolding timer_recovery poll set_peer_busy with_peer_busy
   rej_in_8 nr true Command s is h = absurd (no_foreign s h.0)
   rej_in_8 nr true Answer s is h = draws_final nr (set_peer_busy false s) is refl (mid_peer_busy c false s (Final nr ∷ ks) h.0) (draws_freed (Final nr) s h.1)
   rej_in_8 nr false Answer s is h = draws_rejection_in_8 nr (set_peer_busy false s) is (mid_peer_busy c false s (Rejection nr ∷ ks) h.0) (draws_freed (Rejection nr) s h.1)
   rej_in_8 nr false Command s is h = absurd (no_foreign s h.0)
 
-  pub in_7 : (control : Control) (role : Role) (s : StepState) → is_ready control ≡ true → s.end.state ≡ MultipleFrameEstablished → s.end.window.ack_pending ≡ false → Comes role control s → Done (multiple_frame_established Whole (Heard control role) s)
+  pub in_7 : (control : Control) (role : Role) (s : StepState) → is_ready control ≡ true → s.end.state ≡ MultipleFrameEstablished → s.end.window.ack_pending ≡ false → Arrives role control s → Done (multiple_frame_established Whole (Heard control role) s)
   in_7 (I ns nr p) Command s plain is none h = i_in_7 ns nr p s is none h
   in_7 (I ns nr p) Answer s plain is none h = absurd (no_foreign s h.0)
   in_7 (Rr nr pf) role s plain is none h = rr_in_7 nr pf role s is none h
@@ -309,7 +309,7 @@ module _ (base its_base place : ℕ) (octets : List ℕ) (view : View) (peer : S
   in_7 (Rnr nr pf) role s plain is none h = cc
   in_7 control role s plain is none h = cc
 
-  pub in_8 : (control : Control) (role : Role) (s : StepState) → is_ready control ≡ true → s.end.state ≡ TimerRecovery → s.end.window.ack_pending ≡ false → Comes role control s → Done (timer_recovery Whole (Heard control role) s)
+  pub in_8 : (control : Control) (role : Role) (s : StepState) → is_ready control ≡ true → s.end.state ≡ TimerRecovery → s.end.window.ack_pending ≡ false → Arrives role control s → Done (timer_recovery Whole (Heard control role) s)
   in_8 (I ns nr p) Command s plain is none h = i_in_8 ns nr p s is none h
   in_8 (I ns nr p) Answer s plain is none h = absurd (no_foreign s h.0)
   in_8 (Rr nr pf) role s plain is none h = rr_in_8 nr pf role s is none h

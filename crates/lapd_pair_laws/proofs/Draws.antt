@@ -22,7 +22,7 @@ use Rattle.lapd_pair_laws.proofs.Flow.{source, sink, Stream, Lighter, Flow, burd
 use Rattle.lapd_pair_laws.proofs.StreamReceipts as receives
 use Rattle.lapd_pair_laws.proofs.Speaks as speaks
 use Rattle.lapd_pair_laws.proofs.Facts.{taken_below, polled_by_8}
-use Rattle.lapd_pair_laws.proofs.Tells.{PutsFrame, unanswered_puts, answered_puts, response_puts}
+use Rattle.lapd_pair_laws.proofs.States.{PutsFrame, unanswered_puts, answered_puts, response_puts}
 
 -- ---- The line with the pending acknowledgement appended.
 
@@ -53,7 +53,7 @@ ready_more (g ∷ fs) f is ready = (ready.0, ready_more fs f is ready.1)
 pub record Draws (c : Context) (peer : End) (ks : List Kind) (n : ℕ) (s : StepState) : Type 0 where
   pub frames : List Flight
   pub so : (story c s).line ≡ frames
-  pub kept : (story c s).history.dropped ≡ c.view.station.history.dropped
+  pub preserved : (story c s).history.dropped ≡ c.view.station.history.dropped
   pub flow : Flow s.end peer (sent_by s.end (kinds frames)) ks n
   pub idle : s.end.window.own_busy ≡ false
   pub ready : AreReady frames
@@ -109,10 +109,10 @@ module _ (base its_base place : ℕ) (octets : List ℕ) (view : View) (peer : S
   -- an answer is appended
   replied : (s t : StepState) (k u : Kind) (control : Control) (nr : ℕ) (ks : List Kind) (n : ℕ) (d : Draws c peer.end (k ∷ ks) n s) → t.end.window.ack_pending ≡ false → t.end.window.own_busy ≡ false → is_ready control ≡ true → kind_of Answer control [] 0 ≡ u
       → PutsFrame c (without_info Answer control) s t → Flow t.end peer.end (kinds d.frames ++ u ∷ []) (Status nr ∷ ks) n → Draws c peer.end (Status nr ∷ ks) n t
-  replied s t k u control nr ks n d after_outputs idle plain is tells f = record {
+  replied s t k u control nr ks n d after_outputs idle plain is reporting f = record {
     frames = d.frames ++ without_info Answer control ∷ [];
-    so = tells.line ∙ ap (λ l. l ++ without_info Answer control ∷ []) d.so;
-    kept = tells.dropped ∙ d.kept;
+    so = reporting.line ∙ ap (λ l. l ++ without_info Answer control ∷ []) d.so;
+    preserved = reporting.dropped ∙ d.preserved;
     flow = subst (λ b. Flow t.end peer.end (with_pending b t.end.window.vr (kinds (d.frames ++ without_info Answer control ∷ []))) (Status nr ∷ ks) n) (sym after_outputs)
         (subst (λ l. Flow t.end peer.end l (Status nr ∷ ks) n) (sym (one_behind d.frames Answer control u is)) f);
     idle = idle;
@@ -156,7 +156,7 @@ module _ (base its_base place : ℕ) (octets : List ℕ) (view : View) (peer : S
       (record {
         frames = d.frames;
         so = (unanswered_puts c s now true).line ∙ d.so;
-        kept = (unanswered_puts c s now true).dropped ∙ d.kept;
+        preserved = (unanswered_puts c s now true).dropped ∙ d.preserved;
         flow = flow_replied s.end t.end peer.end k (Status (w.vr + 1)) nr ks (kinds d.frames) n refl refl refl refl refl refl
             (λ b st. receives.taken (source peer.end) (sink s.end) (current c ns false) nr ks (kinds d.frames) b is refl less st) (flow_after s (k ∷ ks) n d none_pending);
         idle = d.idle;
@@ -217,7 +217,7 @@ module _ (base its_base place : ℕ) (octets : List ℕ) (view : View) (peer : S
       (record {
         frames = d.frames;
         so = (unanswered_puts c s now false).line ∙ d.so;
-        kept = (unanswered_puts c s now false).dropped ∙ d.kept;
+        preserved = (unanswered_puts c s now false).dropped ∙ d.preserved;
         flow = subst (λ b. Flow t.end peer.end (with_pending b w.vr (kinds d.frames)) (Status nr ∷ ks) n) (sym none_pending) flow;
         idle = d.idle;
         ready = d.ready;

@@ -15,7 +15,7 @@ use Rattle.lapd_pair_laws.proofs.Flow.{IsWhole, IsJunkThenWhole, IsInTransit}
 
 -- the frames of x that the open peer will process
 pub received_open : {x y : Party} {out back : List Kind} → is_7_or_8 y.state ≡ true → Mid x y out back → IsReceivable x y (Some (reception_now x back)) (reception_now y out)
-received_open {x = x} {y = y} {out = out} {back = back} opened m = from_open (IsReceivable x y (Some (reception_now x back))) y out opened m.mine.heard
+received_open {x = x} {y = y} {out = out} {back = back} opened m = from_open (IsReceivable x y (Some (reception_now x back))) y out opened m.mine.reception
 
 -- V(A) of x is at most V(R) of y, and that at most V(S) of x
 pub between_open : {x y : Party} {out back : List Kind} → is_7_or_8 y.state ≡ true → Mid x y out back → (x.sends.va ≤ y.takes.vr) × (y.takes.vr ≤ x.sends.vs)
@@ -24,7 +24,7 @@ between_open opened m = (received_open opened m).stream.between m.opened
 -- the N(R) in hand is valid, and at most V(R) of the peer
 pub number_open : {x y : Party} {out : List Kind} (nr : ℕ) (rest : List ℕ) (back : List Kind) → numbers back ≡ nr ∷ rest → is_7_or_8 y.state ≡ true → Mid x y out back → (x.sends.va ≤ nr) × (nr ≤ y.takes.vr)
 number_open {x = x} {y = y} nr rest back is opened m =
-    let climb : IsClimb x.sends.va y.takes.vr (nr ∷ rest) = subst (λ ns. IsClimb x.sends.va y.takes.vr ns) is (m.its.heard.acks.top opened).0 in
+    let climb : IsClimb x.sends.va y.takes.vr (nr ∷ rest) = subst (λ ns. IsClimb x.sends.va y.takes.vr ns) is (m.its.reception.acks.top opened).0 in
     (climb.0, climb_top nr y.takes.vr rest climb.1)
 
 -- ---- The message in hand.
@@ -32,7 +32,7 @@ number_open {x = x} {y = y} nr rest back is opened m =
 -- the awaited number is below V(S) of its sender
 pub taken_below : {x y : Party} {out : List Kind} (m : Message) (nr : ℕ) (ks : List Kind) → m.number ≡ x.takes.vr → Mid x y out (Numbered m nr ∷ ks) → x.takes.vr < y.sends.vs
 taken_below {x = x} {y = y} m nr ks is mid =
-    subst (λ n. n < y.sends.vs) is (run_below x.takes.vr y.sends.vs m (messages ks) (awaited_begins_run x.takes.rejecting x.takes.vr y.sends.vs m (messages ks) is mid.its.heard.stream.order))
+    subst (λ n. n < y.sends.vs) is (run_below x.takes.vr y.sends.vs m (messages ks) (awaited_begins_run x.takes.rejecting x.takes.vr y.sends.vs m (messages ks) is mid.its.reception.stream.order))
 
 -- ---- A poll in hand.
 
@@ -79,7 +79,7 @@ none_below vs base received y out (n ∷ o ∷ ns) opened same one = absurd one
 pub record AllArrive (x y : Party) (out ks : List Kind) (top : ℕ) : Type 0 where
   pub at : y.takes.vr ≡ top
   pub below : top ≤ x.sends.vs
-  pub coming : IsInTransit y.takes.rejecting y.takes.vr top (messages out)
+  pub arriving : IsInTransit y.takes.rejecting y.takes.vr top (messages out)
   pub none : rejections ks ≡ []
 
 pub acknowledged_so : {x y : Party} {out : List Kind} (nr : ℕ) (ks : List Kind) → x.state ≡ MultipleFrameEstablished → is_7_or_8 y.state ≡ true → nr ≡ x.sends.vs → Mid x y out (Status nr ∷ ks) → AllArrive x y out ks x.sends.vs
@@ -90,8 +90,8 @@ acknowledged_so {x = x} {y = y} {out = out} nr ks is opened all m =
     record {
       at = same;
       below = omega arith;
-      coming = in_transit_of_order y.takes.rejecting y.takes.vr x.sends.vs (messages out) same (none_polls out (unpolled_in_7 is opened m)) (received_open opened m).stream.order;
-      none = none_below x.sends.vs x.sends.base y.takes.received y out (rejections ks) opened same (subst (λ s. AreRejected s x.sends.vs x.sends.base y.takes.received (receives y out) (rejections ks)) is m.its.heard.rejected);
+      arriving = in_transit_of_order y.takes.rejecting y.takes.vr x.sends.vs (messages out) same (none_polls out (unpolled_in_7 is opened m)) (received_open opened m).stream.order;
+      none = none_below x.sends.vs x.sends.base y.takes.received y out (rejections ks) opened same (subst (λ s. AreRejected s x.sends.vs x.sends.base y.takes.received (receives y out) (rejections ks)) is m.its.reception.rejected);
     }
 
 -- ---- A REJ in hand, in state 7.
@@ -109,7 +109,7 @@ rejected_so {x = x} {y = y} {out = out} nr ks is opened m =
     record {
       at = at;
       below = omega (arith, facts.0.below);
-      coming = subst (λ b. IsInTransit b y.takes.vr nr (messages out)) (sym rejects) (subst (λ v. IsJunkThenWhole v nr (messages out)) (sym at) (all_junk nr (messages out) (none_polls out (unpolled_in_7 is opened m)) waits.above));
+      arriving = subst (λ b. IsInTransit b y.takes.vr nr (messages out)) (sym rejects) (subst (λ v. IsJunkThenWhole v nr (messages out)) (sym at) (all_junk nr (messages out) (none_polls out (unpolled_in_7 is opened m)) waits.above));
       none = facts.1;
     }
 
@@ -126,7 +126,7 @@ final_so {x = x} {y = y} {out = out} nr ks is opened m =
     let between = between_open opened m in
     let number = number_open nr (numbers ks) (Final nr ∷ ks) refl opened m in
     let same : y.takes.vr ≡ nr = reached y.takes.vr refl number.1 asked.names.0.0 ((received_open opened m).stream.step (inl m.opened)) in
-    record { at = same; below = omega (arith, same, between.1); coming = in_transit_nothing y.takes.rejecting y.takes.vr nr (messages out) gone same; none = asked.names.0.1 }
+    record { at = same; below = omega (arith, same, between.1); arriving = in_transit_nothing y.takes.rejecting y.takes.vr nr (messages out) gone same; none = asked.names.0.1 }
   where
     reached : (vr : ℕ) → y.takes.vr ≡ vr → nr ≤ y.takes.vr → high y.takes.received ≤ x.sends.base + nr → IsInStep x.sends.base y.takes.vr y.takes.received → y.takes.vr ≡ nr
     reached zero is le names step = omega (arith, is, le)

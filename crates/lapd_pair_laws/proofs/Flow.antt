@@ -48,7 +48,7 @@ IsInTransit true low end ms = IsJunkThenWhole low end ms
 pub record IsClean (x : Source) (y : Sink) (out back : List Kind) : Type 0 where
   pub in_7 : x.state ≡ MultipleFrameEstablished
   pub free : x.busy ≡ false
-  pub coming : IsInTransit y.rejecting y.vr x.vs (messages out)
+  pub arriving : IsInTransit y.rejecting y.vr x.vs (messages out)
   pub wanted : rejections back ≡ []
   pub timed : x.t200 ≡ false → x.vs ≡ x.va
   pub stopped : x.t200 ≡ true → (y.vr < x.vs) ⊎ IsAmong x.vs (numbers back)

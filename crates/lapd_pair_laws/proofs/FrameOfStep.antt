@@ -60,18 +60,18 @@ pub turned : (x y : Party) (out now was : List Kind) → IsStepped now was → M
 turned x y out now was t m = record {
   opened = m.opened;
   mine = record {
-    kept = m.mine.kept;
+    preserved = m.mine.preserved;
     passed = m.mine.passed;
     past = m.mine.past;
     lately = m.mine.lately;
     none_yet = m.mine.none_yet;
     below = m.mine.below;
-    heard = on_map (IsReceivable x y (Some (reception_now x was))) (IsReceivable x y (Some (reception_now x now))) (receives y out) (λ h i. record {
+    reception = on_map (IsReceivable x y (Some (reception_now x was))) (IsReceivable x y (Some (reception_now x now))) (receives y out) (λ h i. record {
       stream = i.stream;
       acks = i.acks;
       asked = asked_out y.state y.sends.base x.takes.received now was h.frames t i.asked;
       rejected = rejected_map y.state y.sends.vs y.sends.base x.takes.received (Some (reception_now x now)) (Some (reception_now x was)) (rejections h.frames) (λ nr. awaiting_turned x now was nr t) i.rejected;
-    }) m.mine.heard;
+    }) m.mine.reception;
     exchange = record {
       one = omega (arith, m.mine.exchange.one, t.answers);
       behind = m.mine.exchange.behind;
@@ -81,17 +81,17 @@ turned x y out now was t m = record {
     histories = m.mine.histories;
   };
   its = record {
-    kept = m.its.kept;
+    preserved = m.its.preserved;
     passed = m.its.passed;
     past = m.its.past;
     lately = m.its.lately;
     none_yet = m.its.none_yet;
     below = m.its.below;
-    heard = record {
-      stream = stream_less (is_7_or_8 y.state) y.sends x.takes.received x.takes.vr x.takes.rejecting t.messages m.its.heard.stream;
-      acks = subst (λ ns. AreAcknowledging (is_7_or_8 y.state) y.takes x.sends.base x.sends.va x.sends.vs ns) (sym t.numbers) m.its.heard.acks;
-      asked = asked_back x.state x.sends.base y.takes.received (frames_received (receives y out)) now was t m.its.heard.asked;
-      rejected = rejected_part x.state x.sends.vs x.sends.base y.takes.received (receives y out) t.rejections m.its.heard.rejected;
+    reception = record {
+      stream = stream_less (is_7_or_8 y.state) y.sends x.takes.received x.takes.vr x.takes.rejecting t.messages m.its.reception.stream;
+      acks = subst (λ ns. AreAcknowledging (is_7_or_8 y.state) y.takes x.sends.base x.sends.va x.sends.vs ns) (sym t.numbers) m.its.reception.acks;
+      asked = asked_back x.state x.sends.base y.takes.received (frames_received (receives y out)) now was t m.its.reception.asked;
+      rejected = rejected_part x.state x.sends.vs x.sends.base y.takes.received (receives y out) t.rejections m.its.reception.rejected;
     };
     exchange = record {
       one = omega (arith, m.its.exchange.one, t.asks);

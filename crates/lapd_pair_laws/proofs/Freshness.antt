@@ -34,8 +34,8 @@ frames_fresh base x (frame ∷ rest) placed =
 
 fresh_to : (x y : Station) (base its_base : ℕ) (frames : List Flight) (back : List Kind) → Half (party base x) (party its_base y) (kinds frames) back → is_7_or_8 y.end.state ≡ true → AreFresh x frames
 fresh_to x y base its_base frames back half opened =
-    let heard = from_open (IsReceivable (party base x) (party its_base y) (receives (party base x) back)) (party its_base y) (kinds frames) opened half.heard in
-    frames_fresh base x frames heard.stream.placed
+    let reception = from_open (IsReceivable (party base x) (party its_base y) (receives (party base x) back)) (party its_base y) (kinds frames) opened half.reception in
+    frames_fresh base x frames reception.stream.placed
 
 pub fresh_by_invariant : (w : World) → IsInvariant w → AllAreFresh w
 fresh_by_invariant w i = record {

@@ -100,24 +100,24 @@ module _ (message : List ℕ) where
     pub gives_both : (out back : List Kind) → Takes x.state x.asked x.leaving → Both x y out back → Both (giving message x) y out back
     gives_both out back takes b = let z = giving message x in record {
       mine = record {
-        kept = giving_consistent x.state x.asked x.leaving x.sends takes b.mine.kept;
+        preserved = giving_consistent x.state x.asked x.leaving x.sends takes b.mine.preserved;
         passed = b.mine.passed;
         past = b.mine.past;
         lately = b.mine.lately;
         none_yet = b.mine.none_yet;
         below = b.mine.below;
-        heard = on_map (IsReceivable x y (receives x back)) (IsReceivable z y (receives x back)) (receives y out) (received_giving (receives x back)) b.mine.heard;
+        reception = on_map (IsReceivable x y (receives x back)) (IsReceivable z y (receives x back)) (receives y out) (received_giving (receives x back)) b.mine.reception;
         exchange = b.mine.exchange;
         histories = let h = b.mine.histories in record { as_given = given_still x.sends.given y.takes.received h.as_given; row = h.row; prefix = h.prefix; arrived = h.arrived };
       };
       its = record {
-        kept = b.its.kept;
+        preserved = b.its.preserved;
         passed = b.its.passed;
         past = b.its.past;
         lately = b.its.lately;
         none_yet = b.its.none_yet;
         below = b.its.below;
-        heard = on_map (IsReceivable y x (receives y out)) (IsReceivable y z (receives y out)) (receives x back) (receives_giving (receives y out)) b.its.heard;
+        reception = on_map (IsReceivable y x (receives y out)) (IsReceivable y z (receives y out)) (receives x back) (receives_giving (receives y out)) b.its.reception;
         exchange = b.its.exchange;
         histories = b.its.histories;
       };

@@ -56,13 +56,13 @@ preserves_backing x y out back nr at names none order m =
     let now = Some (reception_now z back) in
     let n : IsNumbering x.sends = numbering m in
     let Order : Reception → Type 0 = λ h. IsInOrder h.rejecting h.vr nr (messages h.frames) in
-    let acks = m.its.heard.acks in
+    let acks = m.its.reception.acks in
     let low : x.sends.va ≤ nr = omega (arith, at) in
     let within : Each (λ k. k ≤ nr) (numbers back) = each_map (λ k. IsGot x.sends.base k y.takes.received) (λ k. k ≤ nr) (numbers back) (λ k. known_below x.sends.base nr k y.takes.received m.mine.histories.row names) acks.known in
     record {
       opened = m.opened;
       mine = record {
-        kept = open_consistent x.state x.asked x.leaving z.sends m.opened (record {
+        preserved = open_consistent x.state x.asked x.leaving z.sends m.opened (record {
           first = n.first;
           next = omega (arith, n.first, at);
           ordered = omega (arith, at);
@@ -75,7 +75,7 @@ preserves_backing x y out back nr at names none order m =
         lately = m.mine.lately;
         none_yet = m.mine.none_yet;
         below = λ _. names;
-        heard = on_both Order (IsReceivable x y was) (IsReceivable z y now) (receives y out) (λ h o i. record {
+        reception = on_both Order (IsReceivable x y was) (IsReceivable z y now) (receives y out) (λ h o i. record {
           stream = record {
             placed = each_map (IsPlaced x.sends) (IsPlaced z.sends) (messages h.frames) (placed_backing nr x.sends) i.stream.placed;
             near = i.stream.near;
@@ -86,25 +86,25 @@ preserves_backing x y out back nr at names none order m =
           acks = i.acks;
           asked = i.asked;
           rejected = rejected_map y.state y.sends.vs y.sends.base x.takes.received now was (rejections h.frames) (λ r. awaits_backing x nr back r) i.rejected;
-        }) order m.mine.heard;
+        }) order m.mine.reception;
         exchange = m.mine.exchange;
         histories = m.mine.histories;
       };
       its = record {
-        kept = m.its.kept;
+        preserved = m.its.preserved;
         passed = m.its.passed;
         past = m.its.past;
         lately = m.its.lately;
         none_yet = m.its.none_yet;
         below = m.its.below;
-        heard = record {
-          stream = m.its.heard.stream;
+        reception = record {
+          stream = m.its.reception.stream;
           acks = record {
             climb = climb_within x.sends.va x.sends.vs nr (numbers back) low within acks.climb;
             known = acks.known;
             top = λ opened. ((acks.top opened).0, its_reached opened);
           };
-          asked = m.its.heard.asked;
+          asked = m.its.reception.asked;
           rejected = no_rejections x.state nr x.sends.base y.takes.received (receives y out) (rejections back) none;
         };
         exchange = m.its.exchange;
@@ -117,7 +117,7 @@ preserves_backing x y out back nr at names none order m =
     reached (suc vr) step = let level : high y.takes.received ≡ x.sends.base + suc vr = step.level (omega arith) in omega (arith, level, names)
 
     its_reached : is_7_or_8 y.state ≡ true → y.takes.vr ≤ nr
-    its_reached opened = reached y.takes.vr ((from_open (IsReceivable x y (Some (reception_now x back))) y out opened m.mine.heard).stream.step (inl m.opened))
+    its_reached opened = reached y.takes.vr ((from_open (IsReceivable x y (Some (reception_now x back))) y out opened m.mine.reception).stream.step (inl m.opened))
 
 -- ---- By a REJ with F=0, in state 7.
 
@@ -151,10 +151,10 @@ pub sent_back_in_7 : (x y : Party) (out : List Kind) (nr : ℕ) (ks : List Kind)
     → IsSentBack x.sends.vs x.sends.base y.takes.received (receives y out) nr × (rejections ks ≡ [])
 sent_back_in_7 x y out nr ks is m =
     rest_of_one (IsSentBack x.sends.vs x.sends.base y.takes.received (receives y out)) nr (rejections ks)
-    (subst (λ s. AreRejected s x.sends.vs x.sends.base y.takes.received (receives y out) (nr ∷ rejections ks)) is m.its.heard.rejected)
+    (subst (λ s. AreRejected s x.sends.vs x.sends.base y.takes.received (receives y out) (nr ∷ rejections ks)) is m.its.reception.rejected)
 
 pub none_asked_in_7 : (x y : Party) (out back : List Kind) → x.state ≡ MultipleFrameEstablished → Mid x y out back → NoneAsked (frames_received (receives y out)) back
-none_asked_in_7 x y out back is m = subst (λ s. AreAsked s x.sends.base y.takes.received (frames_received (receives y out)) back) is m.its.heard.asked
+none_asked_in_7 x y out back is m = subst (λ s. AreAsked s x.sends.base y.takes.received (frames_received (receives y out)) back) is m.its.reception.asked
 
 pub back_by_rejection : (x y : Party) (out : List Kind) (nr : ℕ) (ks : List Kind) → x.state ≡ MultipleFrameEstablished → Mid x y out (Rejection nr ∷ ks) → Mid (backing nr (acknowledging nr x)) y out ks
 back_by_rejection x y out nr ks is m =
@@ -173,7 +173,7 @@ order_of_none true low end ms none = subst (λ l. IsInOrder true low end l) (sym
 order_of_none false low end ms none = subst (λ l. IsInOrder false low end l) (sym none) tt
 
 pub asked_in_8 : (x y : Party) (out back : List Kind) → x.state ≡ TimerRecovery → Mid x y out back → OneAsked x.sends.base y.takes.received (frames_received (receives y out)) back
-asked_in_8 x y out back is m = subst (λ s. AreAsked s x.sends.base y.takes.received (frames_received (receives y out)) back) is m.its.heard.asked
+asked_in_8 x y out back is m = subst (λ s. AreAsked s x.sends.base y.takes.received (frames_received (receives y out)) back) is m.its.reception.asked
 
 pub back_by_final : (x y : Party) (out : List Kind) (nr : ℕ) (ks : List Kind) → x.state ≡ TimerRecovery → Mid x y out (Final nr ∷ ks) → Mid (established (backing nr (acknowledging nr x))) y out ks
 back_by_final x y out nr ks is m =

@@ -59,7 +59,7 @@ pub mod Flow
 pub mod StreamReceipts
 pub mod Speaks
 pub mod Facts
-pub mod Tells
+pub mod States
 pub mod Draws
 pub mod DrawRows
 pub mod DrawCloses

@@ -195,13 +195,13 @@ exchange_less most p q w = let asks = part_tally ask_of p in let answers = part_
 pub speaking_less : (x y : Party) {out out_was back back_was : List Kind} (here here_was there there_was : Option Reception) → Part out out_was → Part back back_was → ReceivesLess here here_was → ReceivesLess there there_was
     → IsSpeaking x y out_was back_was here_was there_was → IsSpeaking x y out back here there
 speaking_less x y here here_was there there_was p q less_here less_there w = record {
-  kept = w.kept;
+  preserved = w.preserved;
   passed = w.passed;
   past = w.past;
   lately = w.lately;
   none_yet = w.none_yet;
   below = w.below;
-  heard = on_less_both (IsReceivable x y here_was) (IsReceivable x y here) there there_was less_there (λ n h less. received_less x y here here_was n h less_here less) w.heard;
+  reception = on_less_both (IsReceivable x y here_was) (IsReceivable x y here) there there_was less_there (λ n h less. received_less x y here here_was n h less_here less) w.reception;
   exchange = exchange_less (most_asks x.state) p q w.exchange;
   histories = w.histories;
 }

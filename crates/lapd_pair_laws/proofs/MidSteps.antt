@@ -43,14 +43,14 @@ put_away x y out k back m =
 -- ---- Facts about an open side.
 
 pub open_numbering : (state : State) (asked leaving : Bool) (s : Sender) → is_7_or_8 state ≡ true → IsConsistentSender state asked leaving s → IsNumbering s
-open_numbering MultipleFrameEstablished asked leaving s opened kept = kept
-open_numbering TimerRecovery asked leaving s opened kept = kept
-open_numbering TeiAssigned asked leaving s opened kept = cc
-open_numbering AwaitingEstablishment asked leaving s opened kept = cc
-open_numbering AwaitingRelease asked leaving s opened kept = cc
+open_numbering MultipleFrameEstablished asked leaving s opened preserved = preserved
+open_numbering TimerRecovery asked leaving s opened preserved = preserved
+open_numbering TeiAssigned asked leaving s opened preserved = cc
+open_numbering AwaitingEstablishment asked leaving s opened preserved = cc
+open_numbering AwaitingRelease asked leaving s opened preserved = cc
 
 pub numbering : {x y : Party} {out back : List Kind} → Mid x y out back → IsNumbering x.sends
-numbering {x = x} m = open_numbering x.state x.asked x.leaving x.sends m.opened m.mine.kept
+numbering {x = x} m = open_numbering x.state x.asked x.leaving x.sends m.opened m.mine.preserved
 
 pub open_consistent : (state : State) (asked leaving : Bool) (s : Sender) → is_7_or_8 state ≡ true → IsNumbering s → IsConsistentSender state asked leaving s
 open_consistent MultipleFrameEstablished asked leaving s opened n = n
@@ -76,10 +76,10 @@ open_asks_none AwaitingRelease opened = cc
 -- if the peer will process frames, this side received all its messages up to V(R)
 pub got_where_received : {x y : Party} {out back : List Kind} → Mid x y out back → OnReception (λ h. IsGot y.sends.base x.takes.vr x.takes.received) (receives y out)
 got_where_received {x = x} {y = y} {out = out} {back = back} m =
-    on_both (IsReceivedAs y out) (IsReceivable x y (Some (reception_now x back))) (λ h. IsGot y.sends.base x.takes.vr x.takes.received) (receives y out) (λ h so i. got h so i) (received_as y out) m.mine.heard
+    on_both (IsReceivedAs y out) (IsReceivable x y (Some (reception_now x back))) (λ h. IsGot y.sends.base x.takes.vr x.takes.received) (receives y out) (λ h so i. got h so i) (received_as y out) m.mine.reception
   where
     got : (h : Reception) → IsReceivedAs y out h → IsReceivable x y (Some (reception_now x back)) h → IsGot y.sends.base x.takes.vr x.takes.received
-    got h (inl now) i = (m.its.heard.stream.step (inl now.0)).got
+    got h (inl now) i = (m.its.reception.stream.step (inl now.0)).got
     got h (inr come) i = let top : x.takes.vr ≤ h.vs = (i.acks.top m.opened).1 in let zero_ : h.vs ≡ 0 = come.vs in λ n less. absurd (omega (arith, less, top, zero_))
 
 -- if a frame with N(R) is in hand, no answer is in transit to the peer, so the peer processes

@@ -36,8 +36,8 @@ abbrev pub PreservesSeen : Side → World → Result ViewStep Refusal → Type 0
 PreservesSeen who w r = (peer : Station) → Holds (view_of who w) peer → Holds (left_by (view_of who w) r) peer
 
 pub user_preserves : (w : World) (r : Result ViewStep Refusal) → IsInvariant w → PreservesSeen side.User w r → Left (view_of side.User w) r → IsInvariant (world_after w (in_world side.User w r))
-user_preserves w r i keeps sound =
-    let after : Holds (left_by (view_of side.User w) r) w.network = keeps w.network (record { base = i.user_base; its_base = i.network_base; both = i.both }) in
+user_preserves w r i preserves sound =
+    let after : Holds (left_by (view_of side.User w) r) w.network = preserves w.network (record { base = i.user_base; its_base = i.network_base; both = i.both }) in
     rw (after_by_user w r) (record {
       user_base = after.base;
       network_base = after.its_base;
@@ -49,21 +49,21 @@ user_preserves w r i keeps sound =
     })
 
 pub side_preserves : (who : Side) (w : World) (r : Result ViewStep Refusal) → IsInvariant w → PreservesSeen who w r → Left (view_of who w) r → IsInvariant (world_after w (in_world who w r))
-side_preserves side.User w r i keeps sound = user_preserves w r i keeps sound
-side_preserves side.Network w r i keeps sound = rw (after_by_network w r) (exchanged (world_after (swapped w) (in_world side.User (swapped w) r)) (user_preserves (swapped w) r (exchanged w i) keeps sound))
+side_preserves side.User w r i preserves sound = user_preserves w r i preserves sound
+side_preserves side.Network w r i preserves sound = rw (after_by_network w r) (exchanged (world_after (swapped w) (in_world side.User (swapped w) r)) (user_preserves (swapped w) r (exchanged w i) preserves sound))
 
 -- a move of the user, and one of the network
 user_event_preserves : (event : PairEvent) → Preserves event → (w : World) → IsInvariant w → IsInvariant (world_after w (happens Whole (record { side = side.User; event = event }) w))
 unfolding happens
-user_event_preserves event keeps w i = let v = view_of side.User w in user_preserves w (acts Whole side.User event v) i (λ peer h. keeps v peer i.user_window h) (stays_sound v i.user_window i.user_sound event)
+user_event_preserves event preserves w i = let v = view_of side.User w in user_preserves w (acts Whole side.User event v) i (λ peer h. preserves v peer i.user_window h) (stays_sound v i.user_window i.user_sound event)
 
 network_event_preserves : (event : PairEvent) → Preserves event → (w : World) → IsInvariant w → IsInvariant (world_after w (happens Whole (record { side = side.Network; event = event }) w))
-network_event_preserves event keeps w i = rw (network_alike Whole event w) (exchanged (world_after (swapped w) (happens Whole (record { side = side.User; event = event }) (swapped w))) (user_event_preserves event keeps (swapped w) (exchanged w i)))
+network_event_preserves event preserves w i = rw (network_alike Whole event w) (exchanged (world_after (swapped w) (happens Whole (record { side = side.User; event = event }) (swapped w))) (user_event_preserves event preserves (swapped w) (exchanged w i)))
 
 pub move_preserves : (who : Side) (event : PairEvent) → Preserves event → (w : World) → IsInvariant w → IsInvariant (world_after w (happens Whole (record { side = who; event = event }) w))
-move_preserves side.User event keeps w i = user_event_preserves event keeps w i
-move_preserves side.Network event keeps w i = network_event_preserves event keeps w i
+move_preserves side.User event preserves w i = user_event_preserves event preserves w i
+move_preserves side.Network event preserves w i = network_event_preserves event preserves w i
 
 pub run_preserves : ((event : PairEvent) → Preserves event) → (moves : List Move) (w : World) → IsInvariant w → IsInvariant (run Whole moves w)
-run_preserves keeps [] w i = i
-run_preserves keeps (move ∷ moves) w i = run_preserves keeps moves (world_after w (happens Whole move w)) (move_preserves move.side move.event (keeps move.event) w i)
+run_preserves preserves [] w i = i
+run_preserves preserves (move ∷ moves) w i = run_preserves preserves moves (world_after w (happens Whole move w)) (move_preserves move.side move.event (preserves move.event) w i)

@@ -39,8 +39,8 @@ frame_within k role control info place ks m near climb clean = tt
 first_within : (x y : Station) (base its_base : ℕ) (frames : List Flight) (back : List Kind) → Half (party base x) (party its_base y) (kinds frames) back → IsFirstWithin x.end.parameters.k frames y.end
 first_within x y base its_base [] back half = tt
 first_within x y base its_base (frame ∷ rest) back half = λ is.
-    let heard = from_open (IsReceivable (party base x) (party its_base y) (receives (party base x) back)) (party its_base y) (kinds (frame ∷ rest)) is half.heard in
-    frame_within x.end.parameters.k frame.role frame.control frame.info frame.place (kinds rest) y.end.window heard.stream.near heard.acks.climb half.exchange.clean
+    let reception = from_open (IsReceivable (party base x) (party its_base y) (receives (party base x) back)) (party its_base y) (kinds (frame ∷ rest)) is half.reception in
+    frame_within x.end.parameters.k frame.role frame.control frame.info frame.place (kinds rest) y.end.window reception.stream.near reception.acks.climb half.exchange.clean
 
 pub within_by_invariant : (w : World) → IsInvariant w → AreFirstWithin w
 within_by_invariant w i = record {

@@ -113,7 +113,7 @@ due_by_invariant w i = let within = within_by_invariant w i in record {
 first_due_in_tags : (k : ℕ) (frames : List Flight) (e : End) → k ≤ 127 → e.parameters.k ≤ 127 → IsSound Whole e → IsFirstWithin k frames e → IsFirstDue Whole frames e → IsFirstDue Tagged (map tag_flight frames) (tag_end e)
 first_due_in_tags k [] e small window sound within due = tt
 first_due_in_tags k (frame ∷ rest) e small window sound within due =
-    due_on_tags (Heard frame.control frame.role) e (record { window = window; sound = sound; heard = λ is. numbers_within_are_near k frame.control e small sound is (within is) }) due
+    due_on_tags (Heard frame.control frame.role) e (record { window = window; sound = sound; reception = λ is. numbers_within_are_near k frame.control e small sound is (within is) }) due
 
 pub due_in_tags : (w : World) → IsInvariant w → AreFirstDue Tagged (tag_world w)
 due_in_tags w i = let within = within_by_invariant w i in let due = due_by_invariant w i in record {

@@ -37,7 +37,7 @@ valid_whole va nr vs low high = let a : nat_le va nr ≡ true = grind (arith, lo
 
 pub valid : (c : Context) (nr : ℕ) (ks : List Kind) (s : StepState) → HoldsMid c (Status nr ∷ ks) s → is_valid_nr Whole nr s.end.window ≡ true
 unfolding is_valid_nr
-valid c nr ks s m = let climb = m.its.heard.acks.climb in valid_whole s.end.window.va nr s.end.window.vs climb.0 (climb_top nr s.end.window.vs (numbers ks) climb.1)
+valid c nr ks s m = let climb = m.its.reception.acks.climb in valid_whole s.end.window.va nr s.end.window.vs climb.0 (climb_top nr s.end.window.vs (numbers ks) climb.1)
 
 abbrev Done : Context → List Kind → StepState → Type 0
 Done c ks t = HoldsMid c ks t
@@ -92,28 +92,28 @@ no_final_in_7 c nr ks s is m = let none : NoneAsked (frames_received (receives c
 pub no_foreign : (c : Context) (ks : List Kind) (s : StepState) → HoldsMid c (Foreign ∷ ks) s → ⊥
 no_foreign c ks s m = let clean = m.its.exchange.clean in omega (arith, clean)
 
-abbrev Comes : Context → Role → Control → List Kind → StepState → Type 0
-Comes c role control ks s = HoldsMid c (kind_of role control c.octets c.place ∷ ks) s
+abbrev Arrives : Context → Role → Control → List Kind → StepState → Type 0
+Arrives c role control ks s = HoldsMid c (kind_of role control c.octets c.place ∷ ks) s
 
 pub mid_i_in_7 : (c : Context) (ns nr : ℕ) (p : Bool) (ks : List Kind) (s : StepState) → HoldsMid c (Numbered (current c ns p) nr ∷ ks) s → HoldsMid c ks (multiple_frame_established Whole (Heard (I ns nr p) Command) s)
 unfolding multiple_frame_established
 mid_i_in_7 c ns nr p ks s m = mid_i_nr c nr ks (i_frame_ns Whole ns p s) (mid_ns c ns p nr ks s m)
 
-pub mid_rr_in_7 : (c : Context) (nr : ℕ) (pf : Bool) (role : Role) (ks : List Kind) (s : StepState) → s.end.state ≡ MultipleFrameEstablished → Comes c role (Rr nr pf) ks s → HoldsMid c ks (multiple_frame_established Whole (Heard (Rr nr pf) role) s)
+pub mid_rr_in_7 : (c : Context) (nr : ℕ) (pf : Bool) (role : Role) (ks : List Kind) (s : StepState) → s.end.state ≡ MultipleFrameEstablished → Arrives c role (Rr nr pf) ks s → HoldsMid c ks (multiple_frame_established Whole (Heard (Rr nr pf) role) s)
 unfolding multiple_frame_established poll_or_final
 mid_rr_in_7 c nr true Command ks s is m = let b = set_peer_busy false s in mid_rr_nr c nr ks (enquiry_response b) (mid_response c b nr ks (mid_peer_busy c false s (Enquiry nr ∷ ks) m))
 mid_rr_in_7 c nr true Answer ks s is m = absurd (no_final_in_7 c nr ks s is m)
 mid_rr_in_7 c nr false Answer ks s is m = mid_rr_nr c nr ks (set_peer_busy false s) (mid_peer_busy c false s (Status nr ∷ ks) m)
 mid_rr_in_7 c nr false Command ks s is m = absurd (no_foreign c ks s m)
 
-pub mid_rnr_in_7 : (c : Context) (nr : ℕ) (pf : Bool) (role : Role) (ks : List Kind) (s : StepState) → s.end.state ≡ MultipleFrameEstablished → Comes c role (Rnr nr pf) ks s → HoldsMid c ks (multiple_frame_established Whole (Heard (Rnr nr pf) role) s)
+pub mid_rnr_in_7 : (c : Context) (nr : ℕ) (pf : Bool) (role : Role) (ks : List Kind) (s : StepState) → s.end.state ≡ MultipleFrameEstablished → Arrives c role (Rnr nr pf) ks s → HoldsMid c ks (multiple_frame_established Whole (Heard (Rnr nr pf) role) s)
 unfolding multiple_frame_established poll_or_final
 mid_rnr_in_7 c nr true Command ks s is m = let b = set_peer_busy true s in mid_rnr_nr c nr ks (enquiry_response b) (mid_response c b nr ks (mid_peer_busy c true s (Enquiry nr ∷ ks) m))
 mid_rnr_in_7 c nr true Answer ks s is m = absurd (no_final_in_7 c nr ks s is m)
 mid_rnr_in_7 c nr false Answer ks s is m = mid_rnr_nr c nr ks (set_peer_busy true s) (mid_peer_busy c true s (Status nr ∷ ks) m)
 mid_rnr_in_7 c nr false Command ks s is m = absurd (no_foreign c ks s m)
 
-pub mid_rej_in_7 : (c : Context) (nr : ℕ) (pf : Bool) (role : Role) (ks : List Kind) (s : StepState) → s.end.state ≡ MultipleFrameEstablished → Comes c role (Rej nr pf) ks s → HoldsMid c ks (multiple_frame_established Whole (Heard (Rej nr pf) role) s)
+pub mid_rej_in_7 : (c : Context) (nr : ℕ) (pf : Bool) (role : Role) (ks : List Kind) (s : StepState) → s.end.state ≡ MultipleFrameEstablished → Arrives c role (Rej nr pf) ks s → HoldsMid c ks (multiple_frame_established Whole (Heard (Rej nr pf) role) s)
 unfolding multiple_frame_established poll_or_final set_peer_busy with_peer_busy
 mid_rej_in_7 c nr true Command ks s is m = absurd (no_foreign c ks s m)
 mid_rej_in_7 c nr true Answer ks s is m = absurd (no_final_in_7 c nr ks s is m)
@@ -166,21 +166,21 @@ pub mid_i_in_8 : (c : Context) (ns nr : ℕ) (p : Bool) (ks : List Kind) (s : St
 unfolding timer_recovery
 mid_i_in_8 c ns nr p ks s m = mid_i_nr_in_8 c nr ks (i_frame_ns Whole ns p s) (mid_ns c ns p nr ks s m)
 
-pub mid_rr_in_8 : (c : Context) (nr : ℕ) (pf : Bool) (role : Role) (ks : List Kind) (s : StepState) → s.end.state ≡ TimerRecovery → Comes c role (Rr nr pf) ks s → HoldsMid c ks (timer_recovery Whole (Heard (Rr nr pf) role) s)
+pub mid_rr_in_8 : (c : Context) (nr : ℕ) (pf : Bool) (role : Role) (ks : List Kind) (s : StepState) → s.end.state ≡ TimerRecovery → Arrives c role (Rr nr pf) ks s → HoldsMid c ks (timer_recovery Whole (Heard (Rr nr pf) role) s)
 unfolding timer_recovery poll set_peer_busy with_peer_busy
 mid_rr_in_8 c nr true Command ks s is m = let b = set_peer_busy false s in mid_rr_nr_in_8 c nr ks (enquiry_response b) (mid_response c b nr ks (mid_peer_busy c false s (Enquiry nr ∷ ks) m))
 mid_rr_in_8 c nr true Answer ks s is m = mid_rr_final c nr ks (set_peer_busy false s) is (mid_peer_busy c false s (Final nr ∷ ks) m)
 mid_rr_in_8 c nr false Answer ks s is m = mid_rr_nr_in_8 c nr ks (set_peer_busy false s) (mid_peer_busy c false s (Status nr ∷ ks) m)
 mid_rr_in_8 c nr false Command ks s is m = absurd (no_foreign c ks s m)
 
-pub mid_rnr_in_8 : (c : Context) (nr : ℕ) (pf : Bool) (role : Role) (ks : List Kind) (s : StepState) → s.end.state ≡ TimerRecovery → Comes c role (Rnr nr pf) ks s → HoldsMid c ks (timer_recovery Whole (Heard (Rnr nr pf) role) s)
+pub mid_rnr_in_8 : (c : Context) (nr : ℕ) (pf : Bool) (role : Role) (ks : List Kind) (s : StepState) → s.end.state ≡ TimerRecovery → Arrives c role (Rnr nr pf) ks s → HoldsMid c ks (timer_recovery Whole (Heard (Rnr nr pf) role) s)
 unfolding timer_recovery poll set_peer_busy with_peer_busy
 mid_rnr_in_8 c nr true Command ks s is m = let b = set_peer_busy true s in mid_rnr_nr_in_8 c nr ks (enquiry_response b) (mid_response c b nr ks (mid_peer_busy c true s (Enquiry nr ∷ ks) m))
 mid_rnr_in_8 c nr true Answer ks s is m = mid_rnr_final c nr ks (set_peer_busy true s) is (mid_peer_busy c true s (Final nr ∷ ks) m)
 mid_rnr_in_8 c nr false Answer ks s is m = mid_rnr_nr_in_8 c nr ks (set_peer_busy true s) (mid_peer_busy c true s (Status nr ∷ ks) m)
 mid_rnr_in_8 c nr false Command ks s is m = absurd (no_foreign c ks s m)
 
-pub mid_rej_in_8 : (c : Context) (nr : ℕ) (pf : Bool) (role : Role) (ks : List Kind) (s : StepState) → s.end.state ≡ TimerRecovery → Comes c role (Rej nr pf) ks s → HoldsMid c ks (timer_recovery Whole (Heard (Rej nr pf) role) s)
+pub mid_rej_in_8 : (c : Context) (nr : ℕ) (pf : Bool) (role : Role) (ks : List Kind) (s : StepState) → s.end.state ≡ TimerRecovery → Arrives c role (Rej nr pf) ks s → HoldsMid c ks (timer_recovery Whole (Heard (Rej nr pf) role) s)
 unfolding timer_recovery poll set_peer_busy with_peer_busy
 mid_rej_in_8 c nr true Command ks s is m = absurd (no_foreign c ks s m)
 mid_rej_in_8 c nr true Answer ks s is m = mid_rr_final c nr ks (set_peer_busy false s) is (mid_peer_busy c false s (Final nr ∷ ks) m)

@@ -18,7 +18,7 @@ use Rattle.lapd_pair_laws.proofs.FrameOfStep.{turned, enquiry_left}
 -- its V(R) acknowledges all that this side received, if the peer processes frames
 pub named_where_received : {x y : Party} {out back : List Kind} → Mid x y out back → OnReception (λ h. is_7_or_8 y.state ≡ true → high x.takes.received ≤ y.sends.base + x.takes.vr) (receives y out)
 named_where_received {x = x} {y = y} {out = out} {back = back} m =
-    on_map (IsReceivable x y (Some (reception_now x back))) _ (receives y out) (λ h i opened. (m.its.heard.stream.step (inl opened)).below) m.mine.heard
+    on_map (IsReceivable x y (Some (reception_now x back))) _ (receives y out) (λ h i opened. (m.its.reception.stream.step (inl opened)).below) m.mine.reception
 
 -- the poll in hand is the only one in transit: a final may answer it
 answered : (state : State) (base nr vr : ℕ) (received : List Receipt) (ks back : List Kind) → (is_7_or_8 state ≡ true → high received ≤ base + vr)
@@ -46,10 +46,10 @@ answering x y out nr ks w =
     let Got : Reception → Type 0 = λ h. IsGot y.sends.base x.takes.vr x.takes.received in
     let Named : Reception → Type 0 = λ h. is_7_or_8 y.state ≡ true → high x.takes.received ≤ y.sends.base + x.takes.vr in
     sends_supervisory x y out (Status nr ∷ ks) u (record { no_acceptance = refl; no_message = refl; no_ask = refl; no_answer = refl; known = refl })
-    (on_both (IsReceivable x y here) Got _ (receives y out) (λ h i got. acks_sent x.takes (is_7_or_8 x.state) y.sends.base h.va h.vs u h.frames m.opened refl got i.acks) m.mine.heard (got_where_received m))
-    (on_both (IsReceivable x y was) Named _ (receives y out) (λ h i named. answered y.state y.sends.base nr x.takes.vr x.takes.received ks h.frames named i.asked) w.mine.heard (named_where_received w))
-    (on_map (IsReceivable x y here) _ (receives y out) (λ h i. rejected_sent y.state y.sends.vs y.sends.base x.takes.received here u h.frames refl i.rejected) m.mine.heard)
-    (asked_received x.state x.sends.base y.takes.received u (receives y out) (Status nr ∷ ks) refl refl m.its.heard.asked) m
+    (on_both (IsReceivable x y here) Got _ (receives y out) (λ h i got. acks_sent x.takes (is_7_or_8 x.state) y.sends.base h.va h.vs u h.frames m.opened refl got i.acks) m.mine.reception (got_where_received m))
+    (on_both (IsReceivable x y was) Named _ (receives y out) (λ h i named. answered y.state y.sends.base nr x.takes.vr x.takes.received ks h.frames named i.asked) w.mine.reception (named_where_received w))
+    (on_map (IsReceivable x y here) _ (receives y out) (λ h i. rejected_sent y.state y.sends.vs y.sends.base x.takes.received here u h.frames refl i.rejected) m.mine.reception)
+    (asked_received x.state x.sends.base y.takes.received u (receives y out) (Status nr ∷ ks) refl refl m.its.reception.asked) m
 
 -- ---- This side polls.
 
@@ -61,7 +61,7 @@ pub record IsSettled (x y : Party) (out back : List Kind) : Type 0 where
 -- in state 7 there is never one
 pub settled_in_7 : (x y : Party) (out back : List Kind) → x.state ≡ MultipleFrameEstablished → Mid x y out back → IsSettled x y out back
 settled_in_7 x y out back is m =
-    let none : NoneAsked (frames_received (receives y out)) back = subst (λ s. AreAsked s x.sends.base y.takes.received (frames_received (receives y out)) back) is m.its.heard.asked in
+    let none : NoneAsked (frames_received (receives y out)) back = subst (λ s. AreAsked s x.sends.base y.takes.received (frames_received (receives y out)) back) is m.its.reception.asked in
     record { polls = none.polls; finals = none.finals }
 
 no_polls : (ks : List Kind) → tally poll_of ks ≡ 0 → NoneBehindPoll ks
@@ -86,31 +86,31 @@ to_recovery x y out back settled m =
     record {
       opened = refl;
       mine = record {
-        kept = numbering m;
+        preserved = numbering m;
         passed = m.mine.passed;
         past = m.mine.past;
         lately = m.mine.lately;
         none_yet = λ _. m.mine.none_yet m.opened;
         below = λ _. m.mine.below (open_holds x.state x.asked x.leaving m.opened);
-        heard = on_map (IsReceivable x y was) (IsReceivable (recovering x) y was) (receives y out) (λ h i. record {
+        reception = on_map (IsReceivable x y was) (IsReceivable (recovering x) y was) (receives y out) (λ h i. record {
           stream = subst (λ b. IsStream b x.sends y.takes.received h.vr h.rejecting (messages h.frames)) m.opened i.stream;
           acks = subst (λ b. AreAcknowledging b x.takes y.sends.base h.va h.vs (numbers h.frames)) m.opened i.acks;
           asked = i.asked;
           rejected = i.rejected;
-        }) m.mine.heard;
+        }) m.mine.reception;
         exchange = subst (λ n. IsExchange n out back) (open_asks_none x.state m.opened) m.mine.exchange;
         histories = m.mine.histories;
       };
       its = record {
-        kept = m.its.kept;
+        preserved = m.its.preserved;
         passed = m.its.passed;
         past = m.its.past;
         lately = m.its.lately;
         none_yet = m.its.none_yet;
         below = m.its.below;
-        heard = record {
-          stream = m.its.heard.stream;
-          acks = m.its.heard.acks;
+        reception = record {
+          stream = m.its.reception.stream;
+          acks = m.its.reception.acks;
           asked = settled_asks x.sends.base y.takes.received (frames_received (receives y out)) back settled.polls settled.finals;
           rejected = tt;
         };
@@ -140,9 +140,9 @@ enquiring x y out back settled w =
     let Heard : Reception → Type 0 = IsReceivable z y (Some (reception_now z back)) in
     let Got : Reception → Type 0 = λ h. IsGot y.sends.base x.takes.vr x.takes.received in
     sends_supervisory z y out back u (record { no_acceptance = refl; no_message = refl; no_ask = refl; no_answer = refl; known = refl })
-    (on_both Heard Got _ (receives y out) (λ h i got. acks_sent x.takes true y.sends.base h.va h.vs u h.frames refl refl got i.acks) m.mine.heard (got_where_received m))
-    (on_map Heard _ (receives y out) (λ h i. asked_sent y.state y.sends.base x.takes.received back u h.frames refl refl i.asked) m.mine.heard)
-    (on_map Heard _ (receives y out) (λ h i. rejected_sent y.state y.sends.vs y.sends.base x.takes.received (Some (reception_now z back)) u h.frames refl i.rejected) m.mine.heard)
+    (on_both Heard Got _ (receives y out) (λ h i got. acks_sent x.takes true y.sends.base h.va h.vs u h.frames refl refl got i.acks) m.mine.reception (got_where_received m))
+    (on_map Heard _ (receives y out) (λ h i. asked_sent y.state y.sends.base x.takes.received back u h.frames refl refl i.asked) m.mine.reception)
+    (on_map Heard _ (receives y out) (λ h i. rejected_sent y.state y.sends.vs y.sends.base x.takes.received (Some (reception_now z back)) u h.frames refl i.rejected) m.mine.reception)
     (asked_once x.sends.base y.takes.received u (receives y out) back refl refl settled.polls settled.finals) m
 
 -- ---- The answer arrives: to state 7, with no poll outstanding.
@@ -156,31 +156,31 @@ to_established x y out back settled none m =
     record {
       opened = refl;
       mine = record {
-        kept = numbering m;
+        preserved = numbering m;
         passed = m.mine.passed;
         past = m.mine.past;
         lately = m.mine.lately;
         none_yet = λ _. m.mine.none_yet m.opened;
         below = λ _. m.mine.below (open_holds x.state x.asked x.leaving m.opened);
-        heard = on_map (IsReceivable x y was) (IsReceivable (established x) y was) (receives y out) (λ h i. record {
+        reception = on_map (IsReceivable x y was) (IsReceivable (established x) y was) (receives y out) (λ h i. record {
           stream = subst (λ b. IsStream b x.sends y.takes.received h.vr h.rejecting (messages h.frames)) m.opened i.stream;
           acks = subst (λ b. AreAcknowledging b x.takes y.sends.base h.va h.vs (numbers h.frames)) m.opened i.acks;
           asked = i.asked;
           rejected = i.rejected;
-        }) m.mine.heard;
+        }) m.mine.reception;
         exchange = subst (λ n. IsExchange n out back) (open_asks_none x.state m.opened) m.mine.exchange;
         histories = m.mine.histories;
       };
       its = record {
-        kept = m.its.kept;
+        preserved = m.its.preserved;
         passed = m.its.passed;
         past = m.its.past;
         lately = m.its.lately;
         none_yet = m.its.none_yet;
         below = m.its.below;
-        heard = record {
-          stream = m.its.heard.stream;
-          acks = m.its.heard.acks;
+        reception = record {
+          stream = m.its.reception.stream;
+          acks = m.its.reception.acks;
           asked = record { polls = settled.polls; finals = settled.finals };
           rejected = subst (λ ns. AreRejected MultipleFrameEstablished x.sends.vs x.sends.base y.takes.received (receives y out) ns) (sym none) tt;
         };

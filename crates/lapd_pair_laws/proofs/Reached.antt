@@ -30,8 +30,8 @@ use Rattle.lapd_pair_laws.proofs.Worlds.{new_holds, safe_by_invariant}
 
 -- each move is near: tags decide as whole numbers do
 pub near_moves : (moves : List Move) (w : World) → IsInvariant w → IsConsistentWorld Whole w → AreNearMoves moves w
-near_moves [] w i kept = tt
-near_moves (move ∷ moves) w i kept = (move_near move w kept (within_by_invariant w i), near_moves moves (world_after w (happens Whole move w)) (each_move_preserves move w i) (run_consistent Whole (move ∷ []) w kept))
+near_moves [] w i preserved = tt
+near_moves (move ∷ moves) w i preserved = (move_near move w preserved (within_by_invariant w i), near_moves moves (world_after w (happens Whole move w)) (each_move_preserves move w i) (run_consistent Whole (move ∷ []) w preserved))
 
 pub reports_of_run : (moves : List Move) (w : World) → IsInvariant w → AllReportsExpected (outcomes Whole moves w)
 reports_of_run [] w i = tt
@@ -97,14 +97,14 @@ module _ (user network : Parameters) (user_window : user.k ≤ 127) (network_win
   begins : IsInvariant start
   begins = new_holds user network user_window network_window
 
-  kept : IsConsistentWorld Whole start
-  kept = new_world_consistent Whole user network user_window network_window
+  preserved : IsConsistentWorld Whole start
+  preserved = new_world_consistent Whole user network user_window network_window
 
   pub reached_tags : run Tagged moves (new_world user network) ≡ tag_world (run Whole moves (new_world user network))
-  reached_tags = ap (λ w. run Tagged moves w) (sym (new_world_on_tags user network)) ∙ run_on_tags moves start kept (near_moves moves start begins kept)
+  reached_tags = ap (λ w. run Tagged moves w) (sym (new_world_on_tags user network)) ∙ run_on_tags moves start preserved (near_moves moves start begins preserved)
 
   pub reached_outcomes : outcomes Tagged moves (new_world user network) ≡ map tag_outcome (outcomes Whole moves (new_world user network))
-  reached_outcomes = ap (λ w. outcomes Tagged moves w) (sym (new_world_on_tags user network)) ∙ outcomes_on_tags moves start kept (near_moves moves start begins kept)
+  reached_outcomes = ap (λ w. outcomes Tagged moves w) (sym (new_world_on_tags user network)) ∙ outcomes_on_tags moves start preserved (near_moves moves start begins preserved)
 
   reached : IsInvariant (run Whole moves (new_world user network))
   reached = each_run_preserves moves start begins

@@ -18,18 +18,18 @@ use Rattle.lapd_pair_laws.proofs.Settling.{acked_settled, dropped_settled}
 -- ---- Acknowledged and dropped.
 
 pub settled_alike : (h now : History) → now.passed ≡ h.passed → now.acked ≡ h.acked → now.dropped ≡ h.dropped → AreSettled h → AreSettled now
-settled_alike h now passed acked dropped kept = record {
-  counted = rw (passed, acked, dropped) kept.counted;
-  settled = λ place. rw (passed, acked, dropped) (kept.settled place);
+settled_alike h now passed acked dropped preserved = record {
+  counted = rw (passed, acked, dropped) preserved.counted;
+  settled = λ place. rw (passed, acked, dropped) (preserved.settled place);
 }
 
 pub settled_then : (o : Occasion) (out : Out) (t : Story) → AreSettled t.history → AreSettled (after_output o out t).history
-settled_then o (Acknowledged n) t kept = acked_settled n t.history kept
-settled_then o (Dropped n) t kept = dropped_settled n t.history kept
-settled_then o (SendMessage n control) t kept = settled_alike t.history (after_output o (SendMessage n control) t).history refl refl refl kept
-settled_then o Up t kept = settled_alike t.history (after_output o Up t).history refl refl refl kept
-settled_then o UnitUp t kept = settled_alike t.history (after_output o UnitUp t).history refl refl refl kept
-settled_then o out t kept = kept
+settled_then o (Acknowledged n) t preserved = acked_settled n t.history preserved
+settled_then o (Dropped n) t preserved = dropped_settled n t.history preserved
+settled_then o (SendMessage n control) t preserved = settled_alike t.history (after_output o (SendMessage n control) t).history refl refl refl preserved
+settled_then o Up t preserved = settled_alike t.history (after_output o Up t).history refl refl refl preserved
+settled_then o UnitUp t preserved = settled_alike t.history (after_output o UnitUp t).history refl refl refl preserved
+settled_then o out t preserved = preserved
 
 -- ---- Establishments.
 

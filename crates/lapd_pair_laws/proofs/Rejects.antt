@@ -32,33 +32,33 @@ begin_rejecting x y out back m =
     record {
       opened = m.opened;
       mine = record {
-        kept = m.mine.kept;
+        preserved = m.mine.preserved;
         passed = m.mine.passed;
         past = m.mine.past;
         lately = m.mine.lately;
         none_yet = m.mine.none_yet;
         below = m.mine.below;
-        heard = on_map (IsReceivable x y was) (IsReceivable z y now) (receives y out) (λ h i. record {
+        reception = on_map (IsReceivable x y was) (IsReceivable z y now) (receives y out) (λ h i. record {
           stream = i.stream;
           acks = record { climb = i.acks.climb; known = i.acks.known; top = i.acks.top };
           asked = i.asked;
           rejected = rejected_map y.state y.sends.vs y.sends.base x.takes.received now was (rejections h.frames) (λ nr. awaits_still x back nr) i.rejected;
-        }) m.mine.heard;
+        }) m.mine.reception;
         exchange = m.mine.exchange;
         histories = m.mine.histories;
       };
       its = record {
-        kept = m.its.kept;
+        preserved = m.its.preserved;
         passed = m.its.passed;
         past = m.its.past;
         lately = m.its.lately;
         none_yet = m.its.none_yet;
         below = m.its.below;
-        heard = record {
-          stream = let s = m.its.heard.stream in record { placed = s.placed; near = s.near; order = order_is_junk x.takes.rejecting x.takes.vr y.sends.vs (messages back) s.order; step = s.step; between = s.between };
-          acks = m.its.heard.acks;
-          asked = m.its.heard.asked;
-          rejected = m.its.heard.rejected;
+        reception = record {
+          stream = let s = m.its.reception.stream in record { placed = s.placed; near = s.near; order = order_is_junk x.takes.rejecting x.takes.vr y.sends.vs (messages back) s.order; step = s.step; between = s.between };
+          acks = m.its.reception.acks;
+          asked = m.its.reception.asked;
+          rejected = m.its.reception.rejected;
         };
         exchange = m.its.exchange;
         histories = m.its.histories;
@@ -125,7 +125,7 @@ rejecting_message x y out m nr ks no_poll other fresh w =
     let Now : Reception → Type 0 = IsReceivable z y now in
     let Got : Reception → Type 0 = λ h. IsGot y.sends.base x.takes.vr x.takes.received in
     let Opened : Reception → Type 0 = λ h. is_7_or_8 y.state ≡ true in
-    let stream = w.its.heard.stream in
+    let stream = w.its.reception.stream in
     let step : IsInStep y.sends.base x.takes.vr x.takes.received = stream.step (inr tt) in
     let above = first_above x.takes.rejecting false x.takes.vr y.sends.vs m (messages ks) fresh no_poll refl other stream.order in
     let sent_back : IsSentBack y.sends.vs y.sends.base x.takes.received now x.takes.vr = record {
@@ -135,12 +135,12 @@ rejecting_message x y out m nr ks no_poll other fresh w =
     } in
     let opened : OnReception Opened (receives y out) = by_open Opened y out (no_answer_out nr (numbers ks) refl w) (λ o. o) in
     let Both : Reception → Type 0 = λ h. Opened h × Was h in
-    let both : OnReception Both (receives y out) = on_both Opened Was Both (receives y out) (λ h p q. (p, q)) opened w.mine.heard in
+    let both : OnReception Both (receives y out) = on_both Opened Was Both (receives y out) (λ h p q. (p, q)) opened w.mine.reception in
     sends_supervisory z y out (Status nr ∷ ks) u (record { no_acceptance = refl; no_message = refl; no_ask = refl; no_answer = refl; known = refl })
-    (on_both Now Got _ (receives y out) (λ h i got. acks_sent z.takes (is_7_or_8 x.state) y.sends.base h.va h.vs u h.frames w.opened refl got i.acks) b.mine.heard (got_where_received b))
-    (on_both Was Now _ (receives y out) (λ h i j. rejected_asked y.state y.sends.base x.takes.vr 0 x.takes.received m nr ks h.frames i.asked j.asked) w.mine.heard b.mine.heard)
+    (on_both Now Got _ (receives y out) (λ h i got. acks_sent z.takes (is_7_or_8 x.state) y.sends.base h.va h.vs u h.frames w.opened refl got i.acks) b.mine.reception (got_where_received b))
+    (on_both Was Now _ (receives y out) (λ h i j. rejected_asked y.state y.sends.base x.takes.vr 0 x.takes.received m nr ks h.frames i.asked j.asked) w.mine.reception b.mine.reception)
     (on_map Both _ (receives y out) (λ h i. first_rejection y.state y.sends.vs y.sends.base x.takes.vr x.takes.received was now h.frames i.0 (λ n s. not_rejecting n s) (λ _. sent_back) i.1.rejected) both)
-    (asked_received x.state x.sends.base y.takes.received u (receives y out) (Status nr ∷ ks) refl refl b.its.heard.asked) b
+    (asked_received x.state x.sends.base y.takes.received u (receives y out) (Status nr ∷ ks) refl refl b.its.reception.asked) b
   where
     not_rejecting : (n : ℕ) → IsSentBack y.sends.vs y.sends.base x.takes.received (Some (reception_now x (Numbered m nr ∷ ks))) n → ⊥
     not_rejecting n s = let r : x.takes.rejecting ≡ true = s.waits.rejecting in cc

@@ -47,12 +47,12 @@ module _ (x y : Party) (is : x.state ≡ TeiAssigned) where
   }
 
 silent_in : (P : Reception → Type 0) (state : State) (asked leaving : Bool) (s : Sender) (now : Reception) → IsConsistentSender state asked leaving s → (s.va ≤ s.vs → P now) → OnReception P (received_in state leaving now [])
-silent_in P TeiAssigned asked leaving s now kept p = tt
-silent_in P AwaitingEstablishment asked true s now kept p = tt
-silent_in P AwaitingEstablishment asked false s now kept p = tt
-silent_in P AwaitingRelease asked leaving s now kept p = tt
-silent_in P MultipleFrameEstablished asked leaving s now kept p = p kept.ordered
-silent_in P TimerRecovery asked leaving s now kept p = p kept.ordered
+silent_in P TeiAssigned asked leaving s now preserved p = tt
+silent_in P AwaitingEstablishment asked true s now preserved p = tt
+silent_in P AwaitingEstablishment asked false s now preserved p = tt
+silent_in P AwaitingRelease asked leaving s now preserved p = tt
+silent_in P MultipleFrameEstablished asked leaving s now preserved p = p preserved.ordered
+silent_in P TimerRecovery asked leaving s now preserved p = p preserved.ordered
 
 -- ---- The side that restarts.
 
@@ -65,24 +65,24 @@ restarting x = record x { state = TeiAssigned; asked = false; leaving = false; s
 pub restarts_both : (x y : Party) (out back : List Kind) → Both x y out back → Both (restarting x) y [] []
 restarts_both x y out back b = let z = restarting x in record {
   mine = record {
-    kept = record { first = refl; next = refl };
+    preserved = record { first = refl; next = refl };
     passed = let passes = passes_all x y out back b in omega (arith, passes, b.mine.passed);
     past = b.mine.past;
     lately = b.mine.lately;
     none_yet = λ opened. cc;
     below = λ holding. cc;
-    heard = silent_in (IsReceivable z y None) y.state y.asked y.leaving y.sends (reception_now y []) b.its.kept (silence z y refl);
+    reception = silent_in (IsReceivable z y None) y.state y.asked y.leaving y.sends (reception_now y []) b.its.preserved (silence z y refl);
     exchange = nothing_exchanged (most_asks TeiAssigned);
     histories = b.mine.histories;
   };
   its = record {
-    kept = b.its.kept;
+    preserved = b.its.preserved;
     passed = b.its.passed;
     past = b.its.past;
     lately = b.its.lately;
     none_yet = b.its.none_yet;
     below = b.its.below;
-    heard = tt;
+    reception = tt;
     exchange = nothing_exchanged (most_asks y.state);
     histories = b.its.histories;
   };

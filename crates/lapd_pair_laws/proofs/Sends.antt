@@ -99,25 +99,25 @@ module _ (x y : Party) (out back : List Kind) (is : x.state ≡ MultipleFrameEst
       let Poll : Reception → Type 0 = λ h. tally poll_of h.frames ≡ 0 in
       let GotPoll : Reception → Type 0 = λ h. Got h × Poll h in
       let facts : OnReception GotPoll (receives y out) = on_both Got Poll GotPoll (receives y out) (λ h g p. (g, p)) (got_where_received m) (polls_received (λ l. tally poll_of l ≡ 0) (receives y out) none.polls) in
-      let heard : OnReception (λ h. Now (one_more u h)) (receives y out) = on_both GotPoll Was (λ h. Now (one_more u h)) (receives y out) (λ h f i. record {
+      let reception : OnReception (λ h. Now (one_more u h)) (receives y out) = on_both GotPoll Was (λ h. Now (one_more u h)) (receives y out) (λ h f i. record {
         stream = stream_sending h f.1 i;
         acks = acks_sent x.takes (is_7_or_8 x.state) y.sends.base h.va h.vs u h.frames m.opened refl f.0 i.acks;
         asked = asked_sent y.state y.sends.base x.takes.received back u h.frames refl refl i.asked;
         rejected = rejected_sent y.state y.sends.vs y.sends.base x.takes.received now u h.frames refl (rejected_map y.state y.sends.vs y.sends.base x.takes.received now was (rejections h.frames) (awaits_sending x back) i.rejected);
-      }) facts m.mine.heard in
+      }) facts m.mine.reception in
       let there = option_map (one_more u) (receives y out) in
       let more : receives y (out ++ u ∷ []) ≡ there = receives_more y out u refl in
       let below : high y.takes.received ≤ s.base + s.vs = m.mine.below (open_holds x.state x.asked x.leaving m.opened) in
       record {
         opened = m.opened;
         mine = subst (λ o. IsSpeaking z y (out ++ u ∷ []) back now o) (sym more) (record {
-          kept = kept n;
+          preserved = preserved n;
           passed = m.mine.passed;
           past = past;
           lately = m.mine.lately;
           none_yet = m.mine.none_yet;
           below = λ _. omega (arith, below);
-          heard = on_mapped Now (one_more u) (receives y out) heard;
+          reception = on_mapped Now (one_more u) (receives y out) reception;
           exchange = exchange_sent (most_asks x.state) u out back (open_asks_none x.state m.opened) refl refl m.mine.exchange;
           histories = record {
             as_given = m.mine.histories.as_given;
@@ -127,19 +127,19 @@ module _ (x y : Party) (out back : List Kind) (is : x.state ≡ MultipleFrameEst
           };
         });
         its = subst (λ o. IsSpeaking y z back (out ++ u ∷ []) o now) (sym more) (record {
-          kept = m.its.kept;
+          preserved = m.its.preserved;
           passed = m.its.passed;
           past = m.its.past;
           lately = m.its.lately;
           none_yet = m.its.none_yet;
           below = m.its.below;
-          heard = record {
-            stream = m.its.heard.stream;
-            acks = let a = m.its.heard.acks in record { climb = climb_to s.va s.vs (s.vs + 1) (numbers back) (omega arith) a.climb; known = a.known; top = λ opened. ((a.top opened).0, omega (arith, (a.top opened).1)) };
+          reception = record {
+            stream = m.its.reception.stream;
+            acks = let a = m.its.reception.acks in record { climb = climb_to s.va s.vs (s.vs + 1) (numbers back) (omega arith) a.climb; known = a.known; top = λ opened. ((a.top opened).0, omega (arith, (a.top opened).1)) };
             asked = subst (λ st. AreAsked st s.base y.takes.received (frames_received there) back) (sym is) (none_polled_more u (receives y out) back refl none);
             rejected = subst (λ st. AreRejected st (s.vs + 1) s.base y.takes.received there (rejections back)) (sym is) (one_map (IsSentBack s.vs s.base y.takes.received (receives y out)) (IsSentBack (s.vs + 1) s.base y.takes.received there) (rejections back)
                 (λ nr w. record { below = omega (arith, w.below); names = w.names; waits = awaits_more nr (next_message s) x.takes.vr (receives y out) w.below w.waits })
-                (subst (λ st. AreRejected st s.vs s.base y.takes.received (receives y out) (rejections back)) is m.its.heard.rejected));
+                (subst (λ st. AreRejected st s.vs s.base y.takes.received (receives y out) (rejections back)) is m.its.reception.rejected));
           };
           exchange = exchange_received (most_asks y.state) u back out refl m.its.exchange;
           histories = m.its.histories;
@@ -159,8 +159,8 @@ module _ (x y : Party) (out back : List Kind) (is : x.state ≡ MultipleFrameEst
         ];
       }
 
-      kept : IsNumbering x.sends → IsConsistentSender x.state x.asked x.leaving (sending_sender x.sends)
-      kept n = open_consistent x.state x.asked x.leaving (sending_sender x.sends) m.opened (numbered n)
+      preserved : IsNumbering x.sends → IsConsistentSender x.state x.asked x.leaving (sending_sender x.sends)
+      preserved n = open_consistent x.state x.asked x.leaving (sending_sender x.sends) m.opened (numbered n)
 
       past : IsPast (sending_sender x.sends)
       past place era sent = elim (same_or_not place x.sends.next) [
@@ -243,37 +243,37 @@ module _ (x y : Party) (out back : List Kind) (is : x.state ≡ TimerRecovery) (
       let Poll : Reception → Type 0 = λ h. tally poll_of h.frames ≡ 0 in
       let GotPoll : Reception → Type 0 = λ h. Got h × Poll h in
       let facts : OnReception GotPoll (receives y out) = on_both Got Poll GotPoll (receives y out) (λ h g p. (g, p)) (got_where_received m) (polls_received (λ l. tally poll_of l ≡ 0) (receives y out) settled.polls) in
-      let heard : OnReception (λ h. Now (one_more u h)) (receives y out) = on_both GotPoll Now (λ h. Now (one_more u h)) (receives y out) (λ h f i. record {
+      let reception : OnReception (λ h. Now (one_more u h)) (receives y out) = on_both GotPoll Now (λ h. Now (one_more u h)) (receives y out) (λ h f i. record {
         stream = stream_repeating h f.1 i;
         acks = acks_sent x.takes (is_7_or_8 x.state) y.sends.base h.va h.vs u h.frames m.opened refl f.0 i.acks;
         asked = asked_sent y.state y.sends.base x.takes.received back u h.frames refl refl i.asked;
         rejected = rejected_sent y.state y.sends.vs y.sends.base x.takes.received now u h.frames refl i.rejected;
-      }) facts m.mine.heard in
+      }) facts m.mine.reception in
       let there = option_map (one_more u) (receives y out) in
       let more : receives y (out ++ u ∷ []) ≡ there = receives_more y out u refl in
       record {
         opened = m.opened;
         mine = subst (λ o. IsSpeaking x y (out ++ u ∷ []) back now o) (sym more) (record {
-          kept = m.mine.kept;
+          preserved = m.mine.preserved;
           passed = m.mine.passed;
           past = m.mine.past;
           lately = m.mine.lately;
           none_yet = m.mine.none_yet;
           below = m.mine.below;
-          heard = on_mapped Now (one_more u) (receives y out) heard;
+          reception = on_mapped Now (one_more u) (receives y out) reception;
           exchange = exchange_sent (most_asks x.state) u out back (open_asks_none x.state m.opened) refl refl m.mine.exchange;
           histories = m.mine.histories;
         });
         its = subst (λ o. IsSpeaking y x back (out ++ u ∷ []) o now) (sym more) (record {
-          kept = m.its.kept;
+          preserved = m.its.preserved;
           passed = m.its.passed;
           past = m.its.past;
           lately = m.its.lately;
           none_yet = m.its.none_yet;
           below = m.its.below;
-          heard = record {
-            stream = m.its.heard.stream;
-            acks = m.its.heard.acks;
+          reception = record {
+            stream = m.its.reception.stream;
+            acks = m.its.reception.acks;
             asked = subst (λ st. AreAsked st s.base y.takes.received (frames_received there) back) (sym is) (polled_once s.base y.takes.received (last_message s) x.takes.vr (receives y out) back refl settled.polls settled.finals);
             rejected = subst (λ st. AreRejected st s.vs s.base y.takes.received there (rejections back)) (sym is) tt;
           };

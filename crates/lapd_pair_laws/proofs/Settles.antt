@@ -68,7 +68,7 @@ pub record MovesOn (n : ℕ) (w : World) : Type 0 where
   pub is : next_move Whole w ≡ Some move
   pub some : 1 ≤ n
   pub drains : Drains (n - 1) (world_after w (happens Whole move w))
-  pub kept : SameDropped w (world_after w (happens Whole move w))
+  pub preserved : SameDropped w (world_after w (happens Whole move w))
 
 pub record IsStill (w : World) : Type 0 where
   pub to_user : w.to_user ≡ []
@@ -106,7 +106,7 @@ some_at x y a on s = by_stage s.stage s.so s.most
     still rejecting (inr none) same = absurd none
 
     by_stage : (stage : Stage) → IsAt stage x y [] [] → weight stage x y ≤ a → 1 ≤ a
-    by_stage Clean c most = absurd (still y.rejecting (c.stopped on) c.coming)
+    by_stage Clean c most = absurd (still y.rejecting (c.stopped on) c.arriving)
     by_stage Waiting w most = omega (arith, most)
     by_stage Polling w most = absurd (omega (arith, w.1))
     by_stage Answered w most = absurd (omega (arith, w.1))
@@ -118,14 +118,14 @@ progress n user network to_user (frame ∷ rest) d = inl (record {
   is = refl;
   some = let le = d.sees.flow.most in omega (arith, le);
   drains = network_drains n Deliver (at n user network to_user (frame ∷ rest)) (by_user n network user frame rest to_user (drains_swapped n (at n user network to_user (frame ∷ rest)) d));
-  kept = network_preserved Deliver (at n user network to_user (frame ∷ rest)) (by_user_preserved n network user frame rest to_user (drains_swapped n (at n user network to_user (frame ∷ rest)) d));
+  preserved = network_preserved Deliver (at n user network to_user (frame ∷ rest)) (by_user_preserved n network user frame rest to_user (drains_swapped n (at n user network to_user (frame ∷ rest)) d));
 })
 progress n user network (frame ∷ rest) [] d = inl (record {
   move = user_move Deliver;
   is = refl;
   some = let le = d.sees.flow.most in omega (arith, le);
   drains = by_user n user network frame rest [] d;
-  kept = by_user_preserved n user network frame rest [] d;
+  preserved = by_user_preserved n user network frame rest [] d;
 })
 progress n user network [] [] d = by_timers user.end.t200 network.end.t200 refl refl
   where
@@ -138,14 +138,14 @@ progress n user network [] [] d = by_timers user.end.t200 network.end.t200 refl 
       is = rw on refl;
       some = let f = d.sees.flow in let some = some_at (source user.end) (sink network.end) f.a on f.mine in let le = f.most in omega (arith, some, le);
       drains = expired n user network on d;
-      kept = expired_preserved n user network on d;
+      preserved = expired_preserved n user network on d;
     })
     by_timers false true off on = inl (record {
       move = network_move Expire200;
       is = rw (off, on) refl;
       some = let f = d.sees.flow in let some = some_at (source network.end) (sink user.end) f.b on f.its in let le = f.most in omega (arith, some, le);
       drains = network_drains n Expire200 w (expired n network user on (drains_swapped n w d));
-      kept = network_preserved Expire200 w (expired_preserved n network user on (drains_swapped n w d));
+      preserved = network_preserved Expire200 w (expired_preserved n network user on (drains_swapped n w d));
     })
     by_timers false false off none = inr (record { is = rw (off, none) refl; still = record { to_user = refl; to_network = refl; user = off; network = none } })
 
@@ -156,17 +156,17 @@ pub record Ends (begun w : World) : Type 0 where
   pub n : ℕ
   pub drains : Drains n w
   pub runs_at_place : Settles w
-  pub kept : SameDropped begun w
+  pub preserved : SameDropped begun w
 
 none_on : (fuel : ℕ) (w : World) → Settles w → settling Whole fuel w ≡ []
 none_on zero w s = refl
 none_on (suc fuel) w s = rw s.is refl
 
 stood : (fuel n : ℕ) (w : World) → Drains n w → Settles w → Ends w (run Whole (settling Whole fuel w) w)
-stood fuel n w d runs_at_place = rw (none_on fuel w runs_at_place) (record { n = n; drains = d; runs_at_place = runs_at_place; kept = record { user = refl; network = refl } })
+stood fuel n w d runs_at_place = rw (none_on fuel w runs_at_place) (record { n = n; drains = d; runs_at_place = runs_at_place; preserved = record { user = refl; network = refl } })
 
 moved_on : (fuel : ℕ) (w : World) (move : Move) → next_move Whole w ≡ Some move → SameDropped w (world_after w (happens Whole move w)) → Ends (world_after w (happens Whole move w)) (run Whole (settling Whole fuel (world_after w (happens Whole move w))) (world_after w (happens Whole move w))) → Ends w (run Whole (settling Whole (suc fuel) w) w)
-moved_on fuel w move is same ends = rw is (record { n = ends.n; drains = ends.drains; runs_at_place = ends.runs_at_place; kept = same_twice same ends.kept })
+moved_on fuel w move is same ends = rw is (record { n = ends.n; drains = ends.drains; runs_at_place = ends.runs_at_place; preserved = same_twice same ends.preserved })
 
 pub settles : (fuel n : ℕ) (w : World) → n ≤ fuel → Drains n w → Ends w (run Whole (settling Whole fuel w) w)
 settles zero n w few d = elim (progress n w.user w.network w.to_user w.to_network d) [
@@ -174,7 +174,7 @@ settles zero n w few d = elim (progress n w.user w.network w.to_user w.to_networ
   | inr runs_at_place ↦ stood zero n w d runs_at_place
 ]
 settles (suc fuel) n w few d = elim (progress n w.user w.network w.to_user w.to_network d) [
-  | inl on ↦ moved_on fuel w on.move on.is on.kept (settles fuel (n - 1) (world_after w (happens Whole on.move w)) (omega (arith, few)) on.drains)
+  | inl on ↦ moved_on fuel w on.move on.is on.preserved (settles fuel (n - 1) (world_after w (happens Whole on.move w)) (omega (arith, few)) on.drains)
   | inr runs_at_place ↦ stood (suc fuel) n w d runs_at_place
 ]
 
@@ -228,10 +228,10 @@ user_empty n w d runs_at_place settled =
     left_settled w.user settled ∙ omega (arith, passed, first, next, done.0, done.1)
 
 pub nothing_left : (begun w : World) → IsConsistentWorld Whole w → Ends begun w → left w ≡ 0
-nothing_left begun w kept e =
+nothing_left begun w preserved e =
     let runs_at_place = e.runs_at_place.still in
-    let user = user_empty e.n w e.drains runs_at_place kept.user.settled in
-    let network = user_empty e.n (swapped w) (drains_swapped e.n w e.drains) (record { to_user = runs_at_place.to_network; to_network = runs_at_place.to_user; user = runs_at_place.network; network = runs_at_place.user }) kept.network.settled in
+    let user = user_empty e.n w e.drains runs_at_place preserved.user.settled in
+    let network = user_empty e.n (swapped w) (drains_swapped e.n w e.drains) (record { to_user = runs_at_place.to_network; to_network = runs_at_place.to_user; user = runs_at_place.network; network = runs_at_place.user }) preserved.network.settled in
     omega (arith, user, network)
 
 -- ---- The remaining work of a quiet line.
@@ -254,7 +254,7 @@ stream_begins x y is low high timed = by_timer x.t200 refl
         let same : y.vr ≡ x.vs = omega (arith, low, high, t.0) in
         record {
           stage = Clean;
-          so = record { in_7 = is; free = t.1; coming = same_in_transit y.rejecting same; wanted = refl; timed = λ _. t.0; stopped = λ on. cc };
+          so = record { in_7 = is; free = t.1; arriving = same_in_transit y.rejecting same; wanted = refl; timed = λ _. t.0; stopped = λ on. cc };
           most = omega (arith, same);
         }
 
@@ -303,8 +303,8 @@ module _ (user network : Station) (i : IsInvariant (record { user = user; networ
           };
           idle = user_free;
           its_idle = network_free;
-          going = tt;
-          coming = tt;
+          proceeding = tt;
+          arriving = tt;
         };
       }
 
@@ -312,10 +312,10 @@ abbrev with_lines : World → List Flight → List Flight → World
 with_lines w to_user to_network = record w { to_user = to_user; to_network = to_network }
 
 pub quiet_drains : (w : World) → IsInvariant w → IsConsistentWorld Whole w → AreSettledEnds w → IsQuiet w → Drains (most_moves w) w
-quiet_drains w i kept ends_settled q =
+quiet_drains w i preserved ends_settled q =
     let F : World → Type 0 = λ v. Drains (most_moves v) v in
     let same : with_lines w [] [] ≡ w = ap (λ l. with_lines w l []) (sym q.to_user) ∙ ap (λ l. with_lines w w.to_user l) (sym q.to_network) in
-    subst F same (empty_drains w.user w.network (subst IsInvariant (sym same) i) (subst AreSettledEnds (sym same) ends_settled) kept.user.settled kept.network.settled q.user q.network q.user_free q.network_free)
+    subst F same (empty_drains w.user w.network (subst IsInvariant (sym same) i) (subst AreSettledEnds (sym same) ends_settled) preserved.user.settled preserved.network.settled q.user q.network q.user_free q.network_free)
 
 -- ---- The theorem, on whole numbers.
 
@@ -336,19 +336,19 @@ side_served before after settled none same = record {
     all_passed place given passed there all = grind (arith, nat_tests, there, all)
 
 pub quiet_line_drains : (w : World) → IsInvariant w → IsConsistentWorld Whole w → AreSettledEnds w → IsQuiet w → IsDrained Whole w
-quiet_line_drains w i kept ends_settled q =
-    let drains = quiet_drains w i kept ends_settled q in
+quiet_line_drains w i preserved ends_settled q =
+    let drains = quiet_drains w i preserved ends_settled q in
     let ends = settles (bound w) (most_moves w) w (omega arith) drains in
     let after = run Whole (settling Whole (bound w) w) w in
-    let kept_after = run_consistent Whole (settling Whole (bound w) w) w kept in
-    let none = nothing_left w after kept_after ends in
+    let preserved_after = run_consistent Whole (settling Whole (bound w) w) w preserved in
+    let none = nothing_left w after preserved_after ends in
     record {
       few = few_moves (bound w) (most_moves w) w drains;
       drained = record {
         rests = ends.runs_at_place.is;
         empty = none;
-        user = side_served w.user after.user kept_after.user.settled (omega (arith, none)) ends.kept.user;
-        network = side_served w.network after.network kept_after.network.settled (omega (arith, none)) ends.kept.network;
+        user = side_served w.user after.user preserved_after.user.settled (omega (arith, none)) ends.preserved.user;
+        network = side_served w.network after.network preserved_after.network.settled (omega (arith, none)) ends.preserved.network;
         safe = safe_by_invariant after ends.drains.holds;
       };
     }

@@ -32,7 +32,7 @@ as_sent x y out back now left a same_messages polls same_rejections same_numbers
       so = record {
         in_7 = c.in_7;
         free = c.free;
-        coming = subst (λ ms. IsInTransit y.rejecting y.vr x.vs ms) (sym same_messages) c.coming;
+        arriving = subst (λ ms. IsInTransit y.rejecting y.vr x.vs ms) (sym same_messages) c.arriving;
         wanted = same_rejections ∙ c.wanted;
         timed = c.timed;
         stopped = subst (λ ns. x.t200 ≡ true → (y.vr < x.vs) ⊎ IsAmong x.vs ns) (sym same_numbers) c.stopped;
@@ -51,9 +51,9 @@ module _ (x : Source) (y : Sink) (out : List Kind) (nr : ℕ) (ks : List Kind) (
 
   -- it acknowledges all, and T200 is stopped: x needs no recovery
   pub acked_all : x.state ≡ MultipleFrameEstablished → x.busy ≡ false → x.vs ≡ nr → IsInTransit y.rejecting y.vr x.vs (messages out) → rejections ks ≡ [] → Stream x y out hand a → Stream (record x { va = nr; t200 = false }) y out ks a
-  acked_all in_7 free all coming none s = record {
+  acked_all in_7 free all arriving none s = record {
     stage = Clean;
-    so = record { in_7 = in_7; free = free; coming = coming; wanted = none; timed = λ _. all; stopped = λ no. cc };
+    so = record { in_7 = in_7; free = free; arriving = arriving; wanted = none; timed = λ _. all; stopped = λ no. cc };
     most = by_stage s.stage s.so s.most;
   }
     where
@@ -73,7 +73,7 @@ module _ (x : Source) (y : Sink) (out : List Kind) (nr : ℕ) (ks : List Kind) (
   acked_none in_7 other s = by_stage s.stage s.so s.most
     where
       by_stage : (stage : Stage) → IsAt stage x y out hand → weight stage x y ≤ a → Stream x y out ks a
-      by_stage Clean c most = record { stage = Clean; so = record { in_7 = c.in_7; free = c.free; coming = c.coming; wanted = c.wanted; timed = c.timed; stopped = λ runs. not_all other (c.stopped runs) }; most = most }
+      by_stage Clean c most = record { stage = Clean; so = record { in_7 = c.in_7; free = c.free; arriving = c.arriving; wanted = c.wanted; timed = c.timed; stopped = λ runs. not_all other (c.stopped runs) }; most = most }
       by_stage Waiting w most = record { stage = Waiting; so = w; most = most }
       by_stage Polling w most = let in_8 = w.0 in cc
       by_stage Answered w most = let in_8 = w.0 in cc
@@ -87,7 +87,7 @@ module _ (x : Source) (y : Sink) (out : List Kind) (nr : ℕ) (ks : List Kind) (
       runs_already false is c = let none : x.vs ≡ x.va = c.timed is in absurd (other (omega (arith, none, low, high)))
 
       by_stage : (stage : Stage) → IsAt stage x y out hand → weight stage x y ≤ a → Stream (record x { va = nr; t200 = true }) y out ks a
-      by_stage Clean c most = record { stage = Clean; so = record { in_7 = c.in_7; free = c.free; coming = c.coming; wanted = c.wanted; timed = λ no. cc; stopped = λ _. not_all other (c.stopped (runs_already x.t200 refl c)) }; most = most }
+      by_stage Clean c most = record { stage = Clean; so = record { in_7 = c.in_7; free = c.free; arriving = c.arriving; wanted = c.wanted; timed = λ no. cc; stopped = λ _. not_all other (c.stopped (runs_already x.t200 refl c)) }; most = most }
       by_stage Waiting w most = record { stage = Waiting; so = (w.0, refl); most = most }
       by_stage Polling w most = let in_8 = w.0 in cc
       by_stage Answered w most = let in_8 = w.0 in cc
@@ -119,9 +119,9 @@ back_at nr x = record { state = MultipleFrameEstablished; t200 = false; busy = f
 
 pub mid_back : (x : Source) (y : Sink) (out : List Kind) (k : Kind) (nr : ℕ) (ks : List Kind) (a : ℕ) → (IsClean x y out (k ∷ ks) → ⊥) → y.vr ≡ nr → nr ≤ x.vs → IsInTransit y.rejecting y.vr nr (messages out) → rejections ks ≡ []
     → Stream x y out (k ∷ ks) a → Stream (back_at nr x) y out ks a
-mid_back x y out k nr ks a dirty at below coming none s = record {
+mid_back x y out k nr ks a dirty at below arriving none s = record {
   stage = Clean;
-  so = record { in_7 = refl; free = refl; coming = coming; wanted = none; timed = λ _. refl; stopped = λ no. cc };
+  so = record { in_7 = refl; free = refl; arriving = arriving; wanted = none; timed = λ _. refl; stopped = λ no. cc };
   most = by_stage s.stage s.so s.most;
 }
   where
@@ -136,7 +136,7 @@ pub freed : (x : Source) (y : Sink) (out back : List Kind) (a : ℕ) → Stream 
 freed x y out back a s = by_stage s.stage s.so s.most
   where
     by_stage : (stage : Stage) → IsAt stage x y out back → weight stage x y ≤ a → Stream (record x { busy = false }) y out back a
-    by_stage Clean c most = record { stage = Clean; so = record { in_7 = c.in_7; free = refl; coming = c.coming; wanted = c.wanted; timed = c.timed; stopped = c.stopped }; most = most }
+    by_stage Clean c most = record { stage = Clean; so = record { in_7 = c.in_7; free = refl; arriving = c.arriving; wanted = c.wanted; timed = c.timed; stopped = c.stopped }; most = most }
     by_stage Waiting w most = record { stage = Waiting; so = w; most = most }
     by_stage Polling w most = record { stage = Polling; so = w; most = most }
     by_stage Answered w most = record { stage = Answered; so = w; most = most }
@@ -152,7 +152,7 @@ sends x y out back m n u a in_7 one_more is s = by_stage s.stage s.so s.most
 
     by_stage : (stage : Stage) → IsAt stage x y out back → weight stage x y ≤ a → Lighter 1 (record x { vs = x.vs + 1; unsent = u; t200 = true }) y (out ++ Numbered m n ∷ []) back a
     by_stage Clean c most =
-        let low : y.vr ≤ x.vs = in_transit_ordered y.rejecting y.vr x.vs (messages out) c.coming in
+        let low : y.vr ≤ x.vs = in_transit_ordered y.rejecting y.vr x.vs (messages out) c.arriving in
         record {
           some = omega (arith, most, one_more);
           stream = record {
@@ -160,7 +160,7 @@ sends x y out back m n u a in_7 one_more is s = by_stage s.stage s.so s.most
             so = record {
               in_7 = in_7;
               free = c.free;
-              coming = subst (λ ms. IsInTransit y.rejecting y.vr (x.vs + 1) ms) (sym (messages_append out (Numbered m n ∷ []))) (in_transit_more y.rejecting y.vr x.vs (messages out) m is c.coming);
+              arriving = subst (λ ms. IsInTransit y.rejecting y.vr (x.vs + 1) ms) (sym (messages_append out (Numbered m n ∷ []))) (in_transit_more y.rejecting y.vr x.vs (messages out) m is c.arriving);
               wanted = c.wanted;
               timed = λ no. cc;
               stopped = λ _. inl (omega (arith, low));
@@ -186,7 +186,7 @@ polls x y u a runs poll s = by_stage s.stage s.so s.most
     still (inr none) same = absurd none
 
     by_stage : (stage : Stage) → IsAt stage x y [] [] → weight stage x y ≤ a → Lighter 2 (record x { state = TimerRecovery; t200 = true }) y (u ∷ []) [] a
-    by_stage Clean c most = absurd (still (c.stopped runs) (in_transit_none y.rejecting y.vr x.vs c.coming))
+    by_stage Clean c most = absurd (still (c.stopped runs) (in_transit_none y.rejecting y.vr x.vs c.arriving))
     by_stage Waiting w most = record { some = omega (arith, most); stream = record { stage = Polling; so = (refl, omega (arith, poll)); most = omega (arith, most) } }
     by_stage Polling w most = absurd (omega (arith, w.1))
     by_stage Answered w most = absurd (omega (arith, w.1))

@@ -72,11 +72,11 @@ module _ (y : Source) (x : Sink) (m : Message) (nr : ℕ) (ks out : List Kind) w
   -- that will be sent) or a final.
   clean_taken : (u : Kind) → number_of u ≡ (x.vr + 1) ∷ [] → rejection_of u ≡ [] → m.number ≡ x.vr → IsClean y x back out → IsClean y (taking x) left (out ++ u ∷ [])
   clean_taken u says mild is c =
-      let rest = whole_taken x.rejecting x.vr y.vs m (messages ks) is c.coming in
+      let rest = whole_taken x.rejecting x.vr y.vs m (messages ks) is c.arriving in
       record {
         in_7 = c.in_7;
         free = c.free;
-        coming = rest;
+        arriving = rest;
         wanted = rejections_same u out mild ∙ c.wanted;
         timed = c.timed;
         stopped = λ runs. up_to (x.vr + 1) y.vs u out says (whole_ordered (x.vr + 1) y.vs (messages ks) rest);
@@ -96,7 +96,7 @@ module _ (y : Source) (x : Sink) (m : Message) (nr : ℕ) (ks out : List Kind) w
   rejected b other not_yet no_poll s = by_stage s.stage s.so (rw not_yet at (let most = s.most in most))
     where
       by_stage : (stage : Stage) → IsAt stage y x back out → weight stage y (record { vr = x.vr; rejecting = false }) ≤ b → Lighter 1 y (rejecting_now x) left (out ++ Rejection x.vr ∷ []) b
-      by_stage Clean c most = absurd (none_rejected x.vr y.vs m (messages ks) other (subst (λ r. IsInTransit r x.vr y.vs (m ∷ messages ks)) not_yet c.coming))
+      by_stage Clean c most = absurd (none_rejected x.vr y.vs m (messages ks) other (subst (λ r. IsInTransit r x.vr y.vs (m ∷ messages ks)) not_yet c.arriving))
       by_stage Waiting w most = record { some = omega (arith, most); stream = record { stage = Waiting; so = w; most = omega (arith, most) } }
       by_stage Polling w most = record { some = omega (arith, most); stream = record { stage = Polling; so = (w.0, let p = w.1 in rw no_poll at p); most = omega (arith, most) } }
       by_stage Answered w most = let more = tally_more final_of (Rejection x.vr) out in record { some = omega (arith, most); stream = record { stage = Answered; so = (w.0, omega (arith, more, w.1)); most = omega (arith, most) } }
@@ -111,7 +111,7 @@ module _ (y : Source) (x : Sink) (m : Message) (nr : ℕ) (ks out : List Kind) w
         so = record {
           in_7 = c.in_7;
           free = c.free;
-          coming = subst (λ r. IsInTransit r x.vr y.vs (messages ks)) (sym rejects) (junk_passed x.vr y.vs m (messages ks) other (subst (λ r. IsInTransit r x.vr y.vs (m ∷ messages ks)) rejects c.coming));
+          arriving = subst (λ r. IsInTransit r x.vr y.vs (messages ks)) (sym rejects) (junk_passed x.vr y.vs m (messages ks) other (subst (λ r. IsInTransit r x.vr y.vs (m ∷ messages ks)) rejects c.arriving));
           wanted = c.wanted;
           timed = c.timed;
           stopped = c.stopped;
@@ -143,7 +143,7 @@ done y x k ks out b no_message no_poll s = by_stage s.stage s.so s.most
     by_stage : (stage : Stage) → IsAt stage y x (k ∷ ks) out → weight stage y x ≤ b → Stream y x ks out b
     by_stage Clean c most = record {
       stage = Clean;
-      so = record { in_7 = c.in_7; free = c.free; coming = subst (λ ms. IsInTransit x.rejecting x.vr y.vs ms) same c.coming; wanted = c.wanted; timed = c.timed; stopped = c.stopped };
+      so = record { in_7 = c.in_7; free = c.free; arriving = subst (λ ms. IsInTransit x.rejecting x.vr y.vs ms) same c.arriving; wanted = c.wanted; timed = c.timed; stopped = c.stopped };
       most = most;
     }
     by_stage Waiting w most = record { stage = Waiting; so = w; most = most }
@@ -160,7 +160,7 @@ sends_more y x back out more b same_rejections among finals s = by_stage s.stage
     either same (inr a) = inr (among y.vs a)
 
     by_stage : (stage : Stage) → IsAt stage y x back out → weight stage y x ≤ b → Stream y x back more b
-    by_stage Clean c most = record { stage = Clean; so = record { in_7 = c.in_7; free = c.free; coming = c.coming; wanted = same_rejections ∙ c.wanted; timed = c.timed; stopped = λ runs. either refl (c.stopped runs) }; most = most }
+    by_stage Clean c most = record { stage = Clean; so = record { in_7 = c.in_7; free = c.free; arriving = c.arriving; wanted = same_rejections ∙ c.wanted; timed = c.timed; stopped = λ runs. either refl (c.stopped runs) }; most = most }
     by_stage Waiting w most = record { stage = Waiting; so = w; most = most }
     by_stage Polling w most = record { stage = Polling; so = w; most = most }
     by_stage Answered w most = record { stage = Answered; so = (w.0, finals ∙ w.1); most = most }

@@ -160,40 +160,40 @@ sends_supervisory x y out back u plain acks asked rejected polls m =
     let AB : Reception → Type 0 = λ h. A h × B h in
     let ABC : Reception → Type 0 = λ h. AB h × C h in
     let facts : OnReception ABC (receives y out) = on_both AB C ABC (receives y out) (λ h p q. (p, q)) (on_both A B AB (receives y out) (λ h p q. (p, q)) acks asked) rejected in
-    let heard : OnReception (λ h. Heard (one_more u h)) (receives y out) = on_both ABC Heard (λ h. Heard (one_more u h)) (receives y out)
+    let reception : OnReception (λ h. Heard (one_more u h)) (receives y out) = on_both ABC Heard (λ h. Heard (one_more u h)) (receives y out)
     (λ h p i. record {
       stream = stream_sent (is_7_or_8 x.state) x.sends y.takes.received h.vr h.rejecting u h.frames plain.no_message i.stream;
       acks = p.0.0;
       asked = p.0.1;
       rejected = p.1;
-    }) facts m.mine.heard in
+    }) facts m.mine.reception in
     let there = option_map (one_more u) (receives y out) in
     let more : receives y (out ++ u ∷ []) ≡ there = receives_more y out u plain.no_acceptance in
     record {
       opened = m.opened;
       mine = subst (λ o. IsSpeaking x y (out ++ u ∷ []) back here o) (sym more) (record {
-        kept = m.mine.kept;
+        preserved = m.mine.preserved;
         passed = m.mine.passed;
         past = m.mine.past;
         lately = m.mine.lately;
         none_yet = m.mine.none_yet;
         below = m.mine.below;
-        heard = on_mapped Heard (one_more u) (receives y out) heard;
+        reception = on_mapped Heard (one_more u) (receives y out) reception;
         exchange = exchange_sent (most_asks x.state) u out back (open_asks_none x.state m.opened) plain.no_ask plain.known m.mine.exchange;
         histories = m.mine.histories;
       });
       its = subst (λ o. IsSpeaking y x back (out ++ u ∷ []) o here) (sym more) (record {
-        kept = m.its.kept;
+        preserved = m.its.preserved;
         passed = m.its.passed;
         past = m.its.past;
         lately = m.its.lately;
         none_yet = m.its.none_yet;
         below = m.its.below;
-        heard = record {
-          stream = m.its.heard.stream;
-          acks = m.its.heard.acks;
+        reception = record {
+          stream = m.its.reception.stream;
+          acks = m.its.reception.acks;
           asked = polls;
-          rejected = rejected_map x.state x.sends.vs x.sends.base y.takes.received there (receives y out) (rejections back) (λ nr. awaiting_sent nr u (receives y out) plain.no_message) m.its.heard.rejected;
+          rejected = rejected_map x.state x.sends.vs x.sends.base y.takes.received there (receives y out) (rejections back) (λ nr. awaiting_sent nr u (receives y out) plain.no_message) m.its.reception.rejected;
         };
         exchange = exchange_received (most_asks y.state) u back out plain.no_answer m.its.exchange;
         histories = m.its.histories;
@@ -208,17 +208,17 @@ saying_status x y out back m =
     let Heard : Reception → Type 0 = IsReceivable x y (Some (reception_now x back)) in
     let Got : Reception → Type 0 = λ h. IsGot y.sends.base x.takes.vr x.takes.received in
     sends_supervisory x y out back u (record { no_acceptance = refl; no_message = refl; no_ask = refl; no_answer = refl; known = refl })
-    (on_both Heard Got _ (receives y out) (λ h i got. acks_sent x.takes (is_7_or_8 x.state) y.sends.base h.va h.vs u h.frames m.opened refl got i.acks) m.mine.heard (got_where_received m))
-    (on_map Heard _ (receives y out) (λ h i. asked_sent y.state y.sends.base x.takes.received back u h.frames refl refl i.asked) m.mine.heard)
-    (on_map Heard _ (receives y out) (λ h i. rejected_sent y.state y.sends.vs y.sends.base x.takes.received (Some (reception_now x back)) u h.frames refl i.rejected) m.mine.heard)
-    (asked_received x.state x.sends.base y.takes.received u (receives y out) back refl refl m.its.heard.asked) m
+    (on_both Heard Got _ (receives y out) (λ h i got. acks_sent x.takes (is_7_or_8 x.state) y.sends.base h.va h.vs u h.frames m.opened refl got i.acks) m.mine.reception (got_where_received m))
+    (on_map Heard _ (receives y out) (λ h i. asked_sent y.state y.sends.base x.takes.received back u h.frames refl refl i.asked) m.mine.reception)
+    (on_map Heard _ (receives y out) (λ h i. rejected_sent y.state y.sends.vs y.sends.base x.takes.received (Some (reception_now x back)) u h.frames refl i.rejected) m.mine.reception)
+    (asked_received x.state x.sends.base y.takes.received u (receives y out) back refl refl m.its.reception.asked) m
 
 pub saying_unit : (x y : Party) (out back : List Kind) → Mid x y out back → Mid x y (out ++ Unnumbered ∷ []) back
 saying_unit x y out back m =
     let u = Unnumbered in
     let Heard : Reception → Type 0 = IsReceivable x y (Some (reception_now x back)) in
     sends_supervisory x y out back u (record { no_acceptance = refl; no_message = refl; no_ask = refl; no_answer = refl; known = refl })
-    (on_map Heard _ (receives y out) (λ h i. acks_silent x.takes (is_7_or_8 x.state) y.sends.base h.va h.vs u h.frames refl i.acks) m.mine.heard)
-    (on_map Heard _ (receives y out) (λ h i. asked_sent y.state y.sends.base x.takes.received back u h.frames refl refl i.asked) m.mine.heard)
-    (on_map Heard _ (receives y out) (λ h i. rejected_sent y.state y.sends.vs y.sends.base x.takes.received (Some (reception_now x back)) u h.frames refl i.rejected) m.mine.heard)
-    (asked_received x.state x.sends.base y.takes.received u (receives y out) back refl refl m.its.heard.asked) m
+    (on_map Heard _ (receives y out) (λ h i. acks_silent x.takes (is_7_or_8 x.state) y.sends.base h.va h.vs u h.frames refl i.acks) m.mine.reception)
+    (on_map Heard _ (receives y out) (λ h i. asked_sent y.state y.sends.base x.takes.received back u h.frames refl refl i.asked) m.mine.reception)
+    (on_map Heard _ (receives y out) (λ h i. rejected_sent y.state y.sends.vs y.sends.base x.takes.received (Some (reception_now x back)) u h.frames refl i.rejected) m.mine.reception)
+    (asked_received x.state x.sends.base y.takes.received u (receives y out) back refl refl m.its.reception.asked) m

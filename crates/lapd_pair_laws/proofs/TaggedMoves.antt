@@ -121,7 +121,7 @@ module _ (who : Side) (v : View) (small : v.station.end.parameters.k ≤ 127) (s
       → receives Tagged (tag_flight frame) (tag_view (record v { incoming = rest })) ≡ tag_acted (receives Whole frame (record v { incoming = rest }))
   unfolding receives
   receives_on_tags frame rest near =
-      let same = step_on_tags (input.Heard frame.control frame.role) v.station.end (record { window = small; sound = sound; heard = near }) in
+      let same = step_on_tags (input.Heard frame.control frame.role) v.station.end (record { window = small; sound = sound; reception = near }) in
       rw same (stepped_on_tags frame.info frame.place (record v { incoming = rest }) (step Whole (input.Heard frame.control frame.role) v.station.end))
 
   delivers_on_tags : (frames : List Flight) → IsFirstNear frames v.station.end → delivers Tagged (map tag_flight frames) (tag_view v) ≡ tag_acted (delivers Whole frames v)
@@ -133,7 +133,7 @@ module _ (who : Side) (v : View) (small : v.station.end.parameters.k ≤ 127) (s
   pub takes_on_tags : (what : Input) (octets : List ℕ) → IsReceivedNear what v.station.end.window → takes Tagged (tag_input what) octets (tag_view v) ≡ tag_acted (takes Whole what octets v)
   unfolding takes
   takes_on_tags what octets near =
-      rw (step_on_tags what v.station.end (record { window = small; sound = sound; heard = λ _. near })) (stepped_on_tags octets 0 v (step Whole what v.station.end))
+      rw (step_on_tags what v.station.end (record { window = small; sound = sound; reception = λ _. near })) (stepped_on_tags octets 0 v (step Whole what v.station.end))
 
   busy_on_tags : (on : Bool) → takes Tagged (busy_input on) [] (tag_view v) ≡ tag_acted (takes Whole (busy_input on) [] v)
   busy_on_tags true = takes_on_tags input.BusyOn [] tt
@@ -190,18 +190,18 @@ in_world_on_tags side.Network w (Ok acted) = refl
 in_world_on_tags who w (Err refusal) = refl
 
 small_of : (who : Side) (w : World) → IsConsistentWorld Whole w → (view_of who w).station.end.parameters.k ≤ 127
-small_of side.User w kept = kept.user.window
-small_of side.Network w kept = kept.network.window
+small_of side.User w preserved = preserved.user.window
+small_of side.Network w preserved = preserved.network.window
 
 sound_of : (who : Side) (w : World) → IsConsistentWorld Whole w → IsSound Whole (view_of who w).station.end
-sound_of side.User w kept = kept.user.sound
-sound_of side.Network w kept = kept.network.sound
+sound_of side.User w preserved = preserved.user.sound
+sound_of side.Network w preserved = preserved.network.sound
 
 pub move_on_tags : (move : Move) (w : World) → IsConsistentWorld Whole w → IsNearMove move w → happens Tagged move (tag_world w) ≡ tag_outcome (happens Whole move w)
 unfolding happens
-move_on_tags move w kept near =
+move_on_tags move w preserved near =
     let v = view_of move.side w in
-    rw (view_of_on_tags move.side w, acts_on_tags move.side v (small_of move.side w kept) (sound_of move.side w kept) move.event near) (in_world_on_tags move.side w (acts Whole move.side move.event v))
+    rw (view_of_on_tags move.side w, acts_on_tags move.side v (small_of move.side w preserved) (sound_of move.side w preserved) move.event near) (in_world_on_tags move.side w (acts Whole move.side move.event v))
 
 -- ---- A run of moves.
 
@@ -210,14 +210,14 @@ after_on_tags w (Ok happened) = refl
 after_on_tags w (Err refusal) = refl
 
 pub run_on_tags : (moves : List Move) (w : World) → IsConsistentWorld Whole w → AreNearMoves moves w → run Tagged moves (tag_world w) ≡ tag_world (run Whole moves w)
-run_on_tags [] w kept near = refl
-run_on_tags (move ∷ moves) w kept near =
-    rw (move_on_tags move w kept near.0, after_on_tags w (happens Whole move w)) (run_on_tags moves (world_after w (happens Whole move w)) (run_consistent Whole (move ∷ []) w kept) near.1)
+run_on_tags [] w preserved near = refl
+run_on_tags (move ∷ moves) w preserved near =
+    rw (move_on_tags move w preserved near.0, after_on_tags w (happens Whole move w)) (run_on_tags moves (world_after w (happens Whole move w)) (run_consistent Whole (move ∷ []) w preserved) near.1)
 
 pub outcomes_on_tags : (moves : List Move) (w : World) → IsConsistentWorld Whole w → AreNearMoves moves w → outcomes Tagged moves (tag_world w) ≡ map tag_outcome (outcomes Whole moves w)
-outcomes_on_tags [] w kept near = refl
-outcomes_on_tags (move ∷ moves) w kept near =
-    rw (move_on_tags move w kept near.0, after_on_tags w (happens Whole move w), outcomes_on_tags moves (world_after w (happens Whole move w)) (run_consistent Whole (move ∷ []) w kept) near.1) refl
+outcomes_on_tags [] w preserved near = refl
+outcomes_on_tags (move ∷ moves) w preserved near =
+    rw (move_on_tags move w preserved near.0, after_on_tags w (happens Whole move w), outcomes_on_tags moves (world_after w (happens Whole move w)) (run_consistent Whole (move ∷ []) w preserved) near.1) refl
 
 -- ---- When moves are near.
 
@@ -226,24 +226,24 @@ first_near k [] e small sound within = tt
 first_near k (frame ∷ rest) e small sound within = λ is. numbers_within_are_near k frame.control e small sound is (within is)
 
 incoming_near : (who : Side) (w : World) → IsConsistentWorld Whole w → AreFirstWithin w → IsFirstNear (view_of who w).incoming (view_of who w).station.end
-incoming_near side.User w kept within = first_near w.network.end.parameters.k w.to_user w.user.end kept.network.window kept.user.sound within.to_user
-incoming_near side.Network w kept within = first_near w.user.end.parameters.k w.to_network w.network.end kept.user.window kept.network.sound within.to_network
+incoming_near side.User w preserved within = first_near w.network.end.parameters.k w.to_user w.user.end preserved.network.window preserved.user.sound within.to_user
+incoming_near side.Network w preserved within = first_near w.user.end.parameters.k w.to_network w.network.end preserved.user.window preserved.network.sound within.to_network
 
 pub event_is_near : (event : PairEvent) (v : View) → IsFirstNear v.incoming v.station.end → IsNearEvent event v
 event_is_near Deliver v near = near
 event_is_near event v near = tt
 
 pub move_near : (move : Move) (w : World) → IsConsistentWorld Whole w → AreFirstWithin w → IsNearMove move w
-move_near move w kept within = event_is_near move.event (view_of move.side w) (incoming_near move.side w kept within)
+move_near move w preserved within = event_is_near move.event (view_of move.side w) (incoming_near move.side w preserved within)
 
 -- all moves are near if a predicate holds at the start that implies nearness and that each move
 -- keeps
 pub near_by_invariant : (Inv : World → Type 0) → ((w : World) → Inv w → (move : Move) → IsNearMove move w × Inv (world_after w (happens Whole move w)))
     → (moves : List Move) (w : World) → Inv w → AreNearMoves moves w
-near_by_invariant Inv keeps [] w inv = tt
-near_by_invariant Inv keeps (move ∷ moves) w inv =
-    let now = keeps w inv move in
-    (now.0, near_by_invariant Inv keeps moves (world_after w (happens Whole move w)) now.1)
+near_by_invariant Inv preserves [] w inv = tt
+near_by_invariant Inv preserves (move ∷ moves) w inv =
+    let now = preserves w inv move in
+    (now.0, near_by_invariant Inv preserves moves (world_after w (happens Whole move w)) now.1)
 
 -- ---- What the histories show.
 
@@ -259,5 +259,5 @@ new_world_on_tags user network = rw (initial_variables_on_tags) refl
 -- ---- From a new world on.
 
 invariant_after : (Inv : World → Type 0) → ((move : Move) (w : World) → Inv w → Inv (world_after w (happens Whole move w))) → (moves : List Move) (w : World) → Inv w → Inv (run Whole moves w)
-invariant_after Inv keeps [] w inv = inv
-invariant_after Inv keeps (move ∷ moves) w inv = invariant_after Inv keeps moves (world_after w (happens Whole move w)) (keeps move w inv)
+invariant_after Inv preserves [] w inv = inv
+invariant_after Inv preserves (move ∷ moves) w inv = invariant_after Inv preserves moves (world_after w (happens Whole move w)) (preserves move w inv)

@@ -80,7 +80,7 @@ preserves_taking x y out m nr ks is w =
     let z = taking m x in
     let r = receipt_of x.sends.era m in
     let after = x.takes.received ++ r ∷ [] in
-    let stream = w.its.heard.stream in
+    let stream = w.its.reception.stream in
     let placed : IsPlaced y.sends m = stream.placed.0 in
     let step : IsInStep y.sends.base x.takes.vr x.takes.received = stream.step (inr tt) in
     let run : IsRun x.takes.vr y.sends.vs (m ∷ messages ks) = awaited_begins_run x.takes.rejecting x.takes.vr y.sends.vs m (messages ks) is stream.order in
@@ -92,17 +92,17 @@ preserves_taking x y out m nr ks is w =
     let Was : Reception → Type 0 = IsReceivable x y (Some (reception_now x back)) in
     let Left : Reception → Type 0 = IsReceivable x y (Some (reception_now x left)) in
     let Both : Reception → Type 0 = λ h. Was h × Left h in
-    let both : OnReception Both (receives y out) = on_both Was Left Both (receives y out) (λ h a b. (a, b)) w.mine.heard t.mine.heard in
+    let both : OnReception Both (receives y out) = on_both Was Left Both (receives y out) (λ h a b. (a, b)) w.mine.reception t.mine.reception in
     record {
       opened = w.opened;
       mine = record {
-        kept = w.mine.kept;
+        preserved = w.mine.preserved;
         passed = w.mine.passed;
         past = w.mine.past;
         lately = let era : latest after ≡ x.sends.era = era_more 0 x.takes.received r in omega (arith, era);
         none_yet = λ opened none. absurd (omega (arith, none));
         below = w.mine.below;
-        heard = on_both (λ h. x.takes.vr + 1 ≤ h.vs) Both (IsReceivable z y (Some (reception_now z left))) (receives y out) (λ h up i. record {
+        reception = on_both (λ h. x.takes.vr + 1 ≤ h.vs) Both (IsReceivable z y (Some (reception_now z left))) (receives y out) (λ h up i. record {
           stream = i.0.stream;
           acks = record {
             climb = i.0.acks.climb;
@@ -116,13 +116,13 @@ preserves_taking x y out m nr ks is w =
         histories = w.mine.histories;
       };
       its = record {
-        kept = w.its.kept;
+        preserved = w.its.preserved;
         passed = w.its.passed;
         past = w.its.past;
         lately = w.its.lately;
         none_yet = w.its.none_yet;
         below = λ holding. omega (arith, high_, here, less);
-        heard = record {
+        reception = record {
           stream = subst (λ ms. IsStream (is_7_or_8 y.state) y.sends after (x.takes.vr + 1) false ms) (sym (messages_left m.polled nr ks)) (record {
             placed = stream.placed.1;
             near = near_after x.takes.vr y.sends.vs y.sends.k (messages ks) less rest stream.near.1;
@@ -134,9 +134,9 @@ preserves_taking x y out m nr ks is w =
             };
             between = λ opened. let old = stream.between opened in (omega (arith, old.0), omega (arith, less));
           });
-          acks = t.its.heard.acks;
-          asked = t.its.heard.asked;
-          rejected = t.its.heard.rejected;
+          acks = t.its.reception.acks;
+          asked = t.its.reception.asked;
+          rejected = t.its.reception.rejected;
         };
         exchange = t.its.exchange;
         histories = record {
@@ -159,17 +159,17 @@ preserves_taking x y out m nr ks is w =
       where
         next_by : (vr : ℕ) → x.takes.vr ≡ vr → m.place ≡ high x.takes.received
         next_by zero none = let late : latest x.takes.received < x.sends.era = w.mine.none_yet w.opened none in absurd (omega (arith, same, late))
-        next_by (suc vr) some = let level : high x.takes.received ≡ y.sends.base + x.takes.vr = (w.its.heard.stream.step (inr tt)).level (omega (arith, some)) in
-            let place_ : m.place ≡ y.sends.base + m.number = w.its.heard.stream.placed.0.place in omega (arith, level, place_, is)
+        next_by (suc vr) some = let level : high x.takes.received ≡ y.sends.base + x.takes.vr = (w.its.reception.stream.step (inr tt)).level (omega (arith, some)) in
+            let place_ : m.place ≡ y.sends.base + m.number = w.its.reception.stream.placed.0.place in omega (arith, level, place_, is)
 
     prefix : (place smaller : ℕ) → HasPlace place (x.takes.received ++ receipt_of x.sends.era m ∷ []) → smaller < place → y.sends.sent_in smaller ≡ y.sends.sent_in place → HasPlace smaller (x.takes.received ++ receipt_of x.sends.era m ∷ [])
     prefix place smaller has less_ same = elim (place_either place x.takes.received (receipt_of x.sends.era m) has) [
       | inl before ↦ place_stays smaller x.takes.received (receipt_of x.sends.era m) (w.its.histories.prefix place smaller before less_ same)
       | inr new ↦
-          let placed : IsPlaced y.sends m = w.its.heard.stream.placed.0 in
+          let placed : IsPlaced y.sends m = w.its.reception.stream.placed.0 in
           let now : y.sends.sent_in smaller ≡ Some y.sends.era = same ∙ ap (λ p. y.sends.sent_in p) (sym new) ∙ placed.sent in
           let from : y.sends.base ≤ smaller = (w.its.past smaller y.sends.era now).1 refl in
-          let got : HasPlace (y.sends.base + (smaller - y.sends.base)) x.takes.received = (w.its.heard.stream.step (inr tt)).got (smaller - y.sends.base) (omega (arith, from, less_, new, placed.place, is)) in
+          let got : HasPlace (y.sends.base + (smaller - y.sends.base)) x.takes.received = (w.its.reception.stream.step (inr tt)).got (smaller - y.sends.base) (omega (arith, from, less_, new, placed.place, is)) in
           let at : y.sends.base + (smaller - y.sends.base) ≡ smaller = omega (arith, from) in
           place_stays smaller x.takes.received (receipt_of x.sends.era m) (subst (λ p. HasPlace p x.takes.received) at got)
     ]

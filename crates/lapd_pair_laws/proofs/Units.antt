@@ -46,7 +46,7 @@ unit_from_closed : (x y : Party) (out back : List Kind) → is_7_or_8 x.state �
 unit_from_closed x y out back closed b =
     let asks = tally_more ask_of Unnumbered out in let answers = tally_more answer_of Unnumbered out in
     closing x y out (out ++ Unnumbered ∷ []) back back x.state x.asked x.leaving x.sends.first x.sends.next x.sends.passed x.takes.rejecting closed (part_whole back) (quietly Unnumbered unnumbered_is_quiet)
-    b.mine.kept b.mine.passed (λ holds. holds) (same refl (receives_less x (part_whole back)))
+    b.mine.preserved b.mine.passed (λ holds. holds) (same refl (receives_less x (part_whole back)))
     (omega (arith, asks, b.mine.exchange.one)) (omega (arith, answers, b.its.exchange.one)) (λ answer. b.its.exchange.before (omega (arith, answer, answers))) b
 
 pub unit_sent : (x y : Party) (out back : List Kind) → Both x y out back → Both x y (out ++ Unnumbered ∷ []) back

@@ -77,13 +77,13 @@ new_holds user network u n = record {
   where
     new_side : (x y : Parameters) → Half (party 0 (new_station x)) (party 0 (new_station y)) [] []
     new_side x y = record {
-      kept = record { first = refl; next = refl };
+      preserved = record { first = refl; next = refl };
       passed = refl;
       past = λ place era sent. cc;
       lately = omega arith;
       none_yet = λ opened. cc;
       below = λ holding. cc;
-      heard = tt;
+      reception = tt;
       exchange = record { one = omega arith; behind = tt; before = λ answer. refl; clean = refl };
       histories = record { as_given = tt; row = tt; prefix = λ place smaller has less same. has; arrived = λ place among. among };
     }

@@ -13,14 +13,14 @@ use Rattle.lapd_pair_laws.specs.Conjuncts.{high, latest, is_holding, IsConsisten
 -- process `there` and x `here`.
 pub record IsSpeaking (x y : Party) (out back : List Kind) (here there : Option Reception) :
     Type 0 where
-  pub kept : IsConsistentSender x.state x.asked x.leaving x.sends
+  pub preserved : IsConsistentSender x.state x.asked x.leaving x.sends
   pub passed : x.sends.passed ≡ x.sends.first
   pub past : IsPast x.sends
   pub lately : latest x.takes.received ≤ x.sends.era
   pub none_yet : is_7_or_8 x.state ≡ true → x.takes.vr ≡ 0 → latest x.takes.received < x.sends.era
   pub below : is_holding x.state x.asked x.leaving ≡ true
       → high y.takes.received ≤ x.sends.base + x.sends.vs
-  pub heard : OnReception (IsReceivable x y here) there
+  pub reception : OnReception (IsReceivable x y here) there
   pub exchange : IsExchange (most_asks x.state) out back
   pub histories : AreHistories x.sends.given x.sends.sent_in x.sends.acked y.takes.received
 

@@ -2,7 +2,7 @@
 //! expected result.
 //!
 //! The result of a move is the frames that it puts on the line, in hexadecimal, or `nothing`. If a
-//! row expects them, the outputs follow after `tells`. A refused move results in `refused` and the
+//! row expects them, the outputs follow after `reporting`. A refused move results in `refused` and the
 //! fault, and must leave the state of the pair unchanged. `user shows` prints the state of a side,
 //! `settle` whether the line is at rest (and how many moves that took, if more than allowed), and
 //! `run` how many of its moves are skipped because they are refused. After each step both histories

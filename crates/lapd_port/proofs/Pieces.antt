@@ -20,4 +20,4 @@ left_after text rest count old mid new left piece some =
 
 -- nothing more is written
 pub left_preserved : (text rest : List ℕ) (old mid new : Option (List ℕ)) → IsLeft text rest old mid → Keeps mid new → IsLeft text rest old new
-left_preserved text rest old mid new left kept = ((left.0.0, left.0.1, Appends-kept old mid new left.0.0 left.0.2 kept), left.1)
+left_preserved text rest old mid new left unchanged = ((left.0.0, left.0.1, Appends-kept old mid new left.0.0 left.0.2 unchanged), left.1)

@@ -72,19 +72,19 @@ facts_after N move w f =
 
 record Reaches (up : Bool) (N n : ℕ) (moves : List Move) (now : World) : Type 0 where
   few : length moves ≤ n
-  coming : Coming N up (n - length moves) now
+  arriving : Coming N up (n - length moves) now
   facts : Facts N now
 
 own_moves_reach : (up : Bool) (N : ℕ) → 1 ≤ N → (n : ℕ) (w : World) (moves : List Move) → Coming N up n w → Facts N w → AreOwn Whole moves w → Reaches up N n moves (run Whole moves w)
-own_moves_reach up N some n w [] c f own = let same : n ≡ n - 0 = omega arith in record { few = omega arith; coming = subst (λ m. Coming N up m w) same c; facts = f }
+own_moves_reach up N some n w [] c f own = let same : n ≡ n - 0 = omega arith in record { few = omega arith; arriving = subst (λ m. Coming N up m w) same c; facts = f }
 own_moves_reach up N some n w (move ∷ moves) c f own =
     let one = coming_moves N some up n move.side move.event w c f own.0 in
     let now = world_after w (happens Whole move w) in
-    let rest = own_moves_reach up N some (n - 1) now moves one.coming (facts_after N move w f) own.1 in
+    let rest = own_moves_reach up N some (n - 1) now moves one.arriving (facts_after N move w f) own.1 in
     let fewer : n - 1 - length moves ≡ n - length (move ∷ moves) = omega arith in
     record {
       few = let some_left = one.some in let few = rest.few in omega (arith, some_left, few);
-      coming = subst (λ m. Coming N up m (run Whole moves now)) fewer rest.coming;
+      arriving = subst (λ m. Coming N up m (run Whole moves now)) fewer rest.arriving;
       facts = rest.facts;
     }
 
@@ -122,11 +122,11 @@ in_state_4 e has c off = by_state e.state refl c
     by_state TimerRecovery is c = cc
 
 closed_agree : (w : World) → IsInvariant w → IsConsistentWorld Whole w → HaveTimersOfStates w → IsStill w → is_7_or_8 w.user.end.state ≡ false → is_7_or_8 w.network.end.state ≡ false → AreAgreed w
-closed_agree w i kept have still user network =
+closed_agree w i preserved have still user network =
     let mine = in_state_4 w.user.end have.user user still.user in
     let its = in_state_4 w.network.end have.network network still.network in
-    let left_x = empty_in_4 w.user (party i.user_base w.user) refl refl refl mine i.both.mine.kept i.both.mine.passed kept.user.settled in
-    let left_y = empty_in_4 w.network (party i.network_base w.network) refl refl refl its i.both.its.kept i.both.its.passed kept.network.settled in
+    let left_x = empty_in_4 w.user (party i.user_base w.user) refl refl refl mine i.both.mine.preserved i.both.mine.passed preserved.user.settled in
+    let left_y = empty_in_4 w.network (party i.network_base w.network) refl refl refl its i.both.its.preserved i.both.its.passed preserved.network.settled in
     record {
       to_user = still.to_user;
       to_network = still.to_network;
@@ -137,11 +137,11 @@ closed_agree w i kept have still user network =
     }
 
 agreed_at_rest : (up : Bool) (N n : ℕ) (w : World) → Coming N up n w → Facts N w → IsConsistentWorld Whole w → IsStill w → Rests Whole w → AreAgreed w
-agreed_at_rest up N n w (inl d) f kept still rests = (up_so n w w.user w.network w.to_user w.to_network kept (rests_drained true n w d f.have still) still (record { user = refl; network = refl })).agreed
-agreed_at_rest up N n w (inr (inl l)) f kept still rests = let s = half_rests up N n w l f.have still (λ own. rests (user_move Expire203) own) in closed_agree w f.holds kept f.have still s.0.user s.0.network
-agreed_at_rest up N n w (inr (inr l)) f kept still rests =
+agreed_at_rest up N n w (inl d) f preserved still rests = (up_so n w w.user w.network w.to_user w.to_network preserved (rests_drained true n w d f.have still) still (record { user = refl; network = refl })).agreed
+agreed_at_rest up N n w (inr (inl l)) f preserved still rests = let s = half_rests up N n w l f.have still (λ own. rests (user_move Expire203) own) in closed_agree w f.holds preserved f.have still s.0.user s.0.network
+agreed_at_rest up N n w (inr (inr l)) f preserved still rests =
     let s = half_rests up N n (swapped w) l (record { user = f.have.network; network = f.have.user }) (still_swapped w still) (λ own. rests (network_move Expire203) (own_203_swapped w own)) in
-    closed_agree w f.holds kept f.have still s.0.network s.0.user
+    closed_agree w f.holds preserved f.have still s.0.network s.0.user
 
 -- ---- The start.
 
@@ -350,7 +350,7 @@ drains_more n m w less d =
     record {
       holds = d.holds;
       ends_settled = d.ends_settled;
-      sees = record { flow = record { a = f.a; b = f.b; mine = f.mine; its = f.its; most = let le = f.most in omega (arith, le, less) }; idle = s.idle; its_idle = s.its_idle; going = s.going; coming = s.coming };
+      sees = record { flow = record { a = f.a; b = f.b; mine = f.mine; its = f.its; most = let le = f.most in omega (arith, le, less) }; idle = s.idle; its_idle = s.its_idle; proceeding = s.proceeding; arriving = s.arriving };
     }
 
 lost_more : (n m : ℕ) (w : World) → n ≤ m → UserLost true n w → UserLost true m w
@@ -375,7 +375,7 @@ weaker n m w less (inr (inr (inr l))) = inr (inr (inr (record {
 })))
 
 both_begin : (N : ℕ) → 1 ≤ N → (x y : Station) → IsInvariant (at x y [] []) → IsConsistentWorld Whole (at x y [] []) → AreSettledEnds (at x y [] []) → IsFree x.end → IsFree y.end → x.end.parameters.n200 ≤ N → y.end.parameters.n200 ≤ N → Coming N false (most_own_moves N (at x y [] [])) (at x y [] [])
-both_begin N some x y i kept settled x_free y_free few_x few_y = by_open (is_7_or_8 x.end.state) (is_7_or_8 y.end.state) refl refl
+both_begin N some x y i preserved settled x_free y_free few_x few_y = by_open (is_7_or_8 x.end.state) (is_7_or_8 y.end.state) refl refl
   where
     w : World
     w = at x y [] []
@@ -387,20 +387,20 @@ both_begin N some x y i kept settled x_free y_free few_x few_y = by_open (is_7_o
     swapped_bound = omega arith
 
     by_open : (a b : Bool) → is_7_or_8 x.end.state ≡ a → is_7_or_8 y.end.state ≡ b → Coming N false (most_own_moves N (at x y [] [])) (at x y [] [])
-    by_open true true o p = inl (more (draining_begins x y i settled kept.user.settled kept.network.settled true o p (x_free o) (y_free p) (λ _. refl) (λ _. refl)))
-    by_open true false o c = inr (inl (alone_begins N some x y i kept.user.settled kept.network.settled few_x few_y false o c (λ no_up. cc)))
-    by_open false true c o = inr (inr (subst (λ m. Half N false m (swapped w)) swapped_bound (alone_begins N some y x (exchanged w i) kept.network.settled kept.user.settled few_y few_x false o c (λ no_up. cc))))
-    by_open false false c d = inr (inl (closed_begins N some x y i kept.user.settled kept.network.settled few_x few_y c d))
+    by_open true true o p = inl (more (draining_begins x y i settled preserved.user.settled preserved.network.settled true o p (x_free o) (y_free p) (λ _. refl) (λ _. refl)))
+    by_open true false o c = inr (inl (alone_begins N some x y i preserved.user.settled preserved.network.settled few_x few_y false o c (λ no_up. cc)))
+    by_open false true c o = inr (inr (subst (λ m. Half N false m (swapped w)) swapped_bound (alone_begins N some y x (exchanged w i) preserved.network.settled preserved.user.settled few_y few_x false o c (λ no_up. cc))))
+    by_open false false c d = inr (inl (closed_begins N some x y i preserved.user.settled preserved.network.settled few_x few_y c d))
 
 begins : (N : ℕ) → 1 ≤ N → (x y : Station) (to_user to_network : List Flight) → IsInvariant (at x y to_user to_network) → IsConsistentWorld Whole (at x y to_user to_network) → AreSettledEnds (at x y to_user to_network) → IsAfterOutage N (at x y to_user to_network) → Coming N false (most_own_moves N (at x y to_user to_network)) (at x y to_user to_network)
-begins N some x y [] [] i kept settled a = both_begin N some x y i kept settled a.user_free a.network_free a.user_retries a.network_retries
-begins N some x y (f ∷ fs) to_network i kept settled a = let none = a.to_user in cc
-begins N some x y [] (f ∷ fs) i kept settled a = let none = a.to_network in cc
+begins N some x y [] [] i preserved settled a = both_begin N some x y i preserved settled a.user_free a.network_free a.user_retries a.network_retries
+begins N some x y (f ∷ fs) to_network i preserved settled a = let none = a.to_user in cc
+begins N some x y [] (f ∷ fs) i preserved settled a = let none = a.to_network in cc
 
 pub line_comes_back : (N : ℕ) → 1 ≤ N → (w : World) → IsInvariant w → IsConsistentWorld Whole w → AreSettledEnds w → HaveTimersOfStates w → AreClearIn5 w → IsAfterOutage N w → ComesBack Whole N w
-line_comes_back N some w i kept settled have clear a =
+line_comes_back N some w i preserved settled have clear a =
     let n = most_own_moves N w in
-    let c = begins N some w.user w.network w.to_user w.to_network i kept settled a in
+    let c = begins N some w.user w.network w.to_user w.to_network i preserved settled a in
     let f : Facts N w = record { holds = i; settled = settled; have = have; clear = clear; few_user = a.user_retries; few_network = a.network_retries } in
     record {
       few = λ moves own. (own_moves_reach false N some n w moves c f own).few;
@@ -408,22 +408,22 @@ line_comes_back N some w i kept settled have clear a =
           let now = run Whole moves w in
           let reached = own_moves_reach false N some n w moves c f own in
           let still = rests_still now.user now.network now.to_user now.to_network rests in
-          agreed_at_rest false N (n - length moves) now reached.coming reached.facts (run_consistent Whole moves w kept) still rests;
+          agreed_at_rest false N (n - length moves) now reached.arriving reached.facts (run_consistent Whole moves w preserved) still rests;
     }
 
 -- ---- After every run, on whole numbers and on tags.
 
 comes_back_on_tags : (N : ℕ) (w : World) → IsInvariant w → IsConsistentWorld Whole w → ComesBack Whole N w → ComesBack Tagged N (tag_world w)
-comes_back_on_tags N w i kept c = record {
+comes_back_on_tags N w i preserved c = record {
   few = λ moves own.
       let most : most_own_moves N (tag_world w) ≡ most_own_moves N w = ap (λ l. 3 * l + 6 * N + 11) (left_on_tags w) in
-      let few = c.few moves (are_own_by_tags moves w i kept own) in
+      let few = c.few moves (are_own_by_tags moves w i preserved own) in
       omega (arith, most, few);
   agreed = λ moves own rests.
       let now = run Whole moves w in
-      let same : run Tagged moves (tag_world w) ≡ tag_world now = ran_on_tags moves w i kept in
-      let still : Rests Whole now = rests_by_tags now (each_run_preserves moves w i) (run_consistent Whole moves w kept) (subst (λ v. Rests Tagged v) same rests) in
-      subst AreAgreed (sym same) (agreed_on_tags now (c.agreed moves (are_own_by_tags moves w i kept own) still));
+      let same : run Tagged moves (tag_world w) ≡ tag_world now = ran_on_tags moves w i preserved in
+      let still : Rests Whole now = rests_by_tags now (each_run_preserves moves w i) (run_consistent Whole moves w preserved) (subst (λ v. Rests Tagged v) same rests) in
+      subst AreAgreed (sym same) (agreed_on_tags now (c.agreed moves (are_own_by_tags moves w i preserved own) still));
 }
 
 unmapped : (l : List Flight) → map tag_flight l ≡ [] → l ≡ []
@@ -454,17 +454,17 @@ module _ (N : ℕ) (some : 1 ≤ N) (user network : Parameters) (user_small : us
   holds : IsInvariant reached
   holds = each_run_preserves moves start (new_holds user network user_small network_small)
 
-  kept : IsConsistentWorld Whole reached
-  kept = run_consistent Whole moves start (new_world_consistent Whole user network user_small network_small)
+  preserved : IsConsistentWorld Whole reached
+  preserved = run_consistent Whole moves start (new_world_consistent Whole user network user_small network_small)
 
   back_whole : IsAfterOutage N reached → ComesBack Whole N reached
-  back_whole a = let c = line_comes_back N some reached holds kept (run_settles moves start (new_settles user network user_some network_some)) (timers_after_run moves start (new_has_timers user network)) (clear_after_run moves start (new_is_clear user network)) a in c
+  back_whole a = let c = line_comes_back N some reached holds preserved (run_settles moves start (new_settles user network user_some network_some)) (timers_after_run moves start (new_has_timers user network)) (clear_after_run moves start (new_is_clear user network)) a in c
 
   comes_back_by : (r : Reading) → IsAfterOutage N (run r moves (new_world user network)) → ComesBack r N (run r moves (new_world user network))
   comes_back_by Whole a = back_whole a
   comes_back_by Tagged a =
       let same : run Tagged moves (new_world user network) ≡ tag_world reached = reached_tags user network user_small network_small moves in
-      subst (λ w. ComesBack Tagged N w) (sym same) (comes_back_on_tags N reached holds kept (back_whole (after_outage_by_tags N reached (subst (λ w. IsAfterOutage N w) same a))))
+      subst (λ w. ComesBack Tagged N w) (sym same) (comes_back_on_tags N reached holds preserved (back_whole (after_outage_by_tags N reached (subst (λ w. IsAfterOutage N w) same a))))
 
 pub every_line_comes_back : (r : Reading) (n200 : ℕ) → 1 ≤ n200 → (user network : Parameters) → user.k ≤ 127 → network.k ≤ 127 → 1 ≤ user.k → 1 ≤ network.k → (moves : List Move) → IsAfterOutage n200 (run r moves (new_world user network)) → ComesBack r n200 (run r moves (new_world user network))
 every_line_comes_back r n200 some user network u n us ns moves a = comes_back_by n200 some user network u n us ns moves r a
@@ -472,7 +472,7 @@ every_line_comes_back r n200 some user network u n us ns moves a = comes_back_by
 -- ---- An open link that nobody releases stays up.
 
 held_begin : (N : ℕ) → 1 ≤ N → (x y : Station) → IsInvariant (at x y [] []) → IsConsistentWorld Whole (at x y [] []) → AreSettledEnds (at x y [] []) → IsFree x.end → IsFree y.end → x.end.parameters.n200 ≤ N → y.end.parameters.n200 ≤ N → IsHeldUp (at x y [] []) → Coming N true (most_own_moves N (at x y [] [])) (at x y [] [])
-held_begin N some x y i kept settled x_free y_free few_x few_y held = by_open (is_7_or_8 x.end.state) (is_7_or_8 y.end.state) refl refl
+held_begin N some x y i preserved settled x_free y_free few_x few_y held = by_open (is_7_or_8 x.end.state) (is_7_or_8 y.end.state) refl refl
   where
     w : World
     w = at x y [] []
@@ -488,39 +488,39 @@ held_begin N some x y i kept settled x_free y_free few_x few_y held = by_open (i
     one_open c d (inr o) = not_both (is_7_or_8 y.end.state) d o
 
     by_open : (a b : Bool) → is_7_or_8 x.end.state ≡ a → is_7_or_8 y.end.state ≡ b → Coming N true (most_own_moves N (at x y [] [])) (at x y [] [])
-    by_open true true o p = inl (more (draining_begins x y i settled kept.user.settled kept.network.settled true o p (x_free o) (y_free p) (λ _. refl) (λ _. refl)))
-    by_open true false o c = inr (inl (alone_begins N some x y i kept.user.settled kept.network.settled few_x few_y true o c (λ _. held.network)))
-    by_open false true c o = inr (inr (subst (λ m. Half N true m (swapped w)) swapped_bound (alone_begins N some y x (exchanged w i) kept.network.settled kept.user.settled few_y few_x true o c (λ _. held.user))))
+    by_open true true o p = inl (more (draining_begins x y i settled preserved.user.settled preserved.network.settled true o p (x_free o) (y_free p) (λ _. refl) (λ _. refl)))
+    by_open true false o c = inr (inl (alone_begins N some x y i preserved.user.settled preserved.network.settled few_x few_y true o c (λ _. held.network)))
+    by_open false true c o = inr (inr (subst (λ m. Half N true m (swapped w)) swapped_bound (alone_begins N some y x (exchanged w i) preserved.network.settled preserved.user.settled few_y few_x true o c (λ _. held.user))))
     by_open false false c d = absurd (one_open c d held.open_state)
 
 held_begins : (N : ℕ) → 1 ≤ N → (x y : Station) (to_user to_network : List Flight) → IsInvariant (at x y to_user to_network) → IsConsistentWorld Whole (at x y to_user to_network) → AreSettledEnds (at x y to_user to_network) → IsAfterOutage N (at x y to_user to_network) → IsHeldUp (at x y to_user to_network) → Coming N true (most_own_moves N (at x y to_user to_network)) (at x y to_user to_network)
-held_begins N some x y [] [] i kept settled a h = held_begin N some x y i kept settled a.user_free a.network_free a.user_retries a.network_retries (record { user = h.user; network = h.network; open_state = h.open_state })
-held_begins N some x y (f ∷ fs) to_network i kept settled a h = let none = a.to_user in cc
-held_begins N some x y [] (f ∷ fs) i kept settled a h = let none = a.to_network in cc
+held_begins N some x y [] [] i preserved settled a h = held_begin N some x y i preserved settled a.user_free a.network_free a.user_retries a.network_retries (record { user = h.user; network = h.network; open_state = h.open_state })
+held_begins N some x y (f ∷ fs) to_network i preserved settled a h = let none = a.to_user in cc
+held_begins N some x y [] (f ∷ fs) i preserved settled a h = let none = a.to_network in cc
 
 level_at_rest : (N n : ℕ) (w : World) → Coming N true n w → Facts N w → IsConsistentWorld Whole w → IsStill w → Rests Whole w → AreLevel w.user.end w.network.end
-level_at_rest N n w (inl d) f kept still rests = (up_so n w w.user w.network w.to_user w.to_network kept (rests_drained true n w d f.have still) still (record { user = refl; network = refl })).level
-level_at_rest N n w (inr (inl l)) f kept still rests = let s = half_rests true N n w l f.have still (λ own. rests (user_move Expire203) own) in absurd (not_both true s.1 refl)
-level_at_rest N n w (inr (inr l)) f kept still rests =
+level_at_rest N n w (inl d) f preserved still rests = (up_so n w w.user w.network w.to_user w.to_network preserved (rests_drained true n w d f.have still) still (record { user = refl; network = refl })).level
+level_at_rest N n w (inr (inl l)) f preserved still rests = let s = half_rests true N n w l f.have still (λ own. rests (user_move Expire203) own) in absurd (not_both true s.1 refl)
+level_at_rest N n w (inr (inr l)) f preserved still rests =
     let s = half_rests true N n (swapped w) l (record { user = f.have.network; network = f.have.user }) (still_swapped w still) (λ own. rests (network_move Expire203) (own_203_swapped w own)) in
     absurd (not_both true s.1 refl)
 
 held_stays_up : (N : ℕ) → 1 ≤ N → (w : World) → IsInvariant w → IsConsistentWorld Whole w → AreSettledEnds w → HaveTimersOfStates w → AreClearIn5 w → IsAfterOutage N w → IsHeldUp w → StaysUp Whole w
-held_stays_up N some w i kept settled have clear a h moves own rests =
+held_stays_up N some w i preserved settled have clear a h moves own rests =
     let n = most_own_moves N w in
-    let c = held_begins N some w.user w.network w.to_user w.to_network i kept settled a h in
+    let c = held_begins N some w.user w.network w.to_user w.to_network i preserved settled a h in
     let f : Facts N w = record { holds = i; settled = settled; have = have; clear = clear; few_user = a.user_retries; few_network = a.network_retries } in
     let now = run Whole moves w in
     let reached = own_moves_reach true N some n w moves c f own in
     let still = rests_still now.user now.network now.to_user now.to_network rests in
-    level_at_rest N (n - length moves) now reached.coming reached.facts (run_consistent Whole moves w kept) still rests
+    level_at_rest N (n - length moves) now reached.arriving reached.facts (run_consistent Whole moves w preserved) still rests
 
 stays_up_on_tags : (w : World) → IsInvariant w → IsConsistentWorld Whole w → StaysUp Whole w → StaysUp Tagged (tag_world w)
-stays_up_on_tags w i kept up moves own rests =
+stays_up_on_tags w i preserved up moves own rests =
     let now = run Whole moves w in
-    let same : run Tagged moves (tag_world w) ≡ tag_world now = ran_on_tags moves w i kept in
-    let still : Rests Whole now = rests_by_tags now (each_run_preserves moves w i) (run_consistent Whole moves w kept) (subst (λ v. Rests Tagged v) same rests) in
-    subst (λ (v : World). AreLevel v.user.end v.network.end) (sym same) (are_level_on_tags now.user.end now.network.end (up moves (are_own_by_tags moves w i kept own) still))
+    let same : run Tagged moves (tag_world w) ≡ tag_world now = ran_on_tags moves w i preserved in
+    let still : Rests Whole now = rests_by_tags now (each_run_preserves moves w i) (run_consistent Whole moves w preserved) (subst (λ v. Rests Tagged v) same rests) in
+    subst (λ (v : World). AreLevel v.user.end v.network.end) (sym same) (are_level_on_tags now.user.end now.network.end (up moves (are_own_by_tags moves w i preserved own) still))
 
 kept_by_tags : (e : End) → IsKept (tag_end e) → IsKept e
 kept_by_tags e k = record { not_releasing = k.not_releasing; none_pending = k.none_pending }

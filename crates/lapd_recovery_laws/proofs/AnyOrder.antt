@@ -43,7 +43,7 @@ draining_swapped last n w (inr (inr (inr l))) = inr (inr (inr (both_swapped last
 pub record Moves (last : Bool) (n : ℕ) (w now : World) : Type 0 where
   pub some : 1 ≤ n
   pub draining : Draining last (n - 1) now
-  pub kept : SameDropped w now
+  pub preserved : SameDropped w now
 
 lost_or_not : (last : Bool) (n : ℕ) (w : World) → UserLost last n w ⊎ Drains n w → Draining last n w
 lost_or_not last n w (inl l) = inr (inl l)
@@ -56,7 +56,7 @@ moves_swapped last n event w m =
     subst (λ v. Moves last n w v) (sym (network_alike Whole event w)) (record {
       some = m.some;
       draining = draining_swapped last (n - 1) now m.draining;
-      kept = record { user = m.kept.network; network = m.kept.user };
+      preserved = record { user = m.preserved.network; network = m.preserved.user };
     })
 
 -- ---- A frame is delivered.
@@ -79,23 +79,23 @@ peer_receives last n x y back frame rest l =
     let w = at x y back (frame ∷ rest) in
     let now = world_after w (happens Whole (network_move Deliver) w) in
     let same : now ≡ swapped (world_after (swapped w) (happens Whole (user_move Deliver) (swapped w))) = network_alike Whole Deliver w in
-    let kept = subst (λ v. SameDropped w v) same (lost_peer_receives_dropped last n x y back frame rest l) in
+    let preserved = subst (λ v. SameDropped w v) same (lost_peer_receives_dropped last n x y back frame rest l) in
     record {
       some = let two = l.two in omega (arith, two);
       draining = inr (inr (inl (subst (λ v. UserLost last (n - 1) v) same (lost_peer_receives last n x y back frame rest l))));
-      kept = record { user = kept.network; network = kept.user };
+      preserved = record { user = preserved.network; network = preserved.user };
     }
 
 user_receives : (last : Bool) (n : ℕ) (x y : Station) (frame : Flight) (rest to_network : List Flight) → Draining last n (at x y (frame ∷ rest) to_network) → Moves last n (at x y (frame ∷ rest) to_network) (world_after (at x y (frame ∷ rest) to_network) (happens Whole (user_move Deliver) (at x y (frame ∷ rest) to_network)))
 user_receives last n x y frame rest to_network (inl d) = record {
   some = let le = d.sees.flow.most in omega (arith, le);
   draining = inl (drains_on n Deliver (at x y (frame ∷ rest) to_network) d (seen_delivered x y frame rest to_network n d.holds.user_base d.holds.network_base d.holds.both d.ends_settled.user d.sees));
-  kept = dropped_on Deliver (at x y (frame ∷ rest) to_network) (preserved_delivered x y frame rest to_network n d.holds.user_base d.holds.network_base d.holds.both d.ends_settled.user d.sees);
+  preserved = dropped_on Deliver (at x y (frame ∷ rest) to_network) (preserved_delivered x y frame rest to_network n d.holds.user_base d.holds.network_base d.holds.both d.ends_settled.user d.sees);
 }
 user_receives last n x y frame rest to_network (inr (inl l)) = record {
   some = let two = l.two in omega (arith, two);
   draining = inr (inl (lost_user_receives last n x y frame rest to_network l));
-  kept = lost_user_receives_dropped last n x y frame rest to_network l;
+  preserved = lost_user_receives_dropped last n x y frame rest to_network l;
 }
 user_receives last n x y frame rest to_network (inr (inr (inl l))) = peer_receives last n y x to_network frame rest l
 user_receives last n x y frame rest to_network (inr (inr (inr l))) = let none = l.to_user in cc
@@ -109,12 +109,12 @@ peer_expires last n x y l on =
     let now = world_after w (happens Whole (network_move Expire200) w) in
     let then = swapped (world_after (swapped w) (happens Whole (user_move Expire200) (swapped w))) in
     let same : now ≡ then = network_alike Whole Expire200 w in
-    let kept = subst (λ v. SameDropped w v) same (lost_peer_expires_dropped last n x y l on) in
+    let preserved = subst (λ v. SameDropped w v) same (lost_peer_expires_dropped last n x y l on) in
     let after = subst (λ v. UserLost last (n - 1) v ⊎ Drains (n - 1) v) same (lost_peer_expires last n x y l on) in
     record {
       some = let two = l.two in omega (arith, two);
       draining = draining_swapped last (n - 1) then (lost_or_not last (n - 1) then after);
-      kept = record { user = kept.network; network = kept.user };
+      preserved = record { user = preserved.network; network = preserved.user };
     }
 
 -- if T200 runs and the line is empty, work remains
@@ -127,7 +127,7 @@ some_at x y a on s = by_stage s.stage s.so s.most
 
     by_stage : (stage : Stage) → IsAt stage x y [] [] → weight stage x y ≤ a → 1 ≤ a
     by_stage Clean c most = elim (c.stopped on) [
-      | inl less ↦ absurd (none y.rejecting y.vr x.vs less c.coming)
+      | inl less ↦ absurd (none y.rejecting y.vr x.vs less c.arriving)
       | inr among ↦ absurd among
     ]
     by_stage Waiting w most = omega (arith, most)
@@ -146,12 +146,12 @@ user_expires : (last : Bool) (n : ℕ) (x y : Station) → Draining last n (at x
 user_expires last n x y (inl d) on may = record {
   some = let le = d.sees.flow.most in let some = some_at (source x.end) (sink y.end) d.sees.flow.a on d.sees.flow.mine in omega (arith, le, some);
   draining = inl (drains_on n Expire200 (at x y [] []) d (seen_expired x y n on d.sees));
-  kept = dropped_on Expire200 (at x y [] []) (preserved_expired x y n on d.sees);
+  preserved = dropped_on Expire200 (at x y [] []) (preserved_expired x y n on d.sees);
 }
 user_expires last n x y (inr (inl l)) on may = record {
   some = let two = l.two in omega (arith, two);
   draining = inl (lost_user_expires last n x y l on (tries_now last x.end l.tries may l.in_8));
-  kept = lost_user_expires_dropped last n x y l on (tries_now last x.end l.tries may l.in_8);
+  preserved = lost_user_expires_dropped last n x y l on (tries_now last x.end l.tries may l.in_8);
 }
 user_expires last n x y (inr (inr (inl l))) on may = peer_expires last n y x l on
 user_expires last n x y (inr (inr (inr l))) on may =
@@ -159,7 +159,7 @@ user_expires last n x y (inr (inr (inr l))) on may =
     record {
       some = let le = l.most in omega (arith, le);
       draining = draining_swapped last (n - 1) (swapped now) (lost_or_not last (n - 1) (swapped now) (both_lost_expires last n x y l on (tries_now last x.end l.user_tries may l.user_in_8)));
-      kept = both_lost_expires_dropped last n x y l on (tries_now last x.end l.user_tries may l.user_in_8);
+      preserved = both_lost_expires_dropped last n x y l on (tries_now last x.end l.user_tries may l.user_in_8);
     }
 
 -- ---- Any own move.
@@ -262,10 +262,10 @@ pub record Reaches (n : ℕ) (w : World) (moves : List Move) (now : World) : Typ
   pub few : length moves ≤ n
   pub draining : Draining false (n - length moves) now
   pub have : HaveTimersOfStates now
-  pub kept : SameDropped w now
+  pub preserved : SameDropped w now
 
 pub own_moves_reach : (n : ℕ) (w : World) (moves : List Move) → Draining false n w → HaveTimersOfStates w → AreOwn Whole moves w → Reaches n w moves (run Whole moves w)
-own_moves_reach n w [] d have own = let same : n ≡ n - 0 = omega arith in record { few = omega arith; draining = subst (λ m. Draining false m w) same d; have = have; kept = record { user = refl; network = refl } }
+own_moves_reach n w [] d have own = let same : n ≡ n - 0 = omega arith in record { few = omega arith; draining = subst (λ m. Draining false m w) same d; have = have; preserved = record { user = refl; network = refl } }
 own_moves_reach n w (move ∷ moves) d have own =
     let one = own_moves_on false n move w d (λ is last. cc) have own.0 in
     let now = world_after w (happens Whole move w) in
@@ -275,7 +275,7 @@ own_moves_reach n w (move ∷ moves) d have own =
       few = let some = one.some in let few = rest.few in omega (arith, some, few);
       draining = subst (λ m. Draining false m (run Whole moves now)) fewer rest.draining;
       have = rest.have;
-      kept = record { user = rest.kept.user ∙ one.kept.user; network = rest.kept.network ∙ one.kept.network };
+      preserved = record { user = rest.preserved.user ∙ one.preserved.user; network = rest.preserved.network ∙ one.preserved.network };
     }
 
 -- ---- Where no own move is possible.

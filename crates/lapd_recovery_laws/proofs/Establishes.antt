@@ -68,7 +68,7 @@ fresh_stream x y n is free off vs va vr most = record {
   so = record {
     in_7 = is;
     free = free;
-    coming = subst (λ v. IsInTransit y.rejecting y.vr v []) (sym vs) (nothing_in_transit y.rejecting y.vr vr);
+    arriving = subst (λ v. IsInTransit y.rejecting y.vr v []) (sym vs) (nothing_in_transit y.rejecting y.vr vr);
     wanted = refl;
     timed = λ _. vs ∙ sym va;
     stopped = λ on. cc;
@@ -99,16 +99,16 @@ module _ (x y : Station) (n : ℕ) (asks : AsksItself x.end) (new : IsNew y.end)
   }
 
   -- no message is outstanding: the waiting ones are sent
-  keeps : After (end_step Whole (opening (discards_by true (begin x.end))))
+  preserves : After (end_step Whole (opening (discards_by true (begin x.end))))
   unfolding zero_state_variables stop start state_to with_zero_counters begin story_after
-  keeps closed =
+  preserves closed =
       let z = opening (discards_by true (begin x.end)) in
       let none : z.end.window.ack_pending ≡ false = asks.none_pending in
       let quiet : (story c z) ≡ story c (begin z.end) = timers_send_nothing x.end.t200 _ _ in
       let d : Draws c y.end [] n z = record {
         frames = [];
         so = ap (λ t. t.line) quiet;
-        kept = ap (λ t. t.history.dropped) quiet;
+        preserved = ap (λ t. t.history.dropped) quiet;
         flow = subst (λ b. Flow z.end y.end (with_pending b z.end.window.vr []) [] n) (sym none) (flows z.end refl asks.free refl refl refl refl most);
         idle = asks.idle;
         ready = tt;
@@ -126,15 +126,15 @@ module _ (x y : Station) (n : ℕ) (asks : AsksItself x.end) (new : IsNew y.end)
         flow = subst (λ l. Flow z.end y.end l [] n) (sym (ap (λ fs. kinds fs) quiet)) (flows z.end refl asks.free refl refl refl refl (omega arith));
         idle = asks.idle;
         its_idle = new.idle;
-        going = subst AreReady (sym quiet) tt;
-        coming = tt;
+        proceeding = subst AreReady (sym quiet) tt;
+        arriving = tt;
       })
 
   opens : After (end_step Whole (row Whole AwaitingEstablishment (Heard (Ua true) Answer) (begin x.end)))
   unfolding row by_state awaiting_establishment ua_final confirm_or_indicate begin
   opens = by_test (λ (t : StepState). After (end_step Whole t)) x.end.release_pending _ _ (λ leaving. let stays = asks.stays in cc)
       (λ _. by_test (λ (d : StepState). After (end_step Whole (opening d))) x.end.layer3_initiated _ _ (λ by_layer3. let itself = asks.itself in cc)
-      (λ _. by_outstanding (λ (d : StepState). After (end_step Whole (opening d))) (begin x.end) keeps drops))
+      (λ _. by_outstanding (λ (d : StepState). After (end_step Whole (opening d))) (begin x.end) preserves drops))
 
   pub seen_established : Seen n (left_by v (acts Whole side.User Deliver v)) y
   unfolding acts delivers receives step

@@ -60,7 +60,7 @@ module _ (N : ℕ) (some_retries : 1 ≤ N) (up : Bool) where
         let vs = new.vs in
         record {
           some = omega (arith, le);
-          coming = inr (inl (accepted (record {
+          arriving = inr (inl (accepted (record {
             user = s.user;
             frames = [];
             network = new_is_up after_sabme.network.end new;
@@ -78,7 +78,7 @@ module _ (N : ℕ) (some_retries : 1 ≤ N) (up : Bool) where
         let count = o.up.count in
         record {
           some = omega (arith, le);
-          coming = inr (inl (accepted (record {
+          arriving = inr (inl (accepted (record {
             user = s.user;
             frames = o.frames;
             network = o.up;
@@ -98,7 +98,7 @@ module _ (N : ℕ) (some_retries : 1 ≤ N) (up : Bool) where
         let same_gone = ap (gone N) v.end in
         record {
           some = omega (arith, le);
-          coming = inr (inl (crossed (record { user = s.user; network = ap state_of v.end ∙ is; to_user = v.outgoing; to_network = v.incoming; most = omega (arith, le, all, same, same_attempt, same_gone) }) (λ up_is. ((k up_is).user, ap (λ (e : End). e.release_pending) v.end ∙ (k up_is).network is))));
+          arriving = inr (inl (crossed (record { user = s.user; network = ap state_of v.end ∙ is; to_user = v.outgoing; to_network = v.incoming; most = omega (arith, le, all, same, same_attempt, same_gone) }) (λ up_is. ((k up_is).user, ap (λ (e : End). e.release_pending) v.end ∙ (k up_is).network is))));
         }
 
     asks5_at_6 : Asks5 N n (at x y [] (sabme ∷ [])) → (up ≡ true → NoneReleases N (at x y [] (sabme ∷ []))) → y.end.state ≡ AwaitingRelease → ComesOn N up n after_sabme
@@ -109,7 +109,7 @@ module _ (N : ℕ) (some_retries : 1 ≤ N) (up : Bool) where
         let same_attempt = ap attempt v.end in
         record {
           some = omega (arith, le);
-          coming = inr (inl (refused (record { user = s.user; network = ap state_of v.end ∙ is; to_user = v.outgoing; to_network = v.incoming; most = omega (arith, le, only, same_attempt) }) (false_if up (λ up_is. (k up_is).not_6 is))));
+          arriving = inr (inl (refused (record { user = s.user; network = ap state_of v.end ∙ is; to_user = v.outgoing; to_network = v.incoming; most = omega (arith, le, only, same_attempt) }) (false_if up (λ up_is. (k up_is).not_6 is))));
         }
 
     pub asks5_delivered : Asks5 N n (at x y [] (sabme ∷ [])) → (up ≡ true → NoneReleases N (at x y [] (sabme ∷ []))) → IsInvariant (at x y [] (sabme ∷ [])) → HasTimersOfState y.end → ComesOn N up n after_sabme
@@ -148,7 +148,7 @@ module _ (N : ℕ) (some_retries : 1 ≤ N) (up : Bool) where
         let same_attempt = ap attempt v.end in
         record {
           some = omega (arith, le);
-          coming = inr (inl (parting (record {
+          arriving = inr (inl (parting (record {
             user = s.user;
             network = ap (λ (d : End). is_7_or_8 d.state) v.end ∙ closed_state;
             to_user = subst (EndInAnswer N) (sym v.outgoing) (parting_more back f s.ignored answer);
@@ -175,7 +175,7 @@ module _ (N : ℕ) (some_retries : 1 ≤ N) (up : Bool) where
       let len = ap (λ fs. length fs) v.incoming in
       record {
         some = omega (arith, le);
-        coming = inr (inl (asks_6 (record { user = ap state_of v.end ∙ s.user; ignored = subst AreIgnored (sym v.incoming) s.ignored.1; to_network = v.outgoing; most = omega (arith, le, len) }) k));
+        arriving = inr (inl (asks_6 (record { user = ap state_of v.end ∙ s.user; ignored = subst AreIgnored (sym v.incoming) s.ignored.1; to_network = v.outgoing; most = omega (arith, le, len) }) k));
       }
 
   -- ---- An answer is delivered to the user in state 6.
@@ -191,7 +191,7 @@ module _ (N : ℕ) (some_retries : 1 ≤ N) (up : Bool) where
           let none = none_left N some_retries up x.end empty in
           record {
             some = omega (arith, le);
-            coming = inr (inl (closed (record {
+            arriving = inr (inl (closed (record {
               user = ap (λ (d : End). is_7_or_8 d.state) v.end;
               network = s.network;
               to_user = v.incoming;
@@ -212,7 +212,7 @@ module _ (N : ℕ) (some_retries : 1 ≤ N) (up : Bool) where
       let len = ap (λ fs. length fs) v.incoming in
       record {
         some = omega (arith, le);
-        coming = inr (inl (parting (record { user = ap state_of v.end ∙ s.user; network = s.network; to_user = subst (EndInAnswer N) (sym v.incoming) s.to_user.1; to_network = v.outgoing; most = omega (arith, le, len) }) k));
+        arriving = inr (inl (parting (record { user = ap state_of v.end ∙ s.user; network = s.network; to_user = subst (EndInAnswer N) (sym v.incoming) s.to_user.1; to_network = v.outgoing; most = omega (arith, le, len) }) k));
       }
 
   -- ---- The DM is delivered to the user in state 5.
@@ -225,7 +225,7 @@ module _ (N : ℕ) (some_retries : 1 ≤ N) (up : Bool) where
       let dropped : unsent (by_user N some_retries up Deliver x y (dm ∷ []) []).user.end ≡ unsent (abandoned x.end s.user) = ap unsent v.end in
       record {
         some = omega (arith, le);
-        coming = inr (inl (closed (record {
+        arriving = inr (inl (closed (record {
           user = ap (λ (d : End). is_7_or_8 d.state) v.end;
           network = ap is_7_or_8 s.network;
           to_user = v.incoming;
@@ -259,7 +259,7 @@ module _ (N : ℕ) (some_retries : 1 ≤ N) (up : Bool) where
       let len = ap (λ fs. length fs) v.incoming in
       record {
         some = omega (arith, most);
-        coming = inr (inl (asks_6 (record { user = ap state_of v.end; ignored = subst AreIgnored (sym v.incoming) ignored; to_network = v.outgoing; most = omega (arith, most, len) }) k));
+        arriving = inr (inl (asks_6 (record { user = ap state_of v.end; ignored = subst AreIgnored (sym v.incoming) ignored; to_network = v.outgoing; most = omega (arith, most, len) }) k));
       }
 
   pub accepted_moves : (n : ℕ) (x y : Station) (fs : List Flight) → (s : Accepted N n (at x y (ua ∷ fs) [])) → (up ≡ true → x.end.release_pending ≡ false) → s.frames ≡ fs → (x.end.state ≡ AwaitingEstablishment → x.end.layer3_initiated ≡ true → unsent x.end ≡ 0) → AreClear x.end → IsTimedIn x.end.state x.end.t200 x.end.window.vs x.end.window.va x.end.window.peer_busy
@@ -289,7 +289,7 @@ module _ (N : ℕ) (some_retries : 1 ≤ N) (up : Bool) where
           let count = o.up.count in
           record {
             some = omega (arith, le);
-            coming = inl (inl (subst (λ u. Drains (n - 1) u) (sym same_world) (up_drains w.user y o.frames fs (n - 1) (subst IsInvariant same_world i) (subst AreSettledEnds same_world settled) o.up up_now (omega (arith, le, few, all, count, len)))));
+            arriving = inl (inl (subst (λ u. Drains (n - 1) u) (sym same_world) (up_drains w.user y o.frames fs (n - 1) (subst IsInvariant same_world i) (subst AreSettledEnds same_world settled) o.up up_now (omega (arith, le, few, all, count, len)))));
           }
 
   -- ---- The UA is delivered, and the peer is in state 5 too.
@@ -369,7 +369,7 @@ module _ (N : ℕ) (some_retries : 1 ≤ N) (up : Bool) where
           ] in
           record {
             some = omega (arith, most);
-            coming = inr (inl (alone_5 (record {
+            arriving = inr (inl (alone_5 (record {
               open_state = ap is_7_or_8 o.up.in_7;
               network = s.network;
               to_user = o.incoming;

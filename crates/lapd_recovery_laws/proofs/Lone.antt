@@ -93,7 +93,7 @@ Coming n w = Draining false n w ⊎ (Lone n w ⊎ Lone n (swapped w))
 
 record ComesOn (n : ℕ) (now : World) : Type 0 where
   some : 1 ≤ n
-  coming : Coming (n - 1) now
+  arriving : Coming (n - 1) now
 
 literally : (P : List Flight → List Flight → Type 0) (a b c d : List Flight) → a ≡ c → b ≡ d → P c d → P a b
 literally P a b c d is its_is p = subst (λ l. P l b) (sym is) (subst (λ l. P c l) (sym its_is) p)
@@ -126,7 +126,7 @@ module _ (n : ℕ) (x y : Station) where
       let weight : e.parameters.n200 - e.rc ≡ x.end.parameters.n200 - rc = ap (λ m. m - e.rc) parameters ∙ ap (λ m. x.end.parameters.n200 - m) same_rc in
       record {
         some = some;
-        coming = inr (inl (inl (inr (record {
+        arriving = inr (inl (inl (inr (record {
           user = p.polled.in_8;
           network = peer;
           to_user = p.incoming;
@@ -155,7 +155,7 @@ module _ (n : ℕ) (x y : Station) where
           let same : unsent (by_user Expire200 [] []).user.end ≡ unsent x.end = ap unsent v.end in
           record {
             some = omega (arith, le);
-            coming = inr (inl (inr (inl (record {
+            arriving = inr (inl (inr (inl (record {
               user = subst AsksItself (sym v.end) (asks_itself x.end);
               network = s.network;
               to_user = v.incoming;
@@ -173,7 +173,7 @@ module _ (n : ℕ) (x y : Station) where
       let len : length (by_network Deliver [] (frame ∷ rest)).to_network ≡ length rest = ap (λ fs. length fs) v.incoming in
       record {
         some = omega (arith, le);
-        coming = inr (inl (inl (inr (record {
+        arriving = inr (inl (inl (inr (record {
           user = s.user;
           network = subst IsReleased (sym v.end) s.network;
           to_user = v.outgoing;
@@ -189,7 +189,7 @@ module _ (n : ℕ) (x y : Station) where
       let v = seen_after_frame y sabme [] [] (established y.end) (ua ∷ []) (sabme_in_4 y.end s.network.in_4 s.network.empty) in
       record {
         some = omega (arith, le);
-        coming = inr (inl (inr (inr (record {
+        arriving = inr (inl (inr (inr (record {
           user = s.user;
           network = subst IsNew (sym v.end) (is_new y.end off s.network.empty);
           to_user = v.outgoing;
@@ -204,7 +204,7 @@ module _ (n : ℕ) (x y : Station) where
       let same = moved_user Deliver (at x y (ua ∷ []) []) in
       record {
         some = omega (arith, le);
-        coming = inl (inl (record {
+        arriving = inl (inl (record {
           holds = subst IsInvariant same (each_move_preserves (user_move Deliver) (at x y (ua ∷ []) []) i);
           ends_settled = subst AreSettledEnds same (move_settles (user_move Deliver) (at x y (ua ∷ []) []) settled);
           sees = seen_established x y (n - 1) s.user s.network (omega (arith, le));
@@ -348,7 +348,7 @@ due_swapped (UnitData octets) w = refl
 due_swapped Restart w = refl
 
 coming_swapped : (n : ℕ) (w : World) → ComesOn n w → ComesOn n (swapped w)
-coming_swapped n w c = record { some = c.some; coming = by_coming c.coming }
+coming_swapped n w c = record { some = c.some; arriving = by_coming c.arriving }
   where
     by_coming : Coming (n - 1) w → Coming (n - 1) (swapped w)
     by_coming (inl d) = inl (draining_swapped false (n - 1) w d)
@@ -378,7 +378,7 @@ lone_moves n side.Network Expire203 w l f due ok = subst (λ v. ComesOn n v) (sy
 lone_moves n s event w l f due ok = cc
 
 coming_moves : (n : ℕ) (s : Side) (event : PairEvent) (w : World) → Coming n w → Facts w → IsOwn Whole (record { side = s; event = event }) w → ComesOn n (after s event w)
-coming_moves n s event w (inl d) f own = let m = own_moves_on false n (record { side = s; event = event }) w d (λ is last. cc) f.have own in record { some = m.some; coming = inl m.draining }
+coming_moves n s event w (inl d) f own = let m = own_moves_on false n (record { side = s; event = event }) w d (λ is last. cc) f.have own in record { some = m.some; arriving = inl m.draining }
 coming_moves n s event w (inr (inl l)) f own = lone_moves n s event w l f own.due (ok_of_side s event w own.admitted)
 coming_moves n side.User event w (inr (inr l)) f own =
     subst (λ v. ComesOn n v) (ap swapped (network_alike Whole event (swapped w)))
@@ -394,19 +394,19 @@ facts_after move w f = record { holds = each_move_preserves move w f.holds; sett
 
 record Reaches (n : ℕ) (moves : List Move) (now : World) : Type 0 where
   few : length moves ≤ n
-  coming : Coming (n - length moves) now
+  arriving : Coming (n - length moves) now
   facts : Facts now
 
 own_moves_reach : (n : ℕ) (w : World) (moves : List Move) → Coming n w → Facts w → AreOwn Whole moves w → Reaches n moves (run Whole moves w)
-own_moves_reach n w [] c f own = let same : n ≡ n - 0 = omega arith in record { few = omega arith; coming = subst (λ m. Coming m w) same c; facts = f }
+own_moves_reach n w [] c f own = let same : n ≡ n - 0 = omega arith in record { few = omega arith; arriving = subst (λ m. Coming m w) same c; facts = f }
 own_moves_reach n w (move ∷ moves) c f own =
     let one = coming_moves n move.side move.event w c f own.0 in
     let now = world_after w (happens Whole move w) in
-    let rest = own_moves_reach (n - 1) now moves one.coming (facts_after move w f) own.1 in
+    let rest = own_moves_reach (n - 1) now moves one.arriving (facts_after move w f) own.1 in
     let fewer : n - 1 - length moves ≡ n - length (move ∷ moves) = omega arith in
     record {
       few = let some = one.some in let few = rest.few in omega (arith, some, few);
-      coming = subst (λ m. Coming m (run Whole moves now)) fewer rest.coming;
+      arriving = subst (λ m. Coming m (run Whole moves now)) fewer rest.arriving;
       facts = rest.facts;
     }
 
@@ -445,7 +445,7 @@ drained_at_rest n w (inr (inr l)) have still rests = absurd (no_lone_rest n (swa
 released_so : (w : World) (i : IsInvariant w) → w.network.end.state ≡ TeiAssigned → IsReleased w.network.end
 released_so w i is =
     let y = party i.network_base w.network in
-    let none : IsEmpty y.sends = subst (λ st. IsConsistentSender st y.asked y.leaving y.sends) is i.both.its.kept in
+    let none : IsEmpty y.sends = subst (λ st. IsConsistentSender st y.asked y.leaving y.sends) is i.both.its.preserved in
     record { in_4 = is; empty = sym none.next }
 
 lone_begins : (n200 : ℕ) (w : World) → IsInvariant w → AreSettled w.user.history → IsLone n200 w.user.end w.network.end → w.to_user ≡ [] → w.to_network ≡ [] → Lone (most_lone_moves n200 w) w
@@ -471,19 +471,19 @@ lone_begins n200 w i settled l to_user to_network = by_state w.user.end.state re
     by_state AwaitingRelease is opened = cc
 
 begins : (n200 : ℕ) (w : World) → IsInvariant w → IsConsistentWorld Whole w → IsLoneLine n200 w → Coming (most_lone_moves n200 w) w
-begins n200 w i kept l = by_ends l.ends
+begins n200 w i preserved l = by_ends l.ends
   where
     same : most_lone_moves n200 (swapped w) ≡ most_lone_moves n200 w
     same = omega arith
 
     by_ends : IsLone n200 w.user.end w.network.end ⊎ IsLone n200 w.network.end w.user.end → Coming (most_lone_moves n200 w) w
-    by_ends (inl lone) = inr (inl (lone_begins n200 w i kept.user.settled lone l.to_user l.to_network))
-    by_ends (inr lone) = inr (inr (subst (λ m. Lone m (swapped w)) same (lone_begins n200 (swapped w) (exchanged w i) kept.network.settled lone l.to_network l.to_user)))
+    by_ends (inl lone) = inr (inl (lone_begins n200 w i preserved.user.settled lone l.to_user l.to_network))
+    by_ends (inr lone) = inr (inr (subst (λ m. Lone m (swapped w)) same (lone_begins n200 (swapped w) (exchanged w i) preserved.network.settled lone l.to_network l.to_user)))
 
 pub lone_line_comes_up : (n200 : ℕ) (w : World) → IsInvariant w → IsConsistentWorld Whole w → AreSettledEnds w → HaveTimersOfStates w → IsLoneLine n200 w → ComesUpAnew Whole n200 w
-lone_line_comes_up n200 w i kept settled have l =
+lone_line_comes_up n200 w i preserved settled have l =
     let n = most_lone_moves n200 w in
-    let c = begins n200 w i kept l in
+    let c = begins n200 w i preserved l in
     let f : Facts w = record { holds = i; settled = settled; have = have } in
     record {
       few = λ moves own. (own_moves_reach n w moves c f own).few;
@@ -491,7 +491,7 @@ lone_line_comes_up n200 w i kept settled have l =
           let now = run Whole moves w in
           let reached = own_moves_reach n w moves c f own in
           let still = rests_still now.user now.network now.to_user now.to_network rests in
-          let d = drained_at_rest (n - length moves) now reached.coming reached.facts.have still rests in
-          let u = up_so (n - length moves) now now.user now.network now.to_user now.to_network (run_consistent Whole moves w kept) d still (record { user = refl; network = refl }) in
+          let d = drained_at_rest (n - length moves) now reached.arriving reached.facts.have still rests in
+          let u = up_so (n - length moves) now now.user now.network now.to_user now.to_network (run_consistent Whole moves w preserved) d still (record { user = refl; network = refl }) in
           record { agreed = u.agreed; level = u.level; safe = u.safe };
     }

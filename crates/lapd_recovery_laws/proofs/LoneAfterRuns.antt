@@ -26,16 +26,16 @@ up_on_tags : (w : World) → IsUpAnew w → IsUpAnew (tag_world w)
 up_on_tags w u = record { agreed = agreed_on_tags w u.agreed; level = are_level_on_tags w.user.end w.network.end u.level; safe = (safe_on_tags w).1 u.safe }
 
 comes_up_on_tags : (n200 : ℕ) (w : World) → IsInvariant w → IsConsistentWorld Whole w → ComesUpAnew Whole n200 w → ComesUpAnew Tagged n200 (tag_world w)
-comes_up_on_tags n200 w i kept c = record {
+comes_up_on_tags n200 w i preserved c = record {
   few = λ moves own.
       let most : most_lone_moves n200 (tag_world w) ≡ most_lone_moves n200 w = ap (λ n. 3 * n + 2 * n200 + 5) (left_on_tags w) in
-      let few = c.few moves (are_own_by_tags moves w i kept own) in
+      let few = c.few moves (are_own_by_tags moves w i preserved own) in
       omega (arith, most, few);
   up = λ moves own rests.
       let now = run Whole moves w in
-      let same : run Tagged moves (tag_world w) ≡ tag_world now = ran_on_tags moves w i kept in
-      let still : Rests Whole now = rests_by_tags now (each_run_preserves moves w i) (run_consistent Whole moves w kept) (subst (λ v. Rests Tagged v) same rests) in
-      subst IsUpAnew (sym same) (up_on_tags now (c.up moves (are_own_by_tags moves w i kept own) still));
+      let same : run Tagged moves (tag_world w) ≡ tag_world now = ran_on_tags moves w i preserved in
+      let still : Rests Whole now = rests_by_tags now (each_run_preserves moves w i) (run_consistent Whole moves w preserved) (subst (λ v. Rests Tagged v) same rests) in
+      subst IsUpAnew (sym same) (up_on_tags now (c.up moves (are_own_by_tags moves w i preserved own) still));
 }
 
 unmapped : (l : List Flight) → map tag_flight l ≡ [] → l ≡ []
@@ -62,17 +62,17 @@ module _ (n200 : ℕ) (user network : Parameters) (user_small : user.k ≤ 127) 
   holds : IsInvariant reached
   holds = each_run_preserves moves start (new_holds user network user_small network_small)
 
-  kept : IsConsistentWorld Whole reached
-  kept = run_consistent Whole moves start (new_world_consistent Whole user network user_small network_small)
+  preserved : IsConsistentWorld Whole reached
+  preserved = run_consistent Whole moves start (new_world_consistent Whole user network user_small network_small)
 
   up_whole : IsLoneLine n200 reached → ComesUpAnew Whole n200 reached
-  up_whole l = let c = lone_line_comes_up n200 reached holds kept (run_settles moves start (new_settles user network user_some network_some)) (timers_after_run moves start (new_has_timers user network)) l in c
+  up_whole l = let c = lone_line_comes_up n200 reached holds preserved (run_settles moves start (new_settles user network user_some network_some)) (timers_after_run moves start (new_has_timers user network)) l in c
 
   comes_up_by : (r : Reading) → IsLoneLine n200 (run r moves (new_world user network)) → ComesUpAnew r n200 (run r moves (new_world user network))
   comes_up_by Whole l = up_whole l
   comes_up_by Tagged l =
       let same : run Tagged moves (new_world user network) ≡ tag_world reached = reached_tags user network user_small network_small moves in
-      subst (λ w. ComesUpAnew Tagged n200 w) (sym same) (comes_up_on_tags n200 reached holds kept (up_whole (lone_line_by_tags n200 reached (subst (λ w. IsLoneLine n200 w) same l))))
+      subst (λ w. ComesUpAnew Tagged n200 w) (sym same) (comes_up_on_tags n200 reached holds preserved (up_whole (lone_line_by_tags n200 reached (subst (λ w. IsLoneLine n200 w) same l))))
 
 pub every_lone_line_comes_up : (r : Reading) (n200 : ℕ) (user network : Parameters) → user.k ≤ 127 → network.k ≤ 127 → 1 ≤ user.k → 1 ≤ network.k → (moves : List Move) → IsLoneLine n200 (run r moves (new_world user network)) → ComesUpAnew r n200 (run r moves (new_world user network))
 every_lone_line_comes_up r n200 user network u n us ns moves l = comes_up_by n200 user network u n us ns moves r l

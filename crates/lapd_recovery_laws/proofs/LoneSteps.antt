@@ -27,7 +27,7 @@ use Rattle.lapd_pair_laws.proofs.ActionEffects.{Context, story}
 use Rattle.lapd_pair_laws.proofs.ClosedActions.{closes_nothing}
 use Rattle.lapd_pair_laws.proofs.Lists.{by_test}
 use Rattle.lapd_pair_laws.proofs.Steps.{context}
-use Rattle.lapd_pair_laws.proofs.Tells.{enquiry_puts, last_sent, last_puts}
+use Rattle.lapd_pair_laws.proofs.States.{enquiry_puts, last_sent, last_puts}
 use Rattle.lapd_pair_laws.proofs.Worlds.{left_by}
 use Rattle.lapd_recovery_laws.proofs.Beside.{seeing}
 use Rattle.lapd_recovery_laws.proofs.ClosedSteps.{Yields}

@@ -60,14 +60,14 @@ with_final_of_peer x y out back is y_open lost both =
     let here = Some (reception_now y out) in
     let Heard : Reception → Type 0 = IsReceivable y x here in
     let Got : Reception → Type 0 = λ h. IsGot x.sends.base y.takes.vr y.takes.received in
-    let named : high y.takes.received ≤ x.sends.base + y.takes.vr = (m.its.heard.stream.step (inl x_open)).below in
-    let was : Heard (reception_now x back) = from_open Heard x back x_open m.mine.heard in
+    let named : high y.takes.received ≤ x.sends.base + y.takes.vr = (m.its.reception.stream.step (inl x_open)).below in
+    let was : Heard (reception_now x back) = from_open Heard x back x_open m.mine.reception in
     let asked : AreAsked x.state x.sends.base y.takes.received out (back ++ u ∷ []) = asked_with_final x.state x.sends.base y.takes.vr y.takes.received out back is lost named was.asked in
     let done : Mid y x (back ++ u ∷ []) out = sends_supervisory y x back out u (record { no_acceptance = refl; no_message = refl; no_ask = refl; no_answer = refl; known = refl })
-    (on_both Heard Got _ (receives x back) (λ h i got. acks_sent y.takes (is_7_or_8 y.state) x.sends.base h.va h.vs u h.frames m.opened refl got i.acks) m.mine.heard (got_where_received m))
+    (on_both Heard Got _ (receives x back) (λ h i got. acks_sent y.takes (is_7_or_8 y.state) x.sends.base h.va h.vs u h.frames m.opened refl got i.acks) m.mine.reception (got_where_received m))
     (subst (λ o. OnReception (λ h. AreAsked x.state x.sends.base y.takes.received out (h.frames ++ u ∷ [])) o) (sym (open_receives x back x_open)) asked)
-    (on_map Heard _ (receives x back) (λ h i. rejected_sent x.state x.sends.vs x.sends.base y.takes.received here u h.frames refl i.rejected) m.mine.heard)
-    (asked_received y.state y.sends.base x.takes.received u (receives x back) out refl refl m.its.heard.asked) m in
+    (on_map Heard _ (receives x back) (λ h i. rejected_sent x.state x.sends.vs x.sends.base y.takes.received here u h.frames refl i.rejected) m.mine.reception)
+    (asked_received y.state y.sends.base x.takes.received u (receives x back) out refl refl m.its.reception.asked) m in
     let b = leave y x (back ++ u ∷ []) out done in
     record { mine = b.its; its = b.mine }
 
@@ -101,8 +101,8 @@ pub record LostParts (last : Bool) (n : ℕ) (w : World) : Type 0 where
   pub its : Stream (source w.network.end) (sink w.user.end) (kinds w.to_user) (kinds w.to_network) b
   pub idle : w.user.end.window.own_busy ≡ false
   pub its_idle : w.network.end.window.own_busy ≡ false
-  pub going : AreReady w.to_network
-  pub coming : AreReady w.to_user
+  pub proceeding : AreReady w.to_network
+  pub arriving : AreReady w.to_user
   pub most : length w.to_network + length w.to_user + burden 3 (source w.user.end) (sink w.network.end) + b ≤ n
 
 pub kinds_length : (fs : List Flight) → length (kinds fs) ≡ length fs
@@ -148,8 +148,8 @@ lost_so last n w p =
           flow = subst (λ l. Flow x.end y.end out l (n - 2)) (sym same) flow;
           idle = p.idle;
           its_idle = p.its_idle;
-          going = p.going;
-          coming = ready_more w.to_user (final_of_peer y) refl p.coming;
+          proceeding = p.proceeding;
+          arriving = ready_more w.to_user (final_of_peer y) refl p.arriving;
         };
       };
     }

@@ -74,8 +74,8 @@ peer_moved last n w i ends_settled in_8 tries none s = by_finals (none_or_one (t
       its = s.flow.mine;
       idle = s.its_idle;
       its_idle = s.idle;
-      going = s.coming;
-      coming = s.going;
+      proceeding = s.arriving;
+      arriving = s.proceeding;
       most = let le = s.flow.most in let l = kinds_length w.to_user in let k = kinds_length w.to_network in omega (arith, le, heavy, l, k);
     }))
     by_finals (inr one) = inr (record {
@@ -91,8 +91,8 @@ peer_moved last n w i ends_settled in_8 tries none s = by_finals (none_or_one (t
         };
         idle = s.its_idle;
         its_idle = s.idle;
-        going = s.coming;
-        coming = s.going;
+        proceeding = s.arriving;
+        arriving = s.proceeding;
       };
     })
 
@@ -147,8 +147,8 @@ module _ (last : Bool) (n : ℕ) (x y : Station) (l : UserLost last n (at x y []
     };
     idle = l.drains.sees.its_idle;
     its_idle = l.drains.sees.idle;
-    going = tt;
-    coming = tt;
+    proceeding = tt;
+    arriving = tt;
   }
 
   pub lost_peer_expires : y.end.t200 ≡ true → UserLost last (n - 1) (world_after w (happens Whole (network_move Expire200) w)) ⊎ Drains (n - 1) (world_after w (happens Whole (network_move Expire200) w))

@@ -137,7 +137,7 @@ lost_user_receives last n x y frame rest to_network l =
     record {
       holds = each_move_preserves (user_move Deliver) w l.holds;
       in_8 = in_8;
-      tries = tries_after last x y frame rest to_network (ready_front (frame ∷ rest) (final_of_peer y) d.sees.coming) l.in_8 l.tries in_8;
+      tries = tries_after last x y frame rest to_network (ready_front (frame ∷ rest) (final_of_peer y) d.sees.arriving) l.in_8 l.tries in_8;
       two = let le = d.sees.flow.most in omega (arith, le);
       drains = subst (λ m. Drains m (with_final now)) fewer here;
     }
@@ -229,8 +229,8 @@ module _ (last : Bool) (n : ℕ) (x y : Station) (back : List Flight) (frame : F
     its = its;
     idle = seen.its_idle;
     its_idle = seen.idle;
-    going = subst AreReady are.with_rest seen.coming;
-    coming = let b = are.outgoing in subst AreReady (sym b.lacks) (ready_beside f b.front b.back (subst AreReady b.has seen.going));
+    proceeding = subst AreReady are.with_rest seen.arriving;
+    arriving = let b = are.outgoing in subst AreReady (sym b.lacks) (ready_beside f b.front b.back (subst AreReady b.has seen.proceeding));
     most =
         let le = seen.flow.most in
         let one = asked.one in

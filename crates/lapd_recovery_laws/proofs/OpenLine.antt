@@ -57,7 +57,7 @@ stream_begins x y is low high timed = by_timer x.t200 refl
         let same : y.vr ≡ x.vs = omega (arith, low, high, t.0) in
         record {
           stage = Clean;
-          so = record { in_7 = is; free = t.1; coming = same_in_transit y.rejecting y.vr x.vs same; wanted = refl; timed = λ _. t.0; stopped = λ on. cc };
+          so = record { in_7 = is; free = t.1; arriving = same_in_transit y.rejecting y.vr x.vs same; wanted = refl; timed = λ _. t.0; stopped = λ on. cc };
           most = omega (arith, same);
         }
 
@@ -121,8 +121,8 @@ module _ (x y : Station) (i : IsInvariant (at x y [] [])) (ends_settled : AreSet
       flow = record { a = most_of x; b = most_of y; mine = stream_x is; its = stream_y its_is; most = let le = all in omega (arith, le) };
       idle = x_free;
       its_idle = y_free;
-      going = tt;
-      coming = tt;
+      proceeding = tt;
+      arriving = tt;
     };
   }
 
@@ -138,8 +138,8 @@ module _ (x y : Station) (i : IsInvariant (at x y [] [])) (ends_settled : AreSet
     its = stream_y its_is;
     idle = x_free;
     its_idle = y_free;
-    going = tt;
-    coming = tt;
+    proceeding = tt;
+    arriving = tt;
     most = let le = all in let heavy = burden_x in omega (arith, le, heavy);
   })
 
@@ -155,8 +155,8 @@ module _ (x y : Station) (i : IsInvariant (at x y [] [])) (ends_settled : AreSet
     its = stream_x is;
     idle = y_free;
     its_idle = x_free;
-    going = tt;
-    coming = tt;
+    proceeding = tt;
+    arriving = tt;
     most = let le = all in let heavy = burden_y in omega (arith, le, heavy);
   })
 
@@ -200,7 +200,7 @@ level_so : (x y : End) (a : ℕ) → Stream (source x) (sink y) [] [] a → x.t2
 level_so x y a s off = by_stage s.stage s.so
   where
     by_stage : (stage : Stage) → IsAt stage (source x) (sink y) [] [] → IsLevel x y
-    by_stage Clean c = record { established = c.in_7; acknowledged = sym (c.timed off); received = in_transit_none y.window.rejecting y.window.vr x.window.vs c.coming }
+    by_stage Clean c = record { established = c.in_7; acknowledged = sym (c.timed off); received = in_transit_none y.window.rejecting y.window.vr x.window.vs c.arriving }
     by_stage Waiting w = let on = w.1 in cc
     by_stage Polling w = absurd (omega (arith, w.1))
     by_stage Answered w = absurd (omega (arith, w.1))
@@ -222,40 +222,40 @@ side_served before after settled none same = record {
     all_passed place given passed there all = grind (arith, nat_tests, there, all)
 
 up_at : (n : ℕ) (begun : World) (x y : Station) → IsConsistentWorld Whole (at x y [] []) → Drains n (at x y [] []) → x.end.t200 ≡ false → y.end.t200 ≡ false → SameDropped begun (at x y [] []) → IsUp begun (at x y [] [])
-up_at n begun x y kept d off none same =
+up_at n begun x y preserved d off none same =
     let w = at x y [] [] in
     let still : IsStill w = record { to_user = refl; to_network = refl; user = off; network = none } in
-    let ends : Ends begun w = record { n = n; drains = d; runs_at_place = record { is = next_none Whole x y off none; still = still }; kept = same } in
-    let empty : left w ≡ 0 = nothing_left begun w kept ends in
+    let ends : Ends begun w = record { n = n; drains = d; runs_at_place = record { is = next_none Whole x y off none; still = still }; preserved = same } in
+    let empty : left w ≡ 0 = nothing_left begun w preserved ends in
     let level : AreLevel x.end y.end = record { mine = level_so x.end y.end d.sees.flow.a d.sees.flow.mine off; its = level_so y.end x.end d.sees.flow.b d.sees.flow.its none } in
     record {
       agreed = record { to_user = refl; to_network = refl; empty = empty; user_stopped = off; network_stopped = none; ends = inr level };
       level = level;
-      user = side_served begun.user x kept.user.settled (omega (arith, empty)) same.user;
-      network = side_served begun.network y kept.network.settled (omega (arith, empty)) same.network;
+      user = side_served begun.user x preserved.user.settled (omega (arith, empty)) same.user;
+      network = side_served begun.network y preserved.network.settled (omega (arith, empty)) same.network;
       safe = safe_by_invariant w d.holds;
     }
 
 pub up_so : (n : ℕ) (begun : World) (x y : Station) (to_user to_network : List Flight) → IsConsistentWorld Whole (at x y to_user to_network) → Drains n (at x y to_user to_network) → IsStill (at x y to_user to_network) → SameDropped begun (at x y to_user to_network) → IsUp begun (at x y to_user to_network)
-up_so n begun x y [] [] kept d still same = up_at n begun x y kept d still.user still.network same
-up_so n begun x y (frame ∷ rest) to_network kept d still same = let none = still.to_user in cc
-up_so n begun x y [] (frame ∷ rest) kept d still same = let none = still.to_network in cc
+up_so n begun x y [] [] preserved d still same = up_at n begun x y preserved d still.user still.network same
+up_so n begun x y (frame ∷ rest) to_network preserved d still same = let none = still.to_user in cc
+up_so n begun x y [] (frame ∷ rest) preserved d still same = let none = still.to_network in cc
 
 -- ---- The theorem, on whole numbers.
 
 begins : (x y : Station) (to_user to_network : List Flight) → IsInvariant (at x y to_user to_network) → IsConsistentWorld Whole (at x y to_user to_network) → AreSettledEnds (at x y to_user to_network) → IsOpenLine (at x y to_user to_network) → Draining false (most_moves (at x y to_user to_network)) (at x y to_user to_network)
-begins x y [] [] i kept ends_settled o = draining_begins x y i ends_settled kept.user.settled kept.network.settled false o.user.open_state o.network.open_state (o.user.free o.user.open_state) (o.network.free o.network.open_state) (λ is. tries_so x.end.rc x.end.parameters.n200 (o.user.tries is)) (λ is. tries_so y.end.rc y.end.parameters.n200 (o.network.tries is))
-begins x y (frame ∷ rest) to_network i kept ends_settled o = let none = o.to_user in cc
-begins x y [] (frame ∷ rest) i kept ends_settled o = let none = o.to_network in cc
+begins x y [] [] i preserved ends_settled o = draining_begins x y i ends_settled preserved.user.settled preserved.network.settled false o.user.open_state o.network.open_state (o.user.free o.user.open_state) (o.network.free o.network.open_state) (λ is. tries_so x.end.rc x.end.parameters.n200 (o.user.tries is)) (λ is. tries_so y.end.rc y.end.parameters.n200 (o.network.tries is))
+begins x y (frame ∷ rest) to_network i preserved ends_settled o = let none = o.to_user in cc
+begins x y [] (frame ∷ rest) i preserved ends_settled o = let none = o.to_network in cc
 
 pub open_line_comes_up : (w : World) → IsInvariant w → IsConsistentWorld Whole w → AreSettledEnds w → HaveTimersOfStates w → IsOpenLine w → ComesUp Whole w
-open_line_comes_up w i kept ends_settled have o =
-    let d = begins w.user w.network w.to_user w.to_network i kept ends_settled o in
+open_line_comes_up w i preserved ends_settled have o =
+    let d = begins w.user w.network w.to_user w.to_network i preserved ends_settled o in
     record {
       few = λ moves own. (own_moves_reach (most_moves w) w moves d have own).few;
       up = λ moves own rests.
           let now = run Whole moves w in
           let reached = own_moves_reach (most_moves w) w moves d have own in
           let still = rests_still now.user now.network now.to_user now.to_network rests in
-          up_so (most_moves w - length moves) w now.user now.network now.to_user now.to_network (run_consistent Whole moves w kept) (rests_drained false (most_moves w - length moves) now reached.draining reached.have still) still reached.kept;
+          up_so (most_moves w - length moves) w now.user now.network now.to_user now.to_network (run_consistent Whole moves w preserved) (rests_drained false (most_moves w - length moves) now reached.draining reached.have still) still reached.preserved;
     }

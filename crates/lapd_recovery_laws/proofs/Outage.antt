@@ -63,8 +63,8 @@ facts_swapped N w f = record {
 empty_5 : (w : World) → IsInvariant w → w.user.end.state ≡ AwaitingEstablishment → w.user.end.layer3_initiated ≡ true → unsent w.user.end ≡ 0
 empty_5 w i is asked =
     let x = party i.user_base w.user in
-    let kept : IsConsistentSender AwaitingEstablishment true x.leaving x.sends = subst (λ b. IsConsistentSender AwaitingEstablishment b x.leaving x.sends) asked (subst (λ st. IsConsistentSender st x.asked x.leaving x.sends) is i.both.mine.kept) in
-    let none : IsEmpty x.sends = kept in
+    let preserved : IsConsistentSender AwaitingEstablishment true x.leaving x.sends = subst (λ b. IsConsistentSender AwaitingEstablishment b x.leaving x.sends) asked (subst (λ st. IsConsistentSender st x.asked x.leaving x.sends) is i.both.mine.preserved) in
+    let none : IsEmpty x.sends = preserved in
     let all : w.user.end.next ≡ length w.user.end.given = none.next in
     omega (arith, all)
 
@@ -72,7 +72,7 @@ empty_5 w i is asked =
 empty_6 : (w : World) → IsInvariant w → w.user.end.state ≡ AwaitingRelease → length w.user.end.given ≡ w.user.end.next
 empty_6 w i is =
     let x = party i.user_base w.user in
-    let none : IsEmpty x.sends = subst (λ st. IsConsistentSender st x.asked x.leaving x.sends) is i.both.mine.kept in
+    let none : IsEmpty x.sends = subst (λ st. IsConsistentSender st x.asked x.leaving x.sends) is i.both.mine.preserved in
     sym none.next
 
 empty_6_too : (w : World) → IsInvariant w → w.network.end.state ≡ AwaitingRelease → length w.network.end.given ≡ w.network.end.next
@@ -154,7 +154,7 @@ module _ (N : ℕ) (some_retries : 1 ≤ N) (up : Bool) where
         let in_4 : now.user.end.state ≡ TeiAssigned = ap state_of seen.end ∙ is in
         record {
           some = omega (arith, le, some);
-          coming = inr (inl (closed (record {
+          arriving = inr (inl (closed (record {
             user = ap is_7_or_8 in_4;
             network = s.network;
             to_user = seen.incoming;
@@ -182,7 +182,7 @@ module _ (N : ℕ) (some_retries : 1 ≤ N) (up : Bool) where
             = ap (λ a. by_peer_5 N y.end.state (attempt y.end + gone N y.end + a) (attempt y.end)) same_again in
             record {
               some = omega (arith, le, three);
-              coming = inr (inl (asks_5 (record { user = ap state_of seen.end ∙ is; to_user = seen.incoming; to_network = seen.outgoing; most = omega (arith, le, three, bit, same, peer, bound) }) (λ is. absurd (not_both up k is))));
+              arriving = inr (inl (asks_5 (record { user = ap state_of seen.end ∙ is; to_user = seen.incoming; to_network = seen.outgoing; most = omega (arith, le, three, bit, same, peer, bound) }) (λ is. absurd (not_both up k is))));
             }
         by_tries false last = let one = attempt_is AwaitingEstablishment false x.end is last in gives_up (abandoned x.end is) (seen_after_t200 x (abandoned x.end is) [] on (give_up_in_5 x.end is on last)) refl (omega arith) (omega (arith, one))
 
@@ -198,7 +198,7 @@ module _ (N : ℕ) (some_retries : 1 ≤ N) (up : Bool) where
             let all = closed_peer_6 N some_retries up y.end.state (attempt y.end + 2 * unsent y.end) s.network in
             record {
               some = omega (arith, le, three);
-              coming = inr (inl (asks_6 (record { user = ap state_of seen.end ∙ is; ignored = subst AreIgnored (sym seen.incoming) tt; to_network = seen.outgoing; most = omega (arith, le, three, len, all) }) k));
+              arriving = inr (inl (asks_6 (record { user = ap state_of seen.end ∙ is; ignored = subst AreIgnored (sym seen.incoming) tt; to_network = seen.outgoing; most = omega (arith, le, three, len, all) }) k));
             }
         by_tries false last = let one = attempt_is AwaitingRelease false x.end is last in gives_up (released x.end is) (seen_after_t200 x (released x.end is) [] on (give_up_in_6 x.end is on last)) refl (omega arith) (omega (arith, one))
 
@@ -374,7 +374,7 @@ module _ (N : ℕ) (some_retries : 1 ≤ N) (up : Bool) where
   after s event w = world_after w (happens Whole (record { side = s; event = event }) w)
 
   coming_swapped : (n : ℕ) (w : World) → ComesOn N up n w → ComesOn N up n (swapped w)
-  coming_swapped n w c = record { some = c.some; coming = by_coming c.coming }
+  coming_swapped n w c = record { some = c.some; arriving = by_coming c.arriving }
     where
       by_coming : Coming N up (n - 1) w → Coming N up (n - 1) (swapped w)
       by_coming (inl d) = inl (draining_swapped true (n - 1) w d)
@@ -417,7 +417,7 @@ module _ (N : ℕ) (some_retries : 1 ≤ N) (up : Bool) where
         let none = open_peer_5 N some_retries up y.end.state (attempt y.end + gone N y.end + again N then.user.end) (attempt y.end) opened in
         record {
           some = omega (arith, most);
-          coming = inr (inl (asks_5 (record { user = ap state_of seen.end; to_user = seen.incoming; to_network = seen.outgoing; most = omega (arith, most, same, bit, none) }) (λ _. record {
+          arriving = inr (inl (asks_5 (record { user = ap state_of seen.end; to_user = seen.incoming; to_network = seen.outgoing; most = omega (arith, most, same, bit, none) }) (λ _. record {
             user = ap (λ (e : End). e.release_pending) seen.end;
             not_6 = λ in_6. let never : is_7_or_8 y.end.state ≡ false = ap is_7_or_8 in_6 in cc;
             network = λ in_5. absurd (let never : is_7_or_8 y.end.state ≡ false = ap is_7_or_8 in_5 in cc);
@@ -445,7 +445,7 @@ module _ (N : ℕ) (some_retries : 1 ≤ N) (up : Bool) where
   -- ---- Any own move.
 
   from_draining : (n : ℕ) (s : Side) (event : PairEvent) (w : World) → Draining true n w → (event ≡ Expire200 → MayRetry true (view_of s w).station.end) → Facts N w → IsOwn Whole (record { side = s; event = event }) w → ComesOn N up n (after s event w)
-  from_draining n s event w d may f own = let m = own_moves_on true n (record { side = s; event = event }) w d may f.have own in record { some = m.some; coming = inl m.draining }
+  from_draining n s event w d may f own = let m = own_moves_on true n (record { side = s; event = event }) w d may f.have own in record { some = m.some; arriving = inl m.draining }
 
   user_t200_open : (n : ℕ) (w : World) → Draining true n w → Facts N w → IsOwn Whole (user_move Expire200) w → ComesOn N up n (after side.User Expire200 w)
   user_t200_open n w d f own = by_tries (tries w.user.end) refl

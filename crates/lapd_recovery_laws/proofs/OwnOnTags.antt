@@ -21,7 +21,7 @@ use Rattle.lapd_recovery_laws.specs.Agreed.{IsLevel, AreLevel, AreReleased, AreA
 -- ---- Moves.
 
 move_tagged : (move : Move) (w : World) → IsInvariant w → IsConsistentWorld Whole w → happens Tagged move (tag_world w) ≡ tag_outcome (happens Whole move w)
-move_tagged move w i kept = move_on_tags move w kept (move_near move w kept (within_by_invariant w i))
+move_tagged move w i preserved = move_on_tags move w preserved (move_near move w preserved (within_by_invariant w i))
 
 admitted_on_tags : (r : Result Happened Refusal) → is_ok (tag_outcome r) ≡ is_ok r
 admitted_on_tags (Ok happened) = refl
@@ -32,7 +32,7 @@ after_on_tags w (Ok happened) = refl
 after_on_tags w (Err refusal) = refl
 
 world_on_tags : (move : Move) (w : World) → IsInvariant w → IsConsistentWorld Whole w → world_after (tag_world w) (happens Tagged move (tag_world w)) ≡ tag_world (world_after w (happens Whole move w))
-world_on_tags move w i kept = ap (λ r. world_after (tag_world w) r) (move_tagged move w i kept) ∙ after_on_tags w (happens Whole move w)
+world_on_tags move w i preserved = ap (λ r. world_after (tag_world w) r) (move_tagged move w i preserved) ∙ after_on_tags w (happens Whole move w)
 
 empty_on_tags : (l : List Flight) → is_empty (map tag_flight l) ≡ is_empty l
 empty_on_tags [] = refl
@@ -51,28 +51,28 @@ due_on_tags (UnitData octets) w = refl
 due_on_tags Restart w = refl
 
 ok_on_tags : (move : Move) (w : World) → IsInvariant w → IsConsistentWorld Whole w → is_ok (happens Tagged move (tag_world w)) ≡ is_ok (happens Whole move w)
-ok_on_tags move w i kept = ap is_ok (move_tagged move w i kept) ∙ admitted_on_tags (happens Whole move w)
+ok_on_tags move w i preserved = ap is_ok (move_tagged move w i preserved) ∙ admitted_on_tags (happens Whole move w)
 
 own_by_tags : (move : Move) (w : World) → IsInvariant w → IsConsistentWorld Whole w → IsOwn Tagged move (tag_world w) → IsOwn Whole move w
-own_by_tags move w i kept own = record { due = sym (due_on_tags move.event w) ∙ own.due; admitted = sym (ok_on_tags move w i kept) ∙ own.admitted }
+own_by_tags move w i preserved own = record { due = sym (due_on_tags move.event w) ∙ own.due; admitted = sym (ok_on_tags move w i preserved) ∙ own.admitted }
 
 own_on_tags : (move : Move) (w : World) → IsInvariant w → IsConsistentWorld Whole w → IsOwn Whole move w → IsOwn Tagged move (tag_world w)
-own_on_tags move w i kept own = record { due = due_on_tags move.event w ∙ own.due; admitted = ok_on_tags move w i kept ∙ own.admitted }
+own_on_tags move w i preserved own = record { due = due_on_tags move.event w ∙ own.due; admitted = ok_on_tags move w i preserved ∙ own.admitted }
 
 pub are_own_by_tags : (moves : List Move) (w : World) → IsInvariant w → IsConsistentWorld Whole w → AreOwn Tagged moves (tag_world w) → AreOwn Whole moves w
-are_own_by_tags [] w i kept own = tt
-are_own_by_tags (move ∷ moves) w i kept own =
+are_own_by_tags [] w i preserved own = tt
+are_own_by_tags (move ∷ moves) w i preserved own =
     let now = world_after w (happens Whole move w) in (
-      own_by_tags move w i kept own.0,
-      are_own_by_tags moves now (each_move_preserves move w i) (run_consistent Whole (move ∷ []) w kept)
-          (subst (λ v. AreOwn Tagged moves v) (world_on_tags move w i kept) own.1),
+      own_by_tags move w i preserved own.0,
+      are_own_by_tags moves now (each_move_preserves move w i) (run_consistent Whole (move ∷ []) w preserved)
+          (subst (λ v. AreOwn Tagged moves v) (world_on_tags move w i preserved) own.1),
     )
 
 pub rests_by_tags : (w : World) → IsInvariant w → IsConsistentWorld Whole w → Rests Tagged (tag_world w) → Rests Whole w
-rests_by_tags w i kept rests = λ move own. rests move (own_on_tags move w i kept own)
+rests_by_tags w i preserved rests = λ move own. rests move (own_on_tags move w i preserved own)
 
 pub ran_on_tags : (moves : List Move) (w : World) → IsInvariant w → IsConsistentWorld Whole w → run Tagged moves (tag_world w) ≡ tag_world (run Whole moves w)
-ran_on_tags moves w i kept = run_on_tags moves w kept (near_moves moves w i kept)
+ran_on_tags moves w i preserved = run_on_tags moves w preserved (near_moves moves w i preserved)
 
 -- ---- Worlds.
 

@@ -290,18 +290,18 @@ released_so e has off (inl is) = is
 released_so e has off (inr is) = let on = on_in_6 e has is in cc
 
 pub empty_in_4 : (s : Station) (x : Party) → x.sends.given ≡ s.end.given → x.sends.first ≡ s.end.first → x.sends.passed ≡ s.history.passed → x.state ≡ TeiAssigned → IsConsistentSender x.state x.asked x.leaving x.sends → x.sends.passed ≡ x.sends.first → AreSettled s.history → left_of s ≡ 0
-empty_in_4 s x given first gone is kept passed settled =
-    let none : IsEmpty x.sends = subst (λ st. IsConsistentSender st x.asked x.leaving x.sends) is kept in
+empty_in_4 s x given first gone is preserved passed settled =
+    let none : IsEmpty x.sends = subst (λ st. IsConsistentSender st x.asked x.leaving x.sends) is preserved in
     let all : x.sends.first ≡ length x.sends.given = none.first in
     let same : length x.sends.given ≡ length s.end.given = ap length given in
     left_settled s settled ∙ omega (arith, all, same, passed, gone)
 
 down_at : (x y : Station) (n : ℕ) → Still n (at x y [] []) → IsInvariant (at x y [] []) → IsConsistentWorld Whole (at x y [] []) → HaveTimersOfStates (at x y [] []) → x.end.t200 ≡ false → y.end.t200 ≡ false → IsDown (at x y [] [])
-down_at x y n s i kept have off none =
+down_at x y n s i preserved have off none =
     let mine = released_so x.end have.user off s.user in
     let its = released_so y.end have.network none s.network in
-    let left_x = empty_in_4 x (party i.user_base x) refl refl refl mine i.both.mine.kept i.both.mine.passed kept.user.settled in
-    let left_y = empty_in_4 y (party i.network_base y) refl refl refl its i.both.its.kept i.both.its.passed kept.network.settled in
+    let left_x = empty_in_4 x (party i.user_base x) refl refl refl mine i.both.mine.preserved i.both.mine.passed preserved.user.settled in
+    let left_y = empty_in_4 y (party i.network_base y) refl refl refl its i.both.its.preserved i.both.its.passed preserved.network.settled in
     let released : AreReleased x.end y.end = record { mine = mine; its = its } in
     record {
       agreed = record { to_user = refl; to_network = refl; empty = omega (arith, left_x, left_y); user_stopped = off; network_stopped = none; ends = inl released };
@@ -309,19 +309,19 @@ down_at x y n s i kept have off none =
     }
 
 down_so : (x y : Station) (to_user to_network : List Flight) (n : ℕ) → Still n (at x y to_user to_network) → IsInvariant (at x y to_user to_network) → IsConsistentWorld Whole (at x y to_user to_network) → HaveTimersOfStates (at x y to_user to_network) → IsStill (at x y to_user to_network) → IsDown (at x y to_user to_network)
-down_so x y [] [] n s i kept have still = down_at x y n s i kept have still.user still.network
-down_so x y (f ∷ fs) to_network n s i kept have still = let none = still.to_user in cc
-down_so x y [] (f ∷ fs) n s i kept have still = let none = still.to_network in cc
+down_so x y [] [] n s i preserved have still = down_at x y n s i preserved have still.user still.network
+down_so x y (f ∷ fs) to_network n s i preserved have still = let none = still.to_user in cc
+down_so x y [] (f ∷ fs) n s i preserved have still = let none = still.to_network in cc
 
 begins : (w : World) → IsReleasedLine w → Releasing 6 w
 begins w l = let a = at_most_three w.user.end l.user in let b = at_most_three w.network.end l.network in inl (record { user = l.user; network = l.network; to_user = l.to_user; to_network = l.to_network; most = omega (arith, a, b) })
 
 pub released_line_comes_down : (w : World) → IsInvariant w → IsConsistentWorld Whole w → HaveTimersOfStates w → IsReleasedLine w → ComesDown Whole w
-released_line_comes_down w i kept have l = record {
+released_line_comes_down w i preserved have l = record {
   few = λ moves own. (own_moves_reach 6 w moves (begins w l) have own).few;
   down = λ moves own rests.
       let now = run Whole moves w in
       let reached = own_moves_reach 6 w moves (begins w l) have own in
       let still = rests_still now.user now.network now.to_user now.to_network rests in
-      down_so now.user now.network now.to_user now.to_network (6 - length moves) (at_rest (6 - length moves) now reached.releasing still) (each_run_preserves moves w i) (run_consistent Whole moves w kept) reached.have still;
+      down_so now.user now.network now.to_user now.to_network (6 - length moves) (at_rest (6 - length moves) now reached.releasing still) (each_run_preserves moves w i) (run_consistent Whole moves w preserved) reached.have still;
 }

@@ -24,9 +24,9 @@ use Rattle.lapd_pair_laws.proofs.Flow.{source, sink, Polling, burden, Stream, Fl
 use Rattle.lapd_pair_laws.proofs.StreamReceipts as receives
 use Rattle.lapd_pair_laws.proofs.Draws.{is_ready, Draws}
 use Rattle.lapd_pair_laws.proofs.DrawCloses.{draws_close}
-use Rattle.lapd_pair_laws.proofs.Drains.{Seen, mine_open, after_step, kept_after}
+use Rattle.lapd_pair_laws.proofs.Drains.{Seen, mine_open, after_step, preserved_after}
 use Rattle.lapd_pair_laws.proofs.SettledEnds.{closed_step}
-use Rattle.lapd_pair_laws.proofs.Tells.{enquiry_puts}
+use Rattle.lapd_pair_laws.proofs.States.{enquiry_puts}
 
 ready_enquiry : (w : StateVariables) → w.own_busy ≡ false → is_ready (status_frame true w) ≡ true
 unfolding status_frame
@@ -43,7 +43,7 @@ pub record Retries (x y : End) (n : ℕ) : Type 0 where
 
 draws_retry : (c : Context) (peer : End) (n : ℕ) (s : StepState) → Retries s.end peer n → (story c s).line ≡ [] → (story c s).history.dropped ≡ c.view.station.history.dropped → Draws c peer [] n (timer_recovery_t200 s)
 unfolding timer_recovery_t200 story_after increment_rc expired transmit_enquiry without_ack_pending
-draws_retry c peer n s r none kept =
+draws_retry c peer n s r none preserved =
     by_test (λ (t : StepState). Draws c peer [] n t) (nat_lt s.end.rc s.end.parameters.n200) _ _
     (λ _.
     let u = without_info Command (status_frame true s.end.window) in
@@ -59,7 +59,7 @@ draws_retry c peer n s r none kept =
     record {
       frames = u ∷ [];
       so = (enquiry_puts c before).line ∙ ap (λ l. l ++ u ∷ []) none;
-      kept = (enquiry_puts c before).dropped ∙ kept;
+      preserved = (enquiry_puts c before).dropped ∙ preserved;
       flow = subst (λ k. Flow z peer (k ∷ []) [] n) (sym (enquiry_kind s.end.window)) flow;
       idle = r.idle;
       ready = (ready_enquiry s.end.window r.idle, tt);
@@ -103,4 +103,4 @@ module _ (station peer : Station) (n : ℕ) where
 
   pub preserved_retried : e.t200 ≡ true → Retries e peer.end n → (left_by v (acts Whole side.User Expire200 v)).station.history.dropped ≡ v.station.history.dropped
   unfolding acts expires_200 takes step
-  preserved_retried on r = by_test (λ (o : Result ViewStep Refusal). (left_by v o).station.history.dropped ≡ v.station.history.dropped) e.t200 _ _ (λ _. kept_after [] 0 n v peer [] 0 0 done (draws_row on r)) (λ off. cc)
+  preserved_retried on r = by_test (λ (o : Result ViewStep Refusal). (left_by v o).station.history.dropped ≡ v.station.history.dropped) e.t200 _ _ (λ _. preserved_after [] 0 n v peer [] 0 0 done (draws_row on r)) (λ off. cc)

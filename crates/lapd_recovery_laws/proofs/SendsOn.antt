@@ -29,7 +29,7 @@ use Rattle.lapd_pair_laws.proofs.Draws.{AreReady}
 use Rattle.lapd_pair_laws.proofs.Flow.{IsWhole}
 use Rattle.lapd_pair_laws.proofs.Lists.{by_test}
 use Rattle.lapd_pair_laws.proofs.Steps.{context}
-use Rattle.lapd_pair_laws.proofs.Tells.{next_sent, next_puts, ensure_puts}
+use Rattle.lapd_pair_laws.proofs.States.{next_sent, next_puts, ensure_puts}
 use Rattle.lapd_pair_laws.proofs.Worlds.{left_by}
 use Rattle.lapd_recovery_laws.proofs.Beside.{seeing}
 use Rattle.lapd_recovery_laws.proofs.Establishes.{discards_by, by_outstanding}
@@ -297,8 +297,8 @@ module _ (x : Station) (asks : IsCleared x.end) (empty : x.end.layer3_initiated 
   abbrev d : End
   d = x.end
 
-  abbrev Comes : StepState → Type 0
-  Comes t = After x ua rest outgoing (sendable d) outgoing (end_step Whole t)
+  abbrev Arrives : StepState → Type 0
+  Arrives t = After x ua rest outgoing (sendable d) outgoing (end_step Whole t)
 
   abbrev opening : StepState → StepState
   opening s = s ▷ zero_state_variables ▷ stop T200 ▷ start T203 ▷ state_to MultipleFrameEstablished
@@ -307,7 +307,7 @@ module _ (x : Station) (asks : IsCleared x.end) (empty : x.end.layer3_initiated 
   few_left true same = let all : sendable d ≡ unsent d = ap (λ b. sendable_in b (unsent d)) same in omega (arith, all)
   few_left false same = omega arith
 
-  confirms : d.layer3_initiated ≡ true → Comes (opening (put Confirmed (begin d)))
+  confirms : d.layer3_initiated ≡ true → Arrives (opening (put Confirmed (begin d)))
   unfolding put zero_state_variables stop start state_to with_zero_counters begin story_after
   confirms asked = opens x ua rest outgoing (sendable d) outgoing (opening (put Confirmed (begin d))) (record {
     in_7 = refl;
@@ -322,7 +322,7 @@ module _ (x : Station) (asks : IsCleared x.end) (empty : x.end.layer3_initiated 
     fewer = let none = empty asked in omega (arith, none);
   })
 
-  indicates : (test : Bool) → (d.window.vs == d.window.va) ≡ test → Comes (opening (discards_by test (begin d)))
+  indicates : (test : Bool) → (d.window.vs == d.window.va) ≡ test → Arrives (opening (discards_by test (begin d)))
   unfolding zero_state_variables stop start state_to with_zero_counters begin story_after
   indicates test same = opens x ua rest outgoing (sendable d) outgoing (opening (discards_by test (begin d))) (record {
     in_7 = refl;
@@ -337,12 +337,12 @@ module _ (x : Station) (asks : IsCleared x.end) (empty : x.end.layer3_initiated 
     fewer = few_left test same;
   })
 
-  comes : Comes (row Whole AwaitingEstablishment (Heard (Ua true) Answer) (begin d))
+  arrives : Arrives (row Whole AwaitingEstablishment (Heard (Ua true) Answer) (begin d))
   unfolding row by_state awaiting_establishment ua_final confirm_or_indicate begin
-  comes = by_test Comes d.release_pending _ _ (λ leaving. let stays = asks.stays in cc)
-      (λ _. by_test (λ (s : StepState). Comes (opening s)) d.layer3_initiated _ _ (λ asked. confirms asked)
-      (λ _. by_each (λ (s : StepState). Comes (opening s)) (begin d) indicates))
+  arrives = by_test Arrives d.release_pending _ _ (λ leaving. let stays = asks.stays in cc)
+      (λ _. by_test (λ (s : StepState). Arrives (opening s)) d.layer3_initiated _ _ (λ asked. confirms asked)
+      (λ _. by_each (λ (s : StepState). Arrives (opening s)) (begin d) indicates))
 
   pub ua_opens : Opens (sendable d) outgoing rest (left_by (seeing x (ua ∷ rest) outgoing) (acts Whole side.User Deliver (seeing x (ua ∷ rest) outgoing)))
   unfolding acts delivers receives step
-  ua_opens = subst (λ st. Comes (row Whole st (Heard (Ua true) Answer) (begin d))) (sym asks.in_5) comes
+  ua_opens = subst (λ st. Arrives (row Whole st (Heard (Ua true) Answer) (begin d))) (sym asks.in_5) arrives

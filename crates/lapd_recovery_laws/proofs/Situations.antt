@@ -217,7 +217,7 @@ module _ (N : ℕ) where
 
   pub record ComesOn (up : Bool) (n : ℕ) (now : World) : Type 0 where
     pub some : 1 ≤ n
-    pub coming : Coming up (n - 1) now
+    pub arriving : Coming up (n - 1) now
 
   -- ---- T200 of an open end expires on an empty line: it polls, or establishes anew.
 
@@ -315,7 +315,7 @@ up_stream x y out back up peer = record {
   so = record {
     in_7 = up.in_7;
     free = up.free;
-    coming = in_transit y.window.rejecting y.window.vr x.window.vs (messages (kinds out)) (subst (λ low. IsWhole low x.window.vs (messages (kinds out))) (sym peer.vr) up.messages_are.whole);
+    arriving = in_transit y.window.rejecting y.window.vr x.window.vs (messages (kinds out)) (subst (λ low. IsWhole low x.window.vs (messages (kinds out))) (sym peer.vr) up.messages_are.whole);
     wanted = peer.messages_are.rejections_none;
     timed = λ off. elim up.on [
       | inl none ↦ let count = up.count in let va = up.va in omega (arith, count, none, va)
@@ -345,7 +345,7 @@ up_drains x y out back n i settled up peer most = record {
     };
     idle = up.idle;
     its_idle = peer.idle;
-    going = up.messages_are.ready;
-    coming = peer.messages_are.ready;
+    proceeding = up.messages_are.ready;
+    arriving = peer.messages_are.ready;
   };
 }

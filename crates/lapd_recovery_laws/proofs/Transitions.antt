@@ -38,10 +38,10 @@ empty_in e x given next none =
     omega (arith, all, same, next)
 
 pub empty_4 : (w : World) → IsInvariant w → w.user.end.state ≡ TeiAssigned → length w.user.end.given ≡ w.user.end.next
-empty_4 w i is = let x = party i.user_base w.user in empty_in w.user.end x refl refl (subst (λ st. IsConsistentSender st x.asked x.leaving x.sends) is i.both.mine.kept)
+empty_4 w i is = let x = party i.user_base w.user in empty_in w.user.end x refl refl (subst (λ st. IsConsistentSender st x.asked x.leaving x.sends) is i.both.mine.preserved)
 
 pub empty_4_too : (w : World) → IsInvariant w → w.network.end.state ≡ TeiAssigned → length w.network.end.given ≡ w.network.end.next
-empty_4_too w i is = let y = party i.network_base w.network in empty_in w.network.end y refl refl (subst (λ st. IsConsistentSender st y.asked y.leaving y.sends) is i.both.its.kept)
+empty_4_too w i is = let y = party i.network_base w.network in empty_in w.network.end y refl refl (subst (λ st. IsConsistentSender st y.asked y.leaving y.sends) is i.both.its.preserved)
 
 -- the weights of an end in a known state
 pub attempt_is : (state : State) (tried : Bool) (e : End) → e.state ≡ state → tries e ≡ tried → attempt e ≡ attempt_in state tried e.release_pending
@@ -155,33 +155,33 @@ module _ (N : ℕ) (some_retries : 1 ≤ N) (up : Bool) where
     alone4_t200 s = elim (t200_of_open N some_retries x few on s.open_state) [
       | inl p ↦
           let le = s.most in let less = p.finds_less in
-          record { some = omega (arith, le, less); coming = inr (inl (alone_4 (still_alone n x y few on TeiAssigned (finds N after_t200.user.end) (n - 1) s.network p (omega (arith, le, less))))) }
+          record { some = omega (arith, le, less); arriving = inr (inl (alone_4 (still_alone n x y few on TeiAssigned (finds N after_t200.user.end) (n - 1) s.network p (omega (arith, le, less))))) }
       | inr a ↦
           let le = s.most in let more = a.finds_some in
           let none = ap (λ st. by_peer_5 N st (attempt y.end + gone N y.end + again N x.end) (attempt y.end)) s.network in
-          record { some = omega (arith, le, more); coming = inr (inl (asks_5 (asks_anew n x y few on (n - 1) a (omega (arith, le, more, none))) (λ _. none_releases n x y few on a (λ in_6. let never = other_state _ TeiAssigned AwaitingRelease s.network in_6 in cc) (λ in_5. absurd (let never = other_state _ TeiAssigned AwaitingEstablishment s.network in_5 in cc))))) }
+          record { some = omega (arith, le, more); arriving = inr (inl (asks_5 (asks_anew n x y few on (n - 1) a (omega (arith, le, more, none))) (λ _. none_releases n x y few on a (λ in_6. let never = other_state _ TeiAssigned AwaitingRelease s.network in_6 in cc) (λ in_5. absurd (let never = other_state _ TeiAssigned AwaitingEstablishment s.network in_5 in cc))))) }
     ]
 
     pub alone6_t200 : Alone6 N n (at x y [] []) → up ≡ false → ComesOn N up n after_t200
     alone6_t200 s k = elim (t200_of_open N some_retries x few on s.open_state) [
       | inl p ↦
           let le = s.most in let less = p.finds_less in
-          record { some = omega (arith, le, less); coming = inr (inl (alone_6 (still_alone n x y few on AwaitingRelease (attempt y.end + finds N after_t200.user.end) (n - 1) s.network p (omega (arith, le, less))) k)) }
+          record { some = omega (arith, le, less); arriving = inr (inl (alone_6 (still_alone n x y few on AwaitingRelease (attempt y.end + finds N after_t200.user.end) (n - 1) s.network p (omega (arith, le, less))) k)) }
       | inr a ↦
           let le = s.most in let more = a.finds_some in
           let only = ap (λ st. by_peer_5 N st (attempt y.end + gone N y.end + again N x.end) (attempt y.end)) s.network in
-          record { some = omega (arith, le, more); coming = inr (inl (asks_5 (asks_anew n x y few on (n - 1) a (omega (arith, le, more, only))) (λ is. absurd (not_both up k is)))) }
+          record { some = omega (arith, le, more); arriving = inr (inl (asks_5 (asks_anew n x y few on (n - 1) a (omega (arith, le, more, only))) (λ is. absurd (not_both up k is)))) }
     ]
 
     pub alone5_t200 : Alone5 N n (at x y [] []) → (up ≡ true → y.end.release_pending ≡ false) → ComesOn N up n after_t200
     alone5_t200 s k = elim (t200_of_open N some_retries x few on s.open_state) [
       | inl p ↦
           let le = s.most in let less = p.polls_less in let same = p.same_again in
-          record { some = omega (arith, le, less); coming = inr (inl (alone_5 (still_alone n x y few on AwaitingEstablishment (attempt y.end + gone N y.end + polls N after_t200.user.end + again N after_t200.user.end) (n - 1) s.network p (omega (arith, le, less, same))) k)) }
+          record { some = omega (arith, le, less); arriving = inr (inl (alone_5 (still_alone n x y few on AwaitingEstablishment (attempt y.end + gone N y.end + polls N after_t200.user.end + again N after_t200.user.end) (n - 1) s.network p (omega (arith, le, less, same))) k)) }
       | inr a ↦
           let le = s.most in let more = a.polls_some in
           let all = ap (λ st. by_peer_5 N st (attempt y.end + gone N y.end + again N x.end) (attempt y.end)) s.network in
-          record { some = omega (arith, le, more); coming = inr (inl (asks_5 (asks_anew n x y few on (n - 1) a (omega (arith, le, more, all))) (λ is. none_releases n x y few on a (λ in_6. let never = other_state _ AwaitingEstablishment AwaitingRelease s.network in_6 in cc) (λ _. k is)))) }
+          record { some = omega (arith, le, more); arriving = inr (inl (asks_5 (asks_anew n x y few on (n - 1) a (omega (arith, le, more, all))) (λ is. none_releases n x y few on a (λ in_6. let never = other_state _ AwaitingEstablishment AwaitingRelease s.network in_6 in cc) (λ _. k is)))) }
     ]
 
   -- T203 of an open end that has found nothing yet
@@ -197,7 +197,7 @@ module _ (N : ℕ) (some_retries : 1 ≤ N) (up : Bool) where
       let same = p.polled.unsent_is in
       record {
         some = omega (arith, le, finds_is);
-        coming = inr (inl (alone_4 (record {
+        arriving = inr (inl (alone_4 (record {
           open_state = ap is_7_or_8 p.polled.in_8;
           network = s.network;
           to_user = p.incoming;
@@ -234,7 +234,7 @@ module _ (N : ℕ) (some_retries : 1 ≤ N) (up : Bool) where
           let none = open_peer_5 x.end.state (attempt x.end + gone N x.end + again N then.network.end) (attempt x.end) s.open_state in
           record {
             some = omega (arith, le, three);
-            coming = inr (inr (asks_5 (record { user = ap state_of v.end ∙ is; to_user = v.incoming; to_network = v.outgoing; most = omega (arith, le, three, bit, same, none) }) (λ up_is. record {
+            arriving = inr (inr (asks_5 (record { user = ap state_of v.end ∙ is; to_user = v.incoming; to_network = v.outgoing; most = omega (arith, le, three, bit, same, none) }) (λ up_is. record {
               user = ap (λ (e : End). e.release_pending) v.end ∙ k up_is;
               not_6 = λ in_6. let never : is_7_or_8 x.end.state ≡ false = ap is_7_or_8 in_6 in let open_state = s.open_state in cc;
               network = λ in_5. absurd (let never : is_7_or_8 x.end.state ≡ false = ap is_7_or_8 in_5 in let open_state = s.open_state in cc);
@@ -246,7 +246,7 @@ module _ (N : ℕ) (some_retries : 1 ≤ N) (up : Bool) where
           let one = attempt_is AwaitingEstablishment false y.end is last in
           let left = gone_is false y.end last in
           let found = finds_below x.end s.open_state in
-          record { some = omega (arith, le, one); coming = inr (inl (alone_4 (peer_in_4 n (n - 1) x y (abandoned y.end is) s.open_state refl (omega arith) v (omega (arith, le, one, left, found))))) }
+          record { some = omega (arith, le, one); arriving = inr (inl (alone_4 (peer_in_4 n (n - 1) x y (abandoned y.end is) s.open_state refl (omega arith) v (omega (arith, le, one, left, found))))) }
 
   pub alone6_peer : (n : ℕ) (x y : Station) → Alone6 N n (at x y [] []) → up ≡ false → length y.end.given ≡ y.end.next → y.end.t200 ≡ true → ComesOn N up n (by_network Expire200 x y [] [])
   alone6_peer n x y s k empty on = by_tries (tries y.end) refl
@@ -264,13 +264,13 @@ module _ (N : ℕ) (some_retries : 1 ≤ N) (up : Bool) where
           let len = ap (λ fs. length fs) v.incoming in
           record {
             some = omega (arith, le, three);
-            coming = inr (inr (asks_6 (record { user = ap state_of v.end ∙ is; ignored = subst AreIgnored (sym v.incoming) tt; to_network = v.outgoing; most = omega (arith, le, three, none, len) }) k));
+            arriving = inr (inr (asks_6 (record { user = ap state_of v.end ∙ is; ignored = subst AreIgnored (sym v.incoming) tt; to_network = v.outgoing; most = omega (arith, le, three, none, len) }) k));
           }
       by_tries false last =
           let v = seen_after_t200 y (released y.end is) [] on (give_up_in_6 y.end is on last) in
           let le = s.most in
           let one = attempt_is AwaitingRelease false y.end is last in
-          record { some = omega (arith, le, one); coming = inr (inl (alone_4 (peer_in_4 n (n - 1) x y (released y.end is) s.open_state refl (none_left y.end empty) v (omega (arith, le, one))))) }
+          record { some = omega (arith, le, one); arriving = inr (inl (alone_4 (peer_in_4 n (n - 1) x y (released y.end is) s.open_state refl (none_left y.end empty) v (omega (arith, le, one))))) }
 
   -- ---- Its closed peer ignores a frame.
 
@@ -297,14 +297,14 @@ module _ (N : ℕ) (some_retries : 1 ≤ N) (up : Bool) where
     alone4_ignores s =
         let seen = ignored_so (ap is_7_or_8 s.network) s.ignored.0 in
         let le = s.most in
-        record { some = omega (arith, le); coming = inr (inl (alone_4 (still TeiAssigned _ (finds N x.end) s seen (omega (arith, le))))) }
+        record { some = omega (arith, le); arriving = inr (inl (alone_4 (still TeiAssigned _ (finds N x.end) s seen (omega (arith, le))))) }
 
     pub alone6_ignores : Alone6 N n (at x y [] (frame ∷ rest)) → up ≡ false → ComesOn N up n after_ignored
     alone6_ignores s k =
         let seen = ignored_so (ap is_7_or_8 s.network) s.ignored.0 in
         let le = s.most in
         let same : attempt after_ignored.network.end ≡ attempt y.end = ap attempt seen.end in
-        record { some = omega (arith, le); coming = inr (inl (alone_6 (still AwaitingRelease _ (attempt after_ignored.network.end + finds N x.end) s seen (omega (arith, le, same))) k)) }
+        record { some = omega (arith, le); arriving = inr (inl (alone_6 (still AwaitingRelease _ (attempt after_ignored.network.end + finds N x.end) s seen (omega (arith, le, same))) k)) }
 
     pub alone5_ignores : Alone5 N n (at x y [] (frame ∷ rest)) → (up ≡ true → y.end.release_pending ≡ false) → ComesOn N up n after_ignored
     alone5_ignores s k =
@@ -312,4 +312,4 @@ module _ (N : ℕ) (some_retries : 1 ≤ N) (up : Bool) where
         let le = s.most in
         let same : attempt after_ignored.network.end ≡ attempt y.end = ap attempt seen.end in
         let same_gone : gone N after_ignored.network.end ≡ gone N y.end = ap (gone N) seen.end in
-        record { some = omega (arith, le); coming = inr (inl (alone_5 (still AwaitingEstablishment _ (attempt after_ignored.network.end + gone N after_ignored.network.end + polls N x.end + again N x.end) s seen (omega (arith, le, same, same_gone))) (λ is. ap (λ (e : End). e.release_pending) seen.end ∙ k is))) }
+        record { some = omega (arith, le); arriving = inr (inl (alone_5 (still AwaitingEstablishment _ (attempt after_ignored.network.end + gone N after_ignored.network.end + polls N x.end + again N x.end) s seen (omega (arith, le, same, same_gone))) (λ is. ap (λ (e : End). e.release_pending) seen.end ∙ k is))) }

@@ -71,7 +71,7 @@ module _ (side : Side) (id : LinkId) (fresh : Linked) (removed : Bool) (links : 
   by_test true is given_is granted =
       let same : id ≡ other = same_id_eq id other is in
       own_by (links id) refl given_is (subst (λ (k : LinkId). in_links k (link_acts side k now input octets) links ≡ Ok a) (sym same) granted)
-  by_test false is given_is granted = inl (record { goes = inl (other_acts side id other links now input octets a is granted); none_given = given_is })
+  by_test false is given_is granted = inl (record { proceeds = inl (other_acts side id other links now input octets a is granted); none_given = given_is })
 
   pub granted_part : given_to id given ≡ (if id_eq id other then messages_of input else []) → in_links other (link_acts side other now input octets) links ≡ Ok a → Granted
   granted_part given_is granted = by_test (id_eq id other) refl given_is granted

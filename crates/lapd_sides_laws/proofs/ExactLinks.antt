@@ -130,12 +130,12 @@ as_end_requires T203 input e s f = sym f.t203_follows
 
 stepped : (now : ℕ) (input : Input) (e : End) (t : Timers) (s : StepState) → HasTimersOfState e → AreTags e.window → CarriesNumbers Tagged input → RunsAsBefore input e t → step Tagged input e ≡ Ok s
     → HasExactTimers (record { end = s.end; timers = timed now s.outs t })
-stepped now input e t s of_state numbers heard before done =
+stepped now input e t s of_state numbers reception before done =
     let follows = timers_follow Tagged input e s of_state done in
     record {
       exact = λ timer. runs_by_outs timer now s.outs t ∙ ap (runs_after timer s.outs) (before timer) ∙ as_end_requires timer input e s follows;
-      of_state = timers_stay Tagged input e s numbers heard of_state done;
-      numbers = numbers_stay Tagged input e s numbers heard done;
+      of_state = timers_stay Tagged input e s numbers reception of_state done;
+      numbers = numbers_stay Tagged input e s numbers reception done;
     }
 
 pub new_is_exact : (p : Parameters) (lengths : Lengths) → HasExactTimers (new_linked p lengths)
@@ -271,10 +271,10 @@ IsExactStep side r = IfOk r (λ a. IsExactLink side a.after a.effects)
 module _ (side : Side) (id : LinkId) where
   acted_is_exact : (now : ℕ) (input : Input) (octets : List ℕ) (e : End) (t : Timers) (r : Result StepState LinkFault) → HasTimersOfState e → AreTags e.window → CarriesNumbers Tagged input → RunsAsBefore input e t → step Tagged input e ≡ r
       → IsExactStep side (acted side id now octets t r)
-  acted_is_exact now input octets e t (Err fault) of_state numbers heard before done = tt
-  acted_is_exact now input octets e t (Ok s) of_state numbers heard before done = record {
-    timers = stepped now input e t s of_state numbers heard before done;
-    frames = sent_carry_tags side id s.end octets s.outs (numbers_are_sent Tagged input e s numbers heard done);
+  acted_is_exact now input octets e t (Err fault) of_state numbers reception before done = tt
+  acted_is_exact now input octets e t (Ok s) of_state numbers reception before done = record {
+    timers = stepped now input e t s of_state numbers reception before done;
+    frames = sent_carry_tags side id s.end octets s.outs (numbers_are_sent Tagged input e s numbers reception done);
   }
 
   placed : (links : Links) (r : Result (Reaction Linked) LinkFault) → HaveExactTimers links → IsExactStep side r → IsExactAmong side (in_place id links r)
@@ -287,9 +287,9 @@ module _ (side : Side) (id : LinkId) where
 
   pub acts_exactly : (now : ℕ) (input : Input) (octets : List ℕ) (links : Links) → IsNoExpiry input → CarriesNumbers Tagged input → HaveExactTimers links → IsExactAmong side (in_links id (link_acts side id now input octets) links)
   unfolding in_links link_acts
-  acts_exactly now input octets links plain heard all =
+  acts_exactly now input octets links plain reception all =
       there links (links id) (λ (l : Linked). acted side id now octets l.timers (step Tagged input l.end)) all (all id)
-      (λ l h. acted_is_exact now input octets l.end l.timers (step Tagged input l.end) h.of_state h.numbers heard (plain_before input l plain h) refl)
+      (λ l h. acted_is_exact now input octets l.end l.timers (step Tagged input l.end) h.of_state h.numbers reception (plain_before input l plain h) refl)
 
   pub expires_exactly : (now : ℕ) (timer : Timer) (links : Links) → HaveExactTimers links → IsExactAmong side (in_links id (link_expires side id now timer) links)
   unfolding in_links link_acts link_expires

@@ -40,16 +40,16 @@ use Rattle.lapd_sides_laws.proofs.ExactLinks.{if_either, IsNoExpiry, CarriesTags
 abbrev pub AreExact : Network → Type 0
 AreExact s = HaveExactTimers s.served.links
 
-abbrev pub Keeps : Reaction Network → Type 0
-Keeps a = IsExact side.Network a.after.served.links a.effects
+abbrev pub Preserves : Reaction Network → Type 0
+Preserves a = IsExact side.Network a.after.served.links a.effects
 
 abbrev pub PreservesIfOk : Result (Reaction Network) SideKind → Type 0
-PreservesIfOk r = IfOk r Keeps
+PreservesIfOk r = IfOk r Preserves
 
-nothing : (s : Network) → AreExact s → Keeps (unmoved s)
+nothing : (s : Network) → AreExact s → Preserves (unmoved s)
 nothing s all = quietly side.Network s.served.links no_effects refl all
 
-discarding : (s : Network) → AreExact s → Keeps (discards s)
+discarding : (s : Network) → AreExact s → Preserves (discards s)
 discarding s all = quietly side.Network s.served.links no_effects refl all
 
 -- ---- A link.
@@ -62,48 +62,48 @@ linked : (now : ℕ) (id : LinkId) (input : Input) (octets : List ℕ) (s : Netw
 unfolding link_of_network
 linked now id input octets s plain numbers all = among s (in_links id (link_acts side.Network id now input octets) s.served.links) (acts_exactly side.Network id now input octets s.served.links plain numbers all)
 
-otherwise_discarded : (s : Network) (r : Result (Reaction Network) SideKind) → AreExact s → PreservesIfOk r → Keeps (or_discarded s r)
+otherwise_discarded : (s : Network) (r : Result (Reaction Network) SideKind) → AreExact s → PreservesIfOk r → Preserves (or_discarded s r)
 otherwise_discarded s (Ok a) all h = h
 otherwise_discarded s (Err kind) all h = discarding s all
 
-otherwise_unmoved : (s : Network) (r : Result (Reaction Network) SideKind) → AreExact s → PreservesIfOk r → Keeps (or_unmoved s r)
+otherwise_unmoved : (s : Network) (r : Result (Reaction Network) SideKind) → AreExact s → PreservesIfOk r → Preserves (or_unmoved s r)
 otherwise_unmoved s (Ok a) all h = h
 otherwise_unmoved s (Err kind) all h = nothing s all
 
 module _ (config : Config) (now : ℕ) where
   -- ---- TEI management.
 
-  assigning : (event : AssignerEvent) (s : Network) → AreExact s → Keeps (assigner_acts config now event s)
+  assigning : (event : AssignerEvent) (s : Network) → AreExact s → Preserves (assigner_acts config now event s)
   unfolding assigner_acts
   assigning event s all =
       let managed = manages_exactly side.Network config now (assigner_step s.assigner event).outs s.served all in
       record { timers = managed.timers; frames = managed.frames }
 
-  message : (r : Result TeiMessage TeiFault) (s : Network) → AreExact s → Keeps (message_received config now r s)
+  message : (r : Result TeiMessage TeiFault) (s : Network) → AreExact s → Preserves (message_received config now r s)
   message (Ok m) s all = assigning (event.Heard m) s all
   message (Err fault) s all = nothing s all
 
   -- ---- Octets arrive.
 
-  faulty : (kind : FaultKind) (address : Option Address) (s : Network) → AreExact s → Keeps (fault_received now kind address s)
+  faulty : (kind : FaultKind) (address : Option Address) (s : Network) → AreExact s → Preserves (fault_received now kind address s)
   faulty kind None s all = discarding s all
   faulty kind (Some address) s all = otherwise_discarded s (link_of_network now (id_of_address address) (Faulty kind) [] s) all (linked now (id_of_address address) (Faulty kind) [] s tt tt all)
 
-  reception_is_exact : (r : Result Fields FrameFault) (s : Network) → IfOk r (λ f. IsControl f.control) → AreExact s → Keeps (received config now r s)
+  reception_is_exact : (r : Result Fields FrameFault) (s : Network) → IfOk r (λ f. IsControl f.control) → AreExact s → Preserves (received config now r s)
   reception_is_exact (Ok frame) s tags all =
       let input = Heard frame.control frame.address.role in
       let does = link_of_network now (id_of_address frame.address) input frame.info s in
-      if_either Keeps (carries_message frame) (message_received config now (message_at frame.info) s) (or_discarded s does) (message (message_at frame.info) s all)
+      if_either Preserves (carries_message frame) (message_received config now (message_at frame.info) s) (or_discarded s does) (message (message_at frame.info) s all)
       (otherwise_discarded s does all (linked now (id_of_address frame.address) input frame.info s tt tags all))
   reception_is_exact (Err fault) s tags all = faulty fault.kind fault.address s all
 
-  pub network_taking : (octets : List ℕ) (s : Network) → CarriesTags side.User octets → AreExact s → Keeps (network_takes config octets now s)
+  pub network_taking : (octets : List ℕ) (s : Network) → CarriesTags side.User octets → AreExact s → Preserves (network_takes config octets now s)
   unfolding network_takes
   network_taking octets s tags all = reception_is_exact (frame_at side.User octets) s tags all
 
   -- ---- A timer expires.
 
-  pub network_expiring : (timer : Timer) (of : Option LinkId) (s : Network) → AreExact s → Keeps (network_expires config now timer of s)
+  pub network_expiring : (timer : Timer) (of : Option LinkId) (s : Network) → AreExact s → Preserves (network_expires config now timer of s)
   unfolding network_expires
   network_expiring timer None s all = assigning event.T201 (record s { served = record { links = s.served.links; timers = stopped timer s.served.timers } }) all
   network_expiring timer (Some id) s all =

@@ -46,14 +46,14 @@ module _ (S : Type 0) (w : Behaviour S) (side : Side) where
   abbrev AreExact : S → Type 0
   AreExact s = HaveExactTimers (w.served s).links
 
-  abbrev Keeps : Reaction S → Type 0
-  Keeps a = IsExact side (w.served a.after).links a.effects
+  abbrev Preserves : Reaction S → Type 0
+  Preserves a = IsExact side (w.served a.after).links a.effects
 
   -- a side keeps its timers exact, whatever it does
   pub record PreservesExact : Type 0 where
-    pub takes : (now : ℕ) (octets : List ℕ) (s : S) → CarriesTags (other_side side) octets → AreExact s → Keeps (w.takes octets now s)
-    pub expires : (now : ℕ) (timer : Timer) (of : Option LinkId) (s : S) → AreExact s → Keeps (w.expires now timer of s)
-    pub requested : (now : ℕ) (request : Request) (s : S) → AreExact s → IfOk (w.requested request now s) Keeps
+    pub takes : (now : ℕ) (octets : List ℕ) (s : S) → CarriesTags (other_side side) octets → AreExact s → Preserves (w.takes octets now s)
+    pub expires : (now : ℕ) (timer : Timer) (of : Option LinkId) (s : S) → AreExact s → Preserves (w.expires now timer of s)
+    pub requested : (now : ℕ) (request : Request) (s : S) → AreExact s → IfOk (w.requested request now s) Preserves
 
   -- the frames in transit to the side and from it carry tags
   pub record IsExactView (v : SideView S) : Type 0 where
@@ -61,22 +61,22 @@ module _ (S : Type 0) (w : Behaviour S) (side : Side) where
     pub incoming : All (CarriesTags (other_side side)) v.incoming
     pub outgoing : All (CarriesTags side) v.outgoing
 
-  nothing : (s : S) → AreExact s → Keeps (unmoved s)
+  nothing : (s : S) → AreExact s → Preserves (unmoved s)
   nothing s all = quietly side (w.served s).links no_effects refl all
 
   module _ (ways : PreservesExact) where
-    first_taken : (now : ℕ) (line : List (List ℕ)) (s : S) → All (CarriesTags (other_side side)) line → AreExact s → Keeps (takes_first w now line s)
+    first_taken : (now : ℕ) (line : List (List ℕ)) (s : S) → All (CarriesTags (other_side side)) line → AreExact s → Preserves (takes_first w now line s)
     first_taken now [] s tags all = nothing s all
     first_taken now (octets ∷ rest) s tags all = ways.takes now octets s (All-head (CarriesTags (other_side side)) octets rest tags) all
 
-    otherwise_unmoved : (s : S) (r : Result (Reaction S) SideKind) → AreExact s → IfOk r Keeps → Keeps (or_unmoved s r)
+    otherwise_unmoved : (s : S) (r : Result (Reaction S) SideKind) → AreExact s → IfOk r Preserves → Preserves (or_unmoved s r)
     otherwise_unmoved s (Ok a) all h = h
     otherwise_unmoved s (Err kind) all h = nothing s all
 
-    reacts : (event : SideEvent) (v : SideView S) → All (CarriesTags (other_side side)) v.incoming → AreExact v.now → Keeps (reaction w event v)
+    reacts : (event : SideEvent) (v : SideView S) → All (CarriesTags (other_side side)) v.incoming → AreExact v.now → Preserves (reaction w event v)
     reacts (Take now) v tags all = first_taken now v.incoming v.now tags all
     reacts (Lose at) v tags all = nothing v.now all
-    reacts (Expire timer of now) v tags all = if_either Keeps (may_expire timer of (w.served v.now)) (w.expires now timer of v.now) (unmoved v.now) (ways.expires now timer of v.now all) (nothing v.now all)
+    reacts (Expire timer of now) v tags all = if_either Preserves (may_expire timer of (w.served v.now)) (w.expires now timer of v.now) (unmoved v.now) (ways.expires now timer of v.now all) (nothing v.now all)
     reacts (Ask request now) v tags all = otherwise_unmoved v.now (w.requested request now v.now) all (ways.requested now request v.now all)
 
     pub event_preserves : (event : SideEvent) (v : SideView S) → IsExactView v → IsExactView (does w event v)
@@ -97,9 +97,9 @@ module _ (S : Type 0) (w : Behaviour S) (side : Side) where
     -- ---- Every run of one side.
 
     step_preserves : (side_step : SideStep) (v : SideView S) → BringsOctets side_step → IsExactView v → IsExactView (stepped w side_step v)
-    step_preserves side_step v octets h = event_preserves side_step.event (record v { incoming = v.incoming ++ side_step.comes }) (record {
+    step_preserves side_step v octets h = event_preserves side_step.event (record v { incoming = v.incoming ++ side_step.arrives }) (record {
       timers = h.timers;
-      incoming = All-append (CarriesTags (other_side side)) v.incoming side_step.comes h.incoming (all_carry_tags (other_side side) side_step.comes octets);
+      incoming = All-append (CarriesTags (other_side side)) v.incoming side_step.arrives h.incoming (all_carry_tags (other_side side) side_step.arrives octets);
       outgoing = h.outgoing;
     })
 

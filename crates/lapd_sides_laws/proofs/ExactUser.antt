@@ -45,20 +45,20 @@ use Rattle.lapd_sides_laws.proofs.ExactLinks.{if_either, IsNoExpiry, CarriesTags
 abbrev pub AreExact : User → Type 0
 AreExact s = HaveExactTimers s.served.links
 
-abbrev pub Keeps : Reaction User → Type 0
-Keeps a = IsExact side.User a.after.served.links a.effects
+abbrev pub Preserves : Reaction User → Type 0
+Preserves a = IsExact side.User a.after.served.links a.effects
 
 abbrev pub PreservesIfOk : Result (Reaction User) SideKind → Type 0
-PreservesIfOk r = IfOk r Keeps
+PreservesIfOk r = IfOk r Preserves
 
-nothing : (s : User) → AreExact s → Keeps (unmoved s)
+nothing : (s : User) → AreExact s → Preserves (unmoved s)
 nothing s all = quietly side.User s.served.links no_effects refl all
 
-discarding : (s : User) → AreExact s → Keeps (discards s)
+discarding : (s : User) → AreExact s → Preserves (discards s)
 discarding s all = quietly side.User s.served.links no_effects refl all
 
 -- one step after another
-then_preserves : (a : Reaction User) (does : User → Reaction User) → Keeps a → ((s : User) → AreExact s → Keeps (does s)) → Keeps (next a does)
+then_preserves : (a : Reaction User) (does : User → Reaction User) → Preserves a → ((s : User) → AreExact s → Preserves (does s)) → Preserves (next a does)
 then_preserves a does first each =
     let second = each a.after first.timers in
     record { timers = second.timers; frames = All-append (CarriesTags side.User) a.effects.frames (does a.after).effects.frames first.frames second.frames }
@@ -73,30 +73,30 @@ linked : (now : ℕ) (id : LinkId) (input : Input) (octets : List ℕ) (s : User
 unfolding link_of_user
 linked now id input octets s plain numbers all = among s (in_links id (link_acts side.User id now input octets) s.served.links) (acts_exactly side.User id now input octets s.served.links plain numbers all)
 
-otherwise_discarded : (s : User) (r : Result (Reaction User) SideKind) → AreExact s → PreservesIfOk r → Keeps (or_discarded s r)
+otherwise_discarded : (s : User) (r : Result (Reaction User) SideKind) → AreExact s → PreservesIfOk r → Preserves (or_discarded s r)
 otherwise_discarded s (Ok a) all h = h
 otherwise_discarded s (Err kind) all h = discarding s all
 
-otherwise_unmoved : (s : User) (r : Result (Reaction User) SideKind) → AreExact s → PreservesIfOk r → Keeps (or_unmoved s r)
+otherwise_unmoved : (s : User) (r : Result (Reaction User) SideKind) → AreExact s → PreservesIfOk r → Preserves (or_unmoved s r)
 otherwise_unmoved s (Ok a) all h = h
 otherwise_unmoved s (Err kind) all h = nothing s all
 
 module _ (now : ℕ) where
   -- ---- Kept establishments.
 
-  establishing : (on : Bool) (id : LinkId) (s : User) → AreExact s → Keeps (establishes on now id s)
+  establishing : (on : Bool) (id : LinkId) (s : User) → AreExact s → Preserves (establishes on now id s)
   establishing true id s all = otherwise_unmoved s (link_of_user now id input.Establish [] s) all (linked now id input.Establish [] s tt tt all)
   establishing false id s all = nothing s all
 
-  establishing_pending : (own : ℕ) (s : User) → AreExact s → Keeps (establishes_pending now own s)
+  establishing_pending : (own : ℕ) (s : User) → AreExact s → Preserves (establishes_pending now own s)
   establishing_pending own s all =
       then_preserves (establishes s.pending.call now (of_sapi sapi.Call own) (record s { pending = nothing_pending })) (establishes s.pending.packet now (of_sapi sapi.Packet own))
       (establishing s.pending.call (of_sapi sapi.Call own) (record s { pending = nothing_pending }) all) (establishing s.pending.packet (of_sapi sapi.Packet own))
 
-  giving_up : (s : User) → AreExact s → Keeps (gives_up_pending s)
+  giving_up : (s : User) → AreExact s → Preserves (gives_up_pending s)
   giving_up s all = quietly side.User s.served.links (gives_up_pending s).effects refl all
 
-  keeping : (outs : List TeiOut) (s : User) → AreExact s → Keeps (pending_after now outs s)
+  keeping : (outs : List TeiOut) (s : User) → AreExact s → Preserves (pending_after now outs s)
   keeping [] s all = nothing s all
   keeping (outcome.Got own ∷ outs) s all = establishing_pending own s all
   keeping (outcome.Failed ∷ outs) s all = giving_up s all
@@ -112,50 +112,50 @@ module _ (now : ℕ) where
 module _ (config : Config) (now : ℕ) where
   -- ---- TEI management.
 
-  assigning : (step : TerminalStep) (s : User) → AreExact s → Keeps (assigned config now step s)
+  assigning : (step : TerminalStep) (s : User) → AreExact s → Preserves (assigned config now step s)
   assigning step s all =
       let managed = manages side.User config now step.outs s.served in
       let exact = manages_exactly side.User config now step.outs s.served all in
       then_preserves (record { after = record s { served = managed.after; terminal = step.now; random = drawn step.outs s.random }; effects = managed.effects }) (pending_after now step.outs)
       (record { timers = exact.timers; frames = exact.frames }) (keeping now step.outs)
 
-  acting : (event : ℕ → TerminalEvent) (s : User) → AreExact s → Keeps (terminal_acts config now event s)
+  acting : (event : ℕ → TerminalEvent) (s : User) → AreExact s → Preserves (terminal_acts config now event s)
   unfolding terminal_acts
   acting event s all = assigning (terminal_step s.terminal (event (next_reference s.random))) s all
 
-  message : (r : Result TeiMessage TeiFault) (s : User) → AreExact s → Keeps (message_received config now r s)
+  message : (r : Result TeiMessage TeiFault) (s : User) → AreExact s → Preserves (message_received config now r s)
   message (Ok m) s all = acting (event.Heard m) s all
   message (Err fault) s all = nothing s all
 
   -- ---- Octets arrive.
 
-  data_is_exact : (frame : Fields) (s : User) → IsControl frame.control → AreExact s → Keeps (data_received config now frame s)
+  data_is_exact : (frame : Fields) (s : User) → IsControl frame.control → AreExact s → Preserves (data_received config now frame s)
   data_is_exact frame s tags all =
       let id = of_sapi frame.address.sapi frame.address.tei in
       let input = Heard frame.control frame.address.role in
       let does = link_of_user now id input frame.info s in
-      if_either Keeps (for_layer_3 config frame) (unit_from_group frame.address.sapi frame.info s) (or_discarded s does)
+      if_either Preserves (for_layer_3 config frame) (unit_from_group frame.address.sapi frame.info s) (or_discarded s does)
       (quietly side.User s.served.links (unit_from_group frame.address.sapi frame.info s).effects refl all)
       (otherwise_discarded s does all (linked now id input frame.info s tt tags all))
 
-  faulty : (kind : FaultKind) (address : Option Address) (s : User) → AreExact s → Keeps (fault_received now kind address s)
+  faulty : (kind : FaultKind) (address : Option Address) (s : User) → AreExact s → Preserves (fault_received now kind address s)
   faulty kind None s all = discarding s all
   faulty kind (Some address) s all =
       let id = of_sapi address.sapi address.tei in
       otherwise_discarded s (link_of_user now id (Faulty kind) [] s) all (linked now id (Faulty kind) [] s tt tt all)
 
-  reception_is_exact : (r : Result Fields FrameFault) (s : User) → IfOk r (λ f. IsControl f.control) → AreExact s → Keeps (received config now r s)
+  reception_is_exact : (r : Result Fields FrameFault) (s : User) → IfOk r (λ f. IsControl f.control) → AreExact s → Preserves (received config now r s)
   reception_is_exact (Ok frame) s tags all =
-      if_either Keeps (carries_message frame) (message_received config now (message_at frame.info) s) (data_received config now frame s) (message (message_at frame.info) s all) (data_is_exact frame s tags all)
+      if_either Preserves (carries_message frame) (message_received config now (message_at frame.info) s) (data_received config now frame s) (message (message_at frame.info) s all) (data_is_exact frame s tags all)
   reception_is_exact (Err fault) s tags all = faulty fault.kind fault.address s all
 
-  pub user_taking : (octets : List ℕ) (s : User) → CarriesTags side.Network octets → AreExact s → Keeps (user_takes config octets now s)
+  pub user_taking : (octets : List ℕ) (s : User) → CarriesTags side.Network octets → AreExact s → Preserves (user_takes config octets now s)
   unfolding user_takes
   user_taking octets s tags all = reception_is_exact (frame_at side.Network octets) s tags all
 
   -- ---- A timer expires.
 
-  pub user_expiring : (timer : Timer) (of : Option LinkId) (s : User) → AreExact s → Keeps (user_expires config now timer of s)
+  pub user_expiring : (timer : Timer) (of : Option LinkId) (s : User) → AreExact s → Preserves (user_expires config now timer of s)
   unfolding user_expires
   user_expiring timer None s all = acting event.T202 (record s { served = record { links = s.served.links; timers = stopped timer s.served.timers } }) all
   user_expiring timer (Some id) s all =

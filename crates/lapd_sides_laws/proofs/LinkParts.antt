@@ -309,5 +309,5 @@ removal_then_pass side id second third a b r p = record {
   now_absent = p.links ∙ r.now_absent;
   frames = filter-append (is_for side id) a.frames b.frames ∙ ap (λ l. those_for side id a.frames ++ l) p.frames ∙ append-nil (those_for side id a.frames) ∙ r.frames;
   delivered = subst AreSilent (sym (filter_map-append (what_for id) a.primitives b.primitives ∙ ap (λ l. link_primitives id a.primitives ++ l) p.delivered ∙ append-nil (link_primitives id a.primitives))) r.delivered;
-  tells = any_more (is_removal id.tei) a.primitives b.primitives r.tells;
+  reporting = any_more (is_removal id.tei) a.primitives b.primitives r.reporting;
 }

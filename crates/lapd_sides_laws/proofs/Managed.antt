@@ -232,9 +232,9 @@ module _ (side : Side) (config : Config) (now : ℕ) (outs : List TeiOut) (s : S
   PassesFrom before = PassesBy side id before Managed.after.links Managed.effects
 
   -- the step delivers the primitives for TEIs first
-  outcomes_are_of : (tells : Primitive → Bool) → list_any tells Managed.effects.primitives ≡ false → list_any tells (filter_map outcome_of outs) ≡ false
+  outcomes_are_of : (reporting : Primitive → Bool) → list_any reporting Managed.effects.primitives ≡ false → list_any reporting (filter_map outcome_of outs) ≡ false
   unfolding manages
-  outcomes_are_of tells none = any_first tells (filter_map outcome_of outs) (removal_primitives (tei_freed outs) (links_with config (tei_given outs) s.links)) none
+  outcomes_are_of reporting none = any_first reporting (filter_map outcome_of outs) (removal_primitives (tei_freed outs) (links_with config (tei_given outs) s.links)) none
 
   -- if a link's TEI is not removed, no frame and no primitive of the step is for the link
   by_links : (before : Links) → freed_here id.tei (tei_freed outs) ≡ false → links_with config (tei_given outs) s.links id ≡ before id → PassesFrom before
@@ -258,7 +258,7 @@ module _ (side : Side) (config : Config) (now : ℕ) (outs : List TeiOut) (s : S
         now_absent = without_this id (tei_freed outs) (links_with config (tei_given outs) s.links) freed;
         frames = none_pass (is_for side id) (message_sent side) outs (λ out. message_is_other side id out low);
         delivered = subst AreSilent (sym all) (quiet_without id (tei_freed outs) (links_with config (tei_given outs) s.links));
-        tells = any_more (is_removal id.tei) (filter_map outcome_of outs) more (freed_is_reported id.tei outs freed);
+        reporting = any_more (is_removal id.tei) (filter_map outcome_of outs) more (freed_is_reported id.tei outs freed);
       }
 
   -- if no primitive reports an assignment, no outcome is one
@@ -282,7 +282,7 @@ module _ (side : Side) (config : Config) (now : ℕ) (outs : List TeiOut) (s : S
   absent true not_freed none once = inl (passes_by not_freed (once (ap (λ (o : Option Linked). is_some o || true) none)))
   absent false not_freed none once = elim (with_given config id (tei_given outs) s.links none) [
     | inl stays ↦ inl (by_links s.links not_freed (stays ∙ sym none))
-    | inr comes ↦ inr (inl (record { absent = none; not_removed = refl; passes = by_links (with_link id (Some (fresh_link config id)) s.links) not_freed (comes ∙ sym (now_there id (fresh_link config id) s.links)) }))
+    | inr arrives ↦ inr (inl (record { absent = none; not_removed = refl; passes = by_links (with_link id (Some (fresh_link config id)) s.links) not_freed (arrives ∙ sym (now_there id (fresh_link config id) s.links)) }))
   ]
 
   by_cases : (removed freed : Bool) (o : Option Linked) → freed_here id.tei (tei_freed outs) ≡ freed → s.links id ≡ o → IsGivenOnce id s.links removed Managed.effects → IsUnmovedByManagement removed

@@ -53,24 +53,24 @@ use Rattle.lapd_sides_laws.proofs.ManagementTimers.{awaits_before, checks_before
 -- ---- A property that every reaction of a side keeps, every event keeps.
 
 module _ (S : Type 0) (w : Behaviour S) (P : S → Type 0) where
-  abbrev Keeps : Reaction S → Type 0
-  Keeps a = P a.after
+  abbrev Preserves : Reaction S → Type 0
+  Preserves a = P a.after
 
   pub record PreservedBySide : Type 0 where
-    pub takes : (now : ℕ) (octets : List ℕ) (s : S) → P s → Keeps (w.takes octets now s)
-    pub expires : (now : ℕ) (timer : Timer) (of : Option LinkId) (s : S) → may_expire timer of (w.served s) ≡ true → P s → Keeps (w.expires now timer of s)
-    pub requested : (now : ℕ) (asked : Request) (s : S) → P s → IfOk (w.requested asked now s) Keeps
+    pub takes : (now : ℕ) (octets : List ℕ) (s : S) → P s → Preserves (w.takes octets now s)
+    pub expires : (now : ℕ) (timer : Timer) (of : Option LinkId) (s : S) → may_expire timer of (w.served s) ≡ true → P s → Preserves (w.expires now timer of s)
+    pub requested : (now : ℕ) (asked : Request) (s : S) → P s → IfOk (w.requested asked now s) Preserves
 
   module _ (ways : PreservedBySide) where
-    first_taken : (now : ℕ) (line : List (List ℕ)) (s : S) → P s → Keeps (takes_first w now line s)
+    first_taken : (now : ℕ) (line : List (List ℕ)) (s : S) → P s → Preserves (takes_first w now line s)
     first_taken now [] s h = h
     first_taken now (octets ∷ rest) s h = ways.takes now octets s h
 
-    where_it_may : (now : ℕ) (timer : Timer) (of : Option LinkId) (s : S) (test : Bool) → may_expire timer of (w.served s) ≡ test → P s → Keeps (if test then w.expires now timer of s else unmoved s)
+    where_it_may : (now : ℕ) (timer : Timer) (of : Option LinkId) (s : S) (test : Bool) → may_expire timer of (w.served s) ≡ test → P s → Preserves (if test then w.expires now timer of s else unmoved s)
     where_it_may now timer of s true may h = ways.expires now timer of s may h
     where_it_may now timer of s false may h = h
 
-    granted : (s : S) (r : Result (Reaction S) SideKind) → P s → IfOk r Keeps → Keeps (or_unmoved s r)
+    granted : (s : S) (r : Result (Reaction S) SideKind) → P s → IfOk r Preserves → Preserves (or_unmoved s r)
     granted s (Ok a) h done = done
     granted s (Err kind) h done = h
 

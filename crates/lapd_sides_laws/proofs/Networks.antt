@@ -70,8 +70,8 @@ module _ (config : Config) (id : LinkId) (low : id.tei < 127) (removed : Bool) w
   unfolding assigner_acts
   assigning now event s stays = elim (managing side.Network config now (assigner_step s.assigner event).outs s.served id low removed stays) [
     | inl passes ↦ inl passes
-    | inr (inl comes) ↦ inr (inl (record { absent = comes.absent; not_removed = comes.not_removed; comes = inl comes.passes }))
-    | inr (inr goes) ↦ inr (inr goes)
+    | inr (inl arrives) ↦ inr (inl (record { absent = arrives.absent; not_removed = arrives.not_removed; arrives = inl arrives.passes }))
+    | inr (inr proceeds) ↦ inr (inr proceeds)
   ]
 
   message : (now : ℕ) (r : Result TeiMessage TeiFault) (s : Network) → Stays s (message_received config now r s) → IsUnmovedByNetwork now s (message_received config now r s)
@@ -188,7 +188,7 @@ module _ (config : Config) (id : LinkId) (low : id.tei < 127) (removed : Bool) w
       let x : Reaction Network = record { after = s; effects = record no_effects { frames = spelling side.Network (group_frame sapi octets) ∷ [] } } in
       let other : is_for side.Network id (spelling side.Network (group_frame sapi octets)) ≡ false = spelled_is_for side.Network id (group_frame sapi octets) ∙ not_of_group sapi id low in
       subst (λ (y : Reaction Network). Asked now s y []) (same_network x a h)
-      (inl (record { goes = inl (record { links = refl; frames = ap (λ (b : Bool). if b then spelling side.Network (group_frame sapi octets) ∷ [] else []) other; delivered = refl }); none_given = refl }))
+      (inl (record { proceeds = inl (record { links = refl; frames = ap (λ (b : Bool). if b then spelling side.Network (group_frame sapi octets) ∷ [] else []) other; delivered = refl }); none_given = refl }))
 
   unit_asked : (now : ℕ) (other : LinkId) (octets : List ℕ) (s : Network) (a : Reaction Network) (test : Bool)
       → (if test then unit_to_group other.sapi octets s else link_of_network now other (UnitData (length octets)) octets s) ≡ Ok a → Asked now s a []
@@ -206,10 +206,10 @@ module _ (config : Config) (id : LinkId) (low : id.tei < 127) (removed : Bool) w
       (link_asked now other (input.Give message.items) [] s a ((other, message.items) ∷ []) (give_request side.Network message.items) (one_given id other message.items) is)
   asked (request.Busy other true) now s a is stays = link_asked now other input.BusyOn [] s a [] (busy_request side.Network) (none_given (id_eq id other) [] refl) is
   asked (request.Busy other false) now s a is stays = link_asked now other input.BusyOff [] s a [] (free_request side.Network) (none_given (id_eq id other) [] refl) is
-  asked request.AskTei now s a is stays = subst (λ (x : Reaction Network). Asked now s x []) (same_network (unmoved s) a is) (inl (record { goes = inl (nothing s); none_given = refl }))
+  asked request.AskTei now s a is stays = subst (λ (x : Reaction Network). Asked now s x []) (same_network (unmoved s) a is) (inl (record { proceeds = inl (nothing s); none_given = refl }))
   asked (request.Check tei) now s a is stays =
       let same = same_network (assigner_acts config now (event.Check tei) s) a is in
-      subst (λ (x : Reaction Network). Asked now s x []) same (inl (record { goes = assigning now (event.Check tei) s (subst (Stays s) (sym same) stays); none_given = refl }))
+      subst (λ (x : Reaction Network). Asked now s x []) same (inl (record { proceeds = assigning now (event.Check tei) s (subst (Stays s) (sym same) stays); none_given = refl }))
 
   -- ---- A network side.
 

@@ -56,22 +56,22 @@ pub record LeavesOwn (P Q : ℕ → Type 0) (outs : List TeiOut) : Type 0 where
 module _ (side : Side) (config : Config) (now : ℕ) (outs : List TeiOut) (s : Served) (P Q : ℕ → Type 0) (own : LeavesOwn P Q outs) (are : AreOf P s.links) where
   -- a TEI that stays
   stays_own : (k : LinkId) → freed_here k.tei (tei_freed outs) ≡ false → P k.tei → Q k.tei
-  stays_own k kept p = elim (own.stays k.tei p) [
-    | inl freed ↦ (let no : true ≡ false = sym freed ∙ kept in cc)
+  stays_own k preserved p = elim (own.stays k.tei p) [
+    | inl freed ↦ (let no : true ≡ false = sym freed ∙ preserved in cc)
     | inr q ↦ q
   ]
 
   with_by : (k : LinkId) (t : ℕ) (test : Bool) → tei_given outs ≡ Some t → is_link_of config t k ≡ test → freed_here k.tei (tei_freed outs) ≡ false
       → is_some (if test then Some (fresh_link config k) else s.links k) ≡ true → Q k.tei
-  with_by k t true given is kept there =
+  with_by k t true given is preserved there =
       let same : t ≡ k.tei = (let tested = (both_of (is_served config k.sapi) (k.tei == t) is).1 in grind (arith, nat_tests, tested)) in
       subst Q same (own.given t given)
-  with_by k t false given is kept there = stays_own k kept (are k there)
+  with_by k t false given is preserved there = stays_own k preserved (are k there)
 
   given_by : (k : LinkId) (g : Option ℕ) → tei_given outs ≡ g → freed_here k.tei (tei_freed outs) ≡ false → is_some (links_with config g s.links k) ≡ true → Q k.tei
   unfolding with_tei
-  given_by k None given kept there = stays_own k kept (are k there)
-  given_by k (Some t) given kept there = with_by k t (is_link_of config t k) given refl kept there
+  given_by k None given preserved there = stays_own k preserved (are k there)
+  given_by k (Some t) given preserved there = with_by k t (is_link_of config t k) given refl preserved there
 
   by_freed : (k : LinkId) (freed : Bool) → freed_here k.tei (tei_freed outs) ≡ freed → is_some (links_without (tei_freed outs) (links_with config (tei_given outs) s.links) k) ≡ true → Q k.tei
   by_freed k true is there =

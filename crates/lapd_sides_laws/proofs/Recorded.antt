@@ -131,7 +131,7 @@ sent_by_none link now absent place sent = let never : false ≡ true = ap (λ o.
 by_sent : (test : Bool) (link : Option Linked) (own before now : Option ℕ) → (test ≡ true → now ≡ Some (establishments_of link)) → (now ≡ before) ⊎ (test ≡ true) → own ≡ before
     → (if test then Some (establishments_of link) else own) ≡ now
 by_sent true link own before now new either same = sym (new refl)
-by_sent false link own before now new (inl kept) same = same ∙ sym kept
+by_sent false link own before now new (inl preserved) same = same ∙ sym preserved
 by_sent false link own before now new (inr never) same = cc
 
 pub sent_recorded : (link : Option Linked) (own before now : ℕ → Option ℕ) → AreKeptOrSent link before now → AreSentBy link now → ((place : ℕ) → own place ≡ before place)

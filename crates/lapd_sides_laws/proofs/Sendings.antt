@@ -197,20 +197,20 @@ all_send e o (out ∷ outs) t order within place =
 pub step_sends : (r : Reading) (input : Input) (octets : List ℕ) (at : ℕ) (v : View) (s : StepState) → IsConsistent r v.station → step r input v.station.end ≡ Ok s → (place : ℕ)
     → IsKeptOrSent s.end v.station.history.sent_in (view_after octets at v s).station.history.sent_in place
 unfolding view_after story_after
-step_sends r input octets at v s kept done place =
+step_sends r input octets at v s preserved done place =
     all_send s.end (record { given = s.end.given; establishment = s.end.establishments; octets = octets; place = at }) s.outs
     (record { line = v.outgoing; history = with_beginning v.station.end.establishments s.end.establishments v.station.history })
-    (outputs_in_order r input v.station s kept done)
-    (sent_are_outstanding r input v.station.end s kept.window kept.sound kept.numbers done) place
+    (outputs_in_order r input v.station s preserved done)
+    (sent_are_outstanding r input v.station.end s preserved.window preserved.sound preserved.numbers done) place
 
 -- ---- An outstanding message was last sent in the present establishment.
 
 by_numbering : (state : State) (asked leaving : Bool) (s : Sender) (place : ℕ) → IsConsistentSender state asked leaving s → is_7_or_8 state ≡ true → s.first ≤ place → place < s.next → s.sent_in place ≡ Some s.era
-by_numbering TeiAssigned asked leaving s place kept opened low high = cc
-by_numbering AwaitingEstablishment asked leaving s place kept opened low high = cc
-by_numbering AwaitingRelease asked leaving s place kept opened low high = cc
-by_numbering MultipleFrameEstablished asked leaving s place kept opened low high = kept.since place (omega (arith, kept.first, low)) high
-by_numbering TimerRecovery asked leaving s place kept opened low high = kept.since place (omega (arith, kept.first, low)) high
+by_numbering TeiAssigned asked leaving s place preserved opened low high = cc
+by_numbering AwaitingEstablishment asked leaving s place preserved opened low high = cc
+by_numbering AwaitingRelease asked leaving s place preserved opened low high = cc
+by_numbering MultipleFrameEstablished asked leaving s place preserved opened low high = preserved.since place (omega (arith, preserved.first, low)) high
+by_numbering TimerRecovery asked leaving s place preserved opened low high = preserved.since place (omega (arith, preserved.first, low)) high
 
 -- the two bounds of an outstanding message
 abbrev IsWithin : End → ℕ → Type 0
@@ -227,11 +227,11 @@ AreSentNow s = (place : ℕ) → is_outstanding s.end place ≡ true → s.histo
 
 user_by_invariant : (w : World) → IsInvariant w → AreSentNow w.user
 user_by_invariant w i place is = let h = within_of w.user.end place is in
-    by_numbering w.user.end.state w.user.end.layer3_initiated w.user.end.release_pending (party i.user_base w.user).sends place i.both.mine.kept h.0 h.1 h.2
+    by_numbering w.user.end.state w.user.end.layer3_initiated w.user.end.release_pending (party i.user_base w.user).sends place i.both.mine.preserved h.0 h.1 h.2
 
 network_by_invariant : (w : World) → IsInvariant w → AreSentNow w.network
 network_by_invariant w i place is = let h = within_of w.network.end place is in
-    by_numbering w.network.end.state w.network.end.layer3_initiated w.network.end.release_pending (party i.network_base w.network).sends place i.both.its.kept h.0 h.1 h.2
+    by_numbering w.network.end.state w.network.end.layer3_initiated w.network.end.release_pending (party i.network_base w.network).sends place i.both.its.preserved h.0 h.1 h.2
 
 module _ (p q : Parameters) (small_p : p.k ≤ 127) (small_q : q.k ≤ 127) (moves : List Move) where
   reached : IsInvariant (run Whole moves (new_world p q))

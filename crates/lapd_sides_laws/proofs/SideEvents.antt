@@ -107,7 +107,7 @@ module _ (S : Type 0) (w : Behaviour S) (side : Side) (id : LinkId) where
     pub done : StepState
     pub is : step Tagged input view.station.end ≡ Ok done
     pub shows : Projects w side id v (view_after octets place view done)
-    pub tells : link_primitives id v.delivered ≡ link_primitives id before.delivered ++ filter_map (what_of octets) done.outs
+    pub reporting : link_primitives id v.delivered ≡ link_primitives id before.delivered ++ filter_map (what_of octets) done.outs
     pub numbers : numbers_of (view_after octets place view done).station.history.received
         ≡ numbers_of view.station.history.received ++ number_each (establishments_of ((w.served v.now).links id)) (filter_map (what_of octets) done.outs)
     pub sends : AreKeptOrSent ((w.served v.now).links id) view.station.history.sent_in (view_after octets place view done).station.history.sent_in
@@ -119,24 +119,24 @@ module _ (S : Type 0) (w : Behaviour S) (side : Side) (id : LinkId) where
       → given_to id more ≡ messages_of input → those_for (other_side side) id line ≡ all_spelled (other_side side) id frames
       → IsProjected v (view_after_event v a more line) (record view { incoming = frames }) input octets place
   unfolding view_after story_after
-  projected_step v view a more line frames now input octets place change p kept links has x off agrees given_is on =
+  projected_step v view a more line frames now input octets place change p preserved links has x off agrees given_is on =
       let same : x.linked ≡ has.linked = same_linked x.linked has.linked _ x.was has.there in
       let end : x.linked.end ≡ view.station.end = ap (λ (l : Linked). l.end) same ∙ has.end in
       let d = x.done in
       let is : step Tagged input view.station.end ≡ Ok d = subst (λ (e : End). step Tagged input e ≡ Ok d) end x.is in
       let before : Story = record { line = view.outgoing; history = with_beginning view.station.end.establishments d.end.establishments view.station.history } in
       let o : Occasion = record { given = d.end.given; establishment = d.end.establishments; octets = octets; place = place } in
-      let tells : link_primitives id (v.delivered ++ a.effects.primitives) ≡ link_primitives id v.delivered ++ filter_map (what_of octets) d.outs =
+      let reporting : link_primitives id (v.delivered ++ a.effects.primitives) ≡ link_primitives id v.delivered ++ filter_map (what_of octets) d.outs =
       filter_map-append (what_for id) v.delivered a.effects.primitives ∙ ap (λ ws. link_primitives id v.delivered ++ ws) x.delivered in
-      let order = outputs_in_order Tagged input view.station d kept is in
+      let order = outputs_in_order Tagged input view.station d preserved is in
       record {
         done = d;
         is = is;
-        tells = tells;
+        reporting = reporting;
         numbers = step_numbers octets place (record view { incoming = frames }) d
             ∙ ap (λ n. numbers_of view.station.history.received ++ number_each n (filter_map (what_of octets) d.outs)) (sym (ap establishments_of x.links));
         sends = kept_or_sent ((w.served a.after).links id) d.end view.station.history.sent_in _ (record { end = d.end; timers = timed now d.outs (change x.linked.timers) }) x.links refl
-            (step_sends Tagged input octets place (record view { incoming = frames }) d kept is);
+            (step_sends Tagged input octets place (record view { incoming = frames }) d preserved is);
         shows = record {
           link = inl (record {
             linked = record { end = d.end; timers = timed now d.outs (change x.linked.timers) };
@@ -151,7 +151,7 @@ module _ (S : Type 0) (w : Behaviour S) (side : Side) (id : LinkId) where
               ∙ ap (λ l. l ++ those_for side id a.effects.frames) p.outgoing
               ∙ ap (λ l. all_spelled side id view.outgoing ++ l) x.frames
               ∙ sym (delivered_frames side id d.end o refl d.outs before order);
-          known = ap (λ ws. learns_all ws nothing_known) tells
+          known = ap (λ ws. learns_all ws nothing_known) reporting
               ∙ learns_both (link_primitives id v.delivered) (filter_map (what_of octets) d.outs) nothing_known
               ∙ delivered_is_known o d.outs before (known_of id v.delivered) p.known;
           given = filter_map-append (message_for id) v.given more ∙ ap (λ l. l ++ given_to id more) p.given ∙ ap (λ l. view.station.end.given ++ l) given_is ∙ sym (given_after Tagged input view.station.end d is);
@@ -166,7 +166,7 @@ module _ (S : Type 0) (w : Behaviour S) (side : Side) (id : LinkId) where
     pub is : acts Tagged side event view ≡ Ok side_step
     pub shows : Projects w side id v side_step.view
     pub octets : List ℕ
-    pub tells : link_primitives id v.delivered ≡ link_primitives id before.delivered ++ filter_map (what_of octets) side_step.outs
+    pub reporting : link_primitives id v.delivered ≡ link_primitives id before.delivered ++ filter_map (what_of octets) side_step.outs
     pub numbers : numbers_of side_step.view.station.history.received
         ≡ numbers_of view.station.history.received ++ number_each (establishments_of ((w.served v.now).links id)) (filter_map (what_of octets) side_step.outs)
     pub sends : AreKeptOrSent ((w.served v.now).links id) view.station.history.sent_in side_step.view.station.history.sent_in
@@ -217,13 +217,13 @@ module _ (S : Type 0) (w : Behaviour S) (side : Side) (id : LinkId) where
       → IsStep side id now input.Establish [] (λ t. t) come (w.served a.after).links a.effects → given_to id more ≡ [] → those_for (other_side side) id line ≡ those_for (other_side side) id v.incoming
       → Outcome v (view_after_event v a more line) view
   unfolding acts takes
-  is_added_and_establishes v view a more line now come p kept has does none same =
-      let x = projected_step v view a more line view.incoming now input.Establish [] 0 (λ t. t) p kept come has does (λ timer t e. absurd (no_expiry timer e)) (λ t y z h. h) none (same ∙ p.incoming) in
+  is_added_and_establishes v view a more line now come p preserved has does none same =
+      let x = projected_step v view a more line view.incoming now input.Establish [] 0 (λ t. t) p preserved come has does (λ timer t e. absurd (no_expiry timer e)) (λ t y z h. h) none (same ∙ p.incoming) in
       inr (record {
         event = world.Establish;
         side_step = record { view = view_after [] 0 view x.done; outs = x.done.outs };
         octets = [];
-        tells = x.tells;
+        reporting = x.reporting;
         numbers = x.numbers;
         sends = x.sends;
         is = ap (stepped [] 0 view) x.is;
@@ -238,34 +238,34 @@ module _ (S : Type 0) (w : Behaviour S) (side : Side) (id : LinkId) where
   is_removed : (v : SideView S) (view : View) (a : Reaction S) (more : List (LinkId × List ℕ)) (line : List (List ℕ)) → Projects w side id v view
       → IsRemoval side id (w.served a.after).links a.effects → given_to id more ≡ [] → those_for (other_side side) id line ≡ those_for (other_side side) id v.incoming
       → Outcome v (view_after_event v a more line) view
-  is_removed v view a more line p goes none same =
+  is_removed v view a more line p proceeds none same =
       let delivered : link_primitives id (v.delivered ++ a.effects.primitives) ≡ link_primitives id v.delivered ++ link_primitives id a.effects.primitives = filter_map-append (what_for id) v.delivered a.effects.primitives in
-      let sent : those_for side id (v.outgoing ++ a.effects.frames) ≡ those_for side id v.outgoing = filter-append (is_for side id) v.outgoing a.effects.frames ∙ rw (goes.frames) (append-nil (those_for side id v.outgoing)) in
+      let sent : those_for side id (v.outgoing ++ a.effects.frames) ≡ those_for side id v.outgoing = filter-append (is_for side id) v.outgoing a.effects.frames ∙ rw (proceeds.frames) (append-nil (those_for side id v.outgoing)) in
       inl (record {
         shows = record {
-          link = inr (inr (record { absent = goes.now_absent; removed = any_behind (is_removal id.tei) v.delivered a.effects.primitives goes.tells }));
+          link = inr (inr (record { absent = proceeds.now_absent; removed = any_behind (is_removal id.tei) v.delivered a.effects.primitives proceeds.reporting }));
           incoming = same ∙ p.incoming;
           outgoing = sent ∙ p.outgoing;
-          known = ap (λ ws. learns_all ws nothing_known) delivered ∙ learns_both (link_primitives id v.delivered) (link_primitives id a.effects.primitives) nothing_known ∙ goes.delivered.teaches (known_of id v.delivered) ∙ p.known;
+          known = ap (λ ws. learns_all ws nothing_known) delivered ∙ learns_both (link_primitives id v.delivered) (link_primitives id a.effects.primitives) nothing_known ∙ proceeds.delivered.teaches (known_of id v.delivered) ∙ p.known;
           given = still_given v more none ∙ p.given;
         };
-        expected = λ h. subst AreExpectedOfLink (sym delivered) (expected_both (link_primitives id v.delivered) (link_primitives id a.effects.primitives) h goes.delivered.expected);
+        expected = λ h. subst AreExpectedOfLink (sym delivered) (expected_both (link_primitives id v.delivered) (link_primitives id a.effects.primitives) h proceeds.delivered.expected);
       })
 
   -- ---- An event that is no step of an existing link.
 
-  going : Serves → (v : SideView S) (view : View) (a : Reaction S) (more : List (LinkId × List ℕ)) (line : List (List ℕ)) (now : ℕ) → Projects w side id v view → IsConsistent Tagged view.station
+  proceeding : Serves → (v : SideView S) (view : View) (a : Reaction S) (more : List (LinkId × List ℕ)) (line : List (List ℕ)) (now : ℕ) → Projects w side id v view → IsConsistent Tagged view.station
       → IsUnmovedBy side id now (w.fresh id) (was_removed v) (w.served v.now).links (w.served a.after).links a.effects → given_to id more ≡ [] → those_for (other_side side) id line ≡ those_for (other_side side) id v.incoming
       → Outcome v (view_after_event v a more line) view
-  going serves v view a more line now p kept (inl passes) none same = passing v view a more line p passes none same
-  going serves v view a more line now p kept (inr (inl comes)) none same =
+  proceeding serves v view a more line now p preserved (inl passes) none same = passing v view a more line p passes none same
+  proceeding serves v view a more line now p preserved (inr (inl arrives)) none same =
       let come : Links = with_link id (Some (w.fresh id)) (w.served v.now).links in
-      let has = has_been_added serves v view.station.end comes.absent comes.not_removed p.link in
-      elim comes.comes [
+      let has = has_been_added serves v view.station.end arrives.absent arrives.not_removed p.link in
+      elim arrives.arrives [
         | inl alone ↦ is_added_alone v view a more line come p has alone none same
-        | inr does ↦ is_added_and_establishes v view a more line now come p kept has does none same
+        | inr does ↦ is_added_and_establishes v view a more line now come p preserved has does none same
       ]
-  going serves v view a more line now p kept (inr (inr goes)) none same = is_removed v view a more line p goes none same
+  proceeding serves v view a more line now p preserved (inr (inr proceeds)) none same = is_removed v view a more line p proceeds none same
 
   -- ---- Octets are taken.
 
@@ -273,23 +273,23 @@ module _ (S : Type 0) (w : Behaviour S) (side : Side) (id : LinkId) where
   takes_its : Serves → (v : SideView S) (view : View) (now : ℕ) (octets : List ℕ) (rest : List (List ℕ)) → Projects w side id v view → IsConsistentView Tagged view → HasLink (w.served v.now).links id view.station.end
       → IsFirst (other_side side) id octets (those_for (other_side side) id rest) view.incoming → Outcome v (view_after_event v (w.takes octets now v.now) [] rest) view
   unfolding acts delivers receives
-  takes_its ways v view now octets rest p kept has first =
+  takes_its ways v view now octets rest p preserved has first =
       let frame = first.frame in
       let behind = first.behind in
-      let proper : AreProper (frame ∷ behind) = subst AreProper first.are kept.coming in
+      let proper : AreProper (frame ∷ behind) = subst AreProper first.are preserved.arriving in
       let spelled_so : spelled (other_side side) id frame ≡ octets = sym first.head in
       let done = received_is_done frame has.linked.end in
       let its = (ways (was_removed v)).takes_own frame now v.now has.linked _ proper.0 has.there done in
       let step_of : IsStep side id now (Heard frame.control frame.role) frame.info (λ t. t) (w.served v.now).links (w.served (w.takes octets now v.now).after).links (w.takes octets now v.now).effects =
       subst (λ (o : List ℕ). IsStep side id now (Heard frame.control frame.role) frame.info (λ t. t) (w.served v.now).links (w.served (w.takes o now v.now).after).links (w.takes o now v.now).effects) spelled_so its in
-      let x = projected_step v view (w.takes octets now v.now) [] rest behind now (Heard frame.control frame.role) frame.info frame.place (λ t. t) p kept.station (w.served v.now).links has step_of
+      let x = projected_step v view (w.takes octets now v.now) [] rest behind now (Heard frame.control frame.role) frame.info frame.place (λ t. t) p preserved.station (w.served v.now).links has step_of
       (λ timer t e. absurd (received_is_no_expiry frame timer e)) (λ t a b h. h) refl first.tail in
       let left : View = record view { incoming = behind } in
       inr (record {
         event = world.Deliver;
         side_step = record { view = view_after frame.info frame.place left x.done; outs = x.done.outs };
         octets = frame.info;
-        tells = x.tells;
+        reporting = x.reporting;
         numbers = x.numbers;
         sends = x.sends;
         is = ap (λ frames. delivers Tagged frames view) first.are ∙ ap (stepped frame.info frame.place left) x.is;
@@ -303,10 +303,10 @@ module _ (S : Type 0) (w : Behaviour S) (side : Side) (id : LinkId) where
   takes_early : Serves → (v : SideView S) (view : View) (now : ℕ) (octets : List ℕ) (rest : List (List ℕ)) → Projects w side id v view → IsConsistentView Tagged view → (w.served v.now).links id ≡ None
       → IsFirst (other_side side) id octets (those_for (other_side side) id rest) view.incoming → Outcome v (view_after_event v (w.takes octets now v.now) [] rest) view
   unfolding acts loses
-  takes_early ways v view now octets rest p kept none first =
+  takes_early ways v view now octets rest p preserved none first =
       let frame = first.frame in
       let behind = first.behind in
-      let proper : AreProper (frame ∷ behind) = subst AreProper first.are kept.coming in
+      let proper : AreProper (frame ∷ behind) = subst AreProper first.are preserved.arriving in
       let spelled_so : spelled (other_side side) id frame ≡ octets = sym first.head in
       let passes : PassesBy side id (w.served v.now).links (w.served (w.takes octets now v.now).after).links (w.takes octets now v.now).effects =
       subst (λ (o : List ℕ). PassesBy side id (w.served v.now).links (w.served (w.takes o now v.now).after).links (w.takes o now v.now).effects) spelled_so ((ways (was_removed v)).takes_absent frame now v.now proper.0 none) in
@@ -315,7 +315,7 @@ module _ (S : Type 0) (w : Behaviour S) (side : Side) (id : LinkId) where
         event = world.Lose 0;
         side_step = record { view = record view { incoming = remove view.incoming 0 }; outs = [] };
         octets = [];
-        tells = still_delivered v (w.takes octets now v.now) _ passes ∙ sym (append-nil (link_primitives id v.delivered));
+        reporting = still_delivered v (w.takes octets now v.now) _ passes ∙ sym (append-nil (link_primitives id v.delivered));
         numbers = sym (append-nil (numbers_of view.station.history.received));
         sends = λ place. inl refl;
         is = ap (λ (b : Bool). if b then quietly (record view { incoming = remove view.incoming 0 }) else Err world.NothingThere) within;
@@ -326,24 +326,24 @@ module _ (S : Type 0) (w : Behaviour S) (side : Side) (id : LinkId) where
   takes_by_link : Serves → (v : SideView S) (view : View) (now : ℕ) (octets : List ℕ) (rest : List (List ℕ)) → Projects w side id v view → IsConsistentView Tagged view
       → ShowsEnd (w.fresh id) (w.served v.now).links id v.delivered view.station.end
       → IsFirst (other_side side) id octets (those_for (other_side side) id rest) view.incoming → Outcome v (view_after_event v (w.takes octets now v.now) [] rest) view
-  takes_by_link ways v view now octets rest p kept (inl has) first = takes_its ways v view now octets rest p kept has first
-  takes_by_link ways v view now octets rest p kept (inr (inl early)) first = takes_early ways v view now octets rest p kept early.absent first
-  takes_by_link ways v view now octets rest p kept (inr (inr late)) first = takes_early ways v view now octets rest p kept late.absent first
+  takes_by_link ways v view now octets rest p preserved (inl has) first = takes_its ways v view now octets rest p preserved has first
+  takes_by_link ways v view now octets rest p preserved (inr (inl early)) first = takes_early ways v view now octets rest p preserved early.absent first
+  takes_by_link ways v view now octets rest p preserved (inr (inr late)) first = takes_early ways v view now octets rest p preserved late.absent first
 
   takes_by_test : Serves → (v : SideView S) (view : View) (now : ℕ) (octets : List ℕ) (rest : List (List ℕ)) (test : Bool) → is_for (other_side side) id octets ≡ test → v.incoming ≡ octets ∷ rest
       → Projects w side id v view → IsConsistentView Tagged view → Once v (w.takes octets now v.now) → Outcome v (view_after_event v (w.takes octets now v.now) [] rest) view
-  takes_by_test ways v view now octets rest true is are p kept stays =
+  takes_by_test ways v view now octets rest true is are p preserved stays =
       let on : octets ∷ those_for (other_side side) id rest ≡ all_spelled (other_side side) id view.incoming =
       sym (ap (λ (b : Bool). if b then octets ∷ those_for (other_side side) id rest else those_for (other_side side) id rest) is) ∙ ap (those_for (other_side side) id) (sym are) ∙ p.incoming in
-      takes_by_link ways v view now octets rest p kept p.link (first_of (other_side side) id octets (those_for (other_side side) id rest) view.incoming on)
-  takes_by_test ways v view now octets rest false is are p kept stays =
-      going ways v view (w.takes octets now v.now) [] rest now p kept.station ((ways (was_removed v)).takes_other octets now v.now is stays) refl
+      takes_by_link ways v view now octets rest p preserved p.link (first_of (other_side side) id octets (those_for (other_side side) id rest) view.incoming on)
+  takes_by_test ways v view now octets rest false is are p preserved stays =
+      proceeding ways v view (w.takes octets now v.now) [] rest now p preserved.station ((ways (was_removed v)).takes_other octets now v.now is stays) refl
       (sym (ap (λ (b : Bool). if b then octets ∷ those_for (other_side side) id rest else those_for (other_side side) id rest) is) ∙ ap (those_for (other_side side) id) (sym are))
 
   takes_first_of : Serves → (v : SideView S) (view : View) (now : ℕ) (incoming : List (List ℕ)) → v.incoming ≡ incoming → Projects w side id v view → IsConsistentView Tagged view
       → Once v (takes_first w now incoming v.now) → Outcome v (view_after_event v (takes_first w now incoming v.now) [] (drop 1 incoming)) view
-  takes_first_of ways v view now [] are p kept stays = passing v view (unmoved v.now) [] [] p (no_effect v) refl (ap (those_for (other_side side) id) (sym are))
-  takes_first_of ways v view now (octets ∷ rest) are p kept stays = takes_by_test ways v view now octets rest (is_for (other_side side) id octets) refl are p kept stays
+  takes_first_of ways v view now [] are p preserved stays = passing v view (unmoved v.now) [] [] p (no_effect v) refl (ap (those_for (other_side side) id) (sym are))
+  takes_first_of ways v view now (octets ∷ rest) are p preserved stays = takes_by_test ways v view now octets rest (is_for (other_side side) id octets) refl are p preserved stays
 
   -- ---- Octets are lost.
 
@@ -357,7 +357,7 @@ module _ (S : Type 0) (w : Behaviour S) (side : Side) (id : LinkId) where
           event = world.Lose lost.place;
           side_step = record { view = record view { incoming = remove view.incoming lost.place }; outs = [] };
           octets = [];
-          tells = still_delivered v (unmoved v.now) _ (no_effect v) ∙ sym (append-nil (link_primitives id v.delivered));
+          reporting = still_delivered v (unmoved v.now) _ (no_effect v) ∙ sym (append-nil (link_primitives id v.delivered));
           numbers = sym (append-nil (numbers_of view.station.history.received));
           sends = λ place. inl refl;
           is = ap (λ (b : Bool). if b then quietly (record view { incoming = remove view.incoming lost.place }) else Err world.NothingThere) within;
@@ -372,15 +372,15 @@ module _ (S : Type 0) (w : Behaviour S) (side : Side) (id : LinkId) where
   expires_its : Serves → (v : SideView S) (view : View) (now : ℕ) (timer : Timer) (event : world.PairEvent) → acts Tagged side event view ≡ takes Tagged (Expiry timer) [] view
       → Projects w side id v view → IsConsistentView Tagged view → HasLink (w.served v.now).links id view.station.end → Outcome v (view_after_event v (w.expires now timer (Some id) v.now) [] v.incoming) view
   unfolding takes
-  expires_its ways v view now timer event is_event p kept has =
+  expires_its ways v view now timer event is_event p preserved has =
       let its = (ways (was_removed v)).expires_own now timer v.now has.linked _ has.there (expiry_is_done timer has.linked.end) in
-      let x = projected_step v view (w.expires now timer (Some id) v.now) [] v.incoming view.incoming now (Expiry timer) [] 0 (stopped timer) p kept.station (w.served v.now).links has its
+      let x = projected_step v view (w.expires now timer (Some id) v.now) [] v.incoming view.incoming now (Expiry timer) [] 0 (stopped timer) p preserved.station (w.served v.now).links has its
       (λ other t e. subst (λ (k : Timer). is_on k (stopped timer t) ≡ false) (same_timer timer other e) (stopped_is_off timer t)) (λ t a b h. stopped_agrees timer t a b h) refl p.incoming in
       inr (record {
         event = event;
         side_step = record { view = view_after [] 0 view x.done; outs = x.done.outs };
         octets = [];
-        tells = x.tells;
+        reporting = x.reporting;
         numbers = x.numbers;
         sends = x.sends;
         is = is_event ∙ ap (stepped [] 0 view) x.is;
@@ -415,12 +415,12 @@ module _ (S : Type 0) (w : Behaviour S) (side : Side) (id : LinkId) where
   named_expires : Serves → (v : SideView S) (view : View) (now : ℕ) (timer : Timer) (other : LinkId) (test : Bool) → id_eq id other ≡ test → runs_on timer ((w.served v.now).links other) ≡ true
       → (runs_on timer ((w.served v.now).links id) ≡ true → Some other ≡ Some id → Outcome v (view_after_event v (w.expires now timer (Some id) v.now) [] v.incoming) view)
       → Projects w side id v view → IsConsistentView Tagged view → Once v (w.expires now timer (Some other) v.now) → Outcome v (view_after_event v (w.expires now timer (Some other) v.now) [] v.incoming) view
-  named_expires ways v view now timer other true is runs own p kept stays =
+  named_expires ways v view now timer other true is runs own p preserved stays =
       let same : id ≡ other = same_id_eq id other is in
       subst (λ (k : LinkId). Outcome v (view_after_event v (w.expires now timer (Some k) v.now) [] v.incoming) view) same
       (own (subst (λ (k : LinkId). runs_on timer ((w.served v.now).links k) ≡ true) (sym same) runs) (ap (λ (k : LinkId). Some k) (sym same)))
-  named_expires ways v view now timer other false is runs own p kept stays =
-      going ways v view (w.expires now timer (Some other) v.now) [] v.incoming now p kept.station
+  named_expires ways v view now timer other false is runs own p preserved stays =
+      proceeding ways v view (w.expires now timer (Some other) v.now) [] v.incoming now p preserved.station
       ((ways (was_removed v)).expires_other now timer (Some other) v.now (λ k e. subst (λ (x : LinkId). id_eq id x ≡ false) (some_id other k e) is) stays) refl refl
     where
       some_id : (a b : LinkId) → Some a ≡ Some b → a ≡ b
@@ -428,19 +428,19 @@ module _ (S : Type 0) (w : Behaviour S) (side : Side) (id : LinkId) where
 
   t200_expires : Serves → (v : SideView S) (view : View) (now : ℕ) (of : Option LinkId) → IsTimely side id (Expire T200 of now) v → Projects w side id v view → IsConsistentView Tagged view
       → runs_on T200 ((w.served v.now).links id) ≡ true → of ≡ Some id → Outcome v (view_after_event v (w.expires now T200 (Some id) v.now) [] v.incoming) view
-  t200_expires ways v view now of timely p kept runs is =
+  t200_expires ways v view now of timely p preserved runs is =
       let clear = timely refl is in
       let has = is_there v T200 view.station.end p.link runs in
       let on : view.station.end.t200 ≡ true = sym (ap (λ (e : End). e.t200) has.end) ∙ has.timed.t200 (runs_by T200 has.linked _ has.there runs) in
       expires_its ways v view now T200 world.Expire200
-      (t200_is_event view on (no_poll side id v.outgoing view.outgoing kept.going p.outgoing clear.0) (no_final (other_side side) id v.incoming view.incoming kept.coming p.incoming clear.1)) p kept has
+      (t200_is_event view on (no_poll side id v.outgoing view.outgoing preserved.proceeding p.outgoing clear.0) (no_final (other_side side) id v.incoming view.incoming preserved.arriving p.incoming clear.1)) p preserved has
 
   t203_expires : Serves → (v : SideView S) (view : View) (now : ℕ) → Projects w side id v view → IsConsistentView Tagged view
       → runs_on T203 ((w.served v.now).links id) ≡ true → Outcome v (view_after_event v (w.expires now T203 (Some id) v.now) [] v.incoming) view
-  t203_expires ways v view now p kept runs =
+  t203_expires ways v view now p preserved runs =
       let has = is_there v T203 view.station.end p.link runs in
       let on : view.station.end.t203 ≡ true = sym (ap (λ (e : End). e.t203) has.end) ∙ has.timed.t203 (runs_by T203 has.linked _ has.there runs) in
-      expires_its ways v view now T203 world.Expire203 (t203_is_event view on) p kept has
+      expires_its ways v view now T203 world.Expire203 (t203_is_event view on) p preserved has
 
   if_runs : (v : SideView S) (view : View) (test : Bool) (a : Reaction S) → Projects w side id v view → (test ≡ true → Once v a → Outcome v (view_after_event v a [] v.incoming) view)
       → Once v (if test then a else unmoved v.now) → Outcome v (view_after_event v (if test then a else unmoved v.now) [] v.incoming) view
@@ -449,35 +449,35 @@ module _ (S : Type 0) (w : Behaviour S) (side : Side) (id : LinkId) where
 
   expires : Serves → (v : SideView S) (view : View) (timer : Timer) (of : Option LinkId) (now : ℕ) → IsTimely side id (Expire timer of now) v → Projects w side id v view → IsConsistentView Tagged view
       → Once v (reaction w (Expire timer of now) v) → Outcome v (view_after_event v (reaction w (Expire timer of now) v) [] v.incoming) view
-  expires ways v view timer None now timely p kept stays =
+  expires ways v view timer None now timely p preserved stays =
       if_runs v view _ (w.expires now timer None v.now) p
-      (λ runs stays. going ways v view (w.expires now timer None v.now) [] v.incoming now p kept.station ((ways (was_removed v)).expires_other now timer None v.now (λ k e. absurd (none_is_some k e)) stays) refl refl) stays
+      (λ runs stays. proceeding ways v view (w.expires now timer None v.now) [] v.incoming now p preserved.station ((ways (was_removed v)).expires_other now timer None v.now (λ k e. absurd (none_is_some k e)) stays) refl refl) stays
     where
       none_is_some : (k : LinkId) → None ≡ Some k → ⊥
       none_is_some k e = cc
-  expires ways v view T200 (Some other) now timely p kept stays =
+  expires ways v view T200 (Some other) now timely p preserved stays =
       if_runs v view (runs_on T200 ((w.served v.now).links other)) (w.expires now T200 (Some other) v.now) p
-      (λ runs stays. named_expires ways v view now T200 other (id_eq id other) refl runs (λ its is. t200_expires ways v view now (Some other) timely p kept its is) p kept stays) stays
-  expires ways v view T203 (Some other) now timely p kept stays =
+      (λ runs stays. named_expires ways v view now T200 other (id_eq id other) refl runs (λ its is. t200_expires ways v view now (Some other) timely p preserved its is) p preserved stays) stays
+  expires ways v view T203 (Some other) now timely p preserved stays =
       if_runs v view (runs_on T203 ((w.served v.now).links other)) (w.expires now T203 (Some other) v.now) p
-      (λ runs stays. named_expires ways v view now T203 other (id_eq id other) refl runs (λ its is. t203_expires ways v view now p kept its) p kept stays) stays
-  expires ways v view T201 (Some other) now timely p kept stays = passing v view (unmoved v.now) [] v.incoming p (no_effect v) refl refl
-  expires ways v view T202 (Some other) now timely p kept stays = passing v view (unmoved v.now) [] v.incoming p (no_effect v) refl refl
+      (λ runs stays. named_expires ways v view now T203 other (id_eq id other) refl runs (λ its is. t203_expires ways v view now p preserved its) p preserved stays) stays
+  expires ways v view T201 (Some other) now timely p preserved stays = passing v view (unmoved v.now) [] v.incoming p (no_effect v) refl refl
+  expires ways v view T202 (Some other) now timely p preserved stays = passing v view (unmoved v.now) [] v.incoming p (no_effect v) refl refl
 
   -- ---- A request.
 
   request_is_move : (v : SideView S) (view : View) (a : Reaction S) (now : ℕ) (more : List (LinkId × List ℕ)) → Projects w side id v view → IsConsistentView Tagged view → HasLink (w.served v.now).links id view.station.end
       → IsRequest side id now (w.served v.now).links (w.served a.after).links a.effects more → Outcome v (view_after_event v a more v.incoming) view
   unfolding takes
-  request_is_move v view a now more p kept has asked =
+  request_is_move v view a now more p preserved has asked =
       let d = asked.is_step in
-      let x = projected_step v view a more v.incoming view.incoming now asked.input asked.octets 0 (λ t. t) p kept.station (w.served v.now).links has d
+      let x = projected_step v view a more v.incoming view.incoming now asked.input asked.octets 0 (λ t. t) p preserved.station (w.served v.now).links has d
       (λ timer t e. absurd (asked.no_expiry timer e)) (λ t a b h. h) asked.given_is p.incoming in
       inr (record {
         event = asked.event;
         side_step = record { view = view_after asked.octets 0 view x.done; outs = x.done.outs };
         octets = asked.octets;
-        tells = x.tells;
+        reporting = x.reporting;
         numbers = x.numbers;
         sends = x.sends;
         is = asked.is_event view ∙ ap (stepped asked.octets 0 view) x.is;
@@ -501,18 +501,18 @@ module _ (S : Type 0) (w : Behaviour S) (side : Side) (id : LinkId) where
 
   asks_by : Serves → (v : SideView S) (view : View) (request : Request) (now : ℕ) (r : Result (Reaction S) SideKind) → w.requested request now v.now ≡ r → Projects w side id v view → IsConsistentView Tagged view
       → Once v (or_unmoved v.now r) → Outcome v (view_after_event v (or_unmoved v.now r) (accepted_by w request now v.now) v.incoming) view
-  asks_by ways v view request now (Ok a) is p kept stays = elim ((ways (was_removed v)).asked request now v.now a is stays) [
-    | inl none ↦ going ways v view a (accepted_by w request now v.now) v.incoming now p kept.station none.goes none.none_given refl
-    | inr its ↦ request_is_move v view a now (accepted_by w request now v.now) p kept (is_there_for v view.station.end its.is_step.linked p.link its.is_step.was) its
+  asks_by ways v view request now (Ok a) is p preserved stays = elim ((ways (was_removed v)).asked request now v.now a is stays) [
+    | inl none ↦ proceeding ways v view a (accepted_by w request now v.now) v.incoming now p preserved.station none.proceeds none.none_given refl
+    | inr its ↦ request_is_move v view a now (accepted_by w request now v.now) p preserved (is_there_for v view.station.end its.is_step.linked p.link its.is_step.was) its
   ]
-  asks_by ways v view request now (Err kind) is p kept stays =
+  asks_by ways v view request now (Err kind) is p preserved stays =
       passing v view (unmoved v.now) (accepted_by w request now v.now) v.incoming p (no_effect v) (ap (given_to id) (none_accepted request now v.now kind is)) refl
 
   -- ---- All events.
 
   pub each_event : Serves → (v : SideView S) (view : View) (event : SideEvent) → IsTimely side id event v → GivesTeiOnce w id event v → Projects w side id v view → IsConsistentView Tagged view → Outcome v (does w event v) view
   unfolding does
-  each_event ways v view (Take now) timely stays p kept = takes_first_of ways v view now v.incoming refl p kept stays
-  each_event ways v view (Lose at) timely stays p kept = loses_one v view at p
-  each_event ways v view (Expire timer of now) timely stays p kept = expires ways v view timer of now timely p kept stays
-  each_event ways v view (Ask request now) timely stays p kept = asks_by ways v view request now (w.requested request now v.now) refl p kept stays
+  each_event ways v view (Take now) timely stays p preserved = takes_first_of ways v view now v.incoming refl p preserved stays
+  each_event ways v view (Lose at) timely stays p preserved = loses_one v view at p
+  each_event ways v view (Expire timer of now) timely stays p preserved = expires ways v view timer of now timely p preserved stays
+  each_event ways v view (Ask request now) timely stays p preserved = asks_by ways v view request now (w.requested request now v.now) refl p preserved stays

@@ -184,7 +184,7 @@ module _ (r : Reading) (now : ℕ) (t : Timers) where
     stops_then = λ timer s h. behind s.outs (out_where (runs timer s.end) (Stop timer)) _ _ (stop_by now timer (runs timer s.end) (timed now s.outs t) s.end refl h);
     sends = λ s g go h. quiet s.outs _ _ _ (tt, tt) h;
     ensures_t200 = λ s h. ensured s.outs s.end.t200 s.end.t203 h;
-    tells = λ s h. quiet s.outs _ _ _ (tt, tt) h;
+    reporting = λ s h. quiet s.outs _ _ _ (tt, tt) h;
   }
 
 -- ---- A whole step.

@@ -30,10 +30,10 @@ module _ (S : Type 0) (w : Behaviour S) (side : Side) (id : LinkId) where
   sent_by_shown links delivered s (inr (inr h)) now = sent_by_none (links id) s.history.sent_in h.absent
 
   -- the primitives of an event for the link
-  abbrev told : SideEvent → SideView S → List What
-  told event v = link_primitives id (reaction w event v).effects.primitives
+  abbrev reported : SideEvent → SideView S → List What
+  reported event v = link_primitives id (reaction w event v).effects.primitives
 
-  primitives_after : (event : SideEvent) (v : SideView S) → link_primitives id (does w event v).delivered ≡ link_primitives id v.delivered ++ told event v
+  primitives_after : (event : SideEvent) (v : SideView S) → link_primitives id (does w event v).delivered ≡ link_primitives id v.delivered ++ reported event v
   unfolding does
   primitives_after event v = filter_map-append (what_for id) v.delivered (reaction w event v).effects.primitives
 
@@ -45,22 +45,22 @@ module _ (S : Type 0) (w : Behaviour S) (side : Side) (id : LinkId) where
   pub nothing_recorded_more : (event : SideEvent) (v : SideView S) (view : View) (r : LinkRecord) → Projects w side id v view → Projects w side id (does w event v) view → AreSentNow view.station
       → ShowsRecord r view.station.history → ShowsRecord (recorded w id event v r) view.station.history
   nothing_recorded_more event v view r before after now h = record {
-    received_in = ap (λ l. r.received_in ++ l) (none_numbered (establishments_of ((w.served (reaction w event v).after).links id)) (told event v) (known_of id v.delivered) knows) ∙ append-nil r.received_in ∙ h.received_in;
+    received_in = ap (λ l. r.received_in ++ l) (none_numbered (establishments_of ((w.served (reaction w event v).after).links id)) (reported event v) (known_of id v.delivered) knows) ∙ append-nil r.received_in ∙ h.received_in;
     sent_in = sent_recorded ((w.served (reaction w event v).after).links id) r.sent_in view.station.history.sent_in view.station.history.sent_in (λ place. inl refl) (sent_after event v view after now) h.sent_in;
   }
     where
-      knows : (learns_all (told event v) (known_of id v.delivered)).received ≡ (known_of id v.delivered).received
-      knows = ap (λ (k : Known). k.received) (sym (learns_both (link_primitives id v.delivered) (told event v) nothing_known) ∙ ap (λ ws. learns_all ws nothing_known) (sym (primitives_after event v)) ∙ after.known ∙ sym before.known)
+      knows : (learns_all (reported event v) (known_of id v.delivered)).received ≡ (known_of id v.delivered).received
+      knows = ap (λ (k : Known). k.received) (sym (learns_both (link_primitives id v.delivered) (reported event v) nothing_known) ∙ ap (λ ws. learns_all ws nothing_known) (sym (primitives_after event v)) ∙ after.known ∙ sym before.known)
 
   -- an event that is one move of the link
   pub move_recorded : (event : SideEvent) (v : SideView S) (view : View) (r : LinkRecord) (m : IsMove S w side id v (does w event v) view) → AreSentNow m.side_step.view.station
       → ShowsRecord r view.station.history → ShowsRecord (recorded w id event v r) m.side_step.view.station.history
   unfolding does
   move_recorded event v view r m now h =
-      let same : told event v ≡ filter_map (what_of m.octets) m.side_step.outs = append_cancel_left (link_primitives id v.delivered) (told event v) (filter_map (what_of m.octets) m.side_step.outs) (sym (primitives_after event v) ∙ m.tells) in
+      let same : reported event v ≡ filter_map (what_of m.octets) m.side_step.outs = append_cancel_left (link_primitives id v.delivered) (reported event v) (filter_map (what_of m.octets) m.side_step.outs) (sym (primitives_after event v) ∙ m.reporting) in
       let number = establishments_of ((w.served (reaction w event v).after).links id) in
       record {
-        received_in = ap (λ l. l ++ number_each number (told event v)) h.received_in ∙ ap (λ ws. numbers_of view.station.history.received ++ number_each number ws) same ∙ sym m.numbers;
+        received_in = ap (λ l. l ++ number_each number (reported event v)) h.received_in ∙ ap (λ ws. numbers_of view.station.history.received ++ number_each number ws) same ∙ sym m.numbers;
         sent_in = sent_recorded ((w.served (reaction w event v).after).links id) r.sent_in view.station.history.sent_in m.side_step.view.station.history.sent_in m.sends (sent_after event v m.side_step.view m.shows now) h.sent_in;
       }
 

@@ -252,15 +252,15 @@ module _ (config : Config) (id : LinkId) (low : id.tei < 127) (removed : Bool) w
       elim (managing side.User config now step.outs s.served id low removed once) [
         | inl passes ↦ inl (passes_by_both side.User id s.served.links m.after.links rest.after.served.links m.effects rest.effects passes
             (pending_after_as now step.outs middle (s.served.links id) passes.links (λ there. outcomes_spare side.User config now step.outs s.served id low (once (there_so (s.served.links id) there)))))
-        | inr (inl came) ↦ inr (inl (record {
-          absent = came.absent;
-          not_removed = came.not_removed;
-          comes = elim (pending_after_there now step.outs middle fresh (came.passes.links ∙ now_there id fresh s.served.links)) [
-            | inl left ↦ inl (passes_by_both side.User id come m.after.links rest.after.served.links m.effects rest.effects came.passes left)
-            | inr does ↦ inr (pass_then_step side.User id now Establish [] (λ t. t) come m.after.links rest.after.served.links m.effects rest.effects came.passes does)
+        | inr (inl arrived) ↦ inr (inl (record {
+          absent = arrived.absent;
+          not_removed = arrived.not_removed;
+          arrives = elim (pending_after_there now step.outs middle fresh (arrived.passes.links ∙ now_there id fresh s.served.links)) [
+            | inl left ↦ inl (passes_by_both side.User id come m.after.links rest.after.served.links m.effects rest.effects arrived.passes left)
+            | inr does ↦ inr (pass_then_step side.User id now Establish [] (λ t. t) come m.after.links rest.after.served.links m.effects rest.effects arrived.passes does)
           ];
         }))
-        | inr (inr goes) ↦ inr (inr (removal_then_pass side.User id m.after.links rest.after.served.links m.effects rest.effects goes (pending_after_absent now step.outs middle goes.now_absent)))
+        | inr (inr proceeds) ↦ inr (inr (removal_then_pass side.User id m.after.links rest.after.served.links m.effects rest.effects proceeds (pending_after_absent now step.outs middle proceeds.now_absent)))
       ]
 
   acting : (now : ℕ) (event : ℕ → TerminalEvent) (s : User) → Stays s (terminal_acts config now event s) → IsUnmovedByUser now s (terminal_acts config now event s)
@@ -376,8 +376,8 @@ module _ (config : Config) (id : LinkId) (low : id.tei < 127) (removed : Bool) w
   plainly : (now : ℕ) (phase : Phase) (at : Sapi) (input : Input) (octets : List ℕ) (otherwise : Result (Reaction User) SideKind) (s : User) (a : Reaction User) → IsMoveRequest side.User input octets → messages_of input ≡ []
       → (otherwise ≡ Ok a → IsUnmovedByUser now s a) → with_tei_or now phase at input octets otherwise s ≡ Ok a → Asked now s a []
   plainly now (Assigned by own) at input octets otherwise s a line_request none else_ is = link_asked now (of_sapi at own) input octets s a [] line_request (none_given (id_eq id (of_sapi at own)) (messages_of input) none) is
-  plainly now Unassigned at input octets otherwise s a line_request none else_ is = inl (record { goes = else_ is; none_given = refl })
-  plainly now (Awaiting purpose count ri) at input octets otherwise s a line_request none else_ is = inl (record { goes = else_ is; none_given = refl })
+  plainly now Unassigned at input octets otherwise s a line_request none else_ is = inl (record { proceeds = else_ is; none_given = refl })
+  plainly now (Awaiting purpose count ri) at input octets otherwise s a line_request none else_ is = inl (record { proceeds = else_ is; none_given = refl })
 
   giving : (now : ℕ) (phase : Phase) (other : LinkId) (message : List ℕ) (s : User) (a : Reaction User)
       → with_tei_or now phase other.sapi (Give message) [] (Err (Link NotEstablished)) s ≡ Ok a → Asked now s a ((own_link phase other, message) ∷ [])
@@ -415,8 +415,8 @@ module _ (config : Config) (id : LinkId) (low : id.tei < 127) (removed : Bool) w
   asked (request.Busy other false) now s a is stays = plainly now s.terminal other.sapi input.BusyOff [] (Err NoLink) s a (free_request side.User) refl (λ is. inl (no_link s a NoLink is)) is
   asked request.AskTei now s a is stays =
       let same = same_user (terminal_acts config now event.Ask s) a is in
-      subst (λ (x : Reaction User). Asked now s x []) same (inl (record { goes = acting now event.Ask s (subst (Stays s) (sym same) stays); none_given = refl }))
-  asked (request.Check tei) now s a is stays = subst (λ (x : Reaction User). Asked now s x []) (same_user (unmoved s) a is) (inl (record { goes = inl (nothing s); none_given = refl }))
+      subst (λ (x : Reaction User). Asked now s x []) same (inl (record { proceeds = acting now event.Ask s (subst (Stays s) (sym same) stays); none_given = refl }))
+  asked (request.Check tei) now s a is stays = subst (λ (x : Reaction User). Asked now s x []) (same_user (unmoved s) a is) (inl (record { proceeds = inl (nothing s); none_given = refl }))
 
   -- ---- A user side.
 

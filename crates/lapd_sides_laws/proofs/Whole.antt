@@ -126,8 +126,8 @@ module _ (c : Configs) (id : LinkId) (low : id.tei < 127) where
       pub reports_to_user : AreExpectedOfLink (link_primitives id i.delivered_to_user)
       pub reports_to_network : AreExpectedOfLink (link_primitives id i.delivered_to_network)
 
-    kept : (moves : List world.Move) → IsConsistentWorld Tagged (Reached moves)
-    kept moves = run_consistent Tagged moves (new_world p q) (new_world_consistent Tagged p q small_p small_q)
+    preserved : (moves : List world.Move) → IsConsistentWorld Tagged (Reached moves)
+    preserved moves = run_consistent Tagged moves (new_world p q) (new_world_consistent Tagged p q small_p small_q)
 
     abbrev More : List world.Move → Side → world.PairEvent → List world.Move
     More moves who event = moves ++ record { side = who; event = event } ∷ []
@@ -139,16 +139,16 @@ module _ (c : Configs) (id : LinkId) (low : id.tei < 127) where
     -- one more move reports only expected errors for a link
     is_expected_primitive : (moves : List world.Move) (who : Side) (event : world.PairEvent) (side_step : world.ViewStep) (octets : List ℕ) (before now : List What) → world.acts Tagged who event (view_of who (Reached moves)) ≡ Ok side_step
         → now ≡ before ++ filter_map (what_of octets) side_step.outs → AreExpectedOfLink before → AreExpectedOfLink now
-    is_expected_primitive moves who event side_step octets before now is tells h =
+    is_expected_primitive moves who event side_step octets before now is reporting h =
         let all = every_run_reports Tagged p q small_p small_q (More moves who event) in
         let outs = outs_are_expected who event (Reached moves) side_step is (last_is_expected moves (record { side = who; event = event }) (new_world p q) all) in
-        subst AreExpectedOfLink (sym tells) (expected_both before (filter_map (what_of octets) side_step.outs) h (delivered_is_expected octets side_step.outs outs))
+        subst AreExpectedOfLink (sym reporting) (expected_both before (filter_map (what_of octets) side_step.outs) h (delivered_is_expected octets side_step.outs outs))
 
     one_move : (i : Interface) (had : LinkRecords) (who : Side) (event : SideEvent) → IsTimelyMove id who event i → IsMoveGivingTeiOnce c id who event i → IsReached i had → IsReached (side_does c who event i) (side_recorded c id who event i had)
     one_move i had side.User event timely stays r =
         let w = Reached r.moves in
         let v = does (user_behaviour c.user) event (by_user i) in
-        elim (each_event User (user_behaviour c.user) side.User id (of_user c.user id low) (by_user i) (view_of side.User w) event timely stays r.shows.user (view_of_consistent Tagged side.User w (kept r.moves))) [
+        elim (each_event User (user_behaviour c.user) side.User id (of_user c.user id low) (by_user i) (view_of side.User w) event timely stays r.shows.user (view_of_consistent Tagged side.User w (preserved r.moves))) [
           | inl n ↦ record {
             moves = r.moves;
             shows = by_user_after v i (view_of side.User w) w n.shows r.shows.network;
@@ -171,14 +171,14 @@ module _ (c : Configs) (id : LinkId) (low : id.tei < 127) where
                 moves = more;
                 shows = subst (ProjectsTo c id (with_user v i)) is (by_user_after v i m.side_step.view w m.shows r.shows.network);
                 noted = subst (ShowRecords (side_recorded c id side.User event i had)) is records;
-                reports_to_user = is_expected_primitive r.moves side.User m.event m.side_step m.octets (link_primitives id i.delivered_to_user) (link_primitives id v.delivered) m.is m.tells r.reports_to_user;
+                reports_to_user = is_expected_primitive r.moves side.User m.event m.side_step m.octets (link_primitives id i.delivered_to_user) (link_primitives id v.delivered) m.is m.reporting r.reports_to_user;
                 reports_to_network = r.reports_to_network;
               }
         ]
     one_move i had side.Network event timely stays r =
         let w = Reached r.moves in
         let v = does (network_behaviour c.network) event (by_network i) in
-        elim (each_event Network (network_behaviour c.network) side.Network id (of_network c.network id low) (by_network i) (view_of side.Network w) event timely stays r.shows.network (view_of_consistent Tagged side.Network w (kept r.moves))) [
+        elim (each_event Network (network_behaviour c.network) side.Network id (of_network c.network id low) (by_network i) (view_of side.Network w) event timely stays r.shows.network (view_of_consistent Tagged side.Network w (preserved r.moves))) [
           | inl n ↦ record {
             moves = r.moves;
             shows = by_network_after v i (view_of side.Network w) w n.shows r.shows.user;
@@ -202,7 +202,7 @@ module _ (c : Configs) (id : LinkId) (low : id.tei < 127) where
                 shows = subst (ProjectsTo c id (with_network v i)) is (by_network_after v i m.side_step.view w m.shows r.shows.user);
                 noted = subst (ShowRecords (side_recorded c id side.Network event i had)) is records;
                 reports_to_user = r.reports_to_user;
-                reports_to_network = is_expected_primitive r.moves side.Network m.event m.side_step m.octets (link_primitives id i.delivered_to_network) (link_primitives id v.delivered) m.is m.tells r.reports_to_network;
+                reports_to_network = is_expected_primitive r.moves side.Network m.event m.side_step m.octets (link_primitives id i.delivered_to_network) (link_primitives id v.delivered) m.is m.reporting r.reports_to_network;
               }
         ]
 

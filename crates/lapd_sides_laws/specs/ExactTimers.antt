@@ -63,15 +63,15 @@ AreOctets octets = All IsOctet octets
 
 -- octets arrive from anyone, behind those in transit to the side; then an event of the side follows
 pub record SideStep : Type 0 where
-  pub comes : List (List ℕ)
+  pub arrives : List (List ℕ)
   pub event : SideEvent
 
 abbrev pub BringsOctets : SideStep → Type 0
-BringsOctets side_step = All AreOctets side_step.comes
+BringsOctets side_step = All AreOctets side_step.arrives
 
 abbrev pub stepped : {S : Type 0} → Behaviour S → SideStep → SideView S → SideView S
 stepped w side_step v = does w side_step.event
-    (record v { incoming = v.incoming ++ side_step.comes })
+    (record v { incoming = v.incoming ++ side_step.arrives })
 
 -- a list of side steps, one after another
 abbrev pub stepped_by_all : {S : Type 0} → Behaviour S → List SideStep → SideView S → SideView S

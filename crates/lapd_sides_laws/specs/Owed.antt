@@ -57,7 +57,7 @@ pub record IsAddition (side : Side) (id : LinkId) (at : ℕ) (fresh : Linked) (r
     (before now : Links) (effects : Effects) : Type 0 where
   pub absent : before id ≡ None
   pub not_removed : removed ≡ false
-  pub comes : PassesBy side id (with_link id (Some fresh) before) now effects
+  pub arrives : PassesBy side id (with_link id (Some fresh) before) now effects
       ⊎ IsStep side id at Establish [] (λ t. t) (with_link id (Some fresh) before) now effects
 
 -- primitives for a link that is removed: they change nothing that layer 3 knows, and report no
@@ -71,7 +71,7 @@ pub record IsRemoval (side : Side) (id : LinkId) (now : Links) (effects : Effect
   pub now_absent : now id ≡ None
   pub frames : those_for side id effects.frames ≡ []
   pub delivered : AreSilent (link_primitives id effects.primitives)
-  pub tells : list_any (is_removal id.tei) effects.primitives ≡ true
+  pub reporting : list_any (is_removal id.tei) effects.primitives ≡ true
 
 -- the event is no step of an existing link: it leaves the link unchanged, creates it or removes it
 abbrev pub IsUnmovedBy : Side → LinkId → ℕ → Linked → Bool → Links → Links → Effects → Type 0
@@ -91,7 +91,7 @@ pub record IsRequest (side : Side) (id : LinkId) (now : ℕ) (before after : Lin
 
 pub record IsNoRequest (side : Side) (id : LinkId) (now : ℕ) (fresh : Linked) (removed : Bool)
     (before after : Links) (effects : Effects) (given : List (LinkId × List ℕ)) : Type 0 where
-  pub goes : IsUnmovedBy side id now fresh removed before after effects
+  pub proceeds : IsUnmovedBy side id now fresh removed before after effects
   pub none_given : given_to id given ≡ []
 
 -- ---- Every event of a side.

@@ -7,7 +7,7 @@ use Rattle.lapd_sides_links.specs.declared.config.Config.{Config}
 use Rattle.lapd_sides_links.specs.declared.link_set.LinkSet.{LinkSet}
 use Rattle.lapd_sides_links.specs.Links.{Linked, is_served, parameters_for, new_linked, no_links, with_tei, is_held_below, links_below}
 use Rattle.lapd_sides_links.specs.Shown.{ShowLinks}
-use Rattle.lapd_sides_links.proofs.Comings.{same_links}
+use Rattle.lapd_sides_links.proofs.Arrivals.{same_links}
 
 -- a number below n + 1 is n, or below n
 not_last : (t n : ℕ) → (t == n) ≡ false → nat_lt t n ≡ nat_lt t (n + 1)

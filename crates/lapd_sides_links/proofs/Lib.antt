@@ -1,5 +1,5 @@
 pub mod Acting
-pub mod Comings
+pub mod Arrivals
 pub mod Known
 pub mod Units
 pub mod Order

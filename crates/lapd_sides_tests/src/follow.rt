@@ -52,15 +52,15 @@ fn last_unit(pair: &Pair, side: Side) -> &[u8] {
 }
 
 /// The octets of a move, if any.
-fn octets_in(deed: &Move) -> Option<&[u8]> {
-    match deed {
+fn octets_in(mv: &Move) -> Option<&[u8]> {
+    match mv {
         Move::Give(_, octets) | Move::Unit(_, octets) => Some(octets.as_slice()),
         _ => None,
     }
 }
 
 /// The next frame that arrives at a side.
-fn coming(pair: &Pair, to: Side) -> &[u8] {
+fn arriving(pair: &Pair, to: Side) -> &[u8] {
     match pair.line(to).first() {
         Some(frame) => frame.as_slice(),
         None => &[],
@@ -68,8 +68,8 @@ fn coming(pair: &Pair, to: Side) -> &[u8] {
 }
 
 /// The call of a side for a move; empty if a frame is lost.
-fn word_of(deed: &Move) -> &'static str {
-    match deed {
+fn word_of(mv: &Move) -> &'static str {
+    match mv {
         Move::Give(..) => " give 0 64 ",
         Move::Unit(..) => " unit 0 64 ",
         Move::Establish(_) => " establish 0 64",
@@ -158,35 +158,35 @@ impl Follow {
 
     /// Writes the call of a side for a move, if there is one, with the octets of the move or of the
     /// frame that arrives.
-    fn put_call(&mut self, deed: &Move) {
+    fn put_call(&mut self, mv: &Move) {
         self.call.clear();
-        let word = word_of(deed);
+        let word = word_of(mv);
         if word == "" {
             return;
         }
         self.call.shown("", &self.now);
         self.call.put(word);
-        self.call.hex(octets_in(deed).unwrap_or(&[]));
-        if matches!(deed, Move::Deliver(_)) {
-            self.call.hex(coming(&self.pair, deed.side()));
+        self.call.hex(octets_in(mv).unwrap_or(&[]));
+        if matches!(mv, Move::Deliver(_)) {
+            self.call.hex(arriving(&self.pair, mv.side()));
         }
     }
 
     /// Makes a move with the pair, and writes the expected result. Returns `false` if an allocation
     /// failed. If the pair refuses with P1 to P3, no side is called.
-    fn is_made(&mut self, deed: &Move) -> bool {
+    fn is_made(&mut self, mv: &Move) -> bool {
         self.wanted.clear();
-        let before = self.pair.line(deed.side().other()).len();
-        match self.pair.apply_into(deed, &mut self.outs) {
+        let before = self.pair.line(mv.side().other()).len();
+        match self.pair.apply_into(mv, &mut self.outs) {
             Ok(()) => {
                 self.made = self.made.wrapping_add(1);
                 let outs = self.outs.as_slice();
-                put_gives(&mut self.wanted, &self.pair, deed.side(), before, outs);
+                put_gives(&mut self.wanted, &self.pair, mv.side(), before, outs);
                 true
             }
             Err(PairFault::Refused(fault)) => {
                 self.refused = self.refused.wrapping_add(1);
-                put_refused(&mut self.wanted, &fault, octets_in(deed));
+                put_refused(&mut self.wanted, &fault, octets_in(mv));
                 true
             }
             Err(fault) => {
@@ -217,9 +217,9 @@ impl Follow {
     /// whether both have the same result.
     fn make_move(&mut self) -> bool {
         match self.draw() {
-            Some(deed) => {
-                self.put_call(&deed);
-                self.is_made(&deed) && self.is_given(deed.side())
+            Some(mv) => {
+                self.put_call(&mv);
+                self.is_made(&mv) && self.is_given(mv.side())
             }
             None => false,
         }

@@ -67,24 +67,24 @@ fn come() -> &'static str {
 
 impl Watch {
     /// Passes each prefix of these octets, the shortest first.
-    fn hear_fronts(&mut self, octets: &[u8]) {
+    fn receive_fronts(&mut self, octets: &[u8]) {
         for len in 0..=octets.len() {
             self.receive(octets.get(..len).unwrap_or(&[]));
         }
     }
 
     /// Watches a new side, and passes each prefix of the octets that are written in hexadecimal.
-    fn hear_line(&mut self, links: &str, state: u8, line: &str) {
+    fn receive_line(&mut self, links: &str, state: u8, line: &str) {
         self.begin(links, state);
         match octets_of(self.alloc, line) {
-            Some(octets) => self.hear_fronts(octets.as_slice()),
+            Some(octets) => self.receive_fronts(octets.as_slice()),
             None => self.wrong.put("no memory;"),
         }
     }
 
     /// Passes no octets, each single octet, each pair of octets, and each pair after the address of
     /// the link (SAPI 0 and TEI 64, as a command and as a response).
-    fn hear_two_octets(&mut self) {
+    fn receive_two_octets(&mut self) {
         self.receive(&[]);
         for first in 0..=u8::MAX {
             self.receive(&[first]);
@@ -97,21 +97,21 @@ impl Watch {
     }
 
     /// Passes enumerated strings: the octets of each line of `COME` and each prefix of them to a
-    /// new side; then to one more side the strings of `hear_two_octets`, and strings of all lengths
+    /// new side; then to one more side the strings of `receive_two_octets`, and strings of all lengths
     /// that begin like frames.
-    fn hear_all(&mut self, links: &str, state: u8) {
+    fn receive_all(&mut self, links: &str, state: u8) {
         for line in come().lines() {
-            self.hear_line(links, state, line);
+            self.receive_line(links, state, line);
         }
         self.begin(links, state);
-        self.hear_two_octets();
+        self.receive_two_octets();
         for front in fronts() {
-            self.hear_fronts(behind(front, &[0xab; MOST]).as_slice());
+            self.receive_fronts(behind(front, &[0xab; MOST]).as_slice());
         }
     }
 
     /// Passes random strings to new sides whose link is set to state 4 and state 7 alternately.
-    fn hear_drawn(&mut self, links: &str) {
+    fn receive_drawn(&mut self, links: &str) {
         let mut draws = OctetDraws::new(921);
         for number in 0..STRINGS {
             if number % STRINGS_OF_SIDE == 0 {
@@ -126,17 +126,17 @@ impl Watch {
     }
 
     /// Passes all strings to the side that these words describe.
-    fn hear_everything(&mut self, links: &str) {
-        self.hear_all(links, 4);
-        self.hear_all(links, 7);
-        self.hear_drawn(links);
+    fn receive_everything(&mut self, links: &str) {
+        self.receive_all(links, 4);
+        self.receive_all(links, 7);
+        self.receive_drawn(links);
     }
 }
 
 /// Passes all strings to the side that these words describe. Fails if any check failed.
 fn strings_come(alloc: Global, links: &str) -> Result<(), Fail> {
     let mut watch = Watch::new(alloc)?;
-    watch.hear_everything(links);
+    watch.receive_everything(links);
     watch.end()
 }
 

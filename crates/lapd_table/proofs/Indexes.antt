@@ -24,7 +24,7 @@ abbrev pub found_in : Links → Keys → LinkId → Option Link
 found_in links keys id = option_and_then (slab.get links) (key_of keys id)
 
 -- every SAPI and TEI except this one has the same key as before
-pub record Keeps (old new : Keys) (id : LinkId) (slot : Option ℕ) : Type 0 where
+pub record Preserves (old new : Keys) (id : LinkId) (slot : Option ℕ) : Type 0 where
   pub there : key_of new id ≡ slot
   pub others : (other : LinkId) → other ≢ id → key_of new other ≡ key_of old other
 
@@ -47,7 +47,7 @@ id_of_setup_for side id other h = ap id_of_setup h
 
 -- ---- The map of the keys.
 
-pub preserves_of_updates : (old new : Keys) (id : LinkId) (slot : Option ℕ) → tree.Updates id_cmp old new id slot → Keeps old new id slot
+pub preserves_of_updates : (old new : Keys) (id : LinkId) (slot : Option ℕ) → tree.Updates id_cmp old new id slot → Preserves old new id slot
 preserves_of_updates old new id slot updates = record {
   there = updates.1;
   others = λ other differs. elim (id_cases id other) [
@@ -117,13 +117,13 @@ module _ (side : Side) (links : Links) (keys : Keys) (index : IsIndex side links
 
     -- ---- a link is removed, and so is its entry
 
-    module _ (links' : Links) (keys' : Keys) (updates : slab.Updates links links' key None) (keeps : Keeps keys keys' id None) where
+    module _ (links' : Links) (keys' : Keys) (updates : slab.Updates links links' key None) (preserves : Preserves keys keys' id None) where
       not_removed : (other : LinkId) (at : ℕ) → key_of keys' other ≡ Some at → (other ≢ id) × (key_of keys other ≡ Some at)
       not_removed other at again = elim (id_cases id other) [
-        | inl same ↦ absurd (let h : None ≡ Some at = sym keeps.there ∙ ap (key_of keys') same ∙ again in cc)
+        | inl same ↦ absurd (let h : None ≡ Some at = sym preserves.there ∙ ap (key_of keys') same ∙ again in cc)
         | inr apart ↦
-            let differs : other ≢ id = λ same. absurd (let h : None ≡ Some at = sym keeps.there ∙ ap (key_of keys') (sym same) ∙ again in cc) in
-            (differs, sym (keeps.others other differs) ∙ again)
+            let differs : other ≢ id = λ same. absurd (let h : None ≡ Some at = sym preserves.there ∙ ap (key_of keys') (sym same) ∙ again in cc) in
+            (differs, sym (preserves.others other differs) ∙ again)
       ]
 
       removed_names : (other : LinkId) (at : ℕ) → key_of keys' other ≡ Some at → option_map setup_of (slab.get links' at) ≡ Some (setup_for side other)
@@ -137,7 +137,7 @@ module _ (side : Side) (links : Links) (keys : Keys) (index : IsIndex side links
         | inr differs ↦
             let was = index.named at other (sym (updates.others at differs) ∙ h) in
             let apart : id_of_setup (setup_of other) ≢ id = λ same. differs (some_inj _ _ (sym was ∙ ap (key_of keys) same ∙ there)) in
-            keeps.others _ apart ∙ was
+            preserves.others _ apart ∙ was
       ]
 
       pub removed_index : IsIndex side links' keys'
@@ -149,14 +149,14 @@ module _ (side : Side) (links : Links) (keys : Keys) (index : IsIndex side links
 
       pub removed_finds : Finds links keys links' keys' id None
       removed_finds = record {
-        there = ap (option_and_then (slab.get links')) keeps.there;
-        others = λ other differs. ap (option_and_then (slab.get links')) (keeps.others other differs) ∙ removed_other other differs (key_of keys other) refl;
+        there = ap (option_and_then (slab.get links')) preserves.there;
+        others = λ other differs. ap (option_and_then (slab.get links')) (preserves.others other differs) ∙ removed_other other differs (key_of keys other) refl;
       }
 
   -- ---- a link is added under a vacant key, with an entry
 
   module _ (id : LinkId) (absent : key_of keys id ≡ None) (key : ℕ) (vacant : slab.get links key ≡ None) (links' : Links) (keys' : Keys) (link : Link)
-      (updates : slab.Updates links links' key (Some link)) (keeps : Keeps keys keys' id (Some key)) (setup : setup_of link ≡ setup_for side id) where
+      (updates : slab.Updates links links' key (Some link)) (preserves : Preserves keys keys' id (Some key)) (setup : setup_of link ≡ setup_for side id) where
     -- an earlier entry names another key
     taken : (other : LinkId) (at : ℕ) → key_of keys other ≡ Some at → at ≢ key
     taken other at again same =
@@ -167,11 +167,11 @@ module _ (side : Side) (links : Links) (keys : Keys) (index : IsIndex side links
     added_names : (other : LinkId) (at : ℕ) → key_of keys' other ≡ Some at → option_map setup_of (slab.get links' at) ≡ Some (setup_for side other)
     added_names other at again = elim (id_cases other id) [
       | inl same ↦
-          let one : key ≡ at = some_inj _ _ (sym keeps.there ∙ ap (key_of keys') (sym same) ∙ again) in
+          let one : key ≡ at = some_inj _ _ (sym preserves.there ∙ ap (key_of keys') (sym same) ∙ again) in
           ap (λ k. option_map setup_of (slab.get links' k)) (sym one) ∙ ap (option_map setup_of) updates.changed ∙ ap Some (setup ∙ ap (setup_for side) (sym same))
       | inr apart ↦
           let differs : other ≢ id = λ same. let h : false ≡ true = sym apart ∙ ap (λ o. is_eq (id_cmp o id)) same ∙ id_cmp_self id in absurd (cc) in
-          let was : key_of keys other ≡ Some at = sym (keeps.others other differs) ∙ again in
+          let was : key_of keys other ≡ Some at = sym (preserves.others other differs) ∙ again in
           ap (option_map setup_of) (updates.others at (taken other at was)) ∙ index.names other at was
     ]
 
@@ -179,11 +179,11 @@ module _ (side : Side) (links : Links) (keys : Keys) (index : IsIndex side links
     added_named at other h = elim (cases_eq at key) [
       | inl same ↦
           let one : link ≡ other = some_inj _ _ (sym updates.changed ∙ ap (slab.get links') (sym same) ∙ h) in
-          ap (λ l. key_of keys' (id_of_setup (setup_of l))) (sym one) ∙ ap (λ s. key_of keys' (id_of_setup s)) setup ∙ keeps.there ∙ ap Some (sym same)
+          ap (λ l. key_of keys' (id_of_setup (setup_of l))) (sym one) ∙ ap (λ s. key_of keys' (id_of_setup s)) setup ∙ preserves.there ∙ ap Some (sym same)
       | inr differs ↦
           let was = index.named at other (sym (updates.others at differs) ∙ h) in
           let apart : id_of_setup (setup_of other) ≢ id = λ same. let e : None ≡ Some at = sym absent ∙ ap (key_of keys) (sym same) ∙ was in absurd (cc) in
-          keeps.others _ apart ∙ was
+          preserves.others _ apart ∙ was
     ]
 
     pub added_index : IsIndex side links' keys'
@@ -195,8 +195,8 @@ module _ (side : Side) (links : Links) (keys : Keys) (index : IsIndex side links
 
     pub added_finds : Finds links keys links' keys' id (Some link)
     added_finds = record {
-      there = ap (option_and_then (slab.get links')) keeps.there ∙ updates.changed;
-      others = λ other differs. ap (option_and_then (slab.get links')) (keeps.others other differs) ∙ added_other other (key_of keys other) refl;
+      there = ap (option_and_then (slab.get links')) preserves.there ∙ updates.changed;
+      others = λ other differs. ap (option_and_then (slab.get links')) (preserves.others other differs) ∙ added_other other (key_of keys other) refl;
     }
 
   -- ---- no link that can be found has changed

@@ -36,7 +36,7 @@ use Rattle.lapd_table.specs.Index.{key_of, IsIndex}
 use Rattle.lapd_table.specs.Octets.{fault_for, event_by}
 use Rattle.lapd_table.specs.LinkTable.{side_of, link_at, IsKey, Changes, IsUnchanged, StepsAt, RefusesAt, IsFor, arrives, HasDispatched, IsForNoLink}
 use Rattle.lapd_table.proofs.Ids.{id_cmp_total, same_by_eq}
-use Rattle.lapd_table.proofs.Indexes.{Links, Keys, Keeps, found_in, Finds, preserves_of_updates, linked, found_setup, stepped_index, stepped_finds, removed_index, removed_finds, added_index, added_finds, same_index, same_found, taken_out_again}
+use Rattle.lapd_table.proofs.Indexes.{Links, Keys, Preserves, found_in, Finds, preserves_of_updates, linked, found_setup, stepped_index, stepped_finds, removed_index, removed_finds, added_index, added_finds, same_index, same_found, taken_out_again}
 
 -- ---- By cases of options and results.
 
@@ -219,25 +219,25 @@ setup_in table link side = ap (λ s. setup_for s (id_of_setup (setup_of link))) 
 
 -- the slab has room, and the link is stored under a vacant key
 module _ (old : LinkTable) (link : Link) (side : (setup_of link).side ≡ side_of old) (id : LinkId) (its : id ≡ id_of_setup (setup_of link)) (absent : key_of old.keys id ≡ None)
-    (roomy : Links) (kept : slab.SameValues old.links roomy) (key : ℕ) (vacant : slab.get roomy key ≡ None) (links : Links) (put : slab.Updates roomy links key (Some link)) where
+    (roomy : Links) (preserved : slab.SameValues old.links roomy) (key : ℕ) (vacant : slab.get roomy key ≡ None) (links : Links) (put : slab.Updates roomy links key (Some link)) where
   setup : setup_of link ≡ setup_for old.side id
   setup = setup_in old link side ∙ ap (setup_for old.side) (sym its)
 
   roomy_index : IsIndex old.side roomy old.keys
-  roomy_index = same_index old.side old.links old.keys old.index roomy old.keys kept (λ at. refl)
+  roomy_index = same_index old.side old.links old.keys old.index roomy old.keys preserved (λ at. refl)
 
   -- the entry of the link is in the map
   module _ (keys : Keys) (named : tree.Updates id_cmp old.keys keys id (Some key)) where
-    keeps : Keeps old.keys keys id (Some key)
-    keeps = preserves_of_updates old.keys keys id (Some key) named
+    preserves : Preserves old.keys keys id (Some key)
+    preserves = preserves_of_updates old.keys keys id (Some key) named
 
     pub with_link_index : IsIndex old.side links keys
-    with_link_index = added_index old.side roomy old.keys roomy_index id absent key vacant links keys link put keeps setup
+    with_link_index = added_index old.side roomy old.keys roomy_index id absent key vacant links keys link put preserves setup
 
     added : Finds old.links old.keys links keys id (Some link)
     added =
-        let now = added_finds old.side roomy old.keys roomy_index id absent key vacant links keys link put keeps setup in
-        let before = same_found old.side old.links old.keys old.index roomy old.keys kept (λ at. refl) in
+        let now = added_finds old.side roomy old.keys roomy_index id absent key vacant links keys link put preserves setup in
+        let before = same_found old.side old.links old.keys old.index roomy old.keys preserved (λ at. refl) in
         record { there = now.there; others = λ other differs. now.others other differs ∙ before other }
 
     pub with_link : (new : LinkTable) → new.side ≡ old.side → new.links ≡ links → new.keys ≡ keys → Changes old new (id_of_setup (setup_of link)) (Some link)
@@ -249,7 +249,7 @@ module _ (old : LinkTable) (link : Link) (side : (setup_of link).side ≡ side_o
   -- the map could not allocate, and the link is removed again
   module _ (back : Links) (out : slab.Updates links back key None) (keys : Keys) (same : keys.entries ≡ old.keys.entries) where
     as_before_links : slab.SameValues old.links back
-    as_before_links at = taken_out_again roomy links back key link vacant put out at ∙ kept at
+    as_before_links at = taken_out_again roomy links back key link vacant put out at ∙ preserved at
 
     as_before_keys : (at : LinkId) → key_of keys at ≡ key_of old.keys at
     as_before_keys at = ap (λ es. lookup (tree.is_at (id_cmp at)) es) same
@@ -264,13 +264,13 @@ module _ (old : LinkTable) (link : Link) (side : (setup_of link).side ≡ side_o
 
 -- only the slab tried to allocate
 pub with_room : (old new : LinkTable) → new.side ≡ old.side → slab.SameValues old.links new.links → new.keys ≡ old.keys → IsUnchanged old new
-with_room old new side kept keys =
-    unchanged old new side (same_found old.side old.links old.keys old.index new.links new.keys kept (λ at. ap (λ k. key_of k at) keys))
+with_room old new side preserved keys =
+    unchanged old new side (same_found old.side old.links old.keys old.index new.links new.keys preserved (λ at. ap (λ k. key_of k at) keys))
 
 -- ---- Removing a link.
 
 module _ (old : LinkTable) (id : LinkId) (keys : Keys) (unnamed : tree.Updates id_cmp old.keys keys id None) where
-  gone : Keeps old.keys keys id None
+  gone : Preserves old.keys keys id None
   gone = preserves_of_updates old.keys keys id None unnamed
 
   pub without_link_index : (key : ℕ) → key_of old.keys id ≡ Some key → (links : Links) → slab.Updates old.links links key None → IsIndex old.side links keys

@@ -201,7 +201,7 @@ impl LinkTable {
         outs: &mut Outs,
     ) -> Result<LinkId, TableFault>
         requires for_link { IsFor id event }
-        requires heard { (e : End) → refused (input_of event) e ≡ None }
+        requires reception { (e : End) → refused (input_of event) e ≡ None }
         ensures ok { IfOk result (λ done. (done ≡ id)
             × StepsAt self.old self.new id (input_of event.entry) outs.new.items) }
         ensures err { IfErr result (λ fault. (fault ≡ TableFault.NoLink)

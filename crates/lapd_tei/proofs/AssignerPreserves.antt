@@ -116,17 +116,17 @@ requested : (a : AssignerState) (ri : ℕ) (free : Option ℕ) → least_free a.
 requested a ri None q = inl (record { stays = λ n is unfreed. is; none = one_sent (denied ri) refl })
 requested a ri (Some tei) q = inr (record { ri = ri; tei = tei; free = free_from a.held 64 (drop 64 a.held) tei refl q; is = refl })
 
-heard : (a : AssignerState) (k : TeiKind) (ri ai : ℕ) → Assigns a (assigner_receives k ri ai a)
-heard a kind.Request ri ai = requested a ri (least_free a.held) refl
-heard a kind.CheckResponse ri ai = inl (responded a ai a.check)
-heard a kind.Verify ri ai = inl (begun a ai a.check)
-heard a kind.Assigned ri ai = inl (stayed a)
-heard a kind.Denied ri ai = inl (stayed a)
-heard a kind.CheckRequest ri ai = inl (stayed a)
-heard a kind.Remove ri ai = inl (stayed a)
+reception : (a : AssignerState) (k : TeiKind) (ri ai : ℕ) → Assigns a (assigner_receives k ri ai a)
+reception a kind.Request ri ai = requested a ri (least_free a.held) refl
+reception a kind.CheckResponse ri ai = inl (responded a ai a.check)
+reception a kind.Verify ri ai = inl (begun a ai a.check)
+reception a kind.Assigned ri ai = inl (stayed a)
+reception a kind.Denied ri ai = inl (stayed a)
+reception a kind.CheckRequest ri ai = inl (stayed a)
+reception a kind.Remove ri ai = inl (stayed a)
 
 pub assigner_assigns : (a : AssignerState) (e : AssignerEvent) → Assigns a (assigner_step a e)
-assigner_assigns a (event.Heard m) = heard a m.kind m.ri m.ai
+assigner_assigns a (event.Heard m) = reception a m.kind m.ri m.ai
 assigner_assigns a (event.Check tei) = inl (begun a tei a.check)
 assigner_assigns a event.T201 = inl (timed a a.check)
 

@@ -58,7 +58,7 @@ receives_once_way b G way i t ri f phase false flies there = way.reaches_termina
 
 receives_way : (b : BusState) (G : Option ℕ → BusStep → Type 0) → EachWay b G → (i t ri : ℕ) (f : Option Broadcast) (o : Option Phase)
     → slice_get b.down i ≡ f → slice_get b.terminals t ≡ o → G (Some t) (done b (terminal_receives b i t ri f o))
-receives_way b G way i t ri (Some f) (Some phase) flies there = receives_once_way b G way i t ri f phase (slice_index_or f.heard t false) flies there
+receives_way b G way i t ri (Some f) (Some phase) flies there = receives_once_way b G way i t ri f phase (slice_index_or f.reception t false) flies there
 receives_way b G way i t ri None None flies there = way.refused (Some t)
 receives_way b G way i t ri None (Some phase) flies there = way.refused (Some t)
 receives_way b G way i t ri (Some f) None flies there = way.refused (Some t)

@@ -12,7 +12,7 @@ use Rattle.lapd_tei.specs.declared.bus_move.BusMove.{BusMove}
 use Rattle.lapd_tei.specs.Out.{sent}
 use Rattle.lapd_tei.specs.Terminal.{terminal_step, tei_of, reference_of, new_terminal}
 use Rattle.lapd_tei.specs.Assigner.{AssignerStep, assigner_step, is_held, known_held}
-use Rattle.lapd_tei.specs.Bus.{BusState, BusStep, Broadcast, new_bus, assigner_did, terminal_did, with_mark, heard_by, without_up, moved, run}
+use Rattle.lapd_tei.specs.Bus.{BusState, BusStep, Broadcast, new_bus, assigner_did, terminal_did, with_mark, received_by, without_up, moved, run}
 use Rattle.lapd_tei.specs.Single.{references, asked, Differ, freed, assigned_by, IsNobodys, FreesNobodys, MeetsPremises}
 use Rattle.lapd_tei.specs.Service.{BusEvent, Move, Want, Join, Restart, in_service, joined_by, event_step, after_events, IsKnown, KnowsInUse, HoldsInUse, IsInOrder, KnowsAnew, IsNoOthers, place_of_event, AsksByItsOwn, FreesNobodysTei, RestartsKnowing, JoinsByItsOwn, LosesNone, Throughout, MeetsInService}
 use Rattle.lapd_tei.proofs.PreservedByBus.{Owner, Place, Sits, Fits, Owned, single_from_owned, get_after_set, all_back, all_front, all_each, differ_rest, pick_yes, pick_no}
@@ -47,7 +47,7 @@ received_is_known b i f flies h = all_at (λ g. IsKnown b.assigner.held (assigne
 marked_known : (b : BusState) (i t : ℕ) (f : Broadcast) → slice_get b.down i ≡ Some f → HoldsInUse b → KnowsInUse b.assigner.held (with_mark b i t f)
 marked_known b i t f flies h = record {
   terminals = h.terminals;
-  assignments = All-set (λ g. IsKnown b.assigner.held (assigned_by g.message.kind g.message.ai)) b.down i (heard_by t f) (received_is_known b i f flies h) h.assignments;
+  assignments = All-set (λ g. IsKnown b.assigner.held (assigned_by g.message.kind g.message.ai)) b.down i (received_by t f) (received_is_known b i f flies h) h.assignments;
 }
 
 -- messages from terminals in transit do not matter
@@ -100,7 +100,7 @@ marked_owned b i t f flies h = record {
   owner = h.owner;
   place_of = h.place_of;
   seated = h.seated;
-  flying = All-set (λ g. Fits h.owner g.message) b.down i (heard_by t f) (all_at (λ g. Fits h.owner g.message) b.down i f h.flying flies) h.flying;
+  flying = All-set (λ g. Fits h.owner g.message) b.down i (received_by t f) (all_at (λ g. Fits h.owner g.message) b.down i f h.flying flies) h.flying;
 }
 
 marked_no_others : (b : BusState) (i t : ℕ) (f : Broadcast) (place : Option ℕ) (r : ℕ) → IsNoOthers b place r → IsNoOthers (with_mark b i t f) place r
@@ -176,19 +176,19 @@ event_owned b (Restart teis) own joins known h = record { owner = h.owner; place
 -- ---- The law.
 
 first_event_known : (b : BusState) (e : BusEvent) (es : List BusEvent) → LosesNone b (e ∷ es) → HoldsInUse b → HoldsInUse (event_step b e).now
-first_event_known b e es keeps h = event_known b e keeps.freeing.0 keeps.restarting.0 keeps.joining.0 h
+first_event_known b e es preserves h = event_known b e preserves.freeing.0 preserves.restarting.0 preserves.joining.0 h
 
 the_rest : (b : BusState) (e : BusEvent) (es : List BusEvent) → LosesNone b (e ∷ es) → LosesNone (event_step b e).now es
-the_rest b e es keeps = record { freeing = keeps.freeing.1; restarting = keeps.restarting.1; joining = keeps.joining.1 }
+the_rest b e es preserves = record { freeing = preserves.freeing.1; restarting = preserves.restarting.1; joining = preserves.joining.1 }
 
 events_known : (b : BusState) (es : List BusEvent) → LosesNone b es → HoldsInUse b → HoldsInUse (after_events b es)
-events_known b [] keeps h = h
-events_known b (e ∷ es) keeps h = events_known (event_step b e).now es (the_rest b e es keeps) (first_event_known b e es keeps h)
+events_known b [] preserves h = h
+events_known b (e ∷ es) preserves h = events_known (event_step b e).now es (the_rest b e es preserves) (first_event_known b e es preserves h)
 
 events_owned : (b : BusState) (es : List BusEvent) → Throughout AsksByItsOwn b es → LosesNone b es → HoldsInUse b → Owned b → Owned (after_events b es)
-events_owned b [] own keeps known h = h
-events_owned b (e ∷ es) own keeps known h =
-    events_owned (event_step b e).now es own.1 (the_rest b e es keeps) (first_event_known b e es keeps known) (event_owned b e own.0 keeps.joining.0 known h)
+events_owned b [] own preserves known h = h
+events_owned b (e ∷ es) own preserves known h =
+    events_owned (event_step b e).now es own.1 (the_rest b e es preserves) (first_event_known b e es preserves known) (event_owned b e own.0 preserves.joining.0 known h)
 
 first_known : (terminals : ℕ) (known : List ℕ) → HoldsInUse (in_service terminals known)
 first_known terminals known = record {
@@ -216,8 +216,8 @@ teis_are_held terminals known es loses = events_known (in_service terminals know
 pub in_order : (terminals : ℕ) (known : List ℕ) (es : List BusEvent) → MeetsInService (in_service terminals known) es → IsInOrder (after_events (in_service terminals known) es)
 in_order terminals known es met = record {
   single = single_from_owned (after_events (in_service terminals known) es)
-      (events_owned (in_service terminals known) es met.asking met.keeping (first_known terminals known) (first_owned terminals known));
-  held = teis_are_held terminals known es met.keeping;
+      (events_owned (in_service terminals known) es met.asking met.losing_none (first_known terminals known) (first_owned terminals known));
+  held = teis_are_held terminals known es met.losing_none;
 }
 
 -- ---- A TEI that is held stays held, until a check frees it.
@@ -298,7 +298,7 @@ all_new terminals (r ∷ rs) = (
 pub premises_are_local : (terminals : ℕ) (ms : List BusMove) → MeetsPremises terminals ms → MeetsInService (in_service terminals []) (map Move ms)
 premises_are_local terminals ms met = record {
   asking = moves_ask (new_bus terminals) ms (all_new terminals (asked (new_bus terminals) ms)) met.references;
-  keeping = record {
+  losing_none = record {
     freeing = moves_free (new_bus terminals) ms met.freeing;
     restarting = moves_restart (new_bus terminals) ms;
     joining = moves_join (new_bus terminals) ms;

@@ -92,7 +92,7 @@ in_order_at terminals known before ms n old now was is met =
     λ P h. throughout_front P start (before ++ map Move (take n ms)) (map Move (drop n ms)) (subst (Throughout P start) whole h) in
     subst IsInOrder here (in_order terminals known (before ++ map Move (take n ms)) (record {
       asking = front _ met.asking;
-      keeping = record { freeing = front _ met.keeping.freeing; restarting = front _ met.keeping.restarting; joining = front _ met.keeping.joining };
+      losing_none = record { freeing = front _ met.losing_none.freeing; restarting = front _ met.losing_none.restarting; joining = front _ met.losing_none.joining };
     }))
 
 -- the law of the TEIs, if the references of the whole run differ

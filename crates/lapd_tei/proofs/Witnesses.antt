@@ -37,7 +37,7 @@ met_by : (known : List ℕ) (events : List BusEvent) → throughout asks (in_ser
     → throughout restarts (in_service 2 known) events ≡ true → throughout joins (in_service 2 known) events ≡ true → MeetsInService (in_service 2 known) events
 met_by known events asking freeing restarting joining = record {
   asking = run_asks (in_service 2 known) events asking;
-  keeping = record {
+  losing_none = record {
     freeing = run_frees (in_service 2 known) events freeing;
     restarting = run_restarts (in_service 2 known) events restarting;
     joining = run_joins (in_service 2 known) events joining;

@@ -25,7 +25,7 @@ use Rattle.lapd_tei.specs.Assigner.{AssignerState, AssignerStep, assigner_step, 
 -- a message from the network side in transit, and which terminals have received it
 pub record Broadcast : Type 0 where
   pub message : TeiMessage
-  pub heard : List Bool
+  pub reception : List Bool
 
 pub record BusState : Type 0 where
   pub terminals : List Phase
@@ -49,7 +49,7 @@ new_bus terminals = record {
 
 -- a new broadcast, which no terminal has received
 abbrev pub broadcast : ℕ → TeiMessage → Broadcast
-broadcast terminals m = record { message = m; heard = replicate terminals false }
+broadcast terminals m = record { message = m; reception = replicate terminals false }
 
 -- applies the step of the terminal at this index, and appends its messages to those in transit
 abbrev pub terminal_did : BusState → ℕ → TerminalStep → BusStep
@@ -101,14 +101,14 @@ abbrev pub expire_t201 : BusState → Result BusStep BusFault
 expire_t201 b = t201_expires b b.assigner.check
 
 -- marks the message as received by this terminal
-abbrev pub heard_by : ℕ → Broadcast → Broadcast
-heard_by t f = record { message = f.message; heard = set f.heard t true }
+abbrev pub received_by : ℕ → Broadcast → Broadcast
+received_by t f = record { message = f.message; reception = set f.reception t true }
 
 abbrev pub with_mark : BusState → ℕ → ℕ → Broadcast → BusState
 with_mark b i t f = record {
   terminals = b.terminals;
   assigner = b.assigner;
-  down = set b.down i (heard_by t f);
+  down = set b.down i (received_by t f);
   up = b.up;
 }
 
@@ -122,7 +122,7 @@ reaches_terminal b i t ri f phase false = Ok (terminal_did (with_mark b i t f) t
 abbrev pub terminal_receives : BusState → ℕ → ℕ → ℕ → Option Broadcast → Option Phase
     → Result BusStep BusFault
 terminal_receives b i t ri (Some f) (Some phase) =
-    reaches_terminal b i t ri f phase (slice_index_or f.heard t false)
+    reaches_terminal b i t ri f phase (slice_index_or f.reception t false)
 terminal_receives b i t ri f phase = Err NothingThere
 
 abbrev pub hear : BusState → ℕ → ℕ → ℕ → Result BusStep BusFault

@@ -147,7 +147,7 @@ pub record LosesNone (b : BusState) (events : List BusEvent) : Type 0 where
 -- all premises on a run
 pub record MeetsInService (b : BusState) (events : List BusEvent) : Type 0 where
   pub asking : Throughout AsksByItsOwn b events
-  pub keeping : LosesNone b events
+  pub losing_none : LosesNone b events
 
 -- Three premises are not enough: a run of two terminals meets them, and both end up with the same
 -- TEI.

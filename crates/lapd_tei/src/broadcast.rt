@@ -1,5 +1,5 @@
 ghost use Rattle.std.specs.Prelude.{◌≡◌, false, map, slice_index_or, IfOk};
-ghost use Rattle.lapd_tei.specs.Bus.{broadcast, heard_by};
+ghost use Rattle.lapd_tei.specs.Bus.{broadcast, received_by};
 
 use crate::TeiMessage;
 use std::alloc::{AllocError, Global};
@@ -9,7 +9,7 @@ use std::marker::Model;
 #[derive(Drop)]
 pub struct Broadcast {
     message: TeiMessage,
-    heard: Vec<bool>,
+    reception: Vec<bool>,
 }
 
 impl Model for Broadcast {
@@ -17,7 +17,7 @@ impl Model for Broadcast {
 
     ghost Value = { Broadcast };
 
-    ghost view = { λ b. record { message = b.message; heard = b.heard.items } };
+    ghost view = { λ b. record { message = b.message; reception = b.reception.items } };
 }
 
 impl Broadcast {
@@ -29,8 +29,8 @@ impl Broadcast {
     ) -> Result<Broadcast, AllocError>
         ensures { IfOk result (λ b. b ≡ broadcast terminals message) }
     {
-        let heard = vec![in alloc; false; terminals]?;
-        Ok(Broadcast { message, heard })
+        let reception = vec![in alloc; false; terminals]?;
+        Ok(Broadcast { message, reception })
     }
 
     pub fn message(&self) -> TeiMessage
@@ -41,20 +41,20 @@ impl Broadcast {
 
     /// Whether the terminal at this index has received it.
     pub fn is_received_by(&self, t: usize) -> bool
-        ensures { result ≡ slice_index_or self.now.heard t false }
+        ensures { result ≡ slice_index_or self.now.reception t false }
     {
-        match self.heard.get(t) {
-            Some(heard) => *heard,
+        match self.reception.get(t) {
+            Some(reception) => *reception,
             None => false,
         }
     }
 
     /// Records that the terminal at this index has received it.
     pub fn mark(&mut self, t: usize)
-        ensures { self.new ≡ heard_by t self.old }
+        ensures { self.new ≡ received_by t self.old }
     {
-        if t < self.heard.len() {
-            self.heard[t] = true;
+        if t < self.reception.len() {
+            self.reception[t] = true;
         }
     }
 }

@@ -3,13 +3,13 @@
 /// A thing that rows of text test.
 pub trait Subject {
     /// Runs a row, and returns whether the result is the expected one.
-    fn keeps(&mut self, row: &'static str) -> bool;
+    fn preserves(&mut self, row: &'static str) -> bool;
 }
 
 /// Returns the first row that is wrong. Empty lines and those that begin with `#` are not rows.
 pub fn wrong_row<S: Subject>(subject: &mut S, rows: &'static str) -> Option<&'static str> {
     for row in rows.lines() {
-        if !row.is_empty() && !row.starts_with("#") && !subject.keeps(row) {
+        if !row.is_empty() && !row.starts_with("#") && !subject.preserves(row) {
             return Some(row);
         }
     }

@@ -47,9 +47,9 @@ before_it : (l e f : TimerDeadline) → e.deadline < l.deadline → IsNoGreater 
 before_it l e f later (inl less) = inl (omega arith)
 before_it l e f later (inr same) = let q : l.deadline ≡ f.deadline = same.0 in inl (omega arith)
 
-kept : (now : ℕ) (s : Timers) (l e : TimerDeadline) → HasExpired now s e → IsLeast (IsAmong now s (place e.timer)) (Some l) → l.deadline ≤ e.deadline
+preserved : (now : ℕ) (s : Timers) (l e : TimerDeadline) → HasExpired now s e → IsLeast (IsAmong now s (place e.timer)) (Some l) → l.deadline ≤ e.deadline
     → IsLeast (IsAmong now s (place e.timer + 1)) (Some l)
-kept now s l e h old first = (
+preserved now s l e h old first = (
   further now s (place e.timer) l old.0,
   λ f k. elim (divided now s e.timer f k) [
     | inl a ↦ old.1 f a
@@ -78,7 +78,7 @@ joined now s None e h old = (
   ],
 )
 joined now s (Some l) e h old = cond_both (nat_le l.deadline e.deadline) (Some l) (Some e) (IsLeast (IsAmong now s (place e.timer + 1)))
-    (λ first. kept now s l e h old (leb-true _ _ first))
+    (λ first. preserved now s l e h old (leb-true _ _ first))
     (λ later. passed now s l e h old (leb-false _ _ later))
 
 stopped_differs : (s : Timers) (timer other : Timer) (deadline : ℕ) → deadline_of timer s ≡ None → deadline_of other s ≡ Some deadline → other ≡ timer → ⊥

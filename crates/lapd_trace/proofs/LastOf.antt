@@ -10,10 +10,10 @@ last_of_more n lines line =
     let grown : List (List ℕ) = lines ++ line ∷ [] in
     let first : ℕ = length lines - n in
     let more : ℕ = length (drop first lines ++ line ∷ []) - n in
-    let kept : drop first grown ≡ drop first lines ++ line ∷ [] = drop-append-le first lines (line ∷ []) (omega arith) in
+    let preserved : drop first grown ≡ drop first lines ++ line ∷ [] = drop-append-le first lines (line ∷ []) (omega arith) in
     let place : first + more ≡ length grown - n =
     omega (arith, length-append (drop first lines) (line ∷ []), length-append lines (line ∷ []), length-drop first lines) in
-    ap (λ (t : List (List ℕ)). drop more t) (sym kept) ∙ drop-drop more first grown ∙ ap (λ (k : ℕ). drop k grown) place
+    ap (λ (t : List (List ℕ)). drop more t) (sym preserved) ∙ drop-drop more first grown ∙ ap (λ (k : ℕ). drop k grown) place
 
 -- the octets of the last texts are the last of the octets of all texts
 pub last_octets : {Text : Type 0} (octets : Text → List ℕ) (n : ℕ) (texts : List Text) (text : Text)

@@ -98,12 +98,12 @@ fn row_holds(alloc: Global, row: &str, how: CaptureStyle) -> bool {
     let digits = fields.next().unwrap_or("");
     let third = fields.next().unwrap_or("");
     match fields.next() {
-        Some(lines) => comes_to(alloc, digits, how, third, lines),
-        None => comes_to(alloc, digits, how, "", third),
+        Some(lines) => result_is(alloc, digits, how, third, lines),
+        None => result_is(alloc, digits, how, "", third),
     }
 }
 
-fn comes_to(alloc: Global, digits: &str, how: CaptureStyle, fault: &str, lines: &str) -> bool {
+fn result_is(alloc: Global, digits: &str, how: CaptureStyle, fault: &str, lines: &str) -> bool {
     match hex::decode(alloc, digits.as_bytes()) {
         Ok(octets) => prints(alloc, octets.as_slice(), how, fault, lines),
         Err(_) => false,

@@ -238,7 +238,7 @@ struct Octets {
 }
 
 impl Subject for Octets {
-    fn keeps(&mut self, row: &'static str) -> bool {
+    fn preserves(&mut self, row: &'static str) -> bool {
         let (mark, count) = if row.contains("+100000*aa") {
             ("+100000*aa", 100_000)
         } else {
@@ -253,17 +253,17 @@ impl Subject for Octets {
 
 /// Whether the line of octets is the text of a row after ` | `.
 fn is_so(alloc: Global, row: &str) -> bool {
-    let (digits, told) = split(row, " | ");
+    let (digits, reported) = split(row, " | ");
     match hex::decode(alloc, digits) {
-        Ok(octets) => are_so(alloc, octets.as_slice(), told),
+        Ok(octets) => are_so(alloc, octets.as_slice(), reported),
         Err(_) => false,
     }
 }
 
 /// Whether the line of these octets is this text, and they are read as a frame, or as a fault with
 /// the address after ` | `.
-fn are_so(alloc: Global, octets: &[u8], told: &str) -> bool {
-    let (text, address) = split(told, " | ");
+fn are_so(alloc: Global, octets: &[u8], reported: &str) -> bool {
+    let (text, address) = split(reported, " | ");
     let from = if text.starts_with("U") {
         Side::User
     } else {

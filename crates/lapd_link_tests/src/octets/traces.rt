@@ -148,7 +148,7 @@ U>N F3 SapiNotServed 04817f
 ";
 
 /// The history keeps the last two of these lines.
-fn wrong_told(alloc: Global, met: &mut Refusals) -> Option<&'static str> {
+fn wrong_lines(alloc: Global, met: &mut Refusals) -> Option<&'static str> {
     match history_at_last(alloc, met) {
         Ok(mut history) => {
             if pushes_traced(alloc, &mut history, met) && lines_of(&history).is(LAST_TWO) {
@@ -167,7 +167,7 @@ fn lines_without_memory(rt: HostRuntime) -> Result<(), Fail> {
         lines: 0,
         histories: 0,
     };
-    let wrong = wrong_told(rt.alloc(), &mut met);
+    let wrong = wrong_lines(rt.alloc(), &mut met);
     let Refusals { lines, histories } = met;
     if lines > 0 || histories > 0 {
         println!(rt; "refused: {lines} to lines, {histories} to histories")?;

@@ -127,11 +127,16 @@ impl Driven {
     }
 
     /// Makes a step of the link, with the octets that belong to the event.
-    fn steps(&mut self, event: Event<'_>, handed: &[u8])
+    fn steps(&mut self, event: Event<'_>, input_octets: &[u8])
         requires for_link { IsForLink self.old.link event }
     {
         match self.link.handle_into(event, &mut self.outs) {
-            Ok(()) => put_outs(&mut self.printed, &self.link, self.outs.as_slice(), handed),
+            Ok(()) => put_outs(
+                &mut self.printed,
+                &self.link,
+                self.outs.as_slice(),
+                input_octets,
+            ),
             Err(fault) => put_refusal(&mut self.printed, fault),
         }
     }
@@ -197,31 +202,31 @@ fn is_printed(printed: &[u8], outs: &str) -> bool {
 }
 
 /// Puts the outputs of a step, a line for each.
-fn put_outs(text: &mut Text, link: &Link, outs: &[Out], handed: &[u8]) {
+fn put_outs(text: &mut Text, link: &Link, outs: &[Out], input_octets: &[u8]) {
     for out in outs {
-        put_out(text, link, out, handed);
+        put_out(text, link, out, input_octets);
         text.put("\n");
     }
 }
 
 /// Puts the octets of a frame that is sent, or another output.
-fn put_out(text: &mut Text, link: &Link, out: &Out, handed: &[u8]) {
-    match link.frame(out, handed) {
+fn put_out(text: &mut Text, link: &Link, out: &Out, input_octets: &[u8]) {
+    match link.frame(out, input_octets) {
         Some(frame) => {
             let mut octets = [0; MOST_OCTETS];
             let length = write(&frame, link.side(), &mut octets);
             text.put("send ");
             text.hex(&octets[..length]);
         }
-        None => put_other(text, out, handed),
+        None => put_other(text, out, input_octets),
     }
 }
 
 /// Puts an output that is no frame.
-fn put_other(text: &mut Text, out: &Out, handed: &[u8]) {
+fn put_other(text: &mut Text, out: &Out, input_octets: &[u8]) {
     match out {
-        Out::Up => put_data(text, "data", handed),
-        Out::UnitUp => put_data(text, "unit", handed),
+        Out::Up => put_data(text, "data", input_octets),
+        Out::UnitUp => put_data(text, "unit", input_octets),
         Out::Established => text.put("established"),
         Out::Confirmed => text.put("confirmed"),
         Out::Released => text.put("released"),

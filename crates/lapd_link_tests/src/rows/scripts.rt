@@ -179,7 +179,7 @@ t200 | send 00810101; start T200
 ";
 
 impl Subject for Driven {
-    fn keeps(&mut self, row: &'static str) -> bool {
+    fn preserves(&mut self, row: &'static str) -> bool {
         let (word, rest) = split(row, " ");
         match word {
             "link" => self.begins(rest),

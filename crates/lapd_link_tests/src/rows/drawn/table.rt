@@ -215,7 +215,7 @@ impl Row {
 
 impl Subject for Table {
     /// Adds a line as the next row, if it is a row.
-    fn keeps(&mut self, row: &'static str) -> bool {
+    fn preserves(&mut self, row: &'static str) -> bool {
         let row = row_of(row);
         !row.next.is_empty() && self.rows.push(row).is_ok()
     }

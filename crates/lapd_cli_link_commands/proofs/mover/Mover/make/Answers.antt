@@ -9,7 +9,7 @@ pub returns-in_ok-write_all-in-Ok : goal.returns-in_ok-write_all-in-Ok
 returns-in_ok-write_all-in-Ok g c = λ w representation.
     let h = c.in-Ok.ensures.ok w representation in
     move_written w (move_of c.args.mv.now) h.happened c.apply_into.new.self c.side.result c.unit_of.result.now c.as_slice.result.now c.write_lines.new.text.items c.as_slice-in-Ok.result.now _ _
-    representation.kept h.is (h.same ∙ sym c.as_slice.ensures.value) h.representation c.side.ensures c.unit_of.ensures (c.in_ok-write_lines-in-Ok.ensures.ok h.happened.world h.representation) c.as_slice-in-Ok.ensures.value c.in_ok-write_all-in-Ok.ensures.bytes
+    representation.preserved h.is (h.same ∙ sym c.as_slice.ensures.value) h.representation c.side.ensures c.unit_of.ensures (c.in_ok-write_lines-in-Ok.ensures.ok h.happened.world h.representation) c.as_slice-in-Ok.ensures.value c.in_ok-write_all-in-Ok.ensures.bytes
 
 pub returns-in-Err-NothingThere : goal.returns-in-Err-NothingThere
 returns-in-Err-NothingThere g c = λ w representation.

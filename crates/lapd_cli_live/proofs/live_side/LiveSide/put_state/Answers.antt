@@ -16,7 +16,7 @@ returns g c =
     let text = λ (now : ℕ). link_text c.args.id.now (shown_end c.in-Some.link.now) (option_copied c.timers-timers.result) now in
     record {
       words = c.as_str.result.now;
-      tells = record {
+      reporting = record {
         table = c.table.result.now;
         has = c.table.ensures;
         link = c.in-Some.link.now;

@@ -24,7 +24,7 @@ returns-in-User-clause-ok c =
     let p = c.args.self.now in
     if_ok _ _ (with_outs c.act.result c.act.new.outs) (λ outs acts w s.
     let d = user_did (move_of c.args.mv.now) w p.user p.network c.act.new.self p.to_user p.to_network c.act.new.inward c.act.new.outward outs (sym c.side.ensures ∙ c.in-User.is) s acts in
-    record { happened = d.happened; is = d.is; same = d.same; representation = d.stand }) c.act.ensures.ok
+    record { happened = d.happened; is = d.is; same = d.same; representation = d.represent }) c.act.ensures.ok
 
 pub returns-in-User-clause-err : goal.returns-in-User-clause-err
 returns-in-User-clause-err c =
@@ -42,7 +42,7 @@ returns-in-Network-clause-ok c =
     let a = c.act-in-Network in
     if_ok _ _ (with_outs a.result a.new.outs) (λ outs acts w s.
     let d = network_did (move_of c.args.mv.now) w p.user p.network a.new.self p.to_user p.to_network a.new.outward a.new.inward outs (sym c.side.ensures ∙ c.in-Network.is) s acts in
-    record { happened = d.happened; is = d.is; same = d.same; representation = d.stand }) a.ensures.ok
+    record { happened = d.happened; is = d.is; same = d.same; representation = d.represent }) a.ensures.ok
 
 pub returns-in-Network-clause-err : goal.returns-in-Network-clause-err
 returns-in-Network-clause-err c =

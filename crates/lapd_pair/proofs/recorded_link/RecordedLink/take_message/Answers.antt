@@ -17,7 +17,7 @@ pub returns-in_default-make_room_for_message-clause-err : goal.returns-in_defaul
 returns-in_default-make_room_for_message-clause-err c = λ side v shown. takes_is_ok (Give c.args.message.now) [] v (sym (c.give_refusal.ensures c.args.message.now v.station.end refl shown.link) ∙ c.in_default.is)
 
 pub returns-clause-ok : goal.returns-clause-ok
-returns-clause-ok c = message_acts c.args.message.now c.in-Ok-from_slice.queued.items c.in-Ok.kept.items c.args.self.now c.make_room_for_message.new.self c.give.new.self c.args.outward.now c.make_room_for_message.new.outward c.give.new.outward (with_outs c.give.result c.give.new.outs)
+returns-clause-ok c = message_acts c.args.message.now c.in-Ok-from_slice.queued.items c.in-Ok.preserved.items c.args.self.now c.make_room_for_message.new.self c.give.new.self c.args.outward.now c.make_room_for_message.new.outward c.give.new.outward (with_outs c.give.result c.give.new.outs)
     c.in-Ok-from_slice.ensures.items c.in-Ok.ensures.items c.make_room_for_message.ensures.station c.make_room_for_message.ensures.line c.give.ensures.ok
 
 pub returns-clause-err : goal.returns-clause-err

@@ -4,7 +4,7 @@ use Rattle.lapd_table.specs.declared.link_id.LinkId.{LinkId}
 use Rattle.lapd_table.specs.LinkTable.{link_at}
 use Rattle.lapd_sides_links.specs.Links.{of_sapi, with_link, new_linked}
 use Rattle.lapd_sides_links.specs.Shown.{ShowLinks}
-use Rattle.lapd_sides_links.proofs.Comings.{both_added, one_added, taken_back, with_call}
+use Rattle.lapd_sides_links.proofs.Arrivals.{both_added, one_added, taken_back, with_call}
 use Rattle.lapd_sides_links.proofs.link_set.LinkSet.add_tei.Goals as goal
 
 pub returns-in_default-clause-unchanged : goal.returns-in_default-clause-unchanged

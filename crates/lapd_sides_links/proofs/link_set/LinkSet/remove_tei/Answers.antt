@@ -3,7 +3,7 @@ use Rattle.lapd_frame.specs.declared.Sapi.TheVariants.{Call}
 use Rattle.lapd_table.specs.declared.link_id.LinkId.{LinkId}
 use Rattle.lapd_sides_links.specs.Links.{of_sapi, with_link, primitives_at_removal}
 use Rattle.lapd_sides_links.specs.Shown.{ShowLinks}
-use Rattle.lapd_sides_links.proofs.Comings.{both_removed, both_delivered}
+use Rattle.lapd_sides_links.proofs.Arrivals.{both_removed, both_delivered}
 use Rattle.lapd_sides_links.proofs.link_set.LinkSet.remove_tei.Goals as goal
 
 pub returns-clause-shown : goal.returns-clause-shown

@@ -1,7 +1,7 @@
 use Rattle.lapd_pair.specs.Station.{with_outs}
 use Rattle.std.proofs.Common.{◌∙◌}
 use Rattle.lapd_pair.proofs.Acts.{receives_is_ok, frame_acts, frame_refused, shows_still}
-use Rattle.lapd_pair.proofs.recorded_link.RecordedLink.hear.Goals as goal
+use Rattle.lapd_pair.proofs.recorded_link.RecordedLink.receive.Goals as goal
 
 pub returns-in_default-clause-err : goal.returns-in_default-clause-err
 returns-in_default-clause-err c = λ flight same side v shown. receives_is_ok flight v

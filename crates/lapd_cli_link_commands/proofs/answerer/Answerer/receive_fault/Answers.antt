@@ -2,7 +2,7 @@ use Rattle.std.proofs.Common.{◌≡◌, ◌∙◌}
 use Rattle.lapd_frame.specs.Fault.{fault_name}
 use Rattle.lapd_cli_link_commands.specs.Session.{IsAnswerer}
 use Rattle.lapd_cli_script.proofs.Printed.{printed}
-use Rattle.lapd_cli_link_commands.proofs.answerer.Answerer.hear_fault.Goals as goal
+use Rattle.lapd_cli_link_commands.proofs.answerer.Answerer.receive_fault.Goals as goal
 
 pub returns-in-None : goal.returns-in-None
 returns-in-None g c = λ s h.
