@@ -4,6 +4,7 @@ pub mod Framed
 pub mod Lines
 pub mod Numbered
 pub mod Pairs
+pub mod Recovering
 pub mod Reported
 pub mod Restarted
 pub mod Runs

@@ -1,5 +1,5 @@
 -- A pair settles by the moves of the worlds that it represents.
-use Rattle.std.proofs.Common.{◌≡◌, ℕ, zero, suc, ◌+◌, ◌-◌, ◌*◌, ◌<◌, ◌≤◌, not, Bool, true, false, if◌then◌else◌, List, [], ◌∷◌, ◌++◌, map, length, drop, is_some, is_none, is_ok, option_map, Option, Some, None, IfSome, IfNone, Result, Ok, Err, refl, sym, ap, subst, ◌∙◌, arith}
+use Rattle.std.proofs.Common.{◌≡◌, ℕ, suc, ◌+◌, ◌-◌, ◌*◌, ◌<◌, ◌≤◌, not, Bool, true, false, if◌then◌else◌, List, [], ◌∷◌, ◌++◌, map, length, is_some, is_none, is_ok, option_map, Option, Some, None, IfSome, IfNone, Result, refl, sym, ap, subst, ◌∙◌, arith}
 use Rattle.std.proofs.Math.Bool.{Bool-set}
 use Rattle.std.proofs.Math.Bridge.{le_prop}
 use Rattle.std.proofs.Math.Logic.{∥∥₁_map, ∥∥₁_elim}
@@ -166,6 +166,14 @@ first_is_admitted : (moves : List Move) (w : World) (m : Move) → first_admitte
 first_is_admitted [] w m is = cc
 first_is_admitted (first ∷ moves) w m is = first_by first m w (is_ok (happens Tagged first w)) (first_admitted Tagged moves w) refl (λ later. first_is_admitted moves w m later) is
 
+-- an admitted move is refused only when an allocation fails
+pub refused_for_memory : (why : PairFault) (outcome : Result Happened Refusal) → IsRefusedAs why outcome → is_ok outcome ≡ true → why ≡ fault.Memory
+refused_for_memory fault.Memory outcome is ok = refl
+refused_for_memory fault.NothingThere outcome is ok = cc
+refused_for_memory fault.NotRunning outcome is ok = cc
+refused_for_memory (fault.NotYet side at) outcome is ok = cc
+refused_for_memory (fault.Refused why) outcome is ok = cc
+
 pub stopped_at : (before now after : Pair) (n : ℕ) (m : Move) (why : PairFault) → AreMade before n now → ((w : World) → PairRepresents now w → Some m ≡ next_move Tagged w) → ((w : World) → PairRepresents now w → IsRefusedAs why (happens Tagged m w))
     → ((w : World) → PairRepresents now w → PairRepresents after w) → (w : World) → PairRepresents before w → n < bound w → HasStoppedSettling why after w
 stopped_at before now after n m why made next refuses same w s few =
@@ -173,7 +181,7 @@ stopped_at before now after n m why made next refuses same w s few =
     let su = made.representation w s in
     let admitted = first_is_admitted tried u m (sym (next u su)) in
     record {
-      memory = by_fault why (happens Tagged m u) (refuses u su) admitted;
+      memory = refused_for_memory why (happens Tagged m u) (refuses u su) admitted;
       made = n;
       few = few;
       representation = same u su;
@@ -181,13 +189,6 @@ stopped_at before now after n m why made next refuses same w s few =
       next = sym (next u su);
       admitted = admitted;
     }
-  where
-    by_fault : (why : PairFault) (outcome : Result Happened Refusal) → IsRefusedAs why outcome → is_ok outcome ≡ true → why ≡ fault.Memory
-    by_fault fault.Memory outcome is ok = refl
-    by_fault fault.NothingThere outcome is ok = cc
-    by_fault fault.NotRunning outcome is ok = cc
-    by_fault (fault.NotYet side at) outcome is ok = cc
-    by_fault (fault.Refused why) outcome is ok = cc
 
 -- ---- A quiet line.
 
@@ -205,7 +206,7 @@ drained_pair old new done settles = ∥∥₁_map old.reached (λ x.
 
 -- ---- All worlds that one pair represents agree on quietness and on the messages left.
 
-no_frames : (from : Side) (line : Line) (none other : List Flight) → none ≡ [] → IsOn from line none → IsOn from line other → other ≡ []
+pub no_frames : (from : Side) (line : Line) (none other : List Flight) → none ≡ [] → IsOn from line none → IsOn from line other → other ≡ []
 no_frames from line none [] is on on_other = refl
 no_frames from line none (f ∷ fs) is on on_other = let spelled = sym (ap (λ l. map (λ x. spelling from (fields_of x)) l) is) ∙ sym on.octets ∙ on_other.octets in cc
 
@@ -220,7 +221,7 @@ quiet_again p w v s t q = record {
   to_network = no_frames User p.to_network w.to_network v.to_network q.to_network s.to_network t.to_network;
 }
 
-left_again : (p : Pair) (w v : World) → PairRepresents p w → PairRepresents p v → left w ≡ left v
+pub left_again : (p : Pair) (w v : World) → PairRepresents p w → PairRepresents p v → left w ≡ left v
 left_again p w v s t =
     let given_user : length w.user.end.given ≡ length v.user.end.given = ap length (sym s.user.history.given ∙ t.user.history.given) in
     let given_network : length w.network.end.given ≡ length v.network.end.given = ap length (sym s.network.history.given ∙ t.network.history.given) in

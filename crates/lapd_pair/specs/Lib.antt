@@ -7,6 +7,7 @@ pub mod Moves
 pub mod Pair
 pub mod PairFault
 pub mod Readers
+pub mod Recovers
 pub mod Runs
 pub mod Settles
 pub mod Setup

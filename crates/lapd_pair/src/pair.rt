@@ -358,3 +358,113 @@ impl Pair {
         None
     }
 }
+
+/// Recovery of a pair after an outage.
+impl Pair {
+    ghost use Rattle.std.specs.Prelude.{option_map};
+    ghost use Rattle.lapd_pair_laws.specs.World.{World};
+    ghost use Rattle.lapd_recovery_laws.specs.Own.{first_own, are_apart};
+    ghost use Rattle.lapd_recovery_laws.specs.Own as own;
+    ghost use Rattle.lapd_pair.specs.Moves.{move_of};
+    ghost use Rattle.lapd_pair.specs.Readers.{AreSafeReadings};
+    ghost use Rattle.lapd_pair.specs.Recovers.{Recovers, StopsRecovering, ComesBackAfterOutage, most_retries, recovery_bound};
+    ghost use Rattle.lapd_pair.specs.Runs.{PairRepresents, IsSafePair};
+
+    /// Makes moves until none is possible, as if the line works again and layer 3 requests nothing.
+    /// Each move is the first possible one of: deliver the next frame to the network; deliver the
+    /// next frame to the user; T200 of the user expires; T200 of the network expires; and, if one
+    /// end is in state 7 and the other is not, T203 of the user expires; T203 of the network
+    /// expires.
+    ///
+    /// Suppose that no frame is in transit at the start, and that no end in state 7 or 8 is own
+    /// busy. Then it makes at most 3 moves for each message of [`Pair::left`], 6 for each
+    /// retransmission that the greater N200 allows, and 11 more. No further move is possible, and
+    /// both ends agree: both are in state 4, or both in state 7 with equal numbers. No message is
+    /// left: each was received and acknowledged, or dropped.
+    ///
+    /// It never makes more than 2 moves for each frame in transit at the start, 3 for each message
+    /// left, 6 for each retransmission, and 16 more. If another move is then possible, `rest` is
+    /// false, for example with a busy end. If frames are in transit at the start, both ends may
+    /// agree again too, but that these moves suffice is not proved.
+    ///
+    /// # Errors
+    ///
+    /// P5 if an allocation failed for the next move, which is possible. The moves made before it
+    /// remain in effect.
+    pub fn recover(&mut self) -> Result<Settled, PairFault>
+        ensures ok { IfOk result (λ done. Recovers self.old self.new done) }
+        ensures err { IfErr result (λ fault. StopsRecovering self.old self.new fault) }
+        ensures agreed { IfOk result (λ done. ComesBackAfterOutage self.old done) }
+        ensures safe { ∥ IsSafePair self.new ∥₁ }
+        ensures readers { AreSafeReadings self.new }
+    {
+        let most = self.most_recovery_moves();
+        let mut outs = Outs::new();
+        for moves in 0..most {
+            let Some(mv) = self.next_own_move() else {
+                return Ok(Settled { moves, rest: true });
+            };
+            match self.apply_into(&mv, &mut outs) {
+                Ok(()) => {}
+                Err(fault) => return Err(fault),
+            }
+        }
+        Ok(Settled {
+            moves: most,
+            rest: self.next_own_move().is_none(),
+        })
+    }
+
+    /// The most moves that `recover` makes.
+    fn most_recovery_moves(&self) -> u64
+        ensures bound { (w : World) → PairRepresents self.now w → result ≡ recovery_bound w }
+        ensures retries { (w : World) → PairRepresents self.now w → 1 ≤ most_retries w }
+    {
+        let frames = self.to_user.frames().len() as u64 + self.to_network.frames().len() as u64;
+        let left = u64::from(self.user.link.waiting()) + u64::from(self.network.link.waiting());
+        2 * frames + 3 * left + 6 * u64::from(self.most_retries()) + 16
+    }
+
+    /// The greater N200 of both ends.
+    fn most_retries(&self) -> u8
+        ensures same { (w : World) → PairRepresents self.now w → result ≡ most_retries w }
+        ensures low { 1 ≤ result }
+        ensures high { result ≤ 100 }
+    {
+        let user = self.user.link.params().n200();
+        let network = self.network.link.params().n200();
+        if user < network { network } else { user }
+    }
+
+    /// The move that `recover` makes next.
+    fn next_own_move(&self) -> Option<Move>
+        ensures { (w : World) → PairRepresents self.now w
+            → option_map (λ mv. move_of mv) result ≡ first_own Tagged own.tried w }
+    {
+        if let Some(mv) = self.next_move() {
+            return Some(mv);
+        }
+        if !self.are_apart() {
+            return None;
+        }
+        if self.user.link.running(Timer::T203) {
+            return Some(Move::Expire203(Side::User));
+        }
+        if self.network.link.running(Timer::T203) {
+            return Some(Move::Expire203(Side::Network));
+        }
+        None
+    }
+
+    /// Whether one end is in state 7 and the other is not.
+    fn are_apart(&self) -> bool
+        ensures { (w : World) → PairRepresents self.now w → result ≡ are_apart w }
+    {
+        let network = self.network.link.state() == 7;
+        if self.user.link.state() == 7 {
+            !network
+        } else {
+            network
+        }
+    }
+}
