@@ -83,7 +83,7 @@ shapes_of LiveNet = live_net_shapes
 shapes_of LiveUser = live_user_shapes
 shapes_of Loop = loop_shapes
 shapes_of Net = side_shapes ++ (codes "check", Tei ∷ []) ∷ []
-shapes_of Pair = loop_shapes ++ (codes "settle", []) ∷ []
+shapes_of Pair = loop_shapes ++ (codes "settle", []) ∷ (codes "recover", []) ∷ []
 shapes_of User = side_shapes ++ (codes "ask", []) ∷ []
 
 -- the shape of a command's lines that begin with this word

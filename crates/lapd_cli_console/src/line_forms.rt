@@ -79,6 +79,7 @@ const PAIR: &[Form] = &[
     line!("busy" Side OnOff),
     line!("restart" Side),
     line!("settle"),
+    line!("recover"),
 ];
 
 const LOOP: &[Form] = &[

@@ -4,6 +4,8 @@ use Rattle.std.specs.Str.{bytes_eq}
 use Rattle.std.specs.Io.KnownBytes.{Appends}
 use Rattle.std.specs.Fmt.{decimal}
 use Rattle.lapd_pair_laws.specs.Settle.{bound, next_move, settling}
+use Rattle.lapd_recovery_laws.specs.Own.{first_own, recovering}
+use Rattle.lapd_recovery_laws.specs.Own as own
 use Rattle.lapd_frame.specs.declared.Side.{Side}
 use Rattle.lapd_frame.specs.declared.Side.TheVariants.{Network, User}
 use Rattle.lapd_frame.specs.Frame.{Fields, spelling}
@@ -11,6 +13,7 @@ use Rattle.lapd_mod128.specs.Counting.{Tagged}
 use Rattle.lapd_link_definition.specs.declared.out.Out.{Out}
 use Rattle.lapd_link_definition.specs.State.{state_number}
 use Rattle.lapd_pair.specs.Histories.{octets_and_establishment}
+use Rattle.lapd_pair.specs.Recovers.{recovered, recovery_bound}
 use Rattle.lapd_pair.specs.Settles.{settled}
 use Rattle.lapd_pair.specs.Setup.{setup_for}
 use Rattle.lapd_trace.specs.Trace.{trace_line}
@@ -98,7 +101,7 @@ move_made w move = move_printed w move (happens Tagged move w)
 abbrev pub move_step : Step World
 move_step w line = option_map (move_made w) (move_of_line line)
 
--- ---- The result of `settle`.
+-- ---- The results of `settle` and `recover`.
 
 -- the number of moves, and `rest` if no further move is possible
 abbrev pub settled_line : ℕ → Bool → List ℕ
@@ -112,10 +115,21 @@ settle_made w = (
   settled w,
 )
 
--- the result of each line: the single word `settle`, or a move
+abbrev pub recovered_line : ℕ → Bool → List ℕ
+recovered_line moves true = text_line (codes "recovered " ++ (decimal moves ++ codes " rest"))
+recovered_line moves false = text_line (codes "recovered " ++ decimal moves)
+
+abbrev pub recover_made : World → List ℕ × World
+recover_made w = (
+  recovered_line (length (recovering Tagged (recovery_bound w) w))
+      (is_none (first_own Tagged own.tried (recovered w))),
+  recovered w,
+)
+
+-- the result of each line: the single word `settle` or `recover`, or a move
 abbrev pub pair_step : Step World
-pair_step w line =
-    if bytes_eq line (codes "settle") then Some (settle_made w) else move_step w line
+pair_step w line = if bytes_eq line (codes "settle") then Some (settle_made w)
+    else (if bytes_eq line (codes "recover") then Some (recover_made w) else move_step w line)
 
 -- ---- What is printed at the end.
 

@@ -4,8 +4,8 @@
 //!   and prints the outputs of each line. Begin with the definition `answer_word` in
 //!   specs/Answer.antt, which has a row for each word.
 //! - [`pair`] executes a script of moves on two ends and the line between them: `move_named` in
-//!   specs/Moves.antt has a row for each word, and `pair_step` in specs/Pair.antt one for the word
-//!   `settle`. [`Mover`] makes the moves alone.
+//!   specs/Moves.antt has a row for each word, and `pair_step` in specs/Pair.antt one each for
+//!   `settle` and `recover`. [`Mover`] makes the moves alone.
 //! - [`loop_over`] is the command `loop`: two ends whose frames are sent through a port and must be
 //!   received from it unchanged (`loop_step` in specs/LoopState.antt).
 //! - [`bus`] executes a script of moves on several terminals without a fixed TEI and the network

@@ -21,9 +21,10 @@ struct Looper<S, K> {
     port: Port<S, K>,
 }
 
-/// Executes a script of moves and prints the same as [`crate::pair`], but without the line
-/// `settle`. Each frame that a line of the script puts on the line is sent through the port, and
-/// must be received from it unchanged, before the next line is executed. The port is returned.
+/// Executes a script of moves and prints the same as [`crate::pair`], but without the lines
+/// `settle` and `recover`. Each frame that a line of the script puts on the line is sent through
+/// the port, and must be received from it unchanged, before the next line is executed. The port is
+/// returned.
 ///
 /// # Errors
 ///

@@ -3,7 +3,7 @@
 ghost use Rattle.std.specs.Prelude.{◌≡◌, IsOkUnless, OnOk};
 ghost use Rattle.std.specs.Io.KnownBytes.{Appends};
 ghost use Rattle.lapd_cli_link_commands.specs.RepresentsWorld.{IsMover};
-ghost use Rattle.lapd_cli_link_commands.specs.Pair.{figures_line, not_admitted, settled_line, side_name as name_of, unit_of as unit_data_of};
+ghost use Rattle.lapd_cli_link_commands.specs.Pair.{figures_line, not_admitted, recovered_line, settled_line, side_name as name_of, unit_of as unit_data_of};
 ghost use Rattle.lapd_pair.specs.Moves.{move_of};
 ghost use Rattle.lapd_pair_laws.specs.Move.{NotYet};
 ghost use Rattle.lapd_pair_laws.specs.World.{World, new_world};
@@ -76,7 +76,7 @@ impl Command for Mover {
 
 impl Mover {
     ghost use Rattle.std.specs.Prelude.{Some};
-    ghost use Rattle.lapd_cli_link_commands.specs.Pair.{closing_line, closing_lines, figures_of, move_made, settle_made};
+    ghost use Rattle.lapd_cli_link_commands.specs.Pair.{closing_line, closing_lines, figures_of, move_made, recover_made, settle_made};
     ghost use Rattle.lapd_cli_script.specs.Script.{LineEndsAs};
     ghost use Rattle.lapd_pair_laws.specs.World.{view_of};
 
@@ -116,6 +116,18 @@ impl Mover {
     {
         match self.pair.settle() {
             Ok(settled) => put_settled(settled, out),
+            Err(_) => Err(LineFault::Memory),
+        }
+    }
+
+    /// Makes the moves of [`Pair::recover`], and prints their number.
+    pub(crate) fn recover<W: Write>(&mut self, out: &mut W) -> Result<(), LineFault>
+        ensures { (w : World) → IsMover self.old w
+            → LineEndsAs IsMover (Some (recover_made w)) result self.new
+            (W.contents out.old) (W.contents out.new) }
+    {
+        match self.pair.recover() {
+            Ok(recovered) => put_recovered(recovered, out),
             Err(_) => Err(LineFault::Memory),
         }
     }
@@ -210,6 +222,22 @@ fn put_settled<W: Write>(settled: Settled, out: &mut W) -> Result<(), LineFault>
         writeln!(out, "settled {moves} rest")?;
     } else {
         writeln!(out, "settled {moves}")?;
+    }
+    Ok(())
+}
+
+/// The same after the word `recover`.
+fn put_recovered<W: Write>(recovered: Settled, out: &mut W) -> Result<(), LineFault>
+    ensures ok { OnOk result
+        (Appends (W.contents out.old) (W.contents out.new)
+        (recovered_line recovered.moves recovered.rest)) }
+    ensures err { IsOkUnless result LineFault.Device }
+{
+    let Settled { moves, rest } = recovered;
+    if rest {
+        writeln!(out, "recovered {moves} rest")?;
+    } else {
+        writeln!(out, "recovered {moves}")?;
     }
     Ok(())
 }

@@ -1,5 +1,5 @@
 //! The command `pair`: two ends and the line between them, driven by the moves of a script and the
-//! word `settle`.
+//! words `settle` and `recover`.
 
 ghost use Rattle.std.specs.Prelude.{IfSome};
 ghost use Rattle.lapd_cli_link_commands.specs.Pair.{PairEndsAs};
@@ -14,7 +14,7 @@ use lapd_link::Params;
 use std::alloc::Global;
 use std::io::{Read, Write};
 
-/// Two ends that also execute the word `settle`.
+/// Two ends that also execute the words `settle` and `recover`.
 #[derive(Drop)]
 struct Settler {
     mover: Mover,
@@ -22,8 +22,9 @@ struct Settler {
 
 /// Executes a script of moves on two ends of SAPI 0 and TEI 64, with these parameters. Writes a
 /// line for each frame, primitive and report, or why a move is refused. The line `settle` makes the
-/// moves of [`lapd_pair::Pair::settle`] and writes their number. After a complete script it writes
-/// a closing line for each side, with its state and its messages.
+/// moves of [`lapd_pair::Pair::settle`] and writes their number, and the line `recover` those of
+/// [`lapd_pair::Pair::recover`]. After a complete script it writes a closing line for each side,
+/// with its state and its messages.
 ///
 /// # Errors
 ///
@@ -76,6 +77,8 @@ impl Command for Settler {
     fn run<W: Write>(&mut self, line: &[u8], out: &mut W) -> Result<(), LineFault> {
         if is(line, b"settle") {
             self.mover.settle(out)
+        } else if is(line, b"recover") {
+            self.mover.recover(out)
         } else {
             self.mover.run(line, out)
         }

@@ -104,7 +104,7 @@ The script is read from standard input. `--help` lists its lines and their outpu
 pub const PROGRAM: &str = "\
 `lapd` without words is `lapd answer --side net`. `lapd help answer`, or `lapd answer --help`, lists
 the lines of the script and their output, with examples. So do those of `pair`, `bus`, `net`, `user`
-and `decode`. `lapd loop` has the lines of `lapd pair`, without `settle`.
+and `decode`. `lapd loop` has the lines of `lapd pair`, without `settle` and `recover`.
 
 Scripts:
   The program reads a script from standard input. It prints the output of each line before it waits
@@ -335,8 +335,8 @@ states, the error codes and the refusals L1 to L5.
 
 There are two ends, the user side and the network side, with SAPI 0 and TEI 64, and a line between
 them, which keeps frames in order in each direction. Each line of the script makes one move, and
-`settle` makes several. Nothing else happens: a frame is in transit until a move delivers it or loses
-it. SIDE is user or net. --k, --n200 and --room hold for both sides.
+`settle` and `recover` make several. Nothing else happens: a frame is in transit until a move delivers
+it or loses it. SIDE is user or net. --k, --n200 and --room hold for both sides.
 
 Lines of the script:
   establish SIDE     its layer 3 requests that the link is established (DL-ESTABLISH request)
@@ -354,6 +354,10 @@ Lines of the script:
   settle             makes moves, each the first possible of deliver net, deliver user, expire200 user
                      and expire200 net, until none is possible; at most 8 for each message that is
                      neither acknowledged nor dropped, and 32 more
+  recover            makes the moves of settle, and expire203 user or expire203 net if no other of them
+                     is possible and just one end is in state 7, until none is possible; at most 2 for
+                     each frame in transit, 3 for each message that is neither acknowledged nor
+                     dropped, 6 for each retransmission that --n200 allows, and 16 more
 
 Output of a line: nothing, or a line in one of these forms for each output, in order:
   U>N SAPI 0 TEI 64 C SABME P=1
@@ -373,7 +377,9 @@ Output of a line: nothing, or a line in one of these forms for each output, in o
                      the move is refused, and changes nothing
   settled N rest     `settle` made N moves, and no move is possible any more
   settled N          `settle` made N moves, the most it makes, and another is possible
-Timers are not printed, nor what the moves of `settle` do.
+  recovered N rest   the same for `recover`
+  recovered N        the same for `recover`
+Timers are not printed, nor what the moves of `settle` and `recover` do.
 
 Refusals:
   P1 NothingThere    no such frame is on its way to this side
@@ -444,7 +450,8 @@ The network side restarts while the user side is still in state 7, `lapd pair`:
 /// The end of the long help of `loop`.
 pub const LOOP: &str = "\
 `lapd --help` describes scripts and HEX, and lists the exit statuses. `lapd pair --help` lists the
-lines of the script, their output and the refusals: they are the same here, without `settle`.
+lines of the script, their output and the refusals: they are the same here, without `settle` and
+`recover`.
 
 Before it reads the script, the program connects to itself by TCP, at 127.0.0.1 and a port that the
 system chooses. Each frame that a line of the script sends is written to this connection, and read

@@ -52,16 +52,16 @@ const UNSEEN: &[(&[u8], &str)] = &[
 
 /// Words from which random lines are put together.
 const WORDS: &str =
-    "frame|t200|t203|establish|release|give|unit|busy|state|deliver|lose|expire200|expire203|restart|settle|\
+    "frame|t200|t203|establish|release|give|unit|busy|state|deliver|lose|expire200|expire203|restart|settle|recover|\
     read|tick|check|ask|t202|hear|drop|hear-up|drop-up|t201|leave|user|net|user|net|on|off|0|1|16|63|64|127|128|255|256|320|\
     3600000|3600001|18446744073709551615|18446744073709551616|00|000|ab|0g|abc|12aB|0000|+1|-1||#|frame 00|\t|\r|é|\
     run|wait|expect|stats|impair|read|state|busy|expect é 5|100%|101%|20%|%|100|101";
 
 /// The number of these words.
-const WORD_COUNT: usize = 76;
+const WORD_COUNT: usize = 77;
 
 /// The number of valid lines from which changed lines are made.
-const GOOD_COUNT: usize = 94;
+const GOOD_COUNT: usize = 95;
 
 /// Octets that are inserted into lines.
 const OCTETS: &[u8] = b" 0g1#\t\r\xff";

@@ -1,6 +1,6 @@
 //! Tests of two ends on a lossy line: moves of a `Pair` with the octets that they put on the line,
-//! refused moves, failed allocations, 10,000 random moves for each recovery at each side, and how a
-//! line settles.
+//! refused moves, failed allocations, 10,000 random moves for each recovery at each side, how a line
+//! settles, and how both ends agree again.
 //!
 //! A crate of their own keeps its check and that of the other tests short.
 #![tactic(auto)]
@@ -15,6 +15,8 @@ mod losses;
 mod made;
 #[cfg(test)]
 mod named;
+#[cfg(test)]
+mod recovered;
 #[cfg(test)]
 mod rows;
 #[cfg(test)]

@@ -4,9 +4,10 @@
 //! The result of a move is the frames that it puts on the line, in hexadecimal, or `nothing`. If a
 //! row expects them, the outputs follow after `reporting`. A refused move results in `refused` and the
 //! fault, and must leave the state of the pair unchanged. `user shows` prints the state of a side,
-//! `settle` whether the line is at rest (and how many moves that took, if more than allowed), and
-//! `run` how many of its moves are skipped because they are refused. After each step both histories
-//! must be safe.
+//! `ends` both states with what the network received and what the user dropped, `settle` and
+//! `recover` whether no move is possible any more (and how many they took, if more than allowed),
+//! and `run` how many of its moves are skipped because they are refused. After each step both
+//! histories must be safe.
 //!
 //! A step whose allocation fails is noted and made again; the second result must be the expected
 //! one.
@@ -18,7 +19,7 @@ use crate::safe::are_safe;
 use crate::text::{put_frames, put_pair, put_side};
 use lapd_frame::Side;
 use lapd_link::Recovery::{Enquiry, LastMessage};
-use lapd_pair::{Move, Pair};
+use lapd_pair::{Move, Pair, PairFault, Settled};
 use lapd_testing::Text;
 use std::alloc::Global;
 use std::test::Fail;
@@ -133,17 +134,19 @@ fn act(alloc: Global, pair: &mut Pair, words: &str, wanted: &str, text: &mut Tex
     match words {
         "user shows" => put_side(text, pair, Side::User),
         "net shows" => put_side(text, pair, Side::Network),
-        "settle" => settle(pair, 0, text),
-        "settle in at most 9" => settle(pair, 9, text),
+        "ends" => put_ends(pair, text),
+        "settle" => put_done(pair.settle(), 0, text),
+        "settle in at most 9" => put_done(pair.settle(), 9, text),
+        "recover" => put_done(pair.recover(), 0, text),
         "lose every tenth" => lose_tenths(alloc, pair, text),
         _ if words.starts_with("run") => run(alloc, pair, words, text),
         _ => make_named(alloc, pair, words, wanted, text),
     }
 }
 
-/// Lets the line settle, and writes how many moves that took, if more than `most`.
-fn settle(pair: &mut Pair, most: u64, text: &mut Text) {
-    match pair.settle() {
+/// Writes whether the line is at rest, and how many moves that took, if more than `most`.
+fn put_done(done: Result<Settled, PairFault>, most: u64, text: &mut Text) {
+    match done {
         Ok(done) => {
             if done.moves > most {
                 text.shown(" moves ", &done.moves);
@@ -152,6 +155,15 @@ fn settle(pair: &mut Pair, most: u64, text: &mut Text) {
         }
         Err(fault) => text.shown(" stopped ", &fault),
     }
+}
+
+/// Writes the states of both ends, how many messages the network received, and how many of the
+/// user's are dropped.
+fn put_ends(pair: &Pair, text: &mut Text) {
+    text.shown(" ", &pair.link(Side::User).state());
+    text.shown(" ", &pair.link(Side::Network).state());
+    text.shown(", received ", &pair.received(Side::Network).len());
+    text.shown(", dropped ", &pair.dropped(Side::User));
 }
 
 /// Makes the moves after the word `run`, separated by `, `, in one call, and writes how many are

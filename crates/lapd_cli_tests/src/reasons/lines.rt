@@ -24,7 +24,8 @@ pair: lose net 18446744073709551616 => lose SIDE N: N must be a number below 2^6
 pair: lose net 0 1 => lose SIDE N: unexpected extra word '1'
 pair: busy user => busy SIDE on|off: on|off is missing
 pair: settle net => settle: unexpected extra word 'net'
-pair: state => 'state' is not a line of pair; valid lines: establish SIDE, release SIDE, give SIDE HEX, unit SIDE HEX, deliver SIDE, lose SIDE N, expire200 SIDE, expire203 SIDE, busy SIDE on|off, restart SIDE, settle
+pair: recover 1 => recover: unexpected extra word '1'
+pair: state => 'state' is not a line of pair; valid lines: establish SIDE, release SIDE, give SIDE HEX, unit SIDE HEX, deliver SIDE, lose SIDE N, expire200 SIDE, expire203 SIDE, busy SIDE on|off, restart SIDE, settle, recover
 loop: settle => 'settle' is not a line of loop; valid lines: establish SIDE, release SIDE, give SIDE HEX, unit SIDE HEX, deliver SIDE, lose SIDE N, expire200 SIDE, expire203 SIDE, busy SIDE on|off, restart SIDE
 net: tick => tick MS: MS is missing
 net: tick 0 => tick MS: MS must be a number from 1 to 3,600,000, not '0'
@@ -101,6 +102,7 @@ pair: busy net on
 pair: busy user off
 pair: restart net
 pair: settle
+pair: recover
 loop: establish net
 loop: release user
 loop: give net 01
@@ -200,7 +202,7 @@ live user: state  => state";
 pub(crate) const NONE: &str = "\
 answer: frame |frame 0|frame 00 81|frame  00817f|frame 00817g|frames|Frame 00817f| state|state |state  |state 1|\
     state\r|t200 1|t203 1|t201|t202|T200|establish user|release user|give 0|give |give 01 02|give user 01|unit 0|unit 0x|\
-    unit 01 02|busy|busy |busy maybe|busy On|busy on off|busy  off|settle
+    unit 01 02|busy|busy |busy maybe|busy On|busy on off|busy  off|settle|recover
 bus: ask 18446744073709551616 0001|ask 0|ask 0 1|ask 0 00001|ask 0 000g|ask +0 0001|ask  0 0001|ask 0 0001 |\
     \x20ask 0 0001|ASK 0 0001|ask 0 0001 1|hear 0 0|drop|drop x|check 128|check 999999999999999999999|t201 0|t203|leave|\
     state
@@ -208,7 +210,7 @@ pair: establish|establish user net|establish users|establish User|establish netw
     establish  user|deliver|deliver net 0|lose net|lose net |lose net +1|lose net -1|lose net 1a|lose net 0x1|lose net 1 1|\
     lose net 18446744073709551616|lose net 99999999999999999999999999999999999999999|lose 0 net|expire user 200|expire200|\
     expire201 user|t200 user|busy user|busy on user|busy user On|busy user on off|give 01 user|give user 0|give user 01 02|\
-    unit net 0g|restart|restart user net|settle | settle|settle user|settle 9|settles|Settle|state|frame user 00817f
+    unit net 0g|restart|restart user net|settle | settle|settle user|settle 9|recover |recovered|settles|Settle|state|frame user 00817f
 live net: read |read 3600001|read -1|run 0|run x|wait|wait 0|wait 1 1|expect|expect |expect 5|expect  5|expect a|\
     expect a 0|expect a 3600001|expect a  5 |state 0|state 0 128|state 0 64 |state  0 64|stats 1|ask|establish 0|give 0 0801|\
     check|Read|busy 0 64|busy 0 on|busy 0 64 On|busy 0 64 on off|busy 1 64 on|impair|impair |impair %|impair 101|impair 1%%|\

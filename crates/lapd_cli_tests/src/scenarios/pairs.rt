@@ -275,6 +275,42 @@ settle
     user: state 8, given 1, received 0, acknowledged 0, dropped 0
     net: state 7, given 0, received 0, acknowledged 0, dropped 0
 
+lapd pair
+# the network restarts, and T203 alone finds it out
+establish user
+    U>N SAPI 0 TEI 64 C SABME P=1
+deliver net
+    N>U SAPI 0 TEI 64 R UA F=1
+    net established
+deliver user
+    user confirmed
+restart net
+settle
+    settled 0 rest
+recover
+    recovered 11 rest
+recover
+    recovered 0 rest
+.
+    user: state 7, given 0, received 0, acknowledged 0, dropped 0
+    net: state 7, given 0, received 0, acknowledged 0, dropped 0
+
+lapd pair
+# the network is busy, and holds up the recovery
+establish user
+    U>N SAPI 0 TEI 64 C SABME P=1
+recover
+    recovered 2 rest
+busy net on
+    N>U SAPI 0 TEI 64 R RNR N(R)=0 F=0
+deliver user
+give user 0801
+recover
+    recovered 37
+.
+    user: state 8, given 1, received 0, acknowledged 0, dropped 0
+    net: state 7, given 0, received 0, acknowledged 0, dropped 0
+
 lapd pair --k 3 --recovery-user last --recovery-net last
 # two acknowledgements are lost, and the last message goes out again
 establish user
@@ -628,6 +664,15 @@ establish user
 >000300817f
 <0003<00817f
 settle
+! line 3: bad command
+
+lapd loop
+# a line is bad too
+establish user
+    U>N SAPI 0 TEI 64 C SABME P=1
+>000300817f
+<0003<00817f
+recover
 ! line 3: bad command
 
 lapd loop
