@@ -461,8 +461,8 @@ static pri_event *tei_event(struct channel *channel, const lapd_primitive *primi
 /* ---- Primitives of links. */
 
 /* Prints an MDL-ERROR, the usual ones only for debugging. On a bus the letters C, D, G and H
- * suggest that the peer has no TEI or another one: a terminal then drops its TEI, and a network checks
- * it. */
+ * suggest that the peer has no TEI or another one: a terminal then drops its TEI, and a network
+ * checks it. */
 static void mdl_error(struct channel *channel, struct q921_link *link, char letter)
 {
 	struct pri *ctrl = channel->ctrl;
@@ -529,7 +529,7 @@ static pri_event *link_event(struct channel *channel, struct q921_link *link,
 	return NULL;
 }
 
-/* ---- Delivering what a call left. */
+/* ---- Delivery of frames and primitives. */
 
 /* Fetches all frames and primitives. Returns the event for the program, or NULL: a frame or a timer
  * causes at most one message or one TEI. */
@@ -555,9 +555,9 @@ static pri_event *deliver_all(struct channel *channel)
 	}
 }
 
-/* DCHAN_UP or DCHAN_DOWN if the state of a point to point link has changed. If the program already gets an
- * event, this one follows by the next timer. */
-static pri_event *channel_event(struct channel *channel, bool has_event)
+/* DCHAN_UP or DCHAN_DOWN, if the state of a point to point link has changed, or NULL. If the
+ * program already gets an event, this one follows by the next timer. */
+static pri_event *up_or_down(struct channel *channel, bool has_event)
 {
 	struct pri *ctrl = channel->ctrl;
 	bool is_up;
@@ -574,9 +574,10 @@ static pri_event *channel_event(struct channel *channel, bool has_event)
 	return &ctrl->ev;
 }
 
+/* Delivers all, and schedules the side's next timer. Returns the event for the program, or NULL. */
 static pri_event *deliver(struct channel *channel)
 {
-	pri_event *event, *channels;
+	pri_event *event, *last;
 
 	channel->is_delivering = true;
 	event = deliver_all(channel);
@@ -586,9 +587,9 @@ static pri_event *deliver(struct channel *channel)
 	if (channel->loses_links)
 		destroy_lost_links(channel);
 	check_next_tei(channel);
-	channels = channel_event(channel, event != NULL);
+	last = up_or_down(channel, event != NULL);
 	finish(channel);
-	return event ? event : channels;
+	return event ? event : last;
 }
 
 static void on_time(void *of)

@@ -4,8 +4,8 @@
  *
  * It makes CALLS calls, one after another with a pause between them, and answers the calls of the
  * other end. It ends IDLE milliseconds after its last call, or when the other end closes the
- * socket; with IDLE -1 only then. It prints each event with its time, and a last line of counts. The
- * status is 0 if each of its calls was answered. */
+ * socket; with IDLE -1 only then. It prints each event with its time, and a last line of counts.
+ * The status is 0 if each of its calls was answered. */
 #include <libpri.h>
 #include <poll.h>
 #include <stdbool.h>
@@ -144,7 +144,7 @@ static bool serve(struct pri *pri, int socket)
 	return true;
 }
 
-/* Starts the next call, or ends one that hangs. Returns false if this end has nothing left to do. */
+/* Starts the next call, or ends one that hangs. Returns false if nothing is left to do. */
 static bool advance(struct pri *pri)
 {
 	double now = seconds(), first = options.is_bus && options.is_network ? BUS_STARTS : 0;
