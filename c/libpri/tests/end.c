@@ -1,9 +1,9 @@
 /* One end of a D channel, by the libpri.so.1.4 that the loader finds.
  *
- * usage: end net|cpe pri|ptp|ptmp SOCKET CALLS IDLE [pause=MS] [t203=MS] [debug]
+ * usage: end net|cpe pri|ptp|ptmp SOCKET CALLS IDLE [pause=MS] [hold=MS] [t203=MS] [t309=MS]
  *
- * It makes CALLS calls, one after another with a pause between them, and answers the calls of the
- * other end. It ends IDLE milliseconds after its last call, or when the other end closes the
+ * It makes CALLS calls, one after another with a pause between them, holds each for some time, and
+ * answers the calls of the other end. It ends IDLE milliseconds after its last call, or when the other end closes the
  * socket; with IDLE -1 only then. It prints each event with its time, and a last line of counts.
  * The status is 0 if each of its calls was answered. */
 #include <libpri.h>
@@ -24,7 +24,7 @@
 static struct {
 	const char *name;
 	bool is_network, is_basic, is_bus;
-	int calls, idle, pause, t203, debug;
+	int calls, idle, pause, hold, t203, t309;
 } options;
 
 static struct {
@@ -32,7 +32,7 @@ static struct {
 } count;
 
 static q931_call *call; /* the call of this end, or NULL */
-static double began, call_began, next_call, all_done;
+static double began, call_began, call_ends, next_call, all_done;
 
 static double seconds(void)
 {
@@ -67,6 +67,7 @@ static void make_call(struct pri *pri)
 static void end_call(bool is_good)
 {
 	call = NULL;
+	call_ends = 0;
 	count.failed += !is_good;
 	next_call = seconds() + options.pause / 1e3;
 }
@@ -104,7 +105,7 @@ static void on_event(struct pri *pri, pri_event *event)
 		break;
 	case PRI_EVENT_ANSWER:
 		count.answered++;
-		pri_hangup(pri, event->answer.call, PRI_CAUSE_NORMAL_CLEARING);
+		call_ends = seconds() + options.hold / 1e3;
 		break;
 	case PRI_EVENT_HANGUP_REQ:
 		pri_hangup(pri, event->hangup.call, event->hangup.cause);
@@ -151,6 +152,10 @@ static bool advance(struct pri *pri)
 
 	if (call && now - call_began > LONGEST_CALL)
 		end_call(false);
+	if (call && call_ends > 0 && now >= call_ends) {
+		call_ends = 0;
+		pri_hangup(pri, call, PRI_CAUSE_NORMAL_CLEARING);
+	}
 	if (call || options.idle < 0)
 		return true;
 	if (count.made < options.calls) {
@@ -172,9 +177,9 @@ static void read_options(char **words)
 	options.idle = atoi(words[5]);
 	for (words += 6; *words; words++) {
 		sscanf(*words, "pause=%d", &options.pause);
+		sscanf(*words, "hold=%d", &options.hold);
 		sscanf(*words, "t203=%d", &options.t203);
-		if (strcmp(*words, "debug") == 0)
-			options.debug = PRI_DEBUG_ALL;
+		sscanf(*words, "t309=%d", &options.t309);
 	}
 }
 
@@ -189,10 +194,11 @@ static struct pri *new_end(int socket)
 		pri = pri_new(socket, node, PRI_SWITCH_EUROISDN_E1);
 	if (!pri)
 		exit(2);
-	pri_set_debug(pri, options.debug);
 	pri_facility_enable(pri);
 	if (options.t203)
 		pri_set_timer(pri, PRI_TIMER_T203, options.t203);
+	if (options.t309)
+		pri_set_timer(pri, PRI_TIMER_T309, options.t309);
 	return pri;
 }
 
