@@ -3,9 +3,9 @@
  * usage: end net|cpe pri|ptp|ptmp SOCKET CALLS IDLE [pause=MS] [hold=MS] [t203=MS] [t309=MS]
  *
  * It makes CALLS calls, one after another with a pause between them, holds each for some time, and
- * answers the calls of the other end. It ends IDLE milliseconds after its last call, or when the other end closes the
- * socket; with IDLE -1 only then. It prints each event with its time, and a last line of counts.
- * The status is 0 if each of its calls was answered. */
+ * answers the calls of the other end. It ends IDLE milliseconds after its last call, or when the
+ * other end closes the socket; with IDLE -1 only then. It prints each event with its time, and a
+ * last line of counts. The status is 0 if each of its calls was answered. */
 #include <libpri.h>
 #include <poll.h>
 #include <stdbool.h>
