@@ -7,7 +7,7 @@ use Rattle.lapd_sides_links.specs.declared.side_fault.SideFault.{SideFault}
 use Rattle.lapd_sides_links.specs.declared.side_fault.SideKind.{SideKind}
 use Rattle.lapd_sides_links.specs.declared.side_fault.SideKind.TheVariants.{NoLink, Memory, Link}
 use Rattle.lapd_c.specs.declared.held_side.HeldSide.{HeldSide}
-use Rattle.lapd_c.specs.Border.{AsksSide, AsksLink, AsksTei, AsksLinkWith, Message, Through}
+use Rattle.lapd_c.specs.ThroughHandle.{AsksSide, AsksLink, AsksTei, AsksLinkWith, Message, Through}
 use Rattle.lapd_c.specs.Calls.{Asks, Call, Ticks, is_full}
 use Rattle.lapd_c.specs.CodeOrder.{ReturnsInOrder}
 use Rattle.lapd_c.specs.Codes.{code_of, code_of_kind, memory, no_side, out_of_range, pending}

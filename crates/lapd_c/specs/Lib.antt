@@ -1,4 +1,3 @@
-pub mod Border
 pub mod Calls
 pub mod CodeOrder
 pub mod Codes
@@ -6,3 +5,4 @@ pub mod FlatPrimitives
 pub mod LinkStates
 pub mod Owned
 pub mod Settings
+pub mod ThroughHandle

@@ -4,7 +4,7 @@ ghost use Rattle.std.specs.Prelude.{◌≡◌, ℕ, List, Option, is_some, true}
 ghost use Rattle.lapd_table.specs.declared.link_id.LinkId.{LinkId};
 ghost use Rattle.lapd_sides.specs.declared.request.Request.{Request};
 ghost use Rattle.lapd_sides.specs.Either.{Takes, Answers};
-ghost use Rattle.lapd_c.specs.Border.{AsksSide, AsksTei, AsksLink, AsksLinkWith, Message, Through};
+ghost use Rattle.lapd_c.specs.ThroughHandle.{AsksSide, AsksTei, AsksLink, AsksLinkWith, Message, Through};
 ghost use Rattle.lapd_c.specs.Calls.{Ticks};
 ghost use Rattle.lapd_c.specs.CodeOrder.{ReturnsInOrder};
 ghost use Rattle.lapd_c.specs.Codes.{memory, no_side};

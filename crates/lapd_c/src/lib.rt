@@ -12,7 +12,7 @@
 ghost use Rattle.std.specs.Prelude.{◌≡◌, ◌==◌, Some, None, not};
 ghost use Rattle.lapd_sides.specs.Either.{Takes, Answers};
 ghost use Rattle.lapd_frame.specs.Address.{number_at};
-ghost use Rattle.lapd_c.specs.Border.{AsksSide, AsksTei, AsksLink, AsksLinkWith, Makes, ReturnsStateOf, Through};
+ghost use Rattle.lapd_c.specs.ThroughHandle.{AsksSide, AsksTei, AsksLink, AsksLinkWith, Makes, ReturnsStateOf, Through};
 ghost use Rattle.lapd_c.specs.Calls.{or_never, Ticks, ReturnsDeadline, ReturnsDiscarded, FetchesFrame, FetchesPrimitive, ReturnsTextOrNothing};
 ghost use Rattle.lapd_trace.specs.Trace.{trace_line};
 ghost use Rattle.lapd_c.specs.FlatPrimitives.{link_of, nothing, sender};

@@ -5,7 +5,7 @@ mod discards;
 mod drawn;
 mod watch;
 
-use crate::hostile::drawn::{MOST, OctetDraws, behind, fronts};
+use crate::hostile::drawn::{MOST, OctetDraws, beginnings, completed};
 use crate::hostile::watch::Watch;
 use crate::talk::octets_of;
 use std::alloc::Global;
@@ -13,7 +13,7 @@ use std::test::Fail;
 
 /// Octets of received frames, from either side: frames of links and of TEI management, and octets
 /// that do not form a valid frame.
-const COME: &str = "\
+const RECEIVED: &str = "\
 00817f
 008153
 008173
@@ -61,13 +61,13 @@ const STRINGS: u32 = 100_000;
 const STRINGS_OF_SIDE: u32 = 1_000;
 
 /// The received octets, returned by reference.
-fn come() -> &'static str {
-    COME
+fn received() -> &'static str {
+    RECEIVED
 }
 
 impl Watch {
     /// Passes each prefix of these octets, the shortest first.
-    fn receive_fronts(&mut self, octets: &[u8]) {
+    fn receive_prefixes(&mut self, octets: &[u8]) {
         for len in 0..=octets.len() {
             self.receive(octets.get(..len).unwrap_or(&[]));
         }
@@ -77,7 +77,7 @@ impl Watch {
     fn receive_line(&mut self, links: &str, state: u8, line: &str) {
         self.begin(links, state);
         match octets_of(self.alloc, line) {
-            Some(octets) => self.receive_fronts(octets.as_slice()),
+            Some(octets) => self.receive_prefixes(octets.as_slice()),
             None => self.wrong.put("no memory;"),
         }
     }
@@ -96,17 +96,17 @@ impl Watch {
         }
     }
 
-    /// Passes enumerated strings: the octets of each line of `COME` and each prefix of them to a
+    /// Passes enumerated strings: the octets of each line of `RECEIVED` and each prefix of them to a
     /// new side; then to one more side the strings of `receive_two_octets`, and strings of all lengths
     /// that begin like frames.
     fn receive_all(&mut self, links: &str, state: u8) {
-        for line in come().lines() {
+        for line in received().lines() {
             self.receive_line(links, state, line);
         }
         self.begin(links, state);
         self.receive_two_octets();
-        for front in fronts() {
-            self.receive_fronts(behind(front, &[0xab; MOST]).as_slice());
+        for beginning in beginnings() {
+            self.receive_prefixes(completed(beginning, &[0xab; MOST]).as_slice());
         }
     }
 
@@ -134,7 +134,7 @@ impl Watch {
 }
 
 /// Passes all strings to the side that these words describe. Fails if any check failed.
-fn strings_come(alloc: Global, links: &str) -> Result<(), Fail> {
+fn receives_all_strings(alloc: Global, links: &str) -> Result<(), Fail> {
     let mut watch = Watch::new(alloc)?;
     watch.receive_everything(links);
     watch.end()
@@ -142,17 +142,17 @@ fn strings_come(alloc: Global, links: &str) -> Result<(), Fail> {
 
 /// The side has a link for TEI 64 and each SAPI.
 #[test]
-fn strings_come_to_a_network_side(rt: HostRuntime) -> Result<(), Fail> {
-    strings_come(rt.alloc(), "net 64 packets")
+fn a_network_side_receives_any_octets(rt: HostRuntime) -> Result<(), Fail> {
+    receives_all_strings(rt.alloc(), "net 64 packets")
 }
 
 #[test]
-fn strings_come_to_a_user_side(rt: HostRuntime) -> Result<(), Fail> {
-    strings_come(rt.alloc(), "user 64 packets")
+fn a_user_side_receives_any_octets(rt: HostRuntime) -> Result<(), Fail> {
+    receives_all_strings(rt.alloc(), "user 64 packets")
 }
 
 /// The side has a link for every TEI and SAPI.
 #[test]
-fn strings_come_to_a_side_of_all_links(rt: HostRuntime) -> Result<(), Fail> {
-    strings_come(rt.alloc(), "net all packets")
+fn a_side_of_all_links_receives_any_octets(rt: HostRuntime) -> Result<(), Fail> {
+    receives_all_strings(rt.alloc(), "net all packets")
 }

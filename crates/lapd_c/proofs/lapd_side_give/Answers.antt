@@ -2,7 +2,7 @@ use Rattle.std.proofs.Common.{Option, inr, subst, sym, ◌∙◌}
 use Rattle.lapd_table.specs.declared.link_id.LinkId.{LinkId}
 use Rattle.lapd_sides.specs.declared.request.Request.TheVariants.{Give}
 use Rattle.lapd_sides.specs.Either.{Answers}
-use Rattle.lapd_c.specs.Border.{AsksLinkWith}
+use Rattle.lapd_c.specs.ThroughHandle.{AsksLinkWith}
 use Rattle.lapd_c.proofs.lapd_side_give.Goals as goal
 
 pub returns-in-Ok : goal.returns-in-Ok

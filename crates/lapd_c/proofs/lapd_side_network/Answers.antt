@@ -1,6 +1,6 @@
 use Rattle.std.proofs.Common.{Option, inr, subst, sym, ◌∙◌}
 use Rattle.lapd_sides_links.specs.declared.config.Config.{Config}
-use Rattle.lapd_c.specs.Border.{Makes}
+use Rattle.lapd_c.specs.ThroughHandle.{Makes}
 use Rattle.lapd_c.specs.Settings.{IsNewNetwork}
 use Rattle.lapd_c.proofs.lapd_side_network.Goals as goal
 

@@ -8,7 +8,7 @@ pub(super) const MOST: usize = 300;
 
 /// Octets that strings begin with: addresses of existing and other links, of all terminals, and of
 /// TEI management.
-const FRONTS: &[&[u8]] = &[
+const BEGINNINGS: &[&[u8]] = &[
     &[0x00, 0x81],
     &[0x02, 0x81],
     &[0x00, 0x81, 0x00, 0x00],
@@ -31,15 +31,15 @@ const FRONTS: &[&[u8]] = &[
 
 /// The octets that strings begin with, returned by reference: a constant would be copied into each
 /// function that names it.
-pub(super) fn fronts() -> &'static [&'static [u8]] {
-    FRONTS
+pub(super) fn beginnings() -> &'static [&'static [u8]] {
+    BEGINNINGS
 }
 
 /// These octets, followed by the octets of a string after the same length.
-pub(super) fn behind(front: &[u8], string: &[u8; MOST]) -> ArrayVec<u8, MOST> {
+pub(super) fn completed(beginning: &[u8], string: &[u8; MOST]) -> ArrayVec<u8, MOST> {
     let mut octets = ArrayVec::new();
-    let _ = octets.try_extend_from_slice(front);
-    let _ = octets.try_extend_from_slice(string.get(front.len()..).unwrap_or(&[]));
+    let _ = octets.try_extend_from_slice(beginning);
+    let _ = octets.try_extend_from_slice(string.get(beginning.len()..).unwrap_or(&[]));
     octets
 }
 
@@ -64,18 +64,18 @@ impl OctetDraws {
         self.draws.below(u32::try_from(limit).unwrap_or(0)) as usize
     }
 
-    /// Draws 0 to 300 octets. Half of the strings begin with one of `FRONTS`, and half of these
+    /// Draws 0 to 300 octets. Half of the strings begin with one of `BEGINNINGS`, and half of these
     /// have at most 10 octets.
     pub(super) fn draw(&mut self) -> &[u8] {
         let mut string = [0; MOST];
         self.draws.fill(&mut string);
         let sort = self.below(4);
-        let front = if sort < 2 {
-            self.below(fronts().len())
+        let beginning = if sort < 2 {
+            self.below(beginnings().len())
         } else {
             usize::MAX
         };
-        self.octets = behind(fronts().get(front).copied().unwrap_or(&[]), &string);
+        self.octets = completed(beginnings().get(beginning).copied().unwrap_or(&[]), &string);
         let len = self.below(if sort == 0 { 11 } else { MOST + 1 });
         self.octets.as_slice().get(..len).unwrap_or(&[])
     }

@@ -69,7 +69,7 @@ impl Watch {
             return Ok(());
         }
         let wrong = self.wrong.as_str();
-        Err(Fail::new(format_args!("octets come: {wrong}")))
+        Err(Fail::new(format_args!("received octets: {wrong}")))
     }
 
     /// Watches a new side, which these words describe, and whose link is set to this state.
