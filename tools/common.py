@@ -31,7 +31,7 @@ class Failed(Exception):
 def start(main, text):
     """Runs a tool with this text about it. `main` gets the options, and returns whether all is
     well."""
-    status = 2
+    status = 1
     try:
         for number in SIGNALS:
             signal.signal(number, stopped)
