@@ -39,7 +39,7 @@ def start(main, text):
         sys.stdout.flush()
     except BrokenPipeError:
         os.dup2(os.open(os.devnull, os.O_WRONLY), 1)
-    except (Failed, OSError, subprocess.SubprocessError) as error:
+    except (AssertionError, Failed, OSError, subprocess.SubprocessError) as error:
         say(f"{NAME}: {error}")
         status = getattr(error, "status", 2)
     sys.exit(status)
