@@ -1,8 +1,10 @@
-"""Shared by the tools: paths, how a tool starts and ends, and the program lapd at work with its connections."""
+"""Shared by the tools: the command line, how a tool ends, running programs, and lapd at work."""
 
+import argparse
 import os
 import re
 import select
+import shlex
 import signal
 import socket
 import subprocess
@@ -13,6 +15,9 @@ TOP = os.path.dirname(os.path.dirname(os.path.realpath(__file__)))
 PROGRAM = f"{TOP}/crates/lapd_cli/out/lapd_cli"
 NAME = os.path.basename(sys.argv[0])
 SECONDS = 120
+SIGNALS = signal.SIGINT, signal.SIGTERM, signal.SIGHUP
+# The parts of a usage line: an option, perhaps with a value, or a word, which may be repeated.
+USAGE = re.compile(r"\[(--[\w-]+)(?: ([A-Z]+))?\]|(\[?)([A-Z]+)(\.\.)?")
 
 
 class Failed(Exception):
@@ -23,42 +28,43 @@ class Failed(Exception):
         self.status = status
 
 
-class Stopped(Exception):
-    """A signal ends the tool."""
-
-
-class Wrong(Exception):
-    """A check of a test failed."""
-
-
-def start(main, usage):
-    """Runs a tool: `main` gets its words and returns its status. The words -h and --help print the usage."""
+def start(main, text):
+    """Runs a tool with this text about it. `main` gets the options, and returns whether all is
+    well."""
+    status = 1
     try:
-        if sys.argv[1:2] in (["-h"], ["--help"]):
-            print(usage, end="")
-            sys.exit(0)
-        for number in signal.SIGINT, signal.SIGTERM, signal.SIGHUP:
+        for number in SIGNALS:
             signal.signal(number, stopped)
-        status = main(sys.argv[1:])
+        status = 0 if main(options_of(text)) else 1
         sys.stdout.flush()
     except BrokenPipeError:
         os.dup2(os.open(os.devnull, os.O_WRONLY), 1)
-        status = 1
-    except Stopped as signalled:
-        status = 128 + signalled.args[0]
-    except Failed as failed:
-        say(f"{NAME}: {failed}")
-        status = failed.status
-    except (OSError, subprocess.SubprocessError) as error:
+    except (AssertionError, Failed, OSError, subprocess.SubprocessError) as error:
         say(f"{NAME}: {error}")
-        status = 2
+        status = getattr(error, "status", 2)
     sys.exit(status)
 
 
 def stopped(number, _frame):
-    for it in signal.SIGINT, signal.SIGTERM, signal.SIGHUP:
+    """A signal ends the tool, once."""
+    for it in SIGNALS:
         signal.signal(it, lambda *_: None)
-    raise Stopped(number)
+    sys.exit(128 + number)
+
+
+def options_of(text):
+    """The options and words of the command line, of which the text has a usage line."""
+    parser = argparse.ArgumentParser(NAME, "-h prints it", add_help=False, allow_abbrev=False)
+    parser.print_help = lambda: print(text, end="")
+    parser.add_argument("-h", "--help", action="help")
+    for option, value, bracket, word, more in USAGE.findall(re.search("usage: .*", text)[0]):
+        if value:
+            parser.add_argument(option, type=int if value == "N" else str)
+        elif option:
+            parser.add_argument(option, action="store_true")
+        else:
+            parser.add_argument(word.lower(), nargs="*" if more else "?" if bracket else None)
+    return parser.parse_args()
 
 
 def say(text):
@@ -69,34 +75,28 @@ def clock(seconds):
     return f"{int(seconds) // 60}:{int(seconds) % 60:02}"
 
 
-def value_of(words, option, default=None):
-    """Takes an option and its value from the words. Returns the value, or the default if the option is absent."""
-    if option not in words:
-        return default
-    at = words.index(option)
-    if at + 1 == len(words):
-        raise Failed(f"{option} needs a value; -h prints the usage")
-    return [words.pop(at), words.pop(at)][1]
+def text_of(path):
+    """The text of a file of the repository."""
+    with open(f"{TOP}/{path}", encoding="utf-8") as file:
+        return file.read()
 
 
-def no_more(words):
-    if words:
-        raise Failed(f"unknown word {words[0]}; -h prints the usage")
+def printed(*words, **how):
+    """The output of a program, which must end with status 0."""
+    how = {"stdout": subprocess.PIPE, "stderr": subprocess.DEVNULL, "timeout": SECONDS, **how}
+    return subprocess.run(words, text=True, check=True, **how).stdout
 
 
-def program_of(words):
-    """The program's path, by `--program FILE` or as `make` built it."""
-    program = value_of(words, "--program", PROGRAM)
-    if not os.access(program, os.X_OK):
-        raise Failed(f"{program} does not exist; `make` proves and builds the program")
-    return program
+def compile_c(*words):
+    subprocess.run([*shlex.split(os.environ.get("CC", "cc")), *words], check=True)
 
 
 def rows_below(name):
     """The rows of crates.txt of a crate and of those below it, lowest first."""
-    with open(f"{TOP}/crates.txt", encoding="utf-8") as file:
-        lines = [it.partition("#")[0].strip() for it in file]
-    rows, found = {it.partition(":")[0].split()[0]: it for it in lines if it}, {}
+    lines = [it.partition("#")[0].strip() for it in text_of("crates.txt").splitlines()]
+    rows, found = {re.split("[ :]", it)[0]: it for it in lines if it}, {}
+    if name not in rows:
+        raise Failed(f"crates.txt has no crate {name}")
 
     def add(name):
         for it in rows[name].partition(":")[2].split():
@@ -104,8 +104,6 @@ def rows_below(name):
                 add(it)
         found[name] = rows[name]
 
-    if name not in rows:
-        raise Failed(f"crates.txt has no crate {name}")
     add(name)
     return found
 
@@ -120,13 +118,13 @@ def prove(*words):
         process.wait()
 
 
+# ---- Connections, with two octets of length before each frame.
+
+
 def free_port():
     with socket.socket() as it:
         it.bind(("127.0.0.1", 0))
         return it.getsockname()[1]
-
-
-# ---- Connections, with two octets of length before each frame.
 
 
 def listener():
@@ -163,8 +161,8 @@ def send(peer, *frames):
 
 
 def receive(peer, seconds=SECONDS):
-    """The next frame in hexadecimal: empty if the other side has closed the connection, `None` if no octets arrive in
-    time."""
+    """The next frame in hexadecimal: empty if the other side has closed the connection, `None` if
+    no octets arrive in time."""
     octets, count = b"", 2
     while len(octets) < count:
         if not select.select([peer], [], [], seconds)[0]:
@@ -179,9 +177,17 @@ def receive(peer, seconds=SECONDS):
 
 
 class Side:
-    """The program at work on a script, octets or text, with the lines that it printed and said."""
+    """The program at work on a script, whose lines are divided by `; `, and at its end the lines
+    that it printed and that it reported on standard error."""
 
     program, started = PROGRAM, []
+
+    @staticmethod
+    def choose(program):
+        """All sides run this program, or else the one that `make` built."""
+        Side.program = program or PROGRAM
+        if not os.access(Side.program, os.X_OK):
+            raise Failed(f"{Side.program} does not exist; `make` proves and builds the program")
 
     def __init__(self, words, script=None, **streams):
         self.words, self.lines, self.said = words, [], []
@@ -189,7 +195,7 @@ class Side:
         self.process = subprocess.Popen([Side.program, *words.split()], **how)
         Side.started.append(self.process)
         if script is not None:
-            self.process.stdin.write(script.encode())
+            self.type(script.replace("; ", "\n") + "\n")
             self.process.stdin.close()
             self.process.stdin = None
 
@@ -201,23 +207,20 @@ class Side:
     def port(self):
         """The port that it listens on."""
         line = self.process.stderr.readline().decode()
-        found = re.fullmatch(r"listening on .*:(\d+)\n", line)
-        if not found:
-            raise Wrong(f"{self.words}: no port, but {line!r}")
+        found = re.fullmatch(r"listening on 127\.0\.0\.1:(\d+)\n", line)
+        assert found, f"{self.words}: no port, but {line!r}"
         return int(found[1])
 
-    def end(self, status=0):
-        """Ends its standard input, waits until it has ended with this status, and keeps what it printed."""
-        printed, said = self.process.communicate(timeout=SECONDS)
-        self.lines, self.said = (printed or b"").decode().splitlines(), (said or b"").decode().splitlines()
-        if self.process.returncode != status:
-            ended = f"{self.process.returncode}, and not {status}"
-            raise Wrong(f"{self.words}: status {ended}: {self.lines[-4:]} {self.said[-2:]}")
+    def end(self):
+        """Ends its standard input, waits until it has ended well, and keeps what it printed."""
+        streams = self.process.communicate(timeout=SECONDS)
+        self.lines, self.said = [(it or b"").decode().splitlines() for it in streams]
+        status, last = self.process.returncode, f"{self.lines[-4:]} {self.said[-2:]}"
+        assert status == 0, f"{self.words}: status {status}: {last}"
         return self
 
     @staticmethod
     def kill_all():
         for process in Side.started:
-            if process.poll() is None:
-                process.kill()
+            process.kill()
         Side.started.clear()

@@ -1,82 +1,67 @@
-/* An echo over a TCP connection of this machine, as plain as it can be: `echo MESSAGES ASKED ANSWERED` sends so many
-   octets so often, and waits each time for so many octets that a second process answers. It prints how many
-   nanoseconds each took. */
+/* An echo over a TCP connection of this machine, as plain as it can be: `echo MESSAGES ASKED
+   ANSWERED` sends so many octets so often, and waits each time for so many octets that a second
+   process answers. It prints how many nanoseconds each took. */
 
 #include <arpa/inet.h>
+#include <err.h>
 #include <netinet/tcp.h>
 #include <stdio.h>
 #include <stdlib.h>
 #include <sys/socket.h>
-#include <sys/wait.h>
 #include <time.h>
 #include <unistd.h>
 
 static char octets[4096];
 
-static int checked(int well)
+static int checked(int result)
 {
-    if (!well) {
-        perror("echo");
-        exit(2);
-    }
-    return well;
+    if (result < 0)
+        err(2, "echo");
+    return result;
 }
 
-static void send_all(int line, ssize_t count)
+static void receive(int line, size_t count)
 {
-    checked(write(line, octets, count) == count);
-}
-
-static void receive_all(int line, ssize_t count)
-{
-    for (ssize_t now; count > 0; count -= now)
-        checked((now = read(line, octets, count)) > 0);
+    if (recv(line, octets, count, MSG_WAITALL) != (ssize_t)count)
+        err(2, "echo");
 }
 
 static int without_delay(int line)
 {
-    int on = 1;
-    checked(line >= 0 && setsockopt(line, IPPROTO_TCP, TCP_NODELAY, &on, sizeof on) == 0);
+    checked(setsockopt(checked(line), IPPROTO_TCP, TCP_NODELAY, &(int){1}, sizeof(int)));
     return line;
-}
-
-static long long now(void)
-{
-    struct timespec time;
-    checked(clock_gettime(CLOCK_MONOTONIC, &time) == 0);
-    return time.tv_sec * 1000000000LL + time.tv_nsec;
 }
 
 int main(int count, char **words)
 {
     struct sockaddr_in address = {.sin_family = AF_INET, .sin_addr.s_addr = htonl(INADDR_LOOPBACK)};
+    struct timespec begun, ended;
     socklen_t length = sizeof address;
-    int listener = socket(AF_INET, SOCK_STREAM, 0);
+    int line, listener = checked(socket(AF_INET, SOCK_STREAM, 0));
     long messages = count == 4 ? atol(words[1]) : 0, asked = count == 4 ? atol(words[2]) : 0;
-    long answered = count == 4 ? atol(words[3]) : 0;
+    long answered = count == 4 ? atol(words[3]) : 0, most = sizeof octets;
 
-    if (messages < 1 || asked < 1 || answered < 1 || asked > (long)sizeof octets || answered > (long)sizeof octets) {
-        fprintf(stderr, "usage: echo MESSAGES ASKED ANSWERED\n");
-        return 2;
-    }
-    checked(bind(listener, (struct sockaddr *)&address, length) == 0 && listen(listener, 1) == 0);
-    checked(getsockname(listener, (struct sockaddr *)&address, &length) == 0);
-    if (fork() == 0) {
-        int line = without_delay(accept(listener, NULL, NULL));
+    if (messages < 1 || asked < 1 || answered < 1 || asked > most || answered > most)
+        errx(2, "usage: echo MESSAGES ASKED ANSWERED");
+    checked(bind(listener, (struct sockaddr *)&address, length));
+    checked(listen(listener, 1));
+    checked(getsockname(listener, (struct sockaddr *)&address, &length));
+    if (checked(fork()) == 0) {
+        line = without_delay(accept(listener, NULL, NULL));
         for (long at = 0; at < messages; at++) {
-            receive_all(line, asked);
-            send_all(line, answered);
+            receive(line, asked);
+            checked(write(line, octets, answered));
         }
         return 0;
     }
-    int line = without_delay(socket(AF_INET, SOCK_STREAM, 0));
-    checked(connect(line, (struct sockaddr *)&address, length) == 0);
-    long long begun = now();
+    line = without_delay(socket(AF_INET, SOCK_STREAM, 0));
+    checked(connect(line, (struct sockaddr *)&address, length));
+    clock_gettime(CLOCK_MONOTONIC, &begun);
     for (long at = 0; at < messages; at++) {
-        send_all(line, asked);
-        receive_all(line, answered);
+        checked(write(line, octets, asked));
+        receive(line, answered);
     }
-    printf("%lld\n", (now() - begun) / messages);
-    wait(NULL);
-    return 0;
+    clock_gettime(CLOCK_MONOTONIC, &ended);
+    long long took = (ended.tv_sec - begun.tv_sec) * 1000000000LL + ended.tv_nsec - begun.tv_nsec;
+    printf("%lld\n", took / messages);
 }

@@ -1,6 +1,6 @@
-/* Makes one allocation of a program fail: the one whose number, from 1, the variable REFUSE holds. LD_PRELOAD loads it
-   before the C library, from which the programs that `rt` builds allocate all their memory. If it fails one, it says so
-   on standard error, by a line that no program of this repository writes. */
+/* Makes one allocation of a program fail: the one whose number, from 1, the variable REFUSE holds.
+   LD_PRELOAD loads it before the C library, from which the programs that `rt` builds allocate all
+   their memory. It reports that by a line that no program of this repository writes. */
 
 #include <stddef.h>
 

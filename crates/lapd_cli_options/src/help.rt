@@ -1,5 +1,6 @@
 //! The help texts. The parser prints a command's description, then the usage, the commands and the
-//! options, and then the text that ends the help: a short one with `-h`, the long one with `--help`.
+//! options, and then the text that ends the help: a short one with `-h`, the long one with
+//! `--help`.
 
 /// The description of the program.
 pub const ABOUT: &str = "LAPD, the data link layer of the ISDN D channel (ITU-T Q.921)";
@@ -37,8 +38,8 @@ pub const RECOVERY_USER: &str =
     "The frame that T200 of the user side sends in state 7: an enquiry, or the last I frame again";
 
 /// The help of `--recovery-net`, of `pair` and `loop`.
-pub const RECOVERY_NET: &str =
-    "The frame that T200 of the network side sends in state 7: an enquiry, or the last I frame again";
+pub const RECOVERY_NET: &str = "\
+The frame that T200 of the network side sends in state 7: an enquiry, or the last I frame again";
 
 /// The help of `--sapi`, of `answer`.
 pub const SAPI: &str =
@@ -55,8 +56,8 @@ pub const SAPI16: &str = "With --pri, serves SAPI 16 too; without --pri, SAPI 16
 pub const LOOSE: &str =
     "Allows spaces, colons and brackets among the digits, and libpri's own lines";
 
-pub const SENDER: &str =
-    "The side that printed libpri's lines, and that sent the frames of a capture that does not name it";
+pub const SENDER: &str = "\
+The side that printed libpri's lines, and that sent the frames of a capture that does not name it";
 
 pub const NAMES: &str = "Adds the message of TEI management or of Q.931 to the line, in words";
 
@@ -113,8 +114,8 @@ Scripts:
   skipped, but counted.
 
   HEX is octets in hexadecimal digits, two for each octet, in upper or lower case. The octets of a
-  frame are those between its flags, without the frame check sequence. If there are no octets, HEX is
-  left out together with the space before it, in scripts and in output.
+  frame are those between its flags, without the frame check sequence. If there are no octets, HEX
+  is left out together with the space before it, in scripts and in output.
 
 At a terminal:
   If standard input is a terminal, a line that is not valid is reported, and the next one is read.
@@ -134,12 +135,12 @@ missing control octet (F1), F3, F4, F5, F6, F7.
 
 Exit status:
   0  the script was executed to its end
-  1  `line N: bad command`: line N, counted from 1, is not valid for the command; the lines before it
-     were executed. With --pcap of `decode`: the capture could not be read to its end
+  1  `line N: bad command`: line N, counted from 1, is not valid for the command; the lines before
+     it were executed. With --pcap of `decode`: the capture could not be read to its end
   2  the command line is not valid
   3  `device fault`: a read or a write failed, or 1,000,000 reads did not reach the script's end; in
-     `lapd loop`, `net` and `user` also if no connection could be made; with --pcap and --gsmtap also
-     if the file or the socket could not be opened.
+     `lapd loop`, `net` and `user` also if no connection could be made; with --pcap and --gsmtap
+     also if the file or the socket could not be opened.
      `port S3 Cut`, or another of S2 to S6: the connection of `net` or `user` failed
   4  `out of memory`
   5  with --strict: the script was executed to its end, and `refused` was printed for a line; with
@@ -214,10 +215,10 @@ Refusals:
   L4 Releasing               a message or `establish` while the link is being released
   L5 LayerThreeEstablishing  a message while the link is being established for layer 3
 
-A frame of this link begins with 0081 if it is a command of the user side or a response of the network
-side, and with 0281 otherwise. With other values of --sapi and --tei, the first octet is 4 * SAPI or
-4 * SAPI + 2, and the second is 2 * TEI + 1. The control field and the information field follow. The
-octets of a control field, in hexadecimal:
+A frame of this link begins with 0081 if it is a command of the user side or a response of the
+network side, and with 0281 otherwise. With other values of --sapi and --tei, the first octet is
+4 * SAPI or 4 * SAPI + 2, and the second is 2 * TEI + 1. The control field and the information field
+follow. The octets of a control field, in hexadecimal:
   SABME 6f, DM 0f, UI 03, DISC 43, UA 63, FRMR 87, XID af; 10 more for P=1 or F=1
   RR 01, RNR 05, REJ 09, and a second octet of 2 * N(R); 1 more for P=1 or F=1
   I 2 * N(S), and a second octet of 2 * N(R); 1 more for P=1
@@ -266,12 +267,12 @@ pub const BUS: &str = "\
 
 The terminals are numbered from 0. At the start none of them has a TEI. The network side assigns the
 TEIs 64 to 126. A message of the network side is in transit until it is dropped, and each terminal
-receives it at most once. A message of a terminal is in transit until the network side receives it or
-it is dropped. Messages are numbered from 0 in the order of sending, among those in transit in the
-same direction.
+receives it at most once. A message of a terminal is in transit until the network side receives it
+or it is dropped. Messages are numbered from 0 in the order of sending, among those in transit in
+the same direction.
 
-Lines of the script. RI, four hexadecimal digits, is the reference of the message that the terminal may
-send:
+Lines of the script. RI, four hexadecimal digits, is the reference of the message that the terminal
+may send:
   ask T RI       terminal T requests a TEI
   t202 T RI      the timer T202 of terminal T expires
   hear I T RI    terminal T receives message I of the network side
@@ -293,7 +294,8 @@ Output of a line: nothing, or a line in one of these forms for each output, in o
                     terminal T got no answer, and no longer requests a TEI
   net free N        no terminal answered the check of TEI N, which is free again
   net in-use N      one terminal answered the check of TEI N
-  net doubled N     more than one terminal answered the check of TEI N, which is removed and free again
+  net doubled N     more than one terminal answered the check of TEI N, which is removed and free
+                    again
   refused U1 NothingThere
                     there is no such terminal or message, or the timer does not run
   refused U2 HeardBefore
@@ -304,13 +306,14 @@ States of a terminal:
   1  TEI unassigned: it receives checks and removals, and does nothing
   2  assign awaiting TEI: it has requested a TEI, up to three times (N202), and T202 runs
   3  establish awaiting TEI: the same, in order to establish a link (not on this bus)
-  4  TEI assigned: it answers a check of its TEI, and loses the TEI if that is removed or assigned to
-     another terminal
-A check ends when T201 expires. If no terminal has answered by then, the check is sent a second time.
+  4  TEI assigned: it answers a check of its TEI, and loses the TEI if that is removed or assigned
+     to another terminal
+A check ends when T201 expires. If no terminal has answered by then, the check is sent a second
+time.
 
-A message is 0f, two octets of reference, the kind, and 2 * TEI + 1. Its frame begins with fcff03 from
-a terminal and with feff03 from the network side. The kinds, in hexadecimal, are request 01, assigned
-02, denied 03, check request 04, check response 05, remove 06 and verify 07.
+A message is 0f, two octets of reference, the kind, and 2 * TEI + 1. Its frame begins with fcff03
+from a terminal and with feff03 from the network side. The kinds, in hexadecimal, are request 01,
+assigned 02, denied 03, check request 04, check response 05, remove 06 and verify 07.
 
 Example. A line after < is a line of the script, and a line after > is printed.
   < # terminal 0 requests a TEI, and the network side assigns TEI 64
@@ -335,8 +338,8 @@ states, the error codes and the refusals L1 to L5.
 
 There are two ends, the user side and the network side, with SAPI 0 and TEI 64, and a line between
 them, which keeps frames in order in each direction. Each line of the script makes one move, and
-`settle` and `recover` make several. Nothing else happens: a frame is in transit until a move delivers
-it or loses it. SIDE is user or net. --k, --n200 and --room hold for both sides.
+`settle` and `recover` make several. Nothing else happens: a frame is in transit until a move
+delivers it or loses it. SIDE is user or net. --k, --n200 and --room hold for both sides.
 
 Lines of the script:
   establish SIDE     its layer 3 requests that the link is established (DL-ESTABLISH request)
@@ -351,13 +354,14 @@ Lines of the script:
   busy SIDE off      it can receive messages again
   restart SIDE       it restarts in state 4; its I queue is dropped, and the line is empty in both
                      directions
-  settle             makes moves, each the first possible of deliver net, deliver user, expire200 user
-                     and expire200 net, until none is possible; at most 8 for each message that is
-                     neither acknowledged nor dropped, and 32 more
-  recover            makes the moves of settle, and expire203 user or expire203 net if no other of them
-                     is possible and just one end is in state 7, until none is possible; at most 2 for
-                     each frame in transit, 3 for each message that is neither acknowledged nor
-                     dropped, 6 for each retransmission that --n200 allows, and 16 more
+  settle             makes moves, each the first possible of deliver net, deliver user, expire200
+                     user and expire200 net, until none is possible; at most 8 for each message that
+                     is neither acknowledged nor dropped, and 32 more
+  recover            makes the moves of settle, and expire203 user or expire203 net if no other of
+                     them is possible and just one end is in state 7, until none is possible; at
+                     most 2 for each frame in transit, 3 for each message that is neither
+                     acknowledged nor dropped, 6 for each retransmission that --n200 allows, and 16
+                     more
 
 Output of a line: nothing, or a line in one of these forms for each output, in order:
   U>N SAPI 0 TEI 64 C SABME P=1
@@ -384,8 +388,8 @@ Timers are not printed, nor what the moves of `settle` and `recover` do.
 Refusals:
   P1 NothingThere    no such frame is on its way to this side
   P2 NotRunning      the timer does not run
-  P3 NotYet SIDE N   T200 may not expire yet: a command with P=1 of this end, or the response with F=1
-                     to one, is still in transit, as frame N on its way to SIDE
+  P3 NotYet SIDE N   T200 may not expire yet: a command with P=1 of this end, or the response with
+                     F=1 to one, is still in transit, as frame N on its way to SIDE
   L1 to L5           the link refuses the request
 
 At the end of the script a line for each side is printed: its state, how many messages it submitted
@@ -458,13 +462,14 @@ system chooses. Each frame that a line of the script sends is written to this co
 back from it before the next line is executed. On the connection each frame follows its length, a
 number of two octets, the high one first.
 
-If the program can't connect to itself, or a frame does not return, or returns with other octets, the
-script ends with `device fault` and exit status 3. The output of the line is printed before that.
+If the program can't connect to itself, or a frame does not return, or returns with other octets,
+the script ends with `device fault` and exit status 3. The output of the line is printed before
+that.
 
 Example. A line after < is a line of the script, and a line after > is printed.
 
-A message is sent, `lapd loop`. The connection carries 0003 00817f, 0003 008173, 0006 008100000801 and
-0004 00810102:
+A message is sent, `lapd loop`. The connection carries 0003 00817f, 0003 008173, 0006 008100000801
+and 0004 00810102:
   < establish user
   > U>N SAPI 0 TEI 64 C SABME P=1
   < deliver net
@@ -487,15 +492,15 @@ pub const NET: &str = "\
 `lapd --help` describes scripts and HEX, and lists the faults F1 to F7 and the exit statuses.
 `lapd answer --help` lists the states, the error codes and the refusals L1 to L5.
 
-The program waits for one connection, and then executes the script. User sides, such as `lapd user`, are
-behind the connection. On standard error the program prints the address on which it listens, with the
-port that the system chose for port 0; the address that connected; and at the end of the script, that
-the other side has closed the connection, if it has.
+The program waits for one connection, and then executes the script. User sides, such as `lapd user`,
+are behind the connection. On standard error the program prints the address on which it listens,
+with the port that the system chose for port 0; the address that connected; and at the end of the
+script, that the other side has closed the connection, if it has.
 
-At the start no TEI is known. The network side assigns one to each terminal that requests one, from 64
-on, and adds its links with SAPI 0 and 16. With --tei, the links of that TEI exist from the start, and
-with --pri those of TEI 0. The clock begins at 0, and only `tick` advances it. T200 takes 1000 ms, T201
-1000 ms and T203 10000 ms, unless --t200, --t201 and --t203 set them.
+At the start no TEI is known. The network side assigns one to each terminal that requests one, from
+64 on, and adds its links with SAPI 0 and 16. With --tei, the links of that TEI exist from the
+start, and with --pri those of TEI 0. The clock begins at 0, and only `tick` advances it. T200 takes
+1000 ms, T201 1000 ms and T203 10000 ms, unless --t200, --t201 and --t203 set them.
 
 Lines of the script. SAPI is 0, 16 or 63. TEI is 0 to 127; 127 means all terminals:
   read                  waits for the next frame of the connection, and receives it
@@ -506,33 +511,34 @@ Lines of the script. SAPI is 0, 16 or 63. TEI is 0 to 127; 127 means all termina
   unit SAPI TEI HEX     layer 3 sends unit data of at most 260 octets (DL-UNIT DATA request)
   check TEI             checks whether a TEI is in use, and by one terminal alone
 
-Output of a line: the frame that was read, the frames that are sent, and then the reports to the layers
-above:
+Output of a line: the frame that was read, the frames that are sent, and then the reports to the
+layers above:
   U>N SAPI 0 TEI 64 C SABME P=1
                         a frame; `lapd decode --help` describes the parts of the text
   tei given N           TEI N is assigned
   tei free N            no terminal answered the check of TEI N: it is free again, and its links are
                         removed
   tei in-use N          one terminal answered the check of TEI N
-  tei doubled N         more than one terminal answered the check of TEI N: it is removed with its links
+  tei doubled N         more than one terminal answered the check of TEI N: it is removed with its
+                        links
   SAPI TEI established  the link is established; `lapd answer --help` has the other words
   refused B1 NoLink     there is no such link; a TEI has to be assigned first
   refused L1 NotEstablished
                         the link refuses the request, with one of L1 to L5
   refused S1 End        `read`: the other side has closed the connection
-A refused request changes nothing. Octets with one of F1 to F3, and frames for no link, are printed and
-discarded. Octets with one of F4 to F7 are printed, and their link reports the fault.
+A refused request changes nothing. Octets with one of F1 to F3, and frames for no link, are printed
+and discarded. Octets with one of F4 to F7 are printed, and their link reports the fault.
 
 With --json each line is an object, with its members in the order of their names. The members of a
-frame are those of `lapd decode --help`. A report has `primitive`, which is one of the words above, such
-as \"established\" or \"tei given\"; `sapi` and `tei`, if it is about a link or a TEI; and `info`,
-`count` or `report`, if octets, a number or a letter follow the word. A refusal has `refused`, such as
-\"B1 NoLink\", and --strict counts it.
+frame are those of `lapd decode --help`. A report has `primitive`, which is one of the words above,
+such as \"established\" or \"tei given\"; `sapi` and `tei`, if it is about a link or a TEI; and
+`info`, `count` or `report`, if octets, a number or a letter follow the word. A refusal has
+`refused`, such as \"B1 NoLink\", and --strict counts it.
 
-On the connection each frame follows its length, a number of two octets, the high one first. A fault of
-the connection ends the script: `port` and the fault are printed on standard error, and the exit status
-is 3. The faults are S2 BadLength (a length that is not from 3 to 264), S3 Cut (the end inside a frame),
-S4 Device, S5 TooManyTurns and S6 Failed.
+On the connection each frame follows its length, a number of two octets, the high one first. A fault
+of the connection ends the script: `port` and the fault are printed on standard error, and the exit
+status is 3. The faults are S2 BadLength (a length that is not from 3 to 264), S3 Cut (the end
+inside a frame), S4 Device, S5 TooManyTurns and S6 Failed.
 
 Example, with `lapd user --connect 127.0.0.1:4000` on the other side, whose lines `lapd user --help`
 has. A line after < is a line of the script, and a line after > is printed.
@@ -562,50 +568,52 @@ has. A line after < is a line of the script, and a line after > is printed.
   > N>U SAPI 0 TEI 64 R UA F=1
   > 0 64 released
 
-With --clock real the clock is that of the system. The side is served whenever the program waits, also
-for the next line of a terminal or a pipe: frames are received when they arrive, and timers expire when
-they are due. A script in a file is executed as fast as its lines allow. These lines wait:
+With --clock real the clock is that of the system. The side is served whenever the program waits,
+also for the next line of a terminal or a pipe: frames are received when they arrive, and timers
+expire when they are due. A script in a file is executed as fast as its lines allow. These lines
+wait:
   read [MS]             until the next frame, for at most MS milliseconds; then `nothing` is printed
   run [MS]              for MS milliseconds, or until the other side closes the connection
   wait MS               for MS milliseconds
-  expect WORDS.. MS     until a line is printed that begins with WORDS, for at most MS milliseconds; then
-                        `expected WORDS..` is printed, and the script ends with exit status 5
+  expect WORDS.. MS     until a line is printed that begins with WORDS, for at most MS milliseconds;
+                        then `expected WORDS..` is printed, and the script ends with exit status 5
 MS is 1 to 3600000. `tick` is not valid; the other lines above are, and so are these:
   busy SAPI TEI on      this side can receive no more messages of the link (own receiver busy)
   busy SAPI TEI off     it can receive them again
-  state [SAPI TEI]      prints the state of the link, or of each link: the state, V(S), V(A), V(R), RC, the
-                        messages in its queue, who is busy, and each running timer with the milliseconds
-                        left
-  stats                 prints how many frames of each kind were sent and received, their octets, I frames
-                        sent again, discarded frames, and reports by their letters
-  impair LOSS% [MS]     from now on loses each frame that this side sends with this chance, and delays the
-                        others by MS milliseconds; `impair 0%` ends it
+  state [SAPI TEI]      prints the state of the link, or of each link: the state, V(S), V(A), V(R),
+                        RC, the messages in its queue, who is busy, and each running timer with the
+                        milliseconds left
+  stats                 prints how many frames of each kind were sent and received, their octets, I
+                        frames sent again, discarded frames, and reports by their letters
+  impair LOSS% [MS]     from now on loses each frame that this side sends with this chance, and
+                        delays the others by MS milliseconds; `impair 0%` ends it
 
 The program ends at the end of the script. With --serve the side is then served until the other side
 closes the connection, also with `</dev/null`.
 
-With --keep the program accepts the next connection when one is lost: when the other side closes it or
-breaks its framing, or when it fails. The side continues as over a line that was interrupted: frames in
-transit are lost, and so are those that are sent while there is no connection. Standard error reports
-each lost connection.
-Without --keep a closed connection ends `run`, and a connection that fails ends the script with `port`,
-its fault and exit status 3.
+With --keep the program accepts the next connection when one is lost: when the other side closes it
+or breaks its framing, or when it fails. The side continues as over a line that was interrupted:
+frames in transit are lost, and so are those that are sent while there is no connection. Standard
+error reports each lost connection.
+Without --keep a closed connection ends `run`, and a connection that fails ends the script with
+`port`, its fault and exit status 3.
 
-With --terminals N the program accepts up to N connections, each of a terminal on the bus. Each frame of
-this side is sent to all of them, and only terminals with its TEI use it. The script begins with the
-first connection. A connection is removed if it closes, breaks the framing, does not accept a frame, or
-sends no whole frame for --idle-limit MS. Standard error reports that, and the others continue. A closed
-connection does not end `run` then, and --keep changes nothing.
+With --terminals N the program accepts up to N connections, each of a terminal on the bus. Each
+frame of this side is sent to all of them, and only terminals with its TEI use it. The script begins
+with the first connection. A connection is removed if it closes, breaks the framing, does not accept
+a frame, or sends no whole frame for --idle-limit MS. Standard error reports that, and the others
+continue. A closed connection does not end `run` then, and --keep changes nothing.
 
-If this side has no link for a frame, the frame is discarded. Standard error reports the first one of
-each SAPI and TEI. A report on standard error is dropped if nobody reads it.
+If this side has no link for a frame, the frame is discarded. Standard error reports the first one
+of each SAPI and TEI. A report on standard error is dropped if nobody reads it.
 
 T200 has to be longer than the way to the other side and back. Otherwise frames are sent again whose
 answers are still on their way.
 
-With --json and --time the last member is `time`. `expect` compares the words that are printed without
---json. Of a line that was not printed in time, the words are in the member `expected`. The words of
-`nothing`, `state` and `stats` are in `line`, and `sapi`, `tei` and each NAME=NUMBER are members.
+With --json and --time the last member is `time`. `expect` compares the words that are printed
+without --json. Of a line that was not printed in time, the words are in the member `expected`. The
+words of `nothing`, `state` and `stats` are in `line`, and `sapi`, `tei` and each NAME=NUMBER are
+members.
 
 Example, with the real clock:
   $ printf 'expect 0 64 established 60000\\ngive 0 64 0807\\nexpect 0 64 acknowledged 5000\\nstate\\n' |
@@ -627,16 +635,17 @@ pub const USER: &str = "\
 `lapd --help` describes scripts and HEX, and lists the faults F1 to F7 and the exit statuses.
 `lapd answer --help` lists the states, the error codes and the refusals L1 to L5.
 
-The program connects, and then executes the script. A network side, such as `lapd net`, is behind the
-connection. On standard error the program prints the address to which it is connected, and at the end
-of the script, that the other side has closed the connection, if it has.
+The program connects, and then executes the script. A network side, such as `lapd net`, is behind
+the connection. On standard error the program prints the address to which it is connected, and at
+the end of the script, that the other side has closed the connection, if it has.
 
-This side is one terminal, at the start without a TEI. The lines `ask` and `establish` request one, and
-`establish` takes effect once the TEI is assigned. With --tei the side has that TEI from the start, and
-with --pri TEI 0, and requests none. The clock begins at 0, and only `tick` advances it. T200 takes 1000
-ms, T202 2000 ms and T203 10000 ms, unless --t200, --t202 and --t203 set them.
+This side is one terminal, at the start without a TEI. The lines `ask` and `establish` request one,
+and `establish` takes effect once the TEI is assigned. With --tei the side has that TEI from the
+start, and with --pri TEI 0, and requests none. The clock begins at 0, and only `tick` advances it.
+T200 takes 1000 ms, T202 2000 ms and T203 10000 ms, unless --t200, --t202 and --t203 set them.
 
-Lines of the script. SAPI is 0, 16 or 63. TEI is 0 to 127 and ignored: the links have the terminal's own:
+Lines of the script. SAPI is 0, 16 or 63. TEI is 0 to 127 and ignored: the links have the terminal's
+own:
   read                  waits for the next frame of the connection, and receives it
   tick MS               advances the clock by MS milliseconds, 1 to 3600000, and expires what is due
   establish SAPI TEI    layer 3 requests that the link is established (DL-ESTABLISH request)
@@ -645,8 +654,8 @@ Lines of the script. SAPI is 0, 16 or 63. TEI is 0 to 127 and ignored: the links
   unit SAPI TEI HEX     layer 3 sends unit data of at most 260 octets (DL-UNIT DATA request)
   ask                   requests a TEI
 
-Output of a line: the frame that was read, the frames that are sent, and then the reports to the layers
-above:
+Output of a line: the frame that was read, the frames that are sent, and then the reports to the
+layers above:
   U>N SAPI 0 TEI 64 C SABME P=1
                         a frame; `lapd decode --help` describes the parts of the text
   tei got N             the terminal has TEI N now, and its links exist
@@ -657,22 +666,22 @@ above:
   refused L1 NotEstablished
                         the link refuses the request, with one of L1 to L5
   refused S1 End        `read`: the other side has closed the connection
-A refused request changes nothing. Octets with one of F1 to F3, and frames for no link, are printed and
-discarded. Octets with one of F4 to F7 are printed, and their link reports the fault.
+A refused request changes nothing. Octets with one of F1 to F3, and frames for no link, are printed
+and discarded. Octets with one of F4 to F7 are printed, and their link reports the fault.
 
 With --json each line is an object, with its members in the order of their names. The members of a
-frame are those of `lapd decode --help`. A report has `primitive`, which is one of the words above, such
-as \"established\" or \"tei given\"; `sapi` and `tei`, if it is about a link or a TEI; and `info`,
-`count` or `report`, if octets, a number or a letter follow the word. A refusal has `refused`, such as
-\"B1 NoLink\", and --strict counts it.
+frame are those of `lapd decode --help`. A report has `primitive`, which is one of the words above,
+such as \"established\" or \"tei given\"; `sapi` and `tei`, if it is about a link or a TEI; and
+`info`, `count` or `report`, if octets, a number or a letter follow the word. A refusal has
+`refused`, such as \"B1 NoLink\", and --strict counts it.
 
-On the connection each frame follows its length, a number of two octets, the high one first. A fault of
-the connection ends the script: `port` and the fault are printed on standard error, and the exit status
-is 3. The faults are S2 BadLength (a length that is not from 3 to 264), S3 Cut (the end inside a frame),
-S4 Device, S5 TooManyTurns and S6 Failed.
+On the connection each frame follows its length, a number of two octets, the high one first. A fault
+of the connection ends the script: `port` and the fault are printed on standard error, and the exit
+status is 3. The faults are S2 BadLength (a length that is not from 3 to 264), S3 Cut (the end
+inside a frame), S4 Device, S5 TooManyTurns and S6 Failed.
 
-Example, with `lapd net --listen 127.0.0.1:4000` on the other side, whose lines `lapd net --help` has.
-A line after < is a line of the script, and a line after > is printed.
+Example, with `lapd net --listen 127.0.0.1:4000` on the other side, whose lines `lapd net --help`
+has. A line after < is a line of the script, and a line after > is printed.
   < establish 0 127
   > U>N SAPI 63 TEI 127 C UI P=0 info=0f619901ff
   < # it has a TEI now, and establishes its link
@@ -699,10 +708,10 @@ A line after < is a line of the script, and a line after > is printed.
   > N>U SAPI 0 TEI 64 R UA F=1
   > 0 64 release-confirmed
 
-With --clock real the clock is that of the system. The side is served whenever the program waits, also
-for the next line of a terminal or a pipe: frames are received when they arrive, and timers expire when
-they are due. A script in a file is executed as fast as its lines allow. `tick` is not valid; the lines
-are:
+With --clock real the clock is that of the system. The side is served whenever the program waits,
+also for the next line of a terminal or a pipe: frames are received when they arrive, and timers
+expire when they are due. A script in a file is executed as fast as its lines allow. `tick` is not
+valid; the lines are:
   read [MS], run [MS], wait MS, expect WORDS.. MS, stats, impair LOSS% [MS]
                         as in `lapd net --help`
   establish SAPI, release SAPI, give SAPI HEX, unit SAPI HEX, ask
@@ -712,19 +721,21 @@ are:
 The seed of the references of TEI management is --seed, or else a number that the system draws.
 
 The program ends at the end of the script. With --serve the side is then served until the other side
-closes the connection. With --keep the program connects again when the connection is lost: after 100 ms,
-and then after pauses that double up to 5 seconds. The side continues as over a line that was
-interrupted: frames in transit are lost, and so are those that are sent while there is no connection.
-Standard error reports each lost connection.
+closes the connection. With --keep the program connects again when the connection is lost: after 100
+ms, and then after pauses that double up to 5 seconds. The side continues as over a line that was
+interrupted: frames in transit are lost, and so are those that are sent while there is no
+connection. Standard error reports each lost connection.
 
 T200 has to be longer than the way to the other side and back. Otherwise frames are sent again whose
 answers are still on their way.
 
-With --json and --time the last member is `time`. `expect` compares the words that are printed without
---json. Of a line that was not printed in time, the words are in the member `expected`. The words of
-`nothing`, `state` and `stats` are in `line`, and `sapi`, `tei` and each NAME=NUMBER are members.
+With --json and --time the last member is `time`. `expect` compares the words that are printed
+without --json. Of a line that was not printed in time, the words are in the member `expected`. The
+words of `nothing`, `state` and `stats` are in `line`, and `sapi`, `tei` and each NAME=NUMBER are
+members.
 
-Example, with the real clock and the `lapd net` of the example of `lapd net --help` on the other side:
+Example, with the real clock and the `lapd net` of the example of `lapd net --help` on the other
+side:
   $ printf 'establish 0\\nexpect 0 64 confirmed 5000\\nread 1000\\n' |
       lapd user --connect 127.0.0.1:4000 --clock real --time
   0 U>N SAPI 63 TEI 127 C UI P=0 info=0f619901ff
@@ -749,8 +760,9 @@ With --loose also:
   < [ 00 81 73 ]                the same: the other side sent these octets
 
 With --pcap no script is read. A capture is pcap or pcapng of link type 177 (LINUX_LAPD) or 203
-(LAPD), or GSMTAP over UDP in Ethernet or IPv4. Packets without LAPD are skipped. A fault is reported
-with the place of its packet or block in the file, in octets from 0, and the exit status is 1.
+(LAPD), or GSMTAP over UDP in Ethernet or IPv4. Packets without LAPD are skipped. A fault is
+reported with the place of its packet or block in the file, in octets from 0, and the exit status is
+1.
 
 Output for a frame, in one line:
   U>N or N>U    the user side, or the network side, sent it
@@ -761,8 +773,8 @@ Output for a frame, in one line:
   N(R)=n        in an I, RR, RNR or REJ frame
   P=b or F=b    the P bit of a command, or the F bit of a response
   info=HEX      the information field, if it has octets
-Output for octets that do not form a valid frame: U>N or N>U, the fault, such as F1 TooShort, and HEX.
-With --names a message of TEI management or of Q.931 follows, in words:
+Output for octets that do not form a valid frame: U>N or N>U, the fault, such as F1 TooShort, and
+HEX. With --names a message of TEI management or of Q.931 follows, in words:
   identity request Ri=6199 Ai=127   its type, reference number and action indicator
   SETUP cr=1 from origin            its name and call reference, and whether it is from or to the
                                     side at which the call began; cr=dummy if it has no reference
@@ -778,7 +790,8 @@ With --json a line is an object with these members, in the order of their names:
   message          with --names, the words above
   fault, octets    instead of all members but direction: \"F1 TooShort\" and \"HEX\"
   packet           with --pcap, the number of the packet, from 1
-  time             with --pcap, of a pcap file: \"SECONDS\" since 1970, with six digits after a point
+  time             with --pcap, of a pcap file: \"SECONDS\" since 1970, with six digits after a
+                   point
 For example: {\"direction\":\"U>N\",\"frame\":\"SABME\",\"p\":1,\"role\":\"command\",\"sapi\":0,\"tei\":64}
 
 Example. A line after < is a line of the script, and a line after > is printed.
