@@ -58,7 +58,7 @@ same_parameters move w i = by_side move.side move.event
     by_side side.User event = (ap (λ (u : World). u.user.end.parameters) (moved_user event w) ∙ (stays_sound (view_of side.User w) i.user_window i.user_sound event).parameters, ap (λ (u : World). u.network.end.parameters) (moved_user event w))
     by_side side.Network event = (ap (λ (u : World). u.user.end.parameters) (moved_network event w), ap (λ (u : World). u.network.end.parameters) (moved_network event w) ∙ (stays_sound (view_of side.User (swapped w)) i.network_window i.network_sound event).parameters)
 
-facts_after : (N : ℕ) (move : Move) (w : World) → Facts N w → Facts N (world_after w (happens Whole move w))
+pub facts_after : (N : ℕ) (move : Move) (w : World) → Facts N w → Facts N (world_after w (happens Whole move w))
 facts_after N move w f =
     let same = same_parameters move w f.holds in
     record {
@@ -430,7 +430,7 @@ unmapped : (l : List Flight) → map tag_flight l ≡ [] → l ≡ []
 unmapped [] none = refl
 unmapped (f ∷ fs) none = cc
 
-free_by_tags : (e : End) → IsFree (tag_end e) → IsFree e
+pub free_by_tags : (e : End) → IsFree (tag_end e) → IsFree e
 unfolding tag_variables
 free_by_tags e free = free
 

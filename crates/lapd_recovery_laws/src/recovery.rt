@@ -10,6 +10,8 @@ ghost use Rattle.lapd_pair_laws.specs.Worked.{new_pair, busy};
 ghost use Rattle.lapd_pair_laws.specs.World.{new_world, run};
 ghost use Rattle.lapd_recovery_laws.specs.AfterOutage.{IsAfterOutage, IsHeldUp, StaysUp};
 ghost use Rattle.lapd_recovery_laws.specs.Agreed.{ComesBack};
+ghost use Rattle.lapd_recovery_laws.specs.EveryWorld.{IsFreeWorld, WorldComesBack};
+ghost use Rattle.lapd_recovery_laws.specs.Deliveries.{RunsEmpty};
 ghost use Rattle.lapd_recovery_laws.specs.LoneLine.{IsLoneLine, ComesUpAnew};
 ghost use Rattle.lapd_recovery_laws.specs.OpenLine.{IsOpenLine, ComesUp};
 ghost use Rattle.lapd_recovery_laws.specs.Recovered.{outcome_of, both_sabmes_lost, network_restarts, restarts_with_one_sent, release_unheard, disc_meets_sabme, longest, both_in_7, both_in_4, held_up, IsBusy};
@@ -115,4 +117,28 @@ pub fn every_held_line_stays_up()
         → IsAfterOutage n200 (run r moves (new_world user network))
         → IsHeldUp (run r moves (new_world user network))
         → StaysUp r (run r moves (new_world user network)) }
+{}
+
+/// The line runs empty: deliveries alone, in any order of the two directions, are at most two per
+/// frame in transit, four per message left, and four more. When none is possible any more, no frame
+/// is in transit. An end may be own receiver busy. The run starts in a new world, on whole numbers
+/// or on tags, with windows of 1 to 127 and either `Recovery`.
+pub fn every_line_runs_empty()
+    ensures { (r : Reading) (user network : Parameters)
+        → user.k ≤ 127 → network.k ≤ 127 → 1 ≤ user.k → 1 ≤ network.k → (moves : List Move)
+        → RunsEmpty r (run r moves (new_world user network)) }
+{}
+
+/// Every world comes back by itself. Whatever happened before, with frames in transit or not, if no
+/// end in state 7 or 8 is own receiver busy, then the line's own moves, in any order, are at most
+/// two per frame in transit, seven per message left, six per retransmission that N200 allows, and 15
+/// more. When none is possible any more, both ends agree: both in state 4, or both in state 7 with
+/// equal numbers, and no message is left. The run starts in a new world, on whole numbers or on
+/// tags, with windows of 1 to 127 and either `Recovery`. The argument is at least N200 of both ends,
+/// and 1.
+pub fn every_world_comes_back()
+    ensures { (r : Reading) (n200 : ℕ) → 1 ≤ n200 → (user network : Parameters)
+        → user.k ≤ 127 → network.k ≤ 127 → 1 ≤ user.k → 1 ≤ network.k → (moves : List Move)
+        → IsFreeWorld n200 (run r moves (new_world user network))
+        → WorldComesBack r n200 (run r moves (new_world user network)) }
 {}

@@ -1,0 +1,443 @@
+-- Any frame is delivered to an end in state 4, 5 or 6: what is still to come falls.
+use Rattle.std.proofs.Common.{◌≡◌, inl, inr, ℕ, ◌+◌, ◌-◌, ◌*◌, ◌≤◌, ◌==◌, nat_lt, if◌then◌else◌, Bool, true, false, List, [], ◌∷◌, ◌++◌, length, option_map, append-nil, refl, sym, ap, subst, ◌∙◌, arith}
+use Rattle.std.proofs.lemmas.Bool.{eqb-true}
+use Rattle.lapd_timers.specs.declared.timer.Timer.TheVariants.{T200, T203}
+use Rattle.lapd_frame.specs.declared.Role.{Role}
+use Rattle.lapd_frame.specs.declared.Role.TheVariants.{Command, Answer}
+use Rattle.lapd_frame.specs.declared.Control.{Control}
+use Rattle.lapd_frame.specs.declared.Control.TheVariants.{Rr, Rnr, Rej, Sabme, Dm, Disc, Ua}
+use Rattle.lapd_mod128.specs.Counting.{Whole}
+use Rattle.lapd_supervision.specs.StateVariables.{without_exceptions, with_zero_counters}
+use Rattle.lapd_link_definition.specs.declared.state.State.{State}
+use Rattle.lapd_link_definition.specs.declared.state.State.TheVariants.{TeiAssigned, AwaitingEstablishment, AwaitingRelease, MultipleFrameEstablished, TimerRecovery}
+use Rattle.lapd_link_definition.specs.declared.out.Letter.TheVariants as letter
+use Rattle.lapd_link_definition.specs.declared.out.Out.TheVariants.{Send, Start, Stop, Report, Dropped, ReleaseConfirm, Confirmed, Established, UnitUp}
+use Rattle.lapd_link_definition.specs.AwaitingEstablishment.{release_primitive, end_establishment, confirm_or_indicate, ua_final, awaiting_establishment}
+use Rattle.lapd_link_definition.specs.AwaitingRelease.{confirm_release, awaiting_release}
+use Rattle.lapd_link_definition.specs.EndOfStep.{is_7_or_8, end_step}
+use Rattle.lapd_link_definition.specs.End.{End, StepState, ◌▷◌, begin, unsent, waiting}
+use Rattle.lapd_link_definition.specs.Input.{Heard}
+use Rattle.lapd_link_definition.specs.Procedures.{out_where, put, state_to, rc_to, start, stop, release_pending_to, clear_exception_conditions, zero_state_variables, discard_i_queue, discard_unacknowledged}
+use Rattle.lapd_link_definition.specs.Table.{by_state, row, is_unit_data}
+use Rattle.lapd_link_definition.specs.TeiAssigned.{tei_assigned}
+use Rattle.lapd_pair_laws.specs.Histories.{Occasion, Story, after_outputs}
+use Rattle.lapd_pair_laws.specs.Line.{Flight, without_info}
+use Rattle.lapd_pair_laws.specs.Move.{Station, View, story_after}
+use Rattle.lapd_pair_laws.specs.Kinds.{Kind, Asks, Accepts, Refuses, Unnumbered, kind, kind_of, kinds, messages, rejections, is_acceptance}
+use Rattle.lapd_pair_laws.specs.Parties.{Reception, party, behind, behind_acceptance, next_reception, received_in, OnReception}
+use Rattle.lapd_pair_laws.specs.Conjuncts.{IsEmpty, IsHolding, IsConsistentSender, most_asks}
+use Rattle.lapd_pair_laws.specs.Invariant.{Both}
+use Rattle.lapd_pair_laws.proofs.ActionEffects.{Context, story, seen, line}
+use Rattle.lapd_pair_laws.proofs.ClosedActions.{closes_nothing}
+use Rattle.lapd_pair_laws.proofs.Delivers.{no_foreign}
+use Rattle.lapd_pair_laws.proofs.Flow.{IsWhole}
+use Rattle.lapd_pair_laws.proofs.Lists.{by_test}
+use Rattle.lapd_pair_laws.proofs.Steps.{context, begun}
+use Rattle.lapd_recovery_laws.specs.Own.{IsFree}
+use Rattle.lapd_recovery_laws.proofs.Cleared.{IsClearIn5, AreClear}
+use Rattle.lapd_recovery_laws.proofs.EndSends.{Unsending, pending_in, pending, end_closes}
+use Rattle.lapd_recovery_laws.proofs.Establishes.{discards_by}
+use Rattle.lapd_recovery_laws.proofs.LoneSteps.{sends_nothing}
+use Rattle.lapd_recovery_laws.proofs.OpenDelivers.{Delivered, open_budget, heard_in}
+use Rattle.lapd_recovery_laws.proofs.OpenFrames.{unit_kind}
+use Rattle.lapd_recovery_laws.proofs.Proceeding.{weight_of, weigh, weight_some, heard, Arrives, Hears, in_transit_of_whole, none_rejected, budget_in, budget, Share, Pays}
+
+-- ---- What a closed end will process.
+
+-- a frame that is not the UA is passed over
+passed_over : (Q : Reception → Type 0) (state : State) (leaving : Bool) (before now : Reception) (k : Kind) (ks : List Kind) → is_7_or_8 state ≡ false → (state ≡ AwaitingEstablishment → is_acceptance k ≡ false)
+    → OnReception Q (received_in state leaving before (k ∷ ks)) → OnReception Q (received_in state leaving now ks)
+passed_over Q TeiAssigned leaving before now k ks closed other a = tt
+passed_over Q AwaitingEstablishment true before now k ks closed other a = tt
+passed_over Q AwaitingEstablishment false before now k ks closed other a = subst (λ b. OnReception Q (option_map next_reception (behind b ks (behind_acceptance ks)))) (other refl) a
+passed_over Q AwaitingRelease leaving before now k ks closed other a = tt
+passed_over Q MultipleFrameEstablished leaving before now k ks closed other a = cc
+passed_over Q TimerRecovery leaving before now k ks closed other a = cc
+
+never : {A : Type 0} (b : Bool) → b ≡ true → b ≡ false → A
+never true on off = cc
+never false on off = cc
+
+-- the UA of the peer
+abbrev is_ua : Control → Role → Bool
+is_ua (Ua true) Answer = true
+is_ua control role = false
+
+not_ua : (control : Control) (role : Role) (octets : List ℕ) (place : ℕ) → is_ua control role ≡ false → is_acceptance (kind_of role control octets place) ≡ false
+not_ua (Ua true) Answer octets place other = cc
+not_ua (Ua false) Answer octets place other = refl
+not_ua (Rr nr true) Command octets place other = refl
+not_ua (Rr nr false) Command octets place other = refl
+not_ua (Rr nr true) Answer octets place other = refl
+not_ua (Rr nr false) Answer octets place other = refl
+not_ua (Rnr nr true) Command octets place other = refl
+not_ua (Rnr nr false) Command octets place other = refl
+not_ua (Rnr nr true) Answer octets place other = refl
+not_ua (Rnr nr false) Answer octets place other = refl
+not_ua (Rej nr true) Answer octets place other = refl
+not_ua (Rej nr false) Answer octets place other = refl
+not_ua (Sabme true) Command octets place other = refl
+not_ua (Sabme false) Command octets place other = refl
+not_ua (Disc true) Command octets place other = refl
+not_ua (Disc false) Command octets place other = refl
+not_ua (Dm true) Answer octets place other = refl
+not_ua (Dm false) Answer octets place other = refl
+not_ua control Command octets place other = refl
+not_ua control Answer octets place other = refl
+
+-- ---- Outputs that send no frame.
+
+refused_line : (c b l : Bool) (n : ℕ) (o : Occasion) (t : Story) → (after_outputs o ((out_where c (Dropped n) ++ out_where b (Stop T200)) ++ release_primitive l ∷ []) t).line ≡ t.line
+refused_line true true true n o t = refl
+refused_line true true false n o t = refl
+refused_line true false true n o t = refl
+refused_line true false false n o t = refl
+refused_line false true true n o t = refl
+refused_line false true false n o t = refl
+refused_line false false true n o t = refl
+refused_line false false false n o t = refl
+
+confirmed_line : (b : Bool) (o : Occasion) (t : Story) → (after_outputs o (out_where b (Stop T200) ++ ReleaseConfirm ∷ []) t).line ≡ t.line
+confirmed_line true o t = refl
+confirmed_line false o t = refl
+
+opened_line : (b : Bool) (o : Occasion) (t : Story) → (after_outputs o ((Confirmed ∷ []) ++ out_where b (Stop T200) ++ Start T203 ∷ []) t).line ≡ t.line
+opened_line true o t = refl
+opened_line false o t = refl
+
+indicated_line : (test c b : Bool) (n : ℕ) (o : Occasion) (t : Story) → (after_outputs o ((if test then [] else out_where c (Dropped n) ++ Established ∷ []) ++ out_where b (Stop T200) ++ Start T203 ∷ []) t).line ≡ t.line
+indicated_line true c true n o t = refl
+indicated_line true c false n o t = refl
+indicated_line false true true n o t = refl
+indicated_line false true false n o t = refl
+indicated_line false false true n o t = refl
+indicated_line false false false n o t = refl
+
+by_each : (P : StepState → Type 0) (s : StepState) → ((test : Bool) → (s.end.window.vs == s.end.window.va) ≡ test → P (discards_by test s)) → P (discard_unacknowledged s)
+unfolding discard_unacknowledged
+by_each P s each = each (s.end.window.vs == s.end.window.va) refl
+
+module _ (station peer : Station) (frame : Flight) (rest outgoing : List Flight) (base its_base : ℕ) (clear : IsClearIn5 station.end) (closed : is_7_or_8 station.end.state ≡ false) (both : Both (party base station) (party its_base peer) (kinds outgoing) (kinds (frame ∷ rest))) where
+  abbrev v : View
+  v = record { station = station; incoming = frame ∷ rest; outgoing = outgoing }
+
+  abbrev c : Context
+  c = context base frame.info frame.place v rest peer its_base
+
+  abbrev e : End
+  e = station.end
+
+  abbrev s : StepState
+  s = begin e
+
+  abbrev ks : List Kind
+  ks = kinds rest
+
+  abbrev out : List Kind
+  out = kinds outgoing
+
+  abbrev Done : Kind → StepState → Type 0
+  Done k t = Delivered e peer.end k ks outgoing (end_step Whole t).end (story c (end_step Whole t)).line
+
+  abbrev Arriving : Kind → Type 0
+  Arriving k = Both (seen c s) c.peer (line c s) (k ∷ ks)
+
+  arrived : Arriving (kind frame)
+  arrived = begun c (kind frame ∷ ks) both
+
+  -- ---- From the row to the end of the step.
+
+  record Closing (k : Kind) (t : StepState) : Type 0 where
+    closes : end_step Whole t ≡ t
+    new : List Flight
+    sent : (story c t).line ≡ outgoing ++ new
+    paid : budget t.end + weigh (kinds new) + 1 ≤ budget e + weight_of k
+    mild : rejections (kinds new) ≡ []
+    hears : peer.end.state ≡ MultipleFrameEstablished → OnReception (Arrives peer.end.window.vs) (heard e (k ∷ ks)) → OnReception (Arrives peer.end.window.vs) (heard t.end ks)
+    fewer : waiting t.end ≤ waiting e
+    free : IsFree t.end
+
+  pays : (k : Kind) (x : End) (new : List Flight) → budget x + weigh (kinds new) + 1 ≤ budget e + weight_of k → (n : ℕ) → Share e peer.end out (k ∷ ks) n → Pays x peer.end (out ++ kinds new) ks (n + weight_of k - weigh (kinds new))
+  pays k x new paid n (inl enough) = record { a = budget x; share = inl (omega arith); most = omega (arith, paid, enough) }
+  pays k x new paid n (inr p) = let is = p.0.in_7 in never (is_7_or_8 e.state) (ap is_7_or_8 is) closed
+
+  by_closing : (k : Kind) (t : StepState) → Closing k t → Done k t
+  by_closing k t r = subst (λ (u : StepState). Delivered e peer.end k ks outgoing u.end (story c u).line) (sym r.closes) (record {
+    new = r.new;
+    sent = r.sent;
+    advances = record {
+      mine = λ n share. pays k t.end r.new r.paid n share;
+      its = λ p. record { in_7 = p.in_7; wanted = none_rejected out (kinds r.new) p.wanted r.mild; hears = inr (by_hearing p.in_7 p.hears) };
+    };
+    fewer = r.fewer;
+    free = λ was. r.free;
+  })
+    where
+      by_hearing : peer.end.state ≡ MultipleFrameEstablished → Hears peer.end.window.vs e (k ∷ ks) → OnReception (Arrives peer.end.window.vs) (heard t.end ks)
+      by_hearing is (inl busy) = never (is_7_or_8 e.state) busy.0 closed
+      by_hearing is (inr a) = r.hears is a
+
+  same_end : s.end ≡ e
+  unfolding begin
+  same_end = refl
+
+  nothing_yet : (story c s).line ≡ outgoing
+  unfolding begin story_after
+  nothing_yet = refl
+
+  -- ---- A frame that changes nothing.
+
+  passes : (k : Kind) (t : StepState) → t.end ≡ e → (story c t).line ≡ outgoing → 1 ≤ weight_of k → (e.state ≡ AwaitingEstablishment → is_acceptance k ≡ false) → Done k t
+  passes k t same none some other = by_closing k t (record {
+    closes = closes_nothing t (ap (λ (x : End). is_7_or_8 x.state) same ∙ closed);
+    new = [];
+    sent = none ∙ sym (append-nil outgoing);
+    paid = let b : budget t.end ≡ budget e = ap (λ (x : End). budget x) same in omega (arith, b, some);
+    mild = refl;
+    hears = λ is a. subst (λ (x : End). OnReception (Arrives peer.end.window.vs) (heard x ks)) (sym same) (passed_over (Arrives peer.end.window.vs) e.state e.release_pending _ _ k ks closed other a);
+    fewer = let w : waiting t.end ≡ waiting e = ap (λ (x : End). waiting x) same in omega (arith, w);
+    free = λ o. never (is_7_or_8 t.end.state) o (ap (λ (x : End). is_7_or_8 x.state) same ∙ closed);
+  })
+
+  ignored : (k : Kind) → 1 ≤ weight_of k → (e.state ≡ AwaitingEstablishment → is_acceptance k ≡ false) → Done k s
+  ignored k some other = passes k s same_end nothing_yet some other
+
+  by_unit : (k : Kind) → k ≡ Unnumbered → Done k (put UnitUp s)
+  unfolding put begin story_after
+  by_unit k is = passes k (put UnitUp s) refl refl (let w = ap weight_of is in omega (arith, w)) (λ in_5. ap is_acceptance is)
+
+  -- ---- A SABME or DISC is answered.
+
+  asks_not_in_7 : Arriving Asks → peer.end.state ≡ MultipleFrameEstablished → ⊥
+  asks_not_in_7 b is = let one = b.its.exchange.one in let none : most_asks peer.end.state ≡ 0 = ap most_asks is in omega (arith, one, none)
+
+  replies : (u : Control) → weigh (kinds (without_info Answer u ∷ [])) ≡ 1 → rejections (kinds (without_info Answer u ∷ [])) ≡ [] → Arriving Asks → Done Asks (put (Send Answer u) s)
+  unfolding put begin story_after
+  replies u one mild b = by_closing Asks (put (Send Answer u) s) (record {
+    closes = closes_nothing (put (Send Answer u) s) closed;
+    new = without_info Answer u ∷ [];
+    sent = refl;
+    paid = omega (arith, one);
+    mild = mild;
+    hears = λ is a. absurd (asks_not_in_7 b is);
+    fewer = omega arith;
+    free = λ o. never (is_7_or_8 e.state) o closed;
+  })
+
+  reported_end : (put (Report letter.C) s).end ≡ e
+  unfolding put begin
+  reported_end = refl
+
+  reported_line : (story c (put (Report letter.C) s)).line ≡ outgoing
+  unfolding put begin story_after
+  reported_line = refl
+
+  -- ---- State 4.
+
+  module _ (is : e.state ≡ TeiAssigned) where
+    not_5 : e.state ≡ AwaitingEstablishment → ⊥
+    not_5 in_5 = cc
+
+    empty : Arriving (kind frame) → IsEmpty (seen c s).sends
+    unfolding begin
+    empty b = subst (λ st. IsConsistentSender st e.layer3_initiated e.release_pending (seen c s).sends) is b.mine.preserved
+
+    sabme_in_4 : Arriving Asks → Done Asks (tei_assigned (Heard (Sabme true) Command) s)
+    unfolding tei_assigned put clear_exception_conditions zero_state_variables start state_to begin without_exceptions with_zero_counters story_after
+    sabme_in_4 b =
+        let t = tei_assigned (Heard (Sabme true) Command) s in
+        let none : IsEmpty (seen c s).sends = empty arrived in
+        let first : e.first ≡ length e.given = none.first in
+        let next : e.next ≡ length e.given = none.next in
+        by_closing Asks t (record {
+          closes = sends_nothing t (sym next) refl;
+          new = without_info Answer (Ua true) ∷ [];
+          sent = refl;
+          paid = omega (arith, first, next);
+          mild = refl;
+          hears = λ in_7 a. absurd (asks_not_in_7 b in_7);
+          fewer = omega arith;
+          free = λ o. refl;
+        })
+
+    in_state_4 : (control : Control) (role : Role) → is_unit_data control role ≡ false → Arriving (kind_of role control frame.info frame.place) → Done (kind_of role control frame.info frame.place) (tei_assigned (Heard control role) s)
+    unfolding tei_assigned
+    in_state_4 (Sabme true) Command no_unit b = sabme_in_4 b
+    in_state_4 (Sabme false) Command no_unit b = absurd (no_foreign c ks s b)
+    in_state_4 (Disc true) Command no_unit b = replies (Dm true) refl refl b
+    in_state_4 (Disc false) Command no_unit b = absurd (no_foreign c ks s b)
+    in_state_4 (Ua true) Answer no_unit b = passes Accepts (put (Report letter.C) s) reported_end reported_line (omega arith) (λ in_5. absurd (not_5 in_5))
+    in_state_4 (Ua false) Answer no_unit b = absurd (no_foreign c ks s b)
+    in_state_4 control role no_unit b = ignored (kind_of role control frame.info frame.place) (weight_some (kind_of role control frame.info frame.place)) (λ in_5. absurd (not_5 in_5))
+
+  -- ---- States 5 and 6: the answer arrives.
+
+  -- to state 4 or 6
+  parts : (k : Kind) (t : StepState) (state : State) (new : List Flight) → t.end.state ≡ state → is_7_or_8 state ≡ false → (state ≡ AwaitingEstablishment → ⊥) → (story c t).line ≡ outgoing ++ new → rejections (kinds new) ≡ [] → budget t.end + weigh (kinds new) + 1 ≤ budget e + weight_of k → waiting t.end ≤ waiting e → Done k t
+  parts k t state new at shut other sent mild paid fewer = by_closing k t (record {
+    closes = closes_nothing t (ap is_7_or_8 at ∙ shut);
+    new = new;
+    sent = sent;
+    paid = paid;
+    mild = mild;
+    hears = λ is a. nothing t.end state at shut other;
+    fewer = fewer;
+    free = λ o. never (is_7_or_8 t.end.state) o (ap is_7_or_8 at ∙ shut);
+  })
+    where
+      nothing : (x : End) (state : State) → x.state ≡ state → is_7_or_8 state ≡ false → (state ≡ AwaitingEstablishment → ⊥) → OnReception (Arrives peer.end.window.vs) (heard x ks)
+      nothing x state at shut other = subst (λ st. OnReception (Arrives peer.end.window.vs) (received_in st x.release_pending (record { vs = x.window.vs; va = x.window.va; vr = x.window.vr; rejecting = x.window.rejecting; frames = ks }) ks)) (sym at) (by_case (record { vs = x.window.vs; va = x.window.va; vr = x.window.vr; rejecting = x.window.rejecting; frames = ks }) state shut other)
+        where
+          by_case : (now : Reception) (state : State) → is_7_or_8 state ≡ false → (state ≡ AwaitingEstablishment → ⊥) → OnReception (Arrives peer.end.window.vs) (received_in state x.release_pending now ks)
+          by_case now TeiAssigned shut other = tt
+          by_case now AwaitingEstablishment shut other = absurd (other refl)
+          by_case now AwaitingRelease shut other = tt
+          by_case now MultipleFrameEstablished shut other = cc
+          by_case now TimerRecovery shut other = cc
+
+  released : (k : Kind) → 1 ≤ weight_of k → Done k (confirm_release s)
+  unfolding confirm_release stop put state_to begin story_after
+  released k some = parts k (confirm_release s) TeiAssigned [] refl refl (λ in_5. cc) (confirmed_line e.t200 _ _ ∙ sym (append-nil outgoing)) refl (omega (arith, some)) (omega arith)
+
+  refused : Done Refuses (s ▷ discard_i_queue ▷ stop T200 ▷ end_establishment)
+  unfolding end_establishment discard_i_queue stop put release_pending_to state_to begin story_after
+  refused = parts Refuses (s ▷ discard_i_queue ▷ stop T200 ▷ end_establishment) TeiAssigned [] refl refl (λ in_5. cc) (refused_line (nat_lt 0 (waiting e)) e.t200 e.release_pending (waiting e) _ _ ∙ sym (append-nil outgoing)) refl (omega arith) (omega arith)
+
+  module _ (is : e.state ≡ AwaitingRelease) where
+    not_5_in_6 : e.state ≡ AwaitingEstablishment → ⊥
+    not_5_in_6 in_5 = cc
+
+    in_state_6 : (control : Control) (role : Role) → is_unit_data control role ≡ false → Arriving (kind_of role control frame.info frame.place) → Done (kind_of role control frame.info frame.place) (awaiting_release (Heard control role) s)
+    unfolding awaiting_release
+    in_state_6 (Sabme true) Command no_unit b = replies (Dm true) refl refl b
+    in_state_6 (Sabme false) Command no_unit b = absurd (no_foreign c ks s b)
+    in_state_6 (Disc true) Command no_unit b = replies (Ua true) refl refl b
+    in_state_6 (Disc false) Command no_unit b = absurd (no_foreign c ks s b)
+    in_state_6 (Ua true) Answer no_unit b = released Accepts (omega arith)
+    in_state_6 (Ua false) Answer no_unit b = absurd (no_foreign c ks s b)
+    in_state_6 (Dm true) Answer no_unit b = released Refuses (omega arith)
+    in_state_6 (Dm false) Answer no_unit b = absurd (no_foreign c ks s b)
+    in_state_6 control role no_unit b = ignored (kind_of role control frame.info frame.place) (weight_some (kind_of role control frame.info frame.place)) (λ in_5. absurd (not_5_in_6 in_5))
+
+  -- ---- State 5.
+
+  module _ (is : e.state ≡ AwaitingEstablishment) where
+    cleared : AreClear e
+    cleared = clear is
+
+    leaves : e.release_pending ≡ true → Done Accepts (s ▷ release_pending_to false ▷ rc_to 0 ▷ put (Send Command (Disc true)) ▷ start T200 ▷ state_to AwaitingRelease)
+    unfolding release_pending_to rc_to put start state_to begin story_after
+    leaves waits =
+        let was : budget e ≡ 2 = ap (λ st. budget_in st e.release_pending (unsent e) (waiting e)) is ∙ ap (λ b. budget_in AwaitingEstablishment b (unsent e) (waiting e)) waits in
+        parts Accepts (s ▷ release_pending_to false ▷ rc_to 0 ▷ put (Send Command (Disc true)) ▷ start T200 ▷ state_to AwaitingRelease) AwaitingRelease (without_info Command (Disc true) ∷ []) refl refl (λ in_5. cc) refl refl (omega (arith, was)) (omega arith)
+
+    module _ (stays : e.release_pending ≡ false) where
+      record Opening (t : StepState) : Type 0 where
+        sent : (story c t).line ≡ outgoing
+        in_7 : t.end.state ≡ MultipleFrameEstablished
+        vs : t.end.window.vs ≡ 0
+        vr : t.end.window.vr ≡ 0
+        idle : t.end.window.own_busy ≡ false
+        none : t.end.window.ack_pending ≡ false
+        all : waiting t.end ≡ unsent t.end
+        few : unsent t.end ≤ unsent e
+        queue : unsent e ≤ waiting e
+
+      by_opening : (t : StepState) → Opening t → Done Accepts t
+      by_opening t r =
+          let u = end_step Whole t in
+          let cl = end_closes c t in
+          let in_7 : u.end.state ≡ MultipleFrameEstablished = ap (λ (v : Unsending). v.state) cl.same ∙ r.in_7 in
+          let vr : u.end.window.vr ≡ 0 = ap (λ (v : Unsending). v.vr) cl.same ∙ r.vr in
+          let given = ap length (ap (λ (v : Unsending). v.given) cl.same) in
+          let first = ap (λ (v : Unsending). v.first) cl.same in
+          let none : pending t.end ≡ 0 = ap pending_in r.none in
+          let all = r.all in
+          let few = r.few in
+          let q = r.queue in
+          let l = cl.light in
+          let was : budget e ≡ 4 * unsent e = ap (λ st. budget_in st e.release_pending (unsent e) (waiting e)) is ∙ ap (λ b. budget_in AwaitingEstablishment b (unsent e) (waiting e)) stays in
+          let now : budget u.end ≡ 2 * unsent u.end + 2 * waiting u.end = open_budget u.end.state u.end.release_pending (unsent u.end) (waiting u.end) (ap is_7_or_8 in_7) in
+          record {
+            new = cl.frames;
+            sent = cl.line ∙ ap (λ l. l ++ cl.frames) r.sent;
+            advances = record {
+              mine = λ n share. pays Accepts u.end cl.frames (omega (arith, was, now, given, first, none, all, few, l)) n share;
+              its = λ p. record { in_7 = p.in_7; wanted = none_rejected out (kinds cl.frames) p.wanted cl.mild; hears = inr (by_hearing u.end in_7 vr p.hears) };
+            };
+            fewer = omega (arith, given, first, all, few, q);
+            free = λ was o. ap (λ (v : Unsending). v.own_busy) cl.same ∙ r.idle;
+          }
+        where
+          by_hearing : (x : End) → x.state ≡ MultipleFrameEstablished → x.window.vr ≡ 0 → Hears peer.end.window.vs e (Accepts ∷ ks) → OnReception (Arrives peer.end.window.vs) (heard x ks)
+          by_hearing x in_7 vr (inl busy) = never (is_7_or_8 e.state) busy.0 closed
+          by_hearing x in_7 vr (inr a) =
+              let now : Reception = record { vs = e.window.vs; va = e.window.va; vr = e.window.vr; rejecting = e.window.rejecting; frames = Accepts ∷ ks } in
+              let in_5 : OnReception (Arrives peer.end.window.vs) (received_in AwaitingEstablishment e.release_pending now (Accepts ∷ ks)) = subst (λ st. OnReception (Arrives peer.end.window.vs) (received_in st e.release_pending now (Accepts ∷ ks))) is a in
+              let whole : IsWhole 0 peer.end.window.vs (messages ks) = subst (λ b. OnReception (Arrives peer.end.window.vs) (received_in AwaitingEstablishment b now (Accepts ∷ ks))) stays in_5 in
+              heard_in (Arrives peer.end.window.vs) x ks (ap is_7_or_8 in_7) (in_transit_of_whole x.window.rejecting x.window.vr peer.end.window.vs (messages ks) (subst (λ n. IsWhole n peer.end.window.vs (messages ks)) (sym vr) whole))
+
+      abbrev opening : StepState → StepState
+      opening d = d ▷ zero_state_variables ▷ stop T200 ▷ start T203 ▷ state_to MultipleFrameEstablished
+
+      consistent : IsConsistentSender AwaitingEstablishment e.layer3_initiated false (seen c s).sends
+      unfolding begin
+      consistent = subst (λ b. IsConsistentSender AwaitingEstablishment e.layer3_initiated b (seen c s).sends) stays (subst (λ st. IsConsistentSender st e.layer3_initiated e.release_pending (seen c s).sends) is arrived.mine.preserved)
+
+      confirms : e.layer3_initiated ≡ true → Opening (opening (put Confirmed s))
+      unfolding put zero_state_variables stop start state_to begin with_zero_counters story_after
+      confirms asked =
+          let none : IsEmpty (seen c s).sends = subst (λ b. IsConsistentSender AwaitingEstablishment b false (seen c s).sends) asked consistent in
+          let first : e.first ≡ length e.given = none.first in
+          let next : e.next ≡ length e.given = none.next in
+          record { sent = opened_line e.t200 _ _; in_7 = refl; vs = refl; vr = refl; idle = cleared.idle; none = cleared.none_pending; all = omega (arith, first, next); few = omega arith; queue = omega (arith, first, next) }
+
+      indicates : e.layer3_initiated ≡ false → (test : Bool) → (s.end.window.vs == s.end.window.va) ≡ test → Opening (opening (discards_by test s))
+      unfolding zero_state_variables stop start state_to begin with_zero_counters story_after
+      indicates itself true same =
+          let h : IsHolding (seen c s).sends = subst (λ b. IsConsistentSender AwaitingEstablishment b false (seen c s).sends) itself consistent in
+          let first : e.first ≡ base + e.window.va = h.first in
+          let next : e.next ≡ base + e.window.vs = h.next in
+          let equal : e.window.vs ≡ e.window.va = eqb-true e.window.vs e.window.va same in
+          record { sent = indicated_line true (nat_lt 0 (waiting e)) e.t200 (waiting e) _ _; in_7 = refl; vs = refl; vr = refl; idle = cleared.idle; none = cleared.none_pending; all = omega (arith, first, next, equal); few = omega arith; queue = omega (arith, first, next, equal) }
+      indicates itself false other =
+          let h : IsHolding (seen c s).sends = subst (λ b. IsConsistentSender AwaitingEstablishment b false (seen c s).sends) itself consistent in
+          let first : e.first ≡ base + e.window.va = h.first in
+          let next : e.next ≡ base + e.window.vs = h.next in
+          let ordered : e.window.va ≤ e.window.vs = h.ordered in
+          record { sent = indicated_line false (nat_lt 0 (waiting e)) e.t200 (waiting e) _ _; in_7 = refl; vs = refl; vr = refl; idle = cleared.idle; none = cleared.none_pending; all = omega arith; few = omega arith; queue = omega (arith, first, next, ordered) }
+
+      opens : Done Accepts (s ▷ confirm_or_indicate ▷ zero_state_variables ▷ stop T200 ▷ start T203 ▷ state_to MultipleFrameEstablished)
+      unfolding confirm_or_indicate begin
+      opens = by_test (λ (d : StepState). Done Accepts (opening d)) e.layer3_initiated _ _ (λ asked. by_opening (opening (put Confirmed s)) (confirms asked))
+          (λ itself. by_each (λ (d : StepState). Done Accepts (opening d)) s (λ test same. by_opening (opening (discards_by test s)) (indicates itself test same)))
+
+    answered : Done Accepts (ua_final s)
+    unfolding ua_final begin
+    answered = by_test (λ (t : StepState). Done Accepts t) e.release_pending _ _ leaves opens
+
+    in_state_5 : (control : Control) (role : Role) → is_unit_data control role ≡ false → Arriving (kind_of role control frame.info frame.place) → Done (kind_of role control frame.info frame.place) (awaiting_establishment (Heard control role) s)
+    unfolding awaiting_establishment
+    in_state_5 (Sabme true) Command no_unit b = replies (Ua true) refl refl b
+    in_state_5 (Sabme false) Command no_unit b = absurd (no_foreign c ks s b)
+    in_state_5 (Disc true) Command no_unit b = replies (Dm true) refl refl b
+    in_state_5 (Disc false) Command no_unit b = absurd (no_foreign c ks s b)
+    in_state_5 (Ua true) Answer no_unit b = answered
+    in_state_5 (Ua false) Answer no_unit b = absurd (no_foreign c ks s b)
+    in_state_5 (Dm true) Answer no_unit b = refused
+    in_state_5 (Dm false) Answer no_unit b = absurd (no_foreign c ks s b)
+    in_state_5 control role no_unit b = ignored (kind_of role control frame.info frame.place) (weight_some (kind_of role control frame.info frame.place)) (λ in_5. not_ua control role frame.info frame.place refl)
+
+  by_closed_state : (state : State) (control : Control) (role : Role) → e.state ≡ state → is_7_or_8 state ≡ false → is_unit_data control role ≡ false → Arriving (kind_of role control frame.info frame.place) → Done (kind_of role control frame.info frame.place) (by_state Whole state (Heard control role) s)
+  unfolding by_state
+  by_closed_state TeiAssigned control role is shut no_unit b = in_state_4 is control role no_unit b
+  by_closed_state AwaitingEstablishment control role is shut no_unit b = in_state_5 is control role no_unit b
+  by_closed_state AwaitingRelease control role is shut no_unit b = in_state_6 is control role no_unit b
+  by_closed_state MultipleFrameEstablished control role is shut no_unit b = cc
+  by_closed_state TimerRecovery control role is shut no_unit b = cc
+
+  pub closed_delivered : Done (kind frame) (row Whole e.state (Heard frame.control frame.role) s)
+  unfolding row
+  closed_delivered = by_test (λ (t : StepState). Done (kind frame) t) (is_unit_data frame.control frame.role) _ _
+      (λ unit. by_unit (kind frame) (unit_kind frame.control frame.role frame.info frame.place unit))
+      (λ no_unit. by_closed_state e.state frame.control frame.role refl closed no_unit arrived)

@@ -1,0 +1,108 @@
+-- The frames of an end in state 7 or 8 at the end of any step: its unsent messages, as far as the
+-- window allows, or the pending acknowledgement.
+use Rattle.std.proofs.Common.{◌≡◌, ℕ, zero, suc, ◌+◌, ◌*◌, ◌≤◌, ◌&&◌, nat_lt, Bool, true, false, List, [], ◌∷◌, ◌++◌, length, append_assoc, append-nil, refl, sym, ap, subst, ◌∙◌, arith}
+use Rattle.lapd_frame.specs.declared.Role.TheVariants.{Answer}
+use Rattle.lapd_frame.specs.declared.Control.TheVariants.{Rr}
+use Rattle.lapd_mod128.specs.Counting.{Whole, after}
+use Rattle.lapd_supervision.specs.StateVariables.{may_send, after_sending, without_ack_pending}
+use Rattle.lapd_link_definition.specs.declared.state.State.{State}
+use Rattle.lapd_link_definition.specs.EndOfStep.{is_7_or_8, is_established, may_send_next, send_next, send_all, acknowledge_pending, end_step}
+use Rattle.lapd_link_definition.specs.End.{End, StepState, unsent}
+use Rattle.lapd_link_definition.specs.Procedures.{transmit_rr, transmit_i_frame, ensure_t200}
+use Rattle.lapd_link_definition.proofs.Sending.{both_true, below}
+use Rattle.lapd_pair_laws.specs.Line.{Flight, without_info}
+use Rattle.lapd_pair_laws.specs.Kinds.{kind, kinds, messages, rejections, tally, answer_of}
+use Rattle.lapd_pair_laws.proofs.ActionEffects.{Context, story}
+use Rattle.lapd_pair_laws.proofs.Flow.{IsWhole}
+use Rattle.lapd_pair_laws.proofs.Lists.{by_test, tally_append}
+use Rattle.lapd_pair_laws.proofs.States.{next_sent, next_puts, ensure_puts, rr_puts}
+use Rattle.lapd_recovery_laws.proofs.Proceeding.{weight_of, weigh, whole_joined, none_rejected}
+
+-- the values of an end that neither sending nor acknowledging changes
+pub record Unsending : Type 0 where
+  pub state : State
+  pub vr : ℕ
+  pub rejecting : Bool
+  pub own_busy : Bool
+  pub given : List (List ℕ)
+  pub first : ℕ
+
+abbrev pub unsending : End → Unsending
+unsending e = record { state = e.state; vr = e.window.vr; rejecting = e.window.rejecting; own_busy = e.window.own_busy; given = e.given; first = e.first }
+
+abbrev pub pending_in : Bool → ℕ
+pending_in true = 1
+pending_in false = 0
+
+abbrev pub pending : End → ℕ
+pending e = pending_in e.window.ack_pending
+
+pub kinds_append : (fs gs : List Flight) → kinds (fs ++ gs) ≡ kinds fs ++ kinds gs
+kinds_append [] gs = refl
+kinds_append (f ∷ fs) gs = ap (λ ks. kind f ∷ ks) (kinds_append fs gs)
+
+-- these frames are sent: messages from V(S) on, and no REJ, UA or DM
+pub record Closes (c : Context) (s t : StepState) : Type 0 where
+  pub frames : List Flight
+  pub line : (story c t).line ≡ (story c s).line ++ frames
+  pub whole : IsWhole s.end.window.vs t.end.window.vs (messages (kinds frames))
+  pub mild : rejections (kinds frames) ≡ []
+  pub no_answer : tally answer_of (kinds frames) ≡ 0
+  pub light : weigh (kinds frames) + 2 * unsent t.end + pending t.end ≤ 2 * unsent s.end + pending s.end
+  pub same : unsending t.end ≡ unsending s.end
+
+closes_none : (c : Context) (s : StepState) → Closes c s s
+closes_none c s = record { frames = []; line = sym (append-nil (story c s).line); whole = refl; mild = refl; no_answer = refl; light = omega arith; same = refl }
+
+then_closes : {c : Context} {s t u : StepState} → Closes c s t → Closes c t u → Closes c s u
+then_closes {c = c} {s = s} {t = t} {u = u} a b =
+    let both = kinds_append a.frames b.frames in
+    record {
+      frames = a.frames ++ b.frames;
+      line = b.line ∙ ap (λ l. l ++ b.frames) a.line ∙ append_assoc (story c s).line a.frames b.frames;
+      whole = subst (λ ks. IsWhole s.end.window.vs u.end.window.vs (messages ks)) (sym both) (whole_joined s.end.window.vs t.end.window.vs u.end.window.vs (kinds a.frames) (kinds b.frames) a.whole b.whole);
+      mild = ap rejections both ∙ none_rejected (kinds a.frames) (kinds b.frames) a.mild b.mild;
+      no_answer = ap (λ ks. tally answer_of ks) both ∙ (let sum = tally_append answer_of (kinds a.frames) (kinds b.frames) in let p = a.no_answer in let q = b.no_answer in omega (arith, sum, p, q));
+      light = let sum = ap (λ ks. weigh ks) both ∙ tally_append weight_of (kinds a.frames) (kinds b.frames) in let p = a.light in let q = b.light in omega (arith, sum, p, q);
+      same = b.same ∙ a.same;
+    }
+
+closes_next : (c : Context) (s : StepState) → may_send_next Whole s ≡ true → Closes c s (send_next Whole s)
+unfolding transmit_i_frame ensure_t200 after_sending after
+closes_next c s go =
+    let one = both_true (is_established s.end.state) (may_send Whole s.end.parameters.k s.end.window && nat_lt s.end.next (length s.end.given)) go in
+    let two = both_true (may_send Whole s.end.parameters.k s.end.window) (nat_lt s.end.next (length s.end.given)) one.1 in
+    let free = below s.end.next (length s.end.given) two.1 in
+    record {
+      frames = next_sent c s ∷ [];
+      line = (ensure_puts c (transmit_i_frame Whole s)).line ∙ (next_puts c s).line;
+      whole = (refl, refl);
+      mild = refl;
+      no_answer = refl;
+      light = omega (arith, free);
+      same = refl;
+    }
+
+closes_rr : (c : Context) (s : StepState) → s.end.window.ack_pending ≡ true → Closes c s (transmit_rr s)
+unfolding transmit_rr without_ack_pending
+closes_rr c s on = record {
+  frames = without_info Answer (Rr s.end.window.vr false) ∷ [];
+  line = (rr_puts c s).line;
+  whole = refl;
+  mild = refl;
+  no_answer = refl;
+  light = let one : pending s.end ≡ 1 = ap pending_in on in omega (arith, one);
+  same = refl;
+}
+
+closes_all : (c : Context) (n : ℕ) (s : StepState) → Closes c s (send_all Whole n s)
+unfolding send_all
+closes_all c zero s = closes_none c s
+closes_all c (suc n) s = by_test (λ (t : StepState). Closes c s t) (may_send_next Whole s) _ _ (λ go. then_closes (closes_next c s go) (closes_all c n (send_next Whole s))) (λ _. closes_none c s)
+
+pub end_closes : (c : Context) (s : StepState) → Closes c s (end_step Whole s)
+unfolding end_step acknowledge_pending
+end_closes c s =
+    let all = send_all Whole (unsent s.end) s in
+    let done = closes_all c (unsent s.end) s in
+    by_test (λ (t : StepState). Closes c s t) (is_7_or_8 all.end.state && all.end.window.ack_pending) _ _ (λ both. then_closes done (closes_rr c all (both_true (is_7_or_8 all.end.state) all.end.window.ack_pending both).1)) (λ _. done)
