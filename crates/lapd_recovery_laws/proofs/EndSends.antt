@@ -48,11 +48,14 @@ pub record Closes (c : Context) (s t : StepState) : Type 0 where
   pub whole : IsWhole s.end.window.vs t.end.window.vs (messages (kinds frames))
   pub mild : rejections (kinds frames) ≡ []
   pub no_answer : tally answer_of (kinds frames) ≡ 0
-  pub light : weigh (kinds frames) + 2 * unsent t.end + pending t.end ≤ 2 * unsent s.end + pending s.end
+  pub sent : ℕ
+  pub fewer : unsent t.end + sent ≡ unsent s.end
+  pub count : t.end.window.vs ≡ s.end.window.vs + sent
+  pub light : weigh (kinds frames) + pending t.end ≤ sent + pending s.end
   pub same : unsending t.end ≡ unsending s.end
 
 closes_none : (c : Context) (s : StepState) → Closes c s s
-closes_none c s = record { frames = []; line = sym (append-nil (story c s).line); whole = refl; mild = refl; no_answer = refl; light = omega arith; same = refl }
+closes_none c s = record { frames = []; line = sym (append-nil (story c s).line); whole = refl; mild = refl; no_answer = refl; sent = 0; fewer = omega arith; count = omega arith; light = omega arith; same = refl }
 
 then_closes : {c : Context} {s t u : StepState} → Closes c s t → Closes c t u → Closes c s u
 then_closes {c = c} {s = s} {t = t} {u = u} a b =
@@ -63,6 +66,9 @@ then_closes {c = c} {s = s} {t = t} {u = u} a b =
       whole = subst (λ ks. IsWhole s.end.window.vs u.end.window.vs (messages ks)) (sym both) (whole_joined s.end.window.vs t.end.window.vs u.end.window.vs (kinds a.frames) (kinds b.frames) a.whole b.whole);
       mild = ap rejections both ∙ none_rejected (kinds a.frames) (kinds b.frames) a.mild b.mild;
       no_answer = ap (λ ks. tally answer_of ks) both ∙ (let sum = tally_append answer_of (kinds a.frames) (kinds b.frames) in let p = a.no_answer in let q = b.no_answer in omega (arith, sum, p, q));
+      sent = a.sent + b.sent;
+      fewer = let p = a.fewer in let q = b.fewer in omega (arith, p, q);
+      count = let p = a.count in let q = b.count in omega (arith, p, q);
       light = let sum = ap (λ ks. weigh ks) both ∙ tally_append weight_of (kinds a.frames) (kinds b.frames) in let p = a.light in let q = b.light in omega (arith, sum, p, q);
       same = b.same ∙ a.same;
     }
@@ -79,7 +85,10 @@ closes_next c s go =
       whole = (refl, refl);
       mild = refl;
       no_answer = refl;
-      light = omega (arith, free);
+      sent = 1;
+      fewer = omega (arith, free);
+      count = omega arith;
+      light = omega arith;
       same = refl;
     }
 
@@ -91,6 +100,9 @@ closes_rr c s on = record {
   whole = refl;
   mild = refl;
   no_answer = refl;
+  sent = 0;
+  fewer = omega arith;
+  count = omega arith;
   light = let one : pending s.end ≡ 1 = ap pending_in on in omega (arith, one);
   same = refl;
 }

@@ -29,7 +29,7 @@ use Rattle.lapd_pair_laws.specs.Invariant.{Both}
 use Rattle.lapd_pair_laws.specs.Timed.{IsSettledEnd}
 use Rattle.lapd_pair_laws.proofs.ActionEffects.{Context, story, seen, line, HoldsMid}
 use Rattle.lapd_pair_laws.proofs.ClosedActions.{closes_nothing}
-use Rattle.lapd_pair_laws.proofs.Flow.{IsWhole}
+use Rattle.lapd_pair_laws.proofs.Flow.{IsWhole, fresh}
 use Rattle.lapd_pair_laws.proofs.Lists.{by_test}
 use Rattle.lapd_pair_laws.proofs.MidSteps.{enter, numbering, open_asks_none}
 use Rattle.lapd_pair_laws.proofs.OpenRows.{no_foreign}
@@ -37,8 +37,8 @@ use Rattle.lapd_pair_laws.proofs.Steps.{context, begun}
 use Rattle.lapd_recovery_laws.proofs.EndSends.{Unsending, pending_in, pending, end_closes}
 use Rattle.lapd_recovery_laws.proofs.Establishes.{discards_by}
 use Rattle.lapd_recovery_laws.proofs.LoneSteps.{is_ignored}
-use Rattle.lapd_recovery_laws.proofs.OpenDelivers.{Delivered, open_budget, by_answer, answered_so, by_back}
-use Rattle.lapd_recovery_laws.proofs.Proceeding.{weigh, heard, Arrives, no_number_no_rejection, behind_first, budget, Share, Pays}
+use Rattle.lapd_recovery_laws.proofs.OpenDelivers.{Delivered, by_answer, answered_so, by_back}
+use Rattle.lapd_recovery_laws.proofs.Proceeding.{weigh, plain_of, heard, extra, extra_few, extra_open, extra_first, Arrives, no_number_no_rejection, behind_first, missing_in, missing, load, load_open, load_closed, Share, Pays}
 use Rattle.lapd_recovery_laws.proofs.Replies.{Keeps, Turns, passes, i_in_7, i_in_8, rr_in_7, rr_in_8, rnr_in_7, rnr_in_8, rej_in_7, rej_in_8}
 
 pub most_one : (state : State) → most_asks state ≤ 1
@@ -72,7 +72,7 @@ released_line false false true n o t = refl
 released_line false false false n o t = refl
 
 -- the peer establishes: messages from 0 on follow the UA
-reset_arrives : (state : State) (leaving : Bool) (vs va vr end : ℕ) (rejecting : Bool) (out fs : List Kind) → is_7_or_8 state ≡ false → tally answer_of out ≡ 0 → IsWhole 0 end (messages fs)
+pub reset_arrives : (state : State) (leaving : Bool) (vs va vr end : ℕ) (rejecting : Bool) (out fs : List Kind) → is_7_or_8 state ≡ false → tally answer_of out ≡ 0 → IsWhole 0 end (messages fs)
     → OnReception (Arrives end) (received_in state leaving (record { vs = vs; va = va; vr = vr; rejecting = rejecting; frames = out ++ Accepts ∷ fs }) (out ++ Accepts ∷ fs))
 reset_arrives TeiAssigned leaving vs va vr end rejecting out fs closed none w = tt
 reset_arrives AwaitingEstablishment true vs va vr end rejecting out fs closed none w = tt
@@ -81,7 +81,7 @@ reset_arrives AwaitingRelease leaving vs va vr end rejecting out fs closed none 
 reset_arrives MultipleFrameEstablished leaving vs va vr end rejecting out fs closed none w = cc
 reset_arrives TimerRecovery leaving vs va vr end rejecting out fs closed none w = cc
 
-asks_closed : (state : State) → 1 ≤ most_asks state → is_7_or_8 state ≡ false
+pub asks_closed : (state : State) → 1 ≤ most_asks state → is_7_or_8 state ≡ false
 asks_closed TeiAssigned some = refl
 asks_closed AwaitingEstablishment some = refl
 asks_closed AwaitingRelease some = refl
@@ -127,7 +127,7 @@ module _ (station peer : Station) (frame : Flight) (rest outgoing : List Flight)
   by_turn : (k : Kind) (t : StepState) → Turns c k ks s t → Done k t
   unfolding begin story_after
   by_turn k t (inl r) = by_answer e (end_step Whole t).end peer.end k ks outgoing (story c (end_step Whole t)).line opened (answered_so c k s t outgoing refl r)
-  by_turn k t (inr b) = by_back c peer.end k ks s t outgoing refl opened b b.arrives (ap pending_in none_pending) (λ p. b.unwanted p.in_7 p.wanted)
+  by_turn k t (inr b) = by_back c peer.end k ks s t outgoing refl opened b b.arrives b.awaited (ap pending_in none_pending) (λ p. b.unwanted p.in_7 p.wanted)
 
   queue : unsent e ≤ waiting e
   unfolding begin
@@ -167,16 +167,27 @@ module _ (station peer : Station) (frame : Flight) (rest outgoing : List Flight)
       all : waiting t.end ≡ unsent t.end
       few : unsent t.end ≤ unsent e
 
-    pays : (u : End) (frames : List Flight) (sent : ℕ) → u.state ≡ MultipleFrameEstablished → waiting u ≡ sent → weigh (kinds frames) + 2 * unsent u ≤ 2 * sent → sent ≤ unsent e
-        → OnReception (Arrives u.window.vs) (heard peer.end (out ++ Accepts ∷ kinds frames)) → (n : ℕ) → Share e peer.end out (Asks ∷ ks) n → Pays u peer.end (out ++ Accepts ∷ kinds frames) ks (n + 2 - (1 + weigh (kinds frames)))
-    pays u frames sent in_7 all light few arrives n (inl enough) =
-        let was : budget e ≡ 2 * unsent e + 2 * waiting e = open_budget e.state e.release_pending (unsent e) (waiting e) opened in
-        let now : budget u ≡ 2 * unsent u + 2 * waiting u = open_budget u.state u.release_pending (unsent u) (waiting u) (ap is_7_or_8 in_7) in
-        let q = queue in
-        record { a = budget u; share = inl (omega arith); most = omega (arith, was, now, all, light, few, q, enough) }
-    pays u frames sent in_7 all light few arrives n (inr p) =
+    closed : is_7_or_8 peer.end.state ≡ false
+    closed = asks_closed peer.end.state peer_asks
+
+    pays : (u : End) (frames : List Flight) (queued count : ℕ) → u.state ≡ MultipleFrameEstablished → waiting u ≡ queued → unsent u + count ≡ queued → weigh (kinds frames) ≤ count → queued ≤ unsent e
+        → OnReception (Arrives u.window.vs) (heard peer.end (out ++ Accepts ∷ kinds frames)) → (n : ℕ) → Share e peer.end out (Asks ∷ ks) n → Pays u peer.end (out ++ Accepts ∷ kinds frames) ks (n + 2 + 0 - (1 + weigh (kinds frames)))
+    pays u frames queued count in_7 all fewer light few arrives n (inl enough) =
+        let f = fresh peer.end.window.rejecting in
+        let was : load e peer.end out ≡ 3 * unsent e + 2 * missing e peer.end + f = load_open e.state e.release_pending (unsent e) (missing e peer.end) f (extra peer.end out) opened in
+        let now : load u peer.end (out ++ Accepts ∷ kinds frames) ≡ 3 * unsent u + 2 * missing u peer.end + f = load_open u.state u.release_pending (unsent u) (missing u peer.end) f (extra peer.end (out ++ Accepts ∷ kinds frames)) (ap is_7_or_8 in_7) in
+        let lacks : missing u peer.end ≡ waiting u - unsent u = ap (λ b. missing_in b u.window.vs peer.end.window.vr (waiting u) (unsent u)) closed in
+        record { a = load u peer.end (out ++ Accepts ∷ kinds frames); share = inl (omega arith); most = omega (arith, was, now, lacks, all, fewer, light, few, enough) }
+    pays u frames queued count in_7 all fewer light few arrives n (inr p) =
         let enough = p.1 in
-        record { a = 2 * unsent u; share = inr (record { in_7 = in_7; wanted = nothing_behind; hears = inr arrives }, omega arith); most = omega (arith, light, few, enough) }
+        let lacks : missing u peer.end ≡ waiting u - unsent u = ap (λ b. missing_in b u.window.vs peer.end.window.vr (waiting u) (unsent u)) closed in
+        record { a = 2 * unsent u + missing u peer.end; share = inr (record { in_7 = in_7; wanted = nothing_behind; hears = inr arrives }, omega arith); most = omega (arith, lacks, all, fewer, light, few, enough) }
+
+    -- the peer is closed
+    closed_falls : (x : End) → extra x ks ≤ tally plain_of ks → load peer.end x ks + 0 ≤ load peer.end e (Asks ∷ ks)
+    closed_falls x some =
+        let all = extra_open e (Asks ∷ ks) opened in
+        load_closed peer.end.state peer.end.release_pending (unsent peer.end) (missing peer.end e) (fresh e.window.rejecting) (extra e (Asks ∷ ks)) (missing peer.end x) (fresh x.window.rejecting) (extra x ks) closed (omega (arith, some, all))
 
     by_reset : (t : StepState) → Resets t → Done Asks t
     by_reset t r =
@@ -189,14 +200,17 @@ module _ (station peer : Station) (frame : Flight) (rest outgoing : List Flight)
         let all = r.all in
         let few = r.few in
         let l = cl.light in
+        let fewer = cl.fewer in
         let q = queue in
         let whole : IsWhole 0 u.end.window.vs (messages fs) = subst (λ n. IsWhole n u.end.window.vs (messages fs)) r.vs cl.whole in
-        let arrives : OnReception (Arrives u.end.window.vs) (heard peer.end (out ++ Accepts ∷ fs)) = reset_arrives peer.end.state peer.end.release_pending peer.end.window.vs peer.end.window.va peer.end.window.vr u.end.window.vs peer.end.window.rejecting out fs (asks_closed peer.end.state peer_asks) no_ua whole in
+        let arrives : OnReception (Arrives u.end.window.vs) (heard peer.end (out ++ Accepts ∷ fs)) = reset_arrives peer.end.state peer.end.release_pending peer.end.window.vs peer.end.window.va peer.end.window.vr u.end.window.vs peer.end.window.rejecting out fs closed no_ua whole in
         record {
           new = without_info Answer (Ua true) ∷ cl.frames;
           sent = cl.line ∙ ap (λ l. l ++ cl.frames) r.sent ∙ append_assoc outgoing (without_info Answer (Ua true) ∷ []) cl.frames;
           advances = record {
-            mine = pays u.end cl.frames (unsent t.end) (ap (λ (v : Unsending). v.state) cl.same ∙ r.in_7) (omega (arith, given, first, all)) (omega (arith, l, none)) few arrives;
+            relief = 0;
+            mine = pays u.end cl.frames (unsent t.end) cl.sent (ap (λ (v : Unsending). v.state) cl.same ∙ r.in_7) (omega (arith, given, first, all)) fewer (omega (arith, l, none)) few arrives;
+            its_load = closed_falls u.end (extra_few u.end ks);
             its = λ p. absurd (not_in_7 p.in_7);
           };
           fewer = omega (arith, given, first, all, few, q);
@@ -231,7 +245,9 @@ module _ (station peer : Station) (frame : Flight) (rest outgoing : List Flight)
           new = without_info Answer (Ua true) ∷ [];
           sent = released_line (nat_lt 0 (waiting e)) e.t200 e.t203 (waiting e) _ _;
           advances = record {
-            mine = λ n share. record { a = 0; share = inl (omega arith); most = omega arith };
+            relief = 0;
+            mine = λ n share. record { a = 0; share = inl (let none = extra_first peer.end out closed no_ua in omega (arith, none)); most = omega arith };
+            its_load = closed_falls t.end (omega arith);
             its = λ p. absurd (not_in_7 p.in_7);
           };
           fewer = omega arith;

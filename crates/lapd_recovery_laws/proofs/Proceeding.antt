@@ -5,16 +5,21 @@ use Rattle.lapd_link_definition.specs.declared.state.State.{State}
 use Rattle.lapd_link_definition.specs.declared.state.State.TheVariants.{TeiAssigned, AwaitingEstablishment, AwaitingRelease, MultipleFrameEstablished, TimerRecovery}
 use Rattle.lapd_link_definition.specs.EndOfStep.{is_7_or_8}
 use Rattle.lapd_link_definition.specs.End.{End, unsent, waiting}
-use Rattle.lapd_pair_laws.specs.Kinds.{Message, Kind, Numbered, Status, Rejection, Enquiry, Final, Asks, Accepts, Refuses, Unnumbered, Foreign, messages, numbers, rejections, tally, answer_of, is_acceptance}
+use Rattle.lapd_pair_laws.specs.Kinds.{Message, Kind, Numbered, Status, Rejection, Enquiry, Final, Asks, Accepts, Refuses, Unnumbered, Foreign, message_of, messages, numbers, rejections, tally, answer_of, is_acceptance}
 use Rattle.lapd_pair_laws.specs.Parties.{Reception, behind, behind_acceptance, next_reception, received_in, OnReception}
-use Rattle.lapd_pair_laws.proofs.Flow.{IsWhole, IsJunkThenWhole, IsInTransit}
+use Rattle.lapd_pair_laws.proofs.Flow.{IsWhole, IsJunkThenWhole, IsInTransit, fresh}
 use Rattle.lapd_pair_laws.proofs.Lists.{messages_append, rejections_append, tally_append}
 
 -- ---- Weights.
 
--- a frame that may be answered counts twice
+abbrev heavy : Bool → ℕ
+heavy true = 2
+heavy false = 1
+
+-- A frame that is always answered counts twice. A message that does not poll counts once: its sender
+-- accounts for the answer.
 abbrev pub weight_of : Kind → ℕ
-weight_of (Numbered m nr) = 2
+weight_of (Numbered m nr) = heavy m.polled
 weight_of (Status nr) = 1
 weight_of (Rejection nr) = 1
 weight_of (Enquiry nr) = 2
@@ -28,20 +33,38 @@ weight_of Foreign = 1
 abbrev pub weigh : List Kind → ℕ
 weigh ks = tally weight_of ks
 
-weight_few : (k : Kind) → weight_of k ≤ 2
-weight_few (Numbered m nr) = omega arith
-weight_few (Status nr) = omega arith
-weight_few (Rejection nr) = omega arith
-weight_few (Enquiry nr) = omega arith
-weight_few (Final nr) = omega arith
-weight_few Asks = omega arith
-weight_few Accepts = omega arith
-weight_few Refuses = omega arith
-weight_few Unnumbered = omega arith
-weight_few Foreign = omega arith
+-- a message that does not poll
+abbrev light : Bool → ℕ
+light true = 0
+light false = 1
+
+abbrev pub plain_of : Kind → ℕ
+plain_of (Numbered m nr) = light m.polled
+plain_of k = 0
+
+-- both are at most two a frame
+both_few : (k : Kind) → weight_of k + plain_of k ≤ 2
+both_few (Numbered m nr) = by_poll m.polled
+  where
+    by_poll : (b : Bool) → heavy b + light b ≤ 2
+    by_poll true = omega arith
+    by_poll false = omega arith
+both_few (Status nr) = omega arith
+both_few (Rejection nr) = omega arith
+both_few (Enquiry nr) = omega arith
+both_few (Final nr) = omega arith
+both_few Asks = omega arith
+both_few Accepts = omega arith
+both_few Refuses = omega arith
+both_few Unnumbered = omega arith
+both_few Foreign = omega arith
 
 pub weight_some : (k : Kind) → 1 ≤ weight_of k
-weight_some (Numbered m nr) = omega arith
+weight_some (Numbered m nr) = by_poll m.polled
+  where
+    by_poll : (b : Bool) → 1 ≤ heavy b
+    by_poll true = omega arith
+    by_poll false = omega arith
 weight_some (Status nr) = omega arith
 weight_some (Rejection nr) = omega arith
 weight_some (Enquiry nr) = omega arith
@@ -52,9 +75,34 @@ weight_some Refuses = omega arith
 weight_some Unnumbered = omega arith
 weight_some Foreign = omega arith
 
-pub weigh_few : (ks : List Kind) → weigh ks ≤ 2 * length ks
+pub weigh_few : (ks : List Kind) → weigh ks + tally plain_of ks ≤ 2 * length ks
 weigh_few [] = omega arith
-weigh_few (k ∷ ks) = let one = weight_few k in let rest = weigh_few ks in omega (arith, one, rest)
+weigh_few (k ∷ ks) = let one = both_few k in let rest = weigh_few ks in omega (arith, one, rest)
+
+pub no_message_plain : (k : Kind) → message_of k ≡ [] → plain_of k ≡ 0
+no_message_plain (Numbered m nr) none = cc
+no_message_plain (Status nr) none = refl
+no_message_plain (Rejection nr) none = refl
+no_message_plain (Enquiry nr) none = refl
+no_message_plain (Final nr) none = refl
+no_message_plain Asks none = refl
+no_message_plain Accepts none = refl
+no_message_plain Refuses none = refl
+no_message_plain Unnumbered none = refl
+no_message_plain Foreign none = refl
+
+pub no_number_plain : (ks : List Kind) → numbers ks ≡ [] → tally plain_of ks ≡ 0
+no_number_plain [] none = refl
+no_number_plain (Numbered m nr ∷ ks) none = cc
+no_number_plain (Status nr ∷ ks) none = cc
+no_number_plain (Rejection nr ∷ ks) none = cc
+no_number_plain (Enquiry nr ∷ ks) none = cc
+no_number_plain (Final nr ∷ ks) none = cc
+no_number_plain (Asks ∷ ks) none = let rest = no_number_plain ks none in omega (arith, rest)
+no_number_plain (Accepts ∷ ks) none = let rest = no_number_plain ks none in omega (arith, rest)
+no_number_plain (Refuses ∷ ks) none = let rest = no_number_plain ks none in omega (arith, rest)
+no_number_plain (Unnumbered ∷ ks) none = let rest = no_number_plain ks none in omega (arith, rest)
+no_number_plain (Foreign ∷ ks) none = let rest = no_number_plain ks none in omega (arith, rest)
 
 -- ---- Lists.
 
@@ -171,23 +219,166 @@ pub hears_more : (low end : ℕ) (y : End) (out fs : List Kind) → tally answer
 hears_more low end y out fs none w (inl busy) = inl busy
 hears_more low end y out fs none w (inr a) = inr (arrives_in y.state y.release_pending y.window.vs y.window.va y.window.vr y.window.rejecting low end out fs none w a)
 
--- ---- What a side may still send.
+-- ---- The messages of a closed side that its peer will process.
 
--- in state 5 with a pending release the DISC; while messages may be sent again, those that wait
--- count twice
-abbrev pub budget_in : State → Bool → ℕ → ℕ → ℕ
-budget_in TeiAssigned leaving unsent waiting = 0
-budget_in AwaitingEstablishment true unsent waiting = 2
-budget_in AwaitingEstablishment false unsent waiting = 4 * unsent
-budget_in AwaitingRelease leaving unsent waiting = 0
-budget_in MultipleFrameEstablished leaving unsent waiting = 2 * unsent + 2 * waiting
-budget_in TimerRecovery leaving unsent waiting = 2 * unsent + 2 * waiting
+abbrev pub plain_in : Option Reception → ℕ
+plain_in None = 0
+plain_in (Some h) = tally plain_of h.frames
 
-abbrev pub budget : End → ℕ
-budget e = budget_in e.state e.release_pending (unsent e) (waiting e)
+-- how many of them do not poll
+abbrev pub extra : End → List Kind → ℕ
+extra y out = plain_in (heard y out)
+
+abbrev hearing : ℕ → ℕ → ℕ → Bool → List Kind → Reception
+hearing vs va vr rejecting ks = record { vs = vs; va = va; vr = vr; rejecting = rejecting; frames = ks }
+
+plain_behind : (test : Bool) (k : Kind) (ks : List Kind) (later : Option (List Kind)) → plain_in (option_map next_reception later) ≤ tally plain_of ks → plain_in (option_map next_reception (behind test ks later)) ≤ tally plain_of (k ∷ ks)
+plain_behind true k ks later le = omega arith
+plain_behind false k ks later le = omega (arith, le)
+
+behind_few : (ks : List Kind) → plain_in (option_map next_reception (behind_acceptance ks)) ≤ tally plain_of ks
+behind_few [] = omega arith
+behind_few (k ∷ ks) = plain_behind (is_acceptance k) k ks (behind_acceptance ks) (behind_few ks)
+
+plain_few : (state : State) (leaving : Bool) (vs va vr : ℕ) (rejecting : Bool) (ks : List Kind) → plain_in (received_in state leaving (hearing vs va vr rejecting ks) ks) ≤ tally plain_of ks
+plain_few TeiAssigned leaving vs va vr rejecting ks = omega arith
+plain_few AwaitingEstablishment true vs va vr rejecting ks = omega arith
+plain_few AwaitingEstablishment false vs va vr rejecting ks = behind_few ks
+plain_few AwaitingRelease leaving vs va vr rejecting ks = omega arith
+plain_few MultipleFrameEstablished leaving vs va vr rejecting ks = omega arith
+plain_few TimerRecovery leaving vs va vr rejecting ks = omega arith
+
+pub extra_few : (y : End) (ks : List Kind) → extra y ks ≤ tally plain_of ks
+extra_few y ks = plain_few y.state y.release_pending y.window.vs y.window.va y.window.vr y.window.rejecting ks
+
+plain_open : (state : State) (leaving : Bool) (vs va vr : ℕ) (rejecting : Bool) (ks : List Kind) → is_7_or_8 state ≡ true → plain_in (received_in state leaving (hearing vs va vr rejecting ks) ks) ≡ tally plain_of ks
+plain_open TeiAssigned leaving vs va vr rejecting ks opened = cc
+plain_open AwaitingEstablishment leaving vs va vr rejecting ks opened = cc
+plain_open AwaitingRelease leaving vs va vr rejecting ks opened = cc
+plain_open MultipleFrameEstablished leaving vs va vr rejecting ks opened = refl
+plain_open TimerRecovery leaving vs va vr rejecting ks opened = refl
+
+pub extra_open : (y : End) (ks : List Kind) → is_7_or_8 y.state ≡ true → extra y ks ≡ tally plain_of ks
+extra_open y ks opened = plain_open y.state y.release_pending y.window.vs y.window.va y.window.vr y.window.rejecting ks opened
+
+-- in states 4 and 6
+plain_shut : (state : State) (leaving : Bool) (now : Reception) (ks : List Kind) → is_7_or_8 state ≡ false → (state ≡ AwaitingEstablishment → ⊥) → plain_in (received_in state leaving now ks) ≡ 0
+plain_shut TeiAssigned leaving now ks shut other = refl
+plain_shut AwaitingEstablishment leaving now ks shut other = absurd (other refl)
+plain_shut AwaitingRelease leaving now ks shut other = refl
+plain_shut MultipleFrameEstablished leaving now ks shut other = cc
+plain_shut TimerRecovery leaving now ks shut other = cc
+
+pub extra_shut : (y : End) (ks : List Kind) → is_7_or_8 y.state ≡ false → (y.state ≡ AwaitingEstablishment → ⊥) → extra y ks ≡ 0
+extra_shut y ks shut other = plain_shut y.state y.release_pending _ ks shut other
+
+-- one more frame that is no message and no UA
+next_plain : (o : Option (List Kind)) (u : Kind) → plain_of u ≡ 0 → plain_in (option_map next_reception (option_map (λ l. l ++ u ∷ []) o)) ≡ plain_in (option_map next_reception o)
+next_plain None u none = refl
+next_plain (Some l) u none = let sum = tally_append plain_of l (u ∷ []) in omega (arith, sum, none)
+
+plain_more : (state : State) (leaving : Bool) (vs va vr : ℕ) (rejecting : Bool) (ks : List Kind) (u : Kind) → is_acceptance u ≡ false → plain_of u ≡ 0
+    → plain_in (received_in state leaving (hearing vs va vr rejecting (ks ++ u ∷ [])) (ks ++ u ∷ [])) ≡ plain_in (received_in state leaving (hearing vs va vr rejecting ks) ks)
+plain_more TeiAssigned leaving vs va vr rejecting ks u other none = refl
+plain_more AwaitingEstablishment true vs va vr rejecting ks u other none = refl
+plain_more AwaitingEstablishment false vs va vr rejecting ks u other none =
+    ap (λ o. plain_in (option_map next_reception o)) (behind_append ks (u ∷ []) (ap (λ b. behind b [] None) other)) ∙ next_plain (behind_acceptance ks) u none
+plain_more AwaitingRelease leaving vs va vr rejecting ks u other none = refl
+plain_more MultipleFrameEstablished leaving vs va vr rejecting ks u other none = let sum = tally_append plain_of ks (u ∷ []) in omega (arith, sum, none)
+plain_more TimerRecovery leaving vs va vr rejecting ks u other none = let sum = tally_append plain_of ks (u ∷ []) in omega (arith, sum, none)
+
+pub extra_more : (y : End) (ks : List Kind) (u : Kind) → is_acceptance u ≡ false → plain_of u ≡ 0 → extra y (ks ++ u ∷ []) ≡ extra y ks
+extra_more y ks u other none = plain_more y.state y.release_pending y.window.vs y.window.va y.window.vr y.window.rejecting ks u other none
+
+-- a UA that is the first
+plain_first : (state : State) (leaving : Bool) (vs va vr : ℕ) (rejecting : Bool) (ks : List Kind) → is_7_or_8 state ≡ false → tally answer_of ks ≡ 0
+    → plain_in (received_in state leaving (hearing vs va vr rejecting (ks ++ Accepts ∷ [])) (ks ++ Accepts ∷ [])) ≡ 0
+plain_first TeiAssigned leaving vs va vr rejecting ks closed none = refl
+plain_first AwaitingEstablishment true vs va vr rejecting ks closed none = refl
+plain_first AwaitingEstablishment false vs va vr rejecting ks closed none = ap (λ o. plain_in (option_map next_reception o)) (behind_first ks [] none)
+plain_first AwaitingRelease leaving vs va vr rejecting ks closed none = refl
+plain_first MultipleFrameEstablished leaving vs va vr rejecting ks closed none = cc
+plain_first TimerRecovery leaving vs va vr rejecting ks closed none = cc
+
+pub extra_first : (y : End) (ks : List Kind) → is_7_or_8 y.state ≡ false → tally answer_of ks ≡ 0 → extra y (ks ++ Accepts ∷ []) ≡ 0
+extra_first y ks closed none = plain_first y.state y.release_pending y.window.vs y.window.va y.window.vr y.window.rejecting ks closed none
+
+-- a frame that is not the UA is passed over
+plain_passed : (state : State) (leaving : Bool) (before now : Reception) (k : Kind) (ks : List Kind) → is_7_or_8 state ≡ false → (state ≡ AwaitingEstablishment → is_acceptance k ≡ false)
+    → plain_in (received_in state leaving now ks) ≡ plain_in (received_in state leaving before (k ∷ ks))
+plain_passed TeiAssigned leaving before now k ks closed other = refl
+plain_passed AwaitingEstablishment true before now k ks closed other = refl
+plain_passed AwaitingEstablishment false before now k ks closed other = ap (λ b. plain_in (option_map next_reception (behind b ks (behind_acceptance ks)))) (sym (other refl))
+plain_passed AwaitingRelease leaving before now k ks closed other = refl
+plain_passed MultipleFrameEstablished leaving before now k ks closed other = cc
+plain_passed TimerRecovery leaving before now k ks closed other = cc
+
+pub extra_passed : (y : End) (k : Kind) (ks : List Kind) → is_7_or_8 y.state ≡ false → (y.state ≡ AwaitingEstablishment → is_acceptance k ≡ false) → extra y ks ≡ extra y (k ∷ ks)
+extra_passed y k ks closed other = plain_passed y.state y.release_pending _ _ k ks closed other
+
+-- ---- What a side may still bring.
+
+-- the messages that the peer has not accepted; if it is closed, those that are outstanding
+abbrev pub missing_in : Bool → ℕ → ℕ → ℕ → ℕ → ℕ
+missing_in true vs vr waiting unsent = vs - vr
+missing_in false vs vr waiting unsent = waiting - unsent
+
+abbrev pub missing : End → End → ℕ
+missing x y = missing_in (is_7_or_8 y.state) x.window.vs y.window.vr (waiting x) (unsent x)
+
+-- In states 7 and 8: an unsent message is sent, perhaps in vain, then sent again, and acknowledged;
+-- one that is missing is sent again, and acknowledged; and one REJ may be sent. In state 5 with a
+-- pending release: the DISC and its answer. A closed side's messages are answered.
+abbrev pub load_in : State → Bool → ℕ → ℕ → ℕ → ℕ → ℕ
+load_in TeiAssigned leaving unsent missing rej messages = messages
+load_in AwaitingEstablishment true unsent missing rej messages = 2 + messages
+load_in AwaitingEstablishment false unsent missing rej messages = 3 * unsent + 1 + messages
+load_in AwaitingRelease leaving unsent missing rej messages = messages
+load_in MultipleFrameEstablished leaving unsent missing rej messages = 3 * unsent + 2 * missing + rej
+load_in TimerRecovery leaving unsent missing rej messages = 3 * unsent + 2 * missing + rej
+
+abbrev pub load : End → End → List Kind → ℕ
+load x y out = load_in x.state x.release_pending (unsent x) (missing x y) (fresh y.window.rejecting) (extra y out)
+
+pub load_open : (state : State) (leaving : Bool) (u m f e : ℕ) → is_7_or_8 state ≡ true → load_in state leaving u m f e ≡ 3 * u + 2 * m + f
+load_open MultipleFrameEstablished leaving u m f e opened = refl
+load_open TimerRecovery leaving u m f e opened = refl
+load_open TeiAssigned leaving u m f e opened = cc
+load_open AwaitingEstablishment leaving u m f e opened = cc
+load_open AwaitingRelease leaving u m f e opened = cc
+
+-- it falls by r with the missing messages, and with those of a closed side
+pub load_less : (state : State) (leaving : Bool) (u m f e n g d r : ℕ) → 2 * n + g + r ≤ 2 * m + f → d + r ≤ e → load_in state leaving u n g d + r ≤ load_in state leaving u m f e
+load_less TeiAssigned leaving u m f e n g d r opened closed = closed
+load_less AwaitingEstablishment true u m f e n g d r opened closed = omega (arith, closed)
+load_less AwaitingEstablishment false u m f e n g d r opened closed = omega (arith, closed)
+load_less AwaitingRelease leaving u m f e n g d r opened closed = closed
+load_less MultipleFrameEstablished leaving u m f e n g d r opened closed = omega (arith, opened)
+load_less TimerRecovery leaving u m f e n g d r opened closed = omega (arith, opened)
+
+pub load_closed : (state : State) (leaving : Bool) (u m f e n g d : ℕ) → is_7_or_8 state ≡ false → d ≤ e → load_in state leaving u n g d + 0 ≤ load_in state leaving u m f e
+load_closed TeiAssigned leaving u m f e n g d shut le = omega (arith, le)
+load_closed AwaitingEstablishment true u m f e n g d shut le = omega (arith, le)
+load_closed AwaitingEstablishment false u m f e n g d shut le = omega (arith, le)
+load_closed AwaitingRelease leaving u m f e n g d shut le = omega (arith, le)
+load_closed MultipleFrameEstablished leaving u m f e n g d shut le = cc
+load_closed TimerRecovery leaving u m f e n g d shut le = cc
+
+-- a closed side accounts for its messages
+pub load_least : (state : State) (leaving : Bool) (u m f e : ℕ) → is_7_or_8 state ≡ false → e ≤ load_in state leaving u m f e
+load_least TeiAssigned leaving u m f e closed = omega arith
+load_least AwaitingEstablishment true u m f e closed = omega arith
+load_least AwaitingEstablishment false u m f e closed = omega arith
+load_least AwaitingRelease leaving u m f e closed = omega arith
+load_least MultipleFrameEstablished leaving u m f e closed = cc
+load_least TimerRecovery leaving u m f e closed = cc
+
+pub fresh_few : (rejecting : Bool) → fresh rejecting ≤ 1
+fresh_few true = omega arith
+fresh_few false = omega arith
 
 abbrev pub Share : End → End → List Kind → List Kind → ℕ → Type 0
-Share x y out back n = (budget x ≤ n) ⊎ (Proceeds x y out back × (2 * unsent x ≤ n))
+Share x y out back n = (load x y out ≤ n) ⊎ (Proceeds x y out back × (2 * unsent x + missing x y ≤ n))
 
 pub record Flowing (x y : End) (out back : List Kind) (n : ℕ) : Type 0 where
   pub a : ℕ
@@ -199,32 +390,41 @@ pub record Flowing (x y : End) (out back : List Kind) (n : ℕ) : Type 0 where
 pub flowing_turned : {x y : End} {out back : List Kind} {n : ℕ} → Flowing x y out back n → Flowing y x back out n
 flowing_turned f = record { a = f.b; b = f.a; mine = f.its; its = f.mine; most = let le = f.most in omega (arith, le) }
 
--- ---- A frame of weight `by` is delivered, and these are sent.
+-- ---- A frame is delivered, and these are sent.
 
 pub record Pays (x y : End) (out back : List Kind) (n : ℕ) : Type 0 where
   pub a : ℕ
   pub share : Share x y out back a
   pub most : a + 1 ≤ n
 
+-- `relief`: what the peer need not account for any more
 pub record Advances (before x y : End) (k : Kind) (ks out new : List Kind) : Type 0 where
-  pub mine : (a : ℕ) → Share before y out (k ∷ ks) a → Pays x y (out ++ new) ks (a + weight_of k - weigh new)
-  pub its : Proceeds y before (k ∷ ks) out → Proceeds y x ks (out ++ new)
+  pub relief : ℕ
+  pub mine : (n : ℕ) → Share before y out (k ∷ ks) n → Pays x y (out ++ new) ks (n + weight_of k + relief - weigh new)
+  pub its_load : load y x ks + relief ≤ load y before (k ∷ ks)
+  pub its : Proceeds y before (k ∷ ks) out → Proceeds y x ks (out ++ new) × (missing y x + relief ≤ missing y before)
 
 pub record Flows (x y : End) (out back : List Kind) (n : ℕ) : Type 0 where
   pub some : 1 ≤ n
   pub flowing : Flowing x y out back (n - 1)
 
+record Relieved (y x : End) (out back : List Kind) (relief n : ℕ) : Type 0 where
+  some : relief ≤ n
+  share : Share y x out back (n - relief)
+
 pub flows_on : (before x y : End) (k : Kind) (ks out new : List Kind) (n : ℕ) → Advances before x y k ks out new → Flowing before y out (k ∷ ks) n → Flows x y (out ++ new) ks n
 flows_on before x y k ks out new n step f =
     let paid = step.mine f.a f.mine in
+    let relieved = still f.its in
     let sum = tally_append weight_of out new in
     let le = f.most in
     let paid_most = paid.most in
+    let some = relieved.some in
     record {
-      some = omega (arith, le, paid_most, sum);
-      flowing = record { a = paid.a; b = f.b; mine = paid.share; its = still f.its; most = omega (arith, le, paid_most, sum) };
+      some = omega (arith, le, paid_most, sum, some);
+      flowing = record { a = paid.a; b = f.b - step.relief; mine = paid.share; its = relieved.share; most = omega (arith, le, paid_most, sum, some) };
     }
   where
-    still : Share y before (k ∷ ks) out f.b → Share y x ks (out ++ new) f.b
-    still (inl enough) = inl enough
-    still (inr p) = inr (step.its p.0, p.1)
+    still : Share y before (k ∷ ks) out f.b → Relieved y x ks (out ++ new) step.relief f.b
+    still (inl enough) = let less = step.its_load in record { some = omega (arith, less, enough); share = inl (omega (arith, less, enough)) }
+    still (inr p) = let now = step.its p.0 in let less = now.1 in let enough = p.1 in record { some = omega (arith, less, enough); share = inr (now.0, omega (arith, less, enough)) }

@@ -10,15 +10,18 @@ use Rattle.lapd_link_definition.specs.End.{End, unsent, waiting}
 use Rattle.lapd_link_definition.specs.Table.{step}
 use Rattle.lapd_link_definition.specs.Parameters.{Parameters}
 use Rattle.lapd_pair_laws.specs.Consistent.{IsConsistent, IsConsistentWorld}
-use Rattle.lapd_pair_laws.specs.Conjuncts.{IsConsistentSender}
+use Rattle.lapd_pair_laws.specs.Conjuncts.{IsNumbering, IsConsistentSender}
 use Rattle.lapd_pair_laws.specs.Invariant.{Both, IsInvariant}
 use Rattle.lapd_pair_laws.specs.Line.{Flight}
 use Rattle.lapd_pair_laws.specs.Move.{PairEvent, Deliver, Move, Station, View, acts, receives, delivers, view_after}
-use Rattle.lapd_pair_laws.specs.Kinds.{kind, kinds}
+use Rattle.lapd_pair_laws.specs.Kinds.{Kind, kind, kinds}
 use Rattle.lapd_pair_laws.specs.Parties.{Sender, party}
 use Rattle.lapd_pair_laws.specs.Tagged.{tag_flight, tag_world}
 use Rattle.lapd_pair_laws.specs.Timed.{IsSettledEnd}
 use Rattle.lapd_pair_laws.specs.World.{World, swapped, new_world, happens, world_after, run, left, left_of}
+use Rattle.lapd_pair_laws.proofs.Facts.{between_open}
+use Rattle.lapd_pair_laws.proofs.Flow.{fresh}
+use Rattle.lapd_pair_laws.proofs.MidSteps.{Mid, enter, numbering}
 use Rattle.lapd_pair_laws.proofs.Consistency.{new_world_consistent, run_consistent}
 use Rattle.lapd_pair_laws.proofs.Reached.{reached_tags}
 use Rattle.lapd_pair_laws.proofs.Settled.{left_settled}
@@ -41,7 +44,7 @@ use Rattle.lapd_recovery_laws.proofs.OpenDelivers.{Delivered}
 use Rattle.lapd_recovery_laws.proofs.OpenFrames.{open_delivered}
 use Rattle.lapd_recovery_laws.proofs.Outage.{Facts}
 use Rattle.lapd_recovery_laws.proofs.OwnOnTags.{ok_on_tags, world_on_tags}
-use Rattle.lapd_recovery_laws.proofs.Proceeding.{weigh_few, budget_in, budget, Flowing, flowing_turned, flows_on}
+use Rattle.lapd_recovery_laws.proofs.Proceeding.{weigh, weigh_few, extra, extra_few, missing_in, missing, load_in, load, fresh_few, Flowing, flowing_turned, Flows, flows_on}
 use Rattle.lapd_recovery_laws.proofs.TimersOfRuns.{new_has_timers, timers_after_run}
 
 -- ---- The view of a side.
@@ -136,13 +139,13 @@ delivery_flows N n s w f flow ok = by_side s w.user w.network w.to_user w.to_net
 
 -- ---- The beginning.
 
-budget_few : (state : State) (leaving : Bool) (u w : ℕ) → u ≤ w → budget_in state leaving u w ≤ 4 * w + 2
-budget_few TeiAssigned leaving u w le = omega arith
-budget_few AwaitingEstablishment true u w le = omega arith
-budget_few AwaitingEstablishment false u w le = omega (arith, le)
-budget_few AwaitingRelease leaving u w le = omega arith
-budget_few MultipleFrameEstablished leaving u w le = omega (arith, le)
-budget_few TimerRecovery leaving u w le = omega (arith, le)
+load_few : (state : State) (leaving : Bool) (u w m f e : ℕ) → u ≤ w → f ≤ 1 → (is_7_or_8 state ≡ true → m ≤ w - u) → load_in state leaving u m f e ≤ 3 * w + 2 + e
+load_few TeiAssigned leaving u w m f e le one some = omega arith
+load_few AwaitingEstablishment true u w m f e le one some = omega arith
+load_few AwaitingEstablishment false u w m f e le one some = omega (arith, le)
+load_few AwaitingRelease leaving u w m f e le one some = omega arith
+load_few MultipleFrameEstablished leaving u w m f e le one some = let few = some refl in omega (arith, le, one, few)
+load_few TimerRecovery leaving u w m f e le one some = let few = some refl in omega (arith, le, one, few)
 
 -- the first unsent message is not before the first waiting one
 in_queue : (state : State) (asked leaving : Bool) (s : Sender) → IsConsistentSender state asked leaving s → s.first ≤ s.next
@@ -154,8 +157,28 @@ in_queue AwaitingRelease asked leaving s e = let a = e.first in let b = e.next i
 in_queue MultipleFrameEstablished asked leaving s n = let a = n.first in let b = n.next in let o = n.ordered in omega (arith, a, b, o)
 in_queue TimerRecovery asked leaving s n = let a = n.first in let b = n.next in let o = n.ordered in omega (arith, a, b, o)
 
-side_few : (e : End) → e.first ≤ e.next → budget e ≤ 4 * waiting e + 2
-side_few e le = let queue : unsent e ≤ waiting e = omega (arith, le) in budget_few e.state e.release_pending (unsent e) (waiting e) queue
+-- an open side misses no more than is outstanding
+missing_few : (x y : Station) (base its_base : ℕ) (out back : List Kind) → Both (party base x) (party its_base y) out back → is_7_or_8 x.end.state ≡ true → missing x.end y.end ≤ waiting x.end - unsent x.end
+missing_few x y base its_base out back both opened = by_peer (is_7_or_8 y.end.state) refl
+  where
+    by_peer : (open_state : Bool) → is_7_or_8 y.end.state ≡ open_state → missing_in open_state x.end.window.vs y.end.window.vr (waiting x.end) (unsent x.end) ≤ waiting x.end - unsent x.end
+    by_peer false shut = omega arith
+    by_peer true peer_open =
+        let m : Mid (party base x) (party its_base y) out back = enter (party base x) (party its_base y) out back opened both in
+        let between : (x.end.window.va ≤ y.end.window.vr) × (y.end.window.vr ≤ x.end.window.vs) = between_open {x = party base x} {y = party its_base y} {out = out} {back = back} peer_open m in
+        let low = between.0 in
+        let n : IsNumbering (party base x).sends = numbering m in
+        let first : x.end.first ≡ base + x.end.window.va = n.first in
+        let next : x.end.next ≡ base + x.end.window.vs = n.next in
+        let within : x.end.next ≤ length x.end.given = n.within in
+        omega (arith, low, first, next, within)
+
+side_few : (x y : Station) (base its_base : ℕ) (out back : List Kind) → Both (party base x) (party its_base y) out back → load x.end y.end out ≤ 3 * waiting x.end + 2 + extra y.end out
+side_few x y base its_base out back both =
+    let p = party base x in
+    let le : x.end.first ≤ x.end.next = in_queue p.state p.asked p.leaving p.sends both.mine.preserved in
+    let queue : unsent x.end ≤ waiting x.end = omega (arith, le) in
+    load_few x.end.state x.end.release_pending (unsent x.end) (waiting x.end) (missing x.end y.end) (fresh y.end.window.rejecting) (extra y.end out) queue (fresh_few y.end.window.rejecting) (λ opened. missing_few x y base its_base out back both opened)
 
 station_left : (s : Station) → IsConsistent Whole s → left_of s ≡ waiting s.end
 station_left s k = let same = k.first in left_settled s k.settled ∙ omega (arith, same)
@@ -165,18 +188,24 @@ left_waits w k = let a = station_left w.user k.user in let b = station_left w.ne
 
 pub flow_begins : (w : World) → IsInvariant w → IsConsistentWorld Whole w → Flow (most_deliveries w) w
 flow_begins w i k =
-    let x = party i.user_base w.user in
-    let y = party i.network_base w.network in
-    let mine : w.user.end.first ≤ w.user.end.next = in_queue x.state x.asked x.leaving x.sends i.both.mine.preserved in
-    let its : w.network.end.first ≤ w.network.end.next = in_queue y.state y.asked y.leaving y.sends i.both.its.preserved in
-    let a = side_few w.user.end mine in
-    let b = side_few w.network.end its in
+    let out = kinds w.to_network in
+    let back = kinds w.to_user in
+    let a = side_few w.user w.network i.user_base i.network_base out back i.both in
+    let b = side_few w.network w.user i.network_base i.user_base back out (record { mine = i.both.its; its = i.both.mine }) in
     let all = left_waits w k in
-    let out = weigh_few (kinds w.to_network) in
-    let back = weigh_few (kinds w.to_user) in
+    let out_few = weigh_few out in
+    let back_few = weigh_few back in
+    let out_extra = extra_few w.network.end out in
+    let back_extra = extra_few w.user.end back in
     let m = kinds_length w.to_network in
     let n = kinds_length w.to_user in
-    record { a = budget w.user.end; b = budget w.network.end; mine = inl (omega arith); its = inl (omega arith); most = omega (arith, a, b, all, out, back, m, n) }
+    record {
+      a = load w.user.end w.network.end out;
+      b = load w.network.end w.user.end back;
+      mine = inl (omega arith);
+      its = inl (omega arith);
+      most = omega (arith, a, b, all, out_few, back_few, out_extra, back_extra, m, n);
+    }
 
 -- ---- All deliveries.
 

@@ -26,7 +26,7 @@ frames w = length w.to_user + length w.to_network
 -- left may be sent, acknowledged, and then sent and acknowledged once more, so it counts four times.
 -- Each end may have a release pending, which brings a DISC and its answer.
 abbrev pub most_deliveries : World → ℕ
-most_deliveries w = 2 * frames w + 4 * left w + 4
+most_deliveries w = 2 * frames w + 3 * left w + 4
 
 -- From this world deliveries alone are few, and when none is possible any more, no frame is in
 -- transit.
