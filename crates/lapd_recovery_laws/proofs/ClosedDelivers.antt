@@ -41,7 +41,7 @@ use Rattle.lapd_recovery_laws.proofs.Establishes.{discards_by}
 use Rattle.lapd_recovery_laws.proofs.LoneSteps.{sends_nothing}
 use Rattle.lapd_recovery_laws.proofs.OpenDelivers.{Delivered, heard_in}
 use Rattle.lapd_recovery_laws.proofs.OpenFrames.{unit_kind, most_one, asks_closed, reset_arrives}
-use Rattle.lapd_recovery_laws.proofs.Proceeding.{weight_of, weigh, weight_some, plain_of, plain_in, no_number_plain, no_number_no_rejection, heard, extra, extra_few, extra_shut, extra_more, extra_first, extra_passed, Arrives, Hears, in_transit_of_whole, none_rejected, missing_in, missing, load_in, load, load_open, load_less, load_closed, load_least, fresh_few, Share, Pays}
+use Rattle.lapd_recovery_laws.proofs.Proceeding.{weight_of, weigh, weight_some, plain_of, plain_in, no_number_plain, no_number_no_rejection, heard, extra, extra_few, extra_shut, extra_more, extra_first, extra_passed, Arrives, Hears, in_transit_of_whole, none_rejected, missing_in, missing, load_in, load, load_open, load_less, load_closed, load_least, once_more, none_more, fresh_few, Share, Pays}
 
 -- ---- What a closed end will process.
 
@@ -198,7 +198,7 @@ module _ (station peer : Station) (frame : Flight) (rest outgoing : List Flight)
   still_loaded k x shut same less =
       let lack = still_missing x shut in
       let rej = ap fresh same in
-      load_less peer.end.state peer.end.release_pending (unsent peer.end) (missing peer.end e) (fresh e.window.rejecting) (extra e (k ∷ ks)) (missing peer.end x) (fresh x.window.rejecting) (extra x ks) 0 (omega (arith, lack, rej)) (omega (arith, less))
+      load_less peer.end.state peer.end.release_pending (unsent peer.end) (missing peer.end e) (fresh e.window.rejecting) (extra e (k ∷ ks)) (missing peer.end x) (fresh x.window.rejecting) (extra x ks) 0 (fresh_few e.window.rejecting) (omega (arith, lack, rej)) (omega (arith, less))
 
   -- nothing is sent
   same_extra : extra peer.end (out ++ []) ≡ extra peer.end out
@@ -460,7 +460,8 @@ module _ (station peer : Station) (frame : Flight) (rest outgoing : List Flight)
           let f = fresh peer.end.window.rejecting in
           let one = fresh_few peer.end.window.rejecting in
           let was : load e peer.end out ≡ 3 * unsent e + 1 + extra peer.end out = ap (λ st. load_in st e.release_pending (unsent e) (missing e peer.end) f (extra peer.end out)) is ∙ ap (λ b. load_in AwaitingEstablishment b (unsent e) (missing e peer.end) f (extra peer.end out)) stays in
-          let now : load u.end peer.end (out ++ kinds cl.frames) ≡ 3 * unsent u.end + 2 * missing u.end peer.end + f = load_open u.end.state u.end.release_pending (unsent u.end) (missing u.end peer.end) f (extra peer.end (out ++ kinds cl.frames)) (ap is_7_or_8 in_7) in
+          let now : load u.end peer.end (out ++ kinds cl.frames) ≡ 3 * unsent u.end + 2 * missing u.end peer.end + f + once_more u.end.state (missing u.end peer.end) = load_open u.end.state u.end.release_pending (unsent u.end) (missing u.end peer.end) f (extra peer.end (out ++ kinds cl.frames)) (ap is_7_or_8 in_7) in
+          let again = none_more u.end.state (missing u.end peer.end) in_7 in
           let lack = lacked u.end cl.sent (is_7_or_8 peer.end.state) (omega (arith, count, vs)) (omega (arith, given, first, all, fewer)) in
           let rejecting : u.end.window.rejecting ≡ e.window.rejecting = ap (λ (v : Unsending). v.rejecting) cl.same ∙ r.rejecting in
           record {
@@ -468,7 +469,7 @@ module _ (station peer : Station) (frame : Flight) (rest outgoing : List Flight)
             sent = cl.line ∙ ap (λ l. l ++ cl.frames) r.sent;
             advances = record {
               relief = 0;
-              mine = λ n share. pays Accepts u.end cl.frames (omega (arith, was, now, lack, one, none, few, fewer, l)) n share;
+              mine = λ n share. pays Accepts u.end cl.frames (omega (arith, was, now, again, lack, one, none, few, fewer, l)) n share;
               its_load = its_loaded u.end in_7 vr rejecting (is_7_or_8 peer.end.state) refl;
               its = λ p. (record { in_7 = p.in_7; wanted = none_rejected out (kinds cl.frames) p.wanted cl.mild; hears = inr (by_hearing u.end in_7 vr p.hears) }, let less = less_missing u.end in_7 vr (ap is_7_or_8 p.in_7) in omega (arith, less));
             };
@@ -494,7 +495,7 @@ module _ (station peer : Station) (frame : Flight) (rest outgoing : List Flight)
           its_loaded x in_7 vr rejecting true opened =
               let less = less_missing x in_7 vr opened in
               let rej = ap fresh rejecting in
-              load_less peer.end.state peer.end.release_pending (unsent peer.end) (missing peer.end e) (fresh e.window.rejecting) (extra e (Accepts ∷ ks)) (missing peer.end x) (fresh x.window.rejecting) (extra x ks) 0 (omega (arith, less, rej)) (fewer_extra x)
+              load_less peer.end.state peer.end.release_pending (unsent peer.end) (missing peer.end e) (fresh e.window.rejecting) (extra e (Accepts ∷ ks)) (missing peer.end x) (fresh x.window.rejecting) (extra x ks) 0 (fresh_few e.window.rejecting) (omega (arith, less, rej)) (fewer_extra x)
           its_loaded x in_7 vr rejecting false shut =
               load_closed peer.end.state peer.end.release_pending (unsent peer.end) (missing peer.end e) (fresh e.window.rejecting) (extra e (Accepts ∷ ks)) (missing peer.end x) (fresh x.window.rejecting) (extra x ks) shut (let few = fewer_extra x in omega (arith, few))
 

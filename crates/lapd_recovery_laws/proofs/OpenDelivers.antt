@@ -1,5 +1,5 @@
 -- A frame is delivered to an end in state 7 or 8: what is still to come falls.
-use Rattle.std.proofs.Common.{◌≡◌, inl, inr, ℕ, ◌+◌, ◌-◌, ◌*◌, ◌≤◌, Bool, true, false, List, [], ◌∷◌, ◌++◌, length, append_assoc, refl, sym, ap, subst, ◌∙◌, arith}
+use Rattle.std.proofs.Common.{◌≡◌, ◌⊎◌, inl, inr, ℕ, ◌+◌, ◌-◌, ◌*◌, ◌≤◌, Bool, true, false, List, [], ◌∷◌, ◌++◌, length, append_assoc, refl, sym, ap, subst, ◌∙◌, arith}
 use Rattle.lapd_mod128.specs.Counting.{Whole}
 use Rattle.lapd_link_definition.specs.declared.state.State.{State}
 use Rattle.lapd_link_definition.specs.declared.state.State.TheVariants.{TeiAssigned, AwaitingEstablishment, AwaitingRelease, MultipleFrameEstablished, TimerRecovery}
@@ -12,8 +12,8 @@ use Rattle.lapd_pair_laws.proofs.ActionEffects.{Context, story}
 use Rattle.lapd_pair_laws.proofs.Flow.{IsWhole, IsInTransit, fresh}
 use Rattle.lapd_pair_laws.proofs.Lists.{tally_append}
 use Rattle.lapd_recovery_laws.specs.Own.{IsFree}
-use Rattle.lapd_recovery_laws.proofs.EndSends.{Unsending, pending_in, pending, kinds_append, Closes, end_closes}
-use Rattle.lapd_recovery_laws.proofs.Proceeding.{weight_of, weigh, plain_of, heard, extra, extra_open, Arrives, Hears, Proceeds, hears_more, whole_joined, none_rejected, missing_in, missing, load, load_open, load_less, Share, Pays, Advances}
+use Rattle.lapd_recovery_laws.proofs.EndSends.{Unsending, pending_in, pending, kinds_append, Closes, end_closes, Full, end_full}
+use Rattle.lapd_recovery_laws.proofs.Proceeding.{weight_of, weigh, plain_of, heard, extra, extra_open, Arrives, Hears, Proceeds, hears_more, whole_joined, none_rejected, missing_in, missing, load, load_open, load_less, once_more, once_more_few, fresh_few, Share, Pays, Advances}
 use Rattle.lapd_recovery_laws.proofs.Replies.{Sending, Receiving, receiving, Falls, Lacks, Replies, Backs}
 
 -- ---- What holds after a step on a delivered frame.
@@ -70,6 +70,7 @@ pub record Answered (vs : ℕ) (before : End) (k : Kind) (outgoing : List Flight
   pub count : ℕ
   pub light : weigh (kinds new) + 1 ≤ weight_of k + relief + count
   pub fewer : unsent x + count ≡ unsent before
+  pub only_7 : (count ≡ 0) ⊎ (before.state ≡ MultipleFrameEstablished)
   pub further : x.window.vs ≡ before.window.vs + count
   pub falls : Falls vs (receiving before) (receiving x) relief
   pub plain : relief ≤ plain_of k
@@ -97,21 +98,25 @@ module _ (e x y : End) (k : Kind) (ks : List Kind) (outgoing line : List Flight)
   grows : missing x y ≤ missing e y + a.count
   grows = missing_more (is_7_or_8 y.state) e.window.vs y.window.vr (waiting e) (unsent e) 0 a.count x.window.vs (waiting x) (unsent x) a.further a.less a.fewer
 
+  more_once : once_more x.state (missing x y) ≤ once_more e.state (missing e y)
+  more_once = subst (λ st. once_more st (missing x y) ≤ once_more e.state (missing e y)) (sym a.state) (once_more_few e.state (missing e y) (missing x y) a.count grows a.only_7)
+
   pays : (n : ℕ) → Share e y out (k ∷ ks) n → Pays x y (out ++ new) ks (n + weight_of k + a.relief - weigh new)
   pays n (inl enough) =
-      let was : load e y out ≡ 3 * unsent e + 2 * missing e y + fresh y.window.rejecting = load_open e.state e.release_pending (unsent e) (missing e y) (fresh y.window.rejecting) (extra y out) opened in
-      let now : load x y (out ++ new) ≡ 3 * unsent x + 2 * missing x y + fresh y.window.rejecting = load_open x.state x.release_pending (unsent x) (missing x y) (fresh y.window.rejecting) (extra y (out ++ new)) still_open in
+      let was : load e y out ≡ 3 * unsent e + 2 * missing e y + fresh y.window.rejecting + once_more e.state (missing e y) = load_open e.state e.release_pending (unsent e) (missing e y) (fresh y.window.rejecting) (extra y out) opened in
+      let now : load x y (out ++ new) ≡ 3 * unsent x + 2 * missing x y + fresh y.window.rejecting + once_more x.state (missing x y) = load_open x.state x.release_pending (unsent x) (missing x y) (fresh y.window.rejecting) (extra y (out ++ new)) still_open in
       let light = a.light in
       let fewer = a.fewer in
       let more = grows in
-      record { a = load x y (out ++ new); share = inl (omega arith); most = omega (arith, was, now, light, fewer, more, enough) }
+      let once = more_once in
+      record { a = load x y (out ++ new); share = inl (omega arith); most = omega (arith, was, now, light, fewer, more, once, enough) }
   pays n (inr p) =
       let light = a.light in
       let fewer = a.fewer in
       let more = grows in
       let enough = p.1 in
       record {
-        a = 2 * unsent x + missing x y;
+        a = 3 * unsent x + missing x y;
         share = inr (record { in_7 = a.state ∙ p.0.in_7; wanted = rest_wanted k ks p.0.wanted; hears = hears_more e.window.vs x.window.vs y out new a.no_answer a.whole p.0.hears }, omega arith);
         most = omega (arith, light, fewer, more, enough);
       }
@@ -134,7 +139,7 @@ module _ (e x y : End) (k : Kind) (ks : List Kind) (outgoing line : List Flight)
       let all = extra_open e (k ∷ ks) opened in
       let falls = a.falls in
       let plain = a.plain in
-      load_less y.state y.release_pending (unsent y) (missing y e) (fresh e.window.rejecting) (extra e (k ∷ ks)) (missing y x) (fresh x.window.rejecting) (extra x ks) a.relief (omega (arith, now, was, falls)) (omega (arith, some, all, plain))
+      load_less y.state y.release_pending (unsent y) (missing y e) (fresh e.window.rejecting) (extra e (k ∷ ks)) (missing y x) (fresh x.window.rejecting) (extra x ks) a.relief (fresh_few e.window.rejecting) (omega (arith, now, was, falls)) (omega (arith, some, all, plain))
 
   proceeds : Proceeds y e (k ∷ ks) out → Proceeds y x ks (out ++ new) × (missing y x + a.relief ≤ missing y e)
   proceeds p = by_busy e.window.own_busy refl p.hears
@@ -179,6 +184,7 @@ answered_so c k s t outgoing begun r =
       count = cl.sent;
       light = let sum = ap (λ l. weigh l) both ∙ tally_append weight_of (kinds r.frames) (kinds cl.frames) in let p = r.light in let q = cl.light in omega (arith, sum, p, q);
       fewer = let q = cl.fewer in omega (arith, q, same_unsent);
+      only_7 = by_state cl.only_7;
       further = let q = cl.count in omega (arith, q, vs);
       falls = subst (λ (v : Unsending). Falls c.peer.sends.vs (receiving s.end) (record { vr = v.vr; rejecting = v.rejecting; ack_pending = false }) r.relief) (sym cl.same) r.falls;
       plain = r.plain;
@@ -190,6 +196,10 @@ answered_so c k s t outgoing begun r =
           let sink : IsInTransit u.end.window.rejecting u.end.window.vr end (messages ks) = subst (λ (v : Unsending). IsInTransit v.rejecting v.vr end (messages ks)) (sym cl.same) three.1 in
           (mild three.0, sink, subst (λ (v : Unsending). Lacks c.peer.sends.vs (receiving s.end) (record { vr = v.vr; rejecting = v.rejecting; ack_pending = false }) r.relief) (sym cl.same) three.2);
     }
+  where
+    by_state : {n : ℕ} → (n ≡ 0) ⊎ (t.end.state ≡ MultipleFrameEstablished) → (n ≡ 0) ⊎ (s.end.state ≡ MultipleFrameEstablished)
+    by_state (inl none) = inl none
+    by_state (inr is) = inr (sym (ap (λ (v : Sending). v.state) r.sending_same) ∙ is)
 
 -- ---- V(S) is set back, and then the end of the step.
 
@@ -227,20 +237,40 @@ module _ (c : Context) (y : End) (k : Kind) (ks : List Kind) (s t : StepState) (
       let fewer = closing.fewer in
       omega (arith, given, first, next, fewer)
 
+  -- In state 7 as many messages are sent anew as the peer misses, or all.
+  sends_enough : s.end.state ≡ MultipleFrameEstablished → (unsent u.end ≡ 0) ⊎ (s.end.window.vs - b.nr ≤ closing.sent)
+  sends_enough is = by_full (end_full t b.in_7 (b.free is))
+    where
+      by_full : Full t u → (unsent u.end ≡ 0) ⊎ (s.end.window.vs - b.nr ≤ closing.sent)
+      by_full (inl none) = inl none
+      by_full (inr full) = let window = b.in_window in let va = b.va in let vs = b.vs in let count = closing.count in inr (omega (arith, full, window, va, vs, count))
+
+  -- u, m: unsent and missing before; d: those after N(R); v, j: unsent and sent after
+  enough_in : (state : State) (u m d v j w n g : ℕ) → is_7_or_8 state ≡ true → (state ≡ MultipleFrameEstablished → (v ≡ 0) ⊎ (d ≤ j)) → v + j ≤ u + d → d ≤ m → g ≤ j → w ≤ j → 3 * u + 2 * m + once_more state m ≤ n → 3 * v + g + 1 ≤ n + 1 - w
+  enough_in MultipleFrameEstablished u m d v j w n g opened window sum lack missing_ sent le = by_window (window refl)
+    where
+      by_window : (v ≡ 0) ⊎ (d ≤ j) → 3 * v + g + 1 ≤ n + 1 - w
+      by_window (inl none) = omega (arith, none, sum, lack, missing_, sent, le)
+      by_window (inr full) = omega (arith, full, sum, lack, missing_, sent, le)
+  enough_in TimerRecovery u m d v j w n g opened window sum lack missing_ sent le = omega (arith, sum, lack, missing_, sent, le)
+  enough_in TeiAssigned u m d v j w n g opened window sum lack missing_ sent le = cc
+  enough_in AwaitingEstablishment u m d v j w n g opened window sum lack missing_ sent le = cc
+  enough_in AwaitingRelease u m d v j w n g opened window sum lack missing_ sent le = cc
+
   pays_back : (n : ℕ) → pending s.end ≡ 0 → load s.end y (kinds outgoing) ≤ n → Pays u.end y (kinds outgoing ++ kinds closing.frames) ks (n + weight_of k + 0 - weigh (kinds closing.frames))
   pays_back n none enough =
-      let was : load s.end y (kinds outgoing) ≡ 3 * unsent s.end + 2 * missing s.end y + fresh y.window.rejecting = load_open s.end.state s.end.release_pending (unsent s.end) (missing s.end y) (fresh y.window.rejecting) (extra y (kinds outgoing)) opened in
+      let f = fresh y.window.rejecting in
+      let was : load s.end y (kinds outgoing) ≡ 3 * unsent s.end + 2 * missing s.end y + f + once_more s.end.state (missing s.end y) = load_open s.end.state s.end.release_pending (unsent s.end) (missing s.end y) f (extra y (kinds outgoing)) opened in
       let one = b.light in
       let light = closing.light in
       let fewer = closing.fewer in
       let resent = b.resent in
-      let lack = lacked (is_7_or_8 y.state) refl in
-      let anew = sent_anew (is_7_or_8 y.state) refl in
       let same : pending t.end ≡ pending s.end = ap (λ (v : Receiving). pending_in v.ack_pending) b.receiving_same in
+      let most = enough_in s.end.state (unsent s.end) (missing s.end y) (s.end.window.vs - b.nr) (unsent u.end) closing.sent (weigh (kinds closing.frames)) n (missing u.end y) opened sends_enough (omega (arith, fewer, resent)) (lacked (is_7_or_8 y.state) refl) (sent_anew (is_7_or_8 y.state) refl) (omega (arith, light, same, none)) (omega (arith, was, enough)) in
       record {
-        a = 2 * unsent u.end + missing u.end y;
+        a = 3 * unsent u.end + missing u.end y;
         share = inr (record { in_7 = in_7; wanted = b.wanted; hears = hears_more b.nr u.end.window.vs y (kinds outgoing) (kinds closing.frames) closing.no_answer whole (inr arrives) }, omega arith);
-        most = omega (arith, was, one, light, fewer, resent, lack, anew, same, enough, none);
+        most = omega (arith, most, one);
       }
 
   -- a side that proceeds is not asked to
@@ -272,7 +302,7 @@ module _ (c : Context) (y : End) (k : Kind) (ks : List Kind) (s t : StepState) (
       let rej = ap fresh rejecting_same in
       let some = extra_open u.end ks open_still in
       let all = extra_open s.end (k ∷ ks) opened in
-      load_less y.state y.release_pending (unsent y) (missing y s.end) (fresh s.end.window.rejecting) (extra s.end (k ∷ ks)) (missing y u.end) (fresh u.end.window.rejecting) (extra u.end ks) 0 (omega (arith, same, rej)) (omega (arith, some, all))
+      load_less y.state y.release_pending (unsent y) (missing y s.end) (fresh s.end.window.rejecting) (extra s.end (k ∷ ks)) (missing y u.end) (fresh u.end.window.rejecting) (extra u.end ks) 0 (fresh_few s.end.window.rejecting) (omega (arith, same, rej)) (omega (arith, some, all))
 
   proceeds_by : Proceeds y s.end (k ∷ ks) (kinds outgoing) → Proceeds y u.end ks (kinds outgoing ++ kinds closing.frames) × (missing y u.end + 0 ≤ missing y s.end)
   proceeds_by p = (record { in_7 = p.in_7; wanted = none_rejected (kinds outgoing) (kinds closing.frames) p.wanted closing.mild; hears = by_hearing p.hears }, let same = missing_same in omega (arith, same))

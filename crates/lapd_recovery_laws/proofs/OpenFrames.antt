@@ -38,7 +38,7 @@ use Rattle.lapd_recovery_laws.proofs.EndSends.{Unsending, pending_in, pending, e
 use Rattle.lapd_recovery_laws.proofs.Establishes.{discards_by}
 use Rattle.lapd_recovery_laws.proofs.LoneSteps.{is_ignored}
 use Rattle.lapd_recovery_laws.proofs.OpenDelivers.{Delivered, by_answer, answered_so, by_back}
-use Rattle.lapd_recovery_laws.proofs.Proceeding.{weigh, plain_of, heard, extra, extra_few, extra_open, extra_first, Arrives, no_number_no_rejection, behind_first, missing_in, missing, load, load_open, load_closed, Share, Pays}
+use Rattle.lapd_recovery_laws.proofs.Proceeding.{weigh, plain_of, heard, extra, extra_few, extra_open, extra_first, Arrives, no_number_no_rejection, behind_first, missing_in, missing, load, load_open, load_closed, once_more, none_more, Share, Pays}
 use Rattle.lapd_recovery_laws.proofs.Replies.{Keeps, Turns, passes, i_in_7, i_in_8, rr_in_7, rr_in_8, rnr_in_7, rnr_in_8, rej_in_7, rej_in_8}
 
 pub most_one : (state : State) → most_asks state ≤ 1
@@ -174,14 +174,14 @@ module _ (station peer : Station) (frame : Flight) (rest outgoing : List Flight)
         → OnReception (Arrives u.window.vs) (heard peer.end (out ++ Accepts ∷ kinds frames)) → (n : ℕ) → Share e peer.end out (Asks ∷ ks) n → Pays u peer.end (out ++ Accepts ∷ kinds frames) ks (n + 2 + 0 - (1 + weigh (kinds frames)))
     pays u frames queued count in_7 all fewer light few arrives n (inl enough) =
         let f = fresh peer.end.window.rejecting in
-        let was : load e peer.end out ≡ 3 * unsent e + 2 * missing e peer.end + f = load_open e.state e.release_pending (unsent e) (missing e peer.end) f (extra peer.end out) opened in
-        let now : load u peer.end (out ++ Accepts ∷ kinds frames) ≡ 3 * unsent u + 2 * missing u peer.end + f = load_open u.state u.release_pending (unsent u) (missing u peer.end) f (extra peer.end (out ++ Accepts ∷ kinds frames)) (ap is_7_or_8 in_7) in
+        let was : load e peer.end out ≡ 3 * unsent e + 2 * missing e peer.end + f + once_more e.state (missing e peer.end) = load_open e.state e.release_pending (unsent e) (missing e peer.end) f (extra peer.end out) opened in
+        let now : load u peer.end (out ++ Accepts ∷ kinds frames) ≡ 3 * unsent u + 2 * missing u peer.end + f + once_more u.state (missing u peer.end) = load_open u.state u.release_pending (unsent u) (missing u peer.end) f (extra peer.end (out ++ Accepts ∷ kinds frames)) (ap is_7_or_8 in_7) in
         let lacks : missing u peer.end ≡ waiting u - unsent u = ap (λ b. missing_in b u.window.vs peer.end.window.vr (waiting u) (unsent u)) closed in
-        record { a = load u peer.end (out ++ Accepts ∷ kinds frames); share = inl (omega arith); most = omega (arith, was, now, lacks, all, fewer, light, few, enough) }
+        record { a = load u peer.end (out ++ Accepts ∷ kinds frames); share = inl (omega arith); most = let none = none_more u.state (missing u peer.end) in_7 in omega (arith, was, now, none, lacks, all, fewer, light, few, enough) }
     pays u frames queued count in_7 all fewer light few arrives n (inr p) =
         let enough = p.1 in
         let lacks : missing u peer.end ≡ waiting u - unsent u = ap (λ b. missing_in b u.window.vs peer.end.window.vr (waiting u) (unsent u)) closed in
-        record { a = 2 * unsent u + missing u peer.end; share = inr (record { in_7 = in_7; wanted = nothing_behind; hears = inr arrives }, omega arith); most = omega (arith, lacks, all, fewer, light, few, enough) }
+        record { a = 3 * unsent u + missing u peer.end; share = inr (record { in_7 = in_7; wanted = nothing_behind; hears = inr arrives }, omega arith); most = omega (arith, lacks, all, fewer, light, few, enough) }
 
     -- the peer is closed
     closed_falls : (x : End) → extra x ks ≤ tally plain_of ks → load peer.end x ks + 0 ≤ load peer.end e (Asks ∷ ks)

@@ -335,26 +335,43 @@ load_in AwaitingEstablishment true unsent missing rej messages = 2 + messages
 load_in AwaitingEstablishment false unsent missing rej messages = 3 * unsent + 1 + messages
 load_in AwaitingRelease leaving unsent missing rej messages = messages
 load_in MultipleFrameEstablished leaving unsent missing rej messages = 3 * unsent + 2 * missing + rej
-load_in TimerRecovery leaving unsent missing rej messages = 3 * unsent + 2 * missing + rej
+load_in TimerRecovery leaving unsent missing rej messages = 3 * unsent + 3 * missing + rej
 
 abbrev pub load : End → End → List Kind → ℕ
 load x y out = load_in x.state x.release_pending (unsent x) (missing x y) (fresh y.window.rejecting) (extra y out)
 
-pub load_open : (state : State) (leaving : Bool) (u m f e : ℕ) → is_7_or_8 state ≡ true → load_in state leaving u m f e ≡ 3 * u + 2 * m + f
-load_open MultipleFrameEstablished leaving u m f e opened = refl
-load_open TimerRecovery leaving u m f e opened = refl
+-- in state 8 a missing message counts once more
+abbrev pub once_more : State → ℕ → ℕ
+once_more TimerRecovery missing = missing
+once_more state missing = 0
+
+pub load_open : (state : State) (leaving : Bool) (u m f e : ℕ) → is_7_or_8 state ≡ true → load_in state leaving u m f e ≡ 3 * u + 2 * m + f + once_more state m
+load_open MultipleFrameEstablished leaving u m f e opened = omega arith
+load_open TimerRecovery leaving u m f e opened = omega arith
 load_open TeiAssigned leaving u m f e opened = cc
 load_open AwaitingEstablishment leaving u m f e opened = cc
 load_open AwaitingRelease leaving u m f e opened = cc
 
+-- messages are sent in state 7 alone
+pub once_more_few : (state : State) (m n j : ℕ) → n ≤ m + j → (j ≡ 0) ⊎ (state ≡ MultipleFrameEstablished) → once_more state n ≤ once_more state m
+once_more_few TimerRecovery m n j le (inl none) = omega (arith, le, none)
+once_more_few TimerRecovery m n j le (inr is) = cc
+once_more_few MultipleFrameEstablished m n j le sent = omega arith
+once_more_few TeiAssigned m n j le sent = omega arith
+once_more_few AwaitingEstablishment m n j le sent = omega arith
+once_more_few AwaitingRelease m n j le sent = omega arith
+
+pub none_more : (state : State) (m : ℕ) → state ≡ MultipleFrameEstablished → once_more state m ≡ 0
+none_more state m is = ap (λ st. once_more st m) is
+
 -- it falls by r with the missing messages, and with those of a closed side
-pub load_less : (state : State) (leaving : Bool) (u m f e n g d r : ℕ) → 2 * n + g + r ≤ 2 * m + f → d + r ≤ e → load_in state leaving u n g d + r ≤ load_in state leaving u m f e
-load_less TeiAssigned leaving u m f e n g d r opened closed = closed
-load_less AwaitingEstablishment true u m f e n g d r opened closed = omega (arith, closed)
-load_less AwaitingEstablishment false u m f e n g d r opened closed = omega (arith, closed)
-load_less AwaitingRelease leaving u m f e n g d r opened closed = closed
-load_less MultipleFrameEstablished leaving u m f e n g d r opened closed = omega (arith, opened)
-load_less TimerRecovery leaving u m f e n g d r opened closed = omega (arith, opened)
+pub load_less : (state : State) (leaving : Bool) (u m f e n g d r : ℕ) → f ≤ 1 → 2 * n + g + r ≤ 2 * m + f → d + r ≤ e → load_in state leaving u n g d + r ≤ load_in state leaving u m f e
+load_less TeiAssigned leaving u m f e n g d r one opened closed = closed
+load_less AwaitingEstablishment true u m f e n g d r one opened closed = omega (arith, closed)
+load_less AwaitingEstablishment false u m f e n g d r one opened closed = omega (arith, closed)
+load_less AwaitingRelease leaving u m f e n g d r one opened closed = closed
+load_less MultipleFrameEstablished leaving u m f e n g d r one opened closed = omega (arith, opened, one)
+load_less TimerRecovery leaving u m f e n g d r one opened closed = omega (arith, opened, one)
 
 pub load_closed : (state : State) (leaving : Bool) (u m f e n g d : ℕ) → is_7_or_8 state ≡ false → d ≤ e → load_in state leaving u n g d + 0 ≤ load_in state leaving u m f e
 load_closed TeiAssigned leaving u m f e n g d shut le = omega (arith, le)
@@ -378,7 +395,7 @@ fresh_few true = omega arith
 fresh_few false = omega arith
 
 abbrev pub Share : End → End → List Kind → List Kind → ℕ → Type 0
-Share x y out back n = (load x y out ≤ n) ⊎ (Proceeds x y out back × (2 * unsent x + missing x y ≤ n))
+Share x y out back n = (load x y out ≤ n) ⊎ (Proceeds x y out back × (3 * unsent x + missing x y ≤ n))
 
 pub record Flowing (x y : End) (out back : List Kind) (n : ℕ) : Type 0 where
   pub a : ℕ

@@ -114,6 +114,9 @@ pub record Backs (c : Context) (k : Kind) (ks : List Kind) (s t : StepState) : T
   pub resent : unsent t.end ≤ unsent s.end + (s.end.window.vs - nr)
   pub awaited : is_7_or_8 c.peer.state ≡ true → c.peer.takes.vr ≡ nr
   pub outstanding : s.end.window.vs - nr ≤ waiting s.end - unsent s.end
+  pub va : t.end.window.va ≡ nr
+  pub in_window : s.end.window.vs - nr ≤ t.end.parameters.k
+  pub free : s.end.state ≡ MultipleFrameEstablished → t.end.window.peer_busy ≡ false
   pub no_message : message_of k ≡ []
   pub light : weight_of k ≡ 1
   pub wanted : rejections ks ≡ []
@@ -391,12 +394,13 @@ record IsQueued (s : StepState) (nr : ℕ) : Type 0 where
   high : nr ≤ s.end.window.vs
   sent : s.end.next + s.end.window.va ≡ s.end.first + s.end.window.vs
   within : s.end.next ≤ length s.end.given
+  room : s.end.window.vs ≤ s.end.window.va + s.end.parameters.k
 
 -- the state before the end of the row, and what is known of the frames in transit
 back_row : (c : Context) (k : Kind) (ks : List Kind) (nr : ℕ) (s t : StepState) → message_of k ≡ [] → weight_of k ≡ 1 → rejections ks ≡ [] → (s.end.state ≡ MultipleFrameEstablished → rejections (k ∷ ks) ≡ [] → ⊥) → OnReception (Arrives nr) (receives c.peer (line c s)) → (story c t).line ≡ (story c s).line → t.end.state ≡ MultipleFrameEstablished
     → t.end.window.vs ≡ nr → t.end.next ≡ t.end.first → t.end.given ≡ s.end.given → t.end.window.own_busy ≡ s.end.window.own_busy → receiving t.end ≡ receiving s.end → t.end.first ≡ s.end.first + (nr - s.end.window.va)
-    → IsQueued s nr → (is_7_or_8 c.peer.state ≡ true → c.peer.takes.vr ≡ nr) → Backs c k ks s t
-back_row c k ks nr s t no_message light wanted unwanted arrives same in_7 vs next given own_busy receiving_same acked q awaited =
+    → t.end.window.va ≡ nr → t.end.parameters.k ≡ s.end.parameters.k → (s.end.state ≡ MultipleFrameEstablished → t.end.window.peer_busy ≡ false) → IsQueued s nr → (is_7_or_8 c.peer.state ≡ true → c.peer.takes.vr ≡ nr) → Backs c k ks s t
+back_row c k ks nr s t no_message light wanted unwanted arrives same in_7 vs next given own_busy receiving_same acked va same_k free q awaited =
     let low = q.low in
     let high = q.high in
     let sent = q.sent in
@@ -415,6 +419,9 @@ back_row c k ks nr s t no_message light wanted unwanted arrives same in_7 vs nex
       resent = omega (arith, next, acked, len, low, high, sent, within);
       awaited = awaited;
       outstanding = omega (arith, low, high, sent, within);
+      va = va;
+      in_window = let room = q.room in omega (arith, low, room, same_k);
+      free = free;
       no_message = no_message;
       light = light;
       wanted = wanted;
@@ -430,10 +437,10 @@ queued c nr ks s m =
     let first : s.end.first ≡ c.base + s.end.window.va = n.first in
     let next : s.end.next ≡ c.base + s.end.window.vs = n.next in
     let ordered : s.end.window.va ≤ s.end.window.vs = n.ordered in
-    record { low = climb.0; high = climb_top nr s.end.window.vs (numbers ks) climb.1; sent = omega (arith, first, next, ordered); within = n.within }
+    record { low = climb.0; high = climb_top nr s.end.window.vs (numbers ks) climb.1; sent = omega (arith, first, next, ordered); within = n.within; room = n.window }
 
 -- a REJ, in state 7
-module _ (c : Context) (nr : ℕ) (ks : List Kind) (s : StepState) (is : s.end.state ≡ MultipleFrameEstablished) (m : HoldsMid c (Rejection nr ∷ ks) s) where
+module _ (c : Context) (nr : ℕ) (ks : List Kind) (s : StepState) (is : s.end.state ≡ MultipleFrameEstablished) (peer_free : s.end.window.peer_busy ≡ false) (m : HoldsMid c (Rejection nr ∷ ks) s) where
   status_of_rej : HoldsMid c (Status nr ∷ ks) s
   status_of_rej = turned (seen c s) c.peer (line c s) (Status nr ∷ ks) (Rejection nr ∷ ks) (rejection_left nr ks) m
 
@@ -446,7 +453,7 @@ module _ (c : Context) (nr : ℕ) (ks : List Kind) (s : StepState) (is : s.end.s
       let a = acknowledge Whole nr s in
       let b = invoke_retransmission nr a in
       back_row c (Rejection nr) ks nr s (start T203 (stop T200 b)) refl refl (sent_back_in_7 (seen c s) c.peer (line c s) nr ks is m).1 (λ in_7 none. cc) rej_arrives
-      ((start_203_puts c (stop T200 b)).line ∙ (stop_200_puts c b).line ∙ (acknowledge_puts c s nr).line) is refl refl refl refl refl refl (queued c nr ks s status_of_rej) (λ opened. (rejected_so {x = seen c s} {y = c.peer} {out = line c s} nr ks is opened m).at)
+      ((start_203_puts c (stop T200 b)).line ∙ (stop_200_puts c b).line ∙ (acknowledge_puts c s nr).line) is refl refl refl refl refl refl refl refl (λ in_7. peer_free) (queued c nr ks s status_of_rej) (λ opened. (rejected_so {x = seen c s} {y = c.peer} {out = line c s} nr ks is opened m).at)
 
   rej_nr_backs : Backs c (Rejection nr) ks s (rej_nr Whole nr s)
   unfolding rej_nr
@@ -468,14 +475,14 @@ module _ (c : Context) (nr : ℕ) (ks : List Kind) (s : StepState) (is : s.end.s
   rr_final_backs =
       let b = invoke_retransmission nr (acknowledge Whole nr s) in
       back_row c (Final nr) ks nr s (state_to MultipleFrameEstablished (start T203 (stop T200 b))) refl refl final_wanted (λ in_7 none. cc) final_arrives
-      ((start_203_puts c (stop T200 b)).line ∙ (stop_200_puts c b).line ∙ (acknowledge_puts c s nr).line) refl refl refl refl refl refl refl (queued c nr ks s status_of_final) (λ opened. (final_so {x = seen c s} {y = c.peer} {out = line c s} nr ks is opened m).at)
+      ((start_203_puts c (stop T200 b)).line ∙ (stop_200_puts c b).line ∙ (acknowledge_puts c s nr).line) refl refl refl refl refl refl refl refl refl (λ in_7. cc) (queued c nr ks s status_of_final) (λ opened. (final_so {x = seen c s} {y = c.peer} {out = line c s} nr ks is opened m).at)
 
   rnr_final_backs : Backs c (Final nr) ks s (state_to MultipleFrameEstablished (start T200 (invoke_retransmission nr (acknowledge Whole nr s))))
   unfolding state_to start invoke_retransmission acknowledge with_va with_vs story_after acknowledged_count steps
   rnr_final_backs =
       let b = invoke_retransmission nr (acknowledge Whole nr s) in
       back_row c (Final nr) ks nr s (state_to MultipleFrameEstablished (start T200 b)) refl refl final_wanted (λ in_7 none. cc) final_arrives
-      ((start_200_puts c b).line ∙ (acknowledge_puts c s nr).line) refl refl refl refl refl refl refl (queued c nr ks s status_of_final) (λ opened. (final_so {x = seen c s} {y = c.peer} {out = line c s} nr ks is opened m).at)
+      ((start_200_puts c b).line ∙ (acknowledge_puts c s nr).line) refl refl refl refl refl refl refl refl refl (λ in_7. cc) (queued c nr ks s status_of_final) (λ opened. (final_so {x = seen c s} {y = c.peer} {out = line c s} nr ks is opened m).at)
 
   rr_backs_in_8 : Backs c (Final nr) ks s (rr_nr_in_recovery Whole true nr s)
   unfolding rr_nr_in_recovery
@@ -506,6 +513,9 @@ keeps_backs {c = c} {s = s} {t = t} a b = record {
       let vs = ap (λ (v : Sending). v.vs) a.sending_same in
       let f = a.first in
       omega (arith, q, given, next, vs, f);
+  va = b.va;
+  in_window = let q = b.in_window in let vs = ap (λ (v : Sending). v.vs) a.sending_same in omega (arith, q, vs);
+  free = λ in_7. b.free (ap (λ (v : Sending). v.state) a.sending_same ∙ in_7);
   no_message = b.no_message;
   light = b.light;
   wanted = b.wanted;
@@ -550,6 +560,10 @@ module _ (c : Context) (ks : List Kind) (s : StepState) (none_pending : s.end.wi
   rnr_in_7 Answer nr false is m = inl (passes (Status nr) refl none_pending (omega arith) (then_keeps (peer_busy_keeps c s true) (rnr_nr_keeps c nr ks busied (mid_peer_busy c true s (Status nr ∷ ks) m))))
   rnr_in_7 Command nr false is m = absurd (no_foreign c ks s m)
 
+  freed_is : freed.end.window.peer_busy ≡ false
+  unfolding set_peer_busy with_peer_busy
+  freed_is = refl
+
   in_7_still : s.end.state ≡ MultipleFrameEstablished → (on : Bool) → (set_peer_busy on s).end.state ≡ MultipleFrameEstablished
   unfolding set_peer_busy
   in_7_still is on = is
@@ -562,7 +576,7 @@ module _ (c : Context) (ks : List Kind) (s : StepState) (none_pending : s.end.wi
   unfolding multiple_frame_established poll_or_final
   rej_in_7 Command nr true is m = absurd (no_foreign c ks s m)
   rej_in_7 Answer nr true is m = absurd (no_final_in_7 c nr ks s is m)
-  rej_in_7 Answer nr false is m = inr (keeps_backs (peer_busy_keeps c s false) (rej_nr_backs c nr ks freed (in_7_still is false) (mid_peer_busy c false s (Rejection nr ∷ ks) m)))
+  rej_in_7 Answer nr false is m = inr (keeps_backs (peer_busy_keeps c s false) (rej_nr_backs c nr ks freed (in_7_still is false) freed_is (mid_peer_busy c false s (Rejection nr ∷ ks) m)))
   rej_in_7 Command nr false is m = absurd (no_foreign c ks s m)
 
   pub rr_in_8 : (role : Role) (nr : ℕ) (pf : Bool) → s.end.state ≡ TimerRecovery → Arriving c role (Rr nr pf) ks s → Row c role (Rr nr pf) ks s (timer_recovery Whole (Heard (Rr nr pf) role) s)
