@@ -1,5 +1,5 @@
 -- Any frame is delivered to an end in state 4, 5 or 6: what is still to come falls.
-use Rattle.std.proofs.Common.{◌≡◌, inl, inr, ℕ, ◌+◌, ◌-◌, ◌*◌, ◌<◌, ◌≤◌, ◌==◌, nat_lt, if◌then◌else◌, Bool, true, false, List, [], ◌∷◌, ◌++◌, length, option_map, append-nil, refl, sym, ap, subst, ◌∙◌, arith}
+use Rattle.std.proofs.Common.{◌≡◌, inl, inr, ℕ, ◌+◌, ◌-◌, ◌*◌, ◌≤◌, ◌==◌, nat_lt, if◌then◌else◌, Bool, true, false, List, [], ◌∷◌, ◌++◌, length, option_map, append-nil, refl, sym, ap, subst, ◌∙◌, arith}
 use Rattle.std.proofs.lemmas.Bool.{eqb-true}
 use Rattle.lapd_timers.specs.declared.timer.Timer.TheVariants.{T200, T203}
 use Rattle.lapd_frame.specs.declared.Role.{Role}
@@ -306,13 +306,13 @@ module _ (station peer : Station) (frame : Flight) (rest outgoing : List Flight)
             mine = λ n share. record {
               a = 0;
               share = inr (
-                  record {
-                    in_7 = refl;
-                    wanted = no_number_no_rejection ks (no_numbers b);
-                    hears = inr (reset_arrives peer.end.state peer.end.release_pending peer.end.window.vs peer.end.window.va peer.end.window.vr 0 peer.end.window.rejecting out [] (peer_closed b) (no_answer b) refl);
-                  },
-                  omega (arith, lack, first, next),
-                );
+                record {
+                  in_7 = refl;
+                  wanted = no_number_no_rejection ks (no_numbers b);
+                  hears = inr (reset_arrives peer.end.state peer.end.release_pending peer.end.window.vs peer.end.window.va peer.end.window.vr 0 peer.end.window.rejecting out [] (peer_closed b) (no_answer b) refl);
+                },
+                omega (arith, lack, first, next),
+              );
               most = omega arith;
             };
             its_load =

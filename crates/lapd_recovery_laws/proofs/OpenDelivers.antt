@@ -27,7 +27,7 @@ pub record Delivered (before y : End) (k : Kind) (ks : List Kind) (outgoing : Li
 
 -- ---- Open ends.
 
-hears_in : (Q : Reception → Type 0) (e : End) (ks : List Kind) → is_7_or_8 e.state ≡ true → OnReception Q (heard e ks) → Q (record { vs = e.window.vs; va = e.window.va; vr = e.window.vr; rejecting = e.window.rejecting; frames = ks })
+pub hears_in : (Q : Reception → Type 0) (e : End) (ks : List Kind) → is_7_or_8 e.state ≡ true → OnReception Q (heard e ks) → Q (record { vs = e.window.vs; va = e.window.va; vr = e.window.vr; rejecting = e.window.rejecting; frames = ks })
 hears_in Q e ks opened q = by_case e.state opened q
   where
     by_case : (state : State) → is_7_or_8 state ≡ true → OnReception Q (received_in state e.release_pending (record { vs = e.window.vs; va = e.window.va; vr = e.window.vr; rejecting = e.window.rejecting; frames = ks }) ks) → Q (record { vs = e.window.vs; va = e.window.va; vr = e.window.vr; rejecting = e.window.rejecting; frames = ks })

@@ -179,10 +179,10 @@ passes {c = c} {s = s} {t = t} k none no_ack some a = record {
   first = a.first;
   busy = λ is. (refl, subst (λ (v : Receiving). Lacks c.peer.sends.vs (receiving s.end) v 0) (sym a.receiving_same) (omega arith));
   idle = λ is end ks there. (
-      refl,
-      subst (λ (v : Receiving). IsInTransit v.rejecting v.vr end (messages ks)) (sym a.receiving_same) (subst (λ l. IsInTransit s.end.window.rejecting s.end.window.vr end (l ++ messages ks)) none there),
-      subst (λ (v : Receiving). Lacks c.peer.sends.vs (receiving s.end) v 0) (sym a.receiving_same) (omega arith),
-    );
+    refl,
+    subst (λ (v : Receiving). IsInTransit v.rejecting v.vr end (messages ks)) (sym a.receiving_same) (subst (λ l. IsInTransit s.end.window.rejecting s.end.window.vr end (l ++ messages ks)) none there),
+    subst (λ (v : Receiving). Lacks c.peer.sends.vs (receiving s.end) v 0) (sym a.receiving_same) (omega arith),
+  );
 }
 
 -- one frame answers

@@ -6,7 +6,7 @@ use Rattle.lapd_mod128.specs.Counting.{Reading, Whole, Tagged}
 use Rattle.lapd_link_definition.specs.declared.state.State.{State}
 use Rattle.lapd_link_definition.specs.declared.state.State.TheVariants.{TeiAssigned, AwaitingEstablishment, AwaitingRelease, MultipleFrameEstablished, TimerRecovery}
 use Rattle.lapd_link_definition.specs.EndOfStep.{is_7_or_8}
-use Rattle.lapd_link_definition.specs.End.{End, unsent, waiting}
+use Rattle.lapd_link_definition.specs.End.{unsent, waiting}
 use Rattle.lapd_link_definition.specs.Table.{step}
 use Rattle.lapd_link_definition.specs.Parameters.{Parameters}
 use Rattle.lapd_pair_laws.specs.Consistent.{IsConsistent, IsConsistentWorld}
@@ -44,7 +44,7 @@ use Rattle.lapd_recovery_laws.proofs.OpenDelivers.{Delivered}
 use Rattle.lapd_recovery_laws.proofs.OpenFrames.{open_delivered}
 use Rattle.lapd_recovery_laws.proofs.Outage.{Facts}
 use Rattle.lapd_recovery_laws.proofs.OwnOnTags.{ok_on_tags, world_on_tags}
-use Rattle.lapd_recovery_laws.proofs.Proceeding.{weigh, weigh_few, extra, extra_few, missing_in, missing, load_in, load, fresh_few, Flowing, flowing_turned, Flows, flows_on}
+use Rattle.lapd_recovery_laws.proofs.Proceeding.{weigh_few, extra, extra_few, missing_in, missing, load_in, load, fresh_few, Flowing, flowing_turned, flows_on}
 use Rattle.lapd_recovery_laws.proofs.TimersOfRuns.{new_has_timers, timers_after_run}
 
 -- ---- The view of a side.

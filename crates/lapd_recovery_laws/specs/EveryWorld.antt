@@ -17,7 +17,7 @@ pub record IsFreeWorld (n200 : ℕ) (w : World) : Type 0 where
 -- The number of own moves that suffices: those of the frames in transit, and then those after an
 -- outage. The argument is N200, the greater one of both ends.
 abbrev pub most_moves_from : ℕ → World → ℕ
-most_moves_from n200 w = 2 * frames w + 6 * left w + 6 * n200 + 15
+most_moves_from n200 w = 2 * frames w + 3 * left w + 6 * n200 + 15
 
 -- From this world the line's own moves, in any order, are few, and when none is possible any more
 -- the ends agree.
