@@ -58,7 +58,7 @@ same_parameters move w i = by_side move.side move.event
     by_side side.User event = (ap (λ (u : World). u.user.end.parameters) (moved_user event w) ∙ (stays_sound (view_of side.User w) i.user_window i.user_sound event).parameters, ap (λ (u : World). u.network.end.parameters) (moved_user event w))
     by_side side.Network event = (ap (λ (u : World). u.user.end.parameters) (moved_network event w), ap (λ (u : World). u.network.end.parameters) (moved_network event w) ∙ (stays_sound (view_of side.User (swapped w)) i.network_window i.network_sound event).parameters)
 
-facts_after : (N : ℕ) (move : Move) (w : World) → Facts N w → Facts N (world_after w (happens Whole move w))
+pub facts_after : (N : ℕ) (move : Move) (w : World) → Facts N w → Facts N (world_after w (happens Whole move w))
 facts_after N move w f =
     let same = same_parameters move w f.holds in
     record {
@@ -216,18 +216,13 @@ polls_few N AwaitingRelease false left few = omega arith
 polls_few N MultipleFrameEstablished true left few = omega arith
 polls_few N MultipleFrameEstablished false left few = omega arith
 
-module _ (N : ℕ) (some : 1 ≤ N) (x y : Station) (i : IsInvariant (at x y [] [])) (x_settled : AreSettled x.history) (y_settled : AreSettled y.history) (few_x : x.end.parameters.n200 ≤ N) (few_y : y.end.parameters.n200 ≤ N) where
+-- p and q are at least as many messages as are unsent
+module _ (N : ℕ) (some : 1 ≤ N) (x y : Station) (p q : ℕ) (mine : unsent x.end ≤ p) (its : unsent y.end ≤ q) (few_x : x.end.parameters.n200 ≤ N) (few_y : y.end.parameters.n200 ≤ N) where
   abbrev w : World
   w = at x y [] []
 
   abbrev n : ℕ
-  n = most_own_moves N w
-
-  mine : unsent x.end ≤ left_of x
-  mine = user_left w i x_settled
-
-  its : unsent y.end ≤ left_of y
-  its = network_left w i y_settled
+  n = 3 * (p + q) + 6 * N + 11
 
   finds_x : finds N x.end ≤ 2 * N + 5
   finds_x = finds_few N x.end.state (x.end.parameters.n200 - x.end.rc) (omega (arith, few_x))
@@ -250,7 +245,7 @@ module _ (N : ℕ) (some : 1 ≤ N) (x y : Station) (i : IsInvariant (at x y [] 
       by_both (inr last) (inl nothing) = let a = last.0 in let g = last.1 in omega (arith, a, g, nothing, mine, its, polls_x, some)
       by_both (inr last) (inr sends) = let a = last.0 in let g = last.1 in let b = sends.0 in let u = sends.1 in omega (arith, a, g, b, u, mine, its, polls_x, some)
 
-  alone_begins : (up : Bool) → is_7_or_8 x.end.state ≡ true → is_7_or_8 y.end.state ≡ false → (up ≡ true → IsKept y.end) → Half N up n w
+  pub alone_begins : (up : Bool) → is_7_or_8 x.end.state ≡ true → is_7_or_8 y.end.state ≡ false → (up ≡ true → IsKept y.end) → Half N up n w
   alone_begins up opened c k = by_state y.end.state refl c
     where
       by_state : (state : State) → y.end.state ≡ state → is_7_or_8 state ≡ false → Half N up n w
@@ -319,7 +314,7 @@ module _ (N : ℕ) (some : 1 ≤ N) (x y : Station) (i : IsInvariant (at x y [] 
         | inr last ↦ inr (same ∙ last.1, let a = last.0 in omega (arith, a, attempt_x))
       ]
 
-  closed_begins : is_7_or_8 x.end.state ≡ false → is_7_or_8 y.end.state ≡ false → Half N false n w
+  pub closed_begins : is_7_or_8 x.end.state ≡ false → is_7_or_8 y.end.state ≡ false → Half N false n w
   closed_begins c d =
       let e = extra in
       closed (record {
@@ -388,28 +383,37 @@ both_begin N some x y i preserved settled x_free y_free few_x few_y = by_open (i
 
     by_open : (a b : Bool) → is_7_or_8 x.end.state ≡ a → is_7_or_8 y.end.state ≡ b → Coming N false (most_own_moves N (at x y [] [])) (at x y [] [])
     by_open true true o p = inl (more (draining_begins x y i settled preserved.user.settled preserved.network.settled true o p (x_free o) (y_free p) (λ _. refl) (λ _. refl)))
-    by_open true false o c = inr (inl (alone_begins N some x y i preserved.user.settled preserved.network.settled few_x few_y false o c (λ no_up. cc)))
-    by_open false true c o = inr (inr (subst (λ m. Half N false m (swapped w)) swapped_bound (alone_begins N some y x (exchanged w i) preserved.network.settled preserved.user.settled few_y few_x false o c (λ no_up. cc))))
-    by_open false false c d = inr (inl (closed_begins N some x y i preserved.user.settled preserved.network.settled few_x few_y c d))
+    by_open true false o c = inr (inl (alone_begins N some x y (left_of x) (left_of y) (user_left w i preserved.user.settled) (network_left w i preserved.network.settled) few_x few_y false o c (λ no_up. cc)))
+    by_open false true c o = inr (inr (subst (λ m. Half N false m (swapped w)) swapped_bound (alone_begins N some y x (left_of y) (left_of x) (user_left (swapped w) (exchanged w i) preserved.network.settled) (network_left (swapped w) (exchanged w i) preserved.user.settled) few_y few_x false o c (λ no_up. cc))))
+    by_open false false c d = inr (inl (closed_begins N some x y (left_of x) (left_of y) (user_left w i preserved.user.settled) (network_left w i preserved.network.settled) few_x few_y c d))
 
 begins : (N : ℕ) → 1 ≤ N → (x y : Station) (to_user to_network : List Flight) → IsInvariant (at x y to_user to_network) → IsConsistentWorld Whole (at x y to_user to_network) → AreSettledEnds (at x y to_user to_network) → IsAfterOutage N (at x y to_user to_network) → Coming N false (most_own_moves N (at x y to_user to_network)) (at x y to_user to_network)
 begins N some x y [] [] i preserved settled a = both_begin N some x y i preserved settled a.user_free a.network_free a.user_retries a.network_retries
 begins N some x y (f ∷ fs) to_network i preserved settled a = let none = a.to_user in cc
 begins N some x y [] (f ∷ fs) i preserved settled a = let none = a.to_network in cc
 
-pub line_comes_back : (N : ℕ) → 1 ≤ N → (w : World) → IsInvariant w → IsConsistentWorld Whole w → AreSettledEnds w → HaveTimersOfStates w → AreClearIn5 w → IsAfterOutage N w → ComesBack Whole N w
+-- own moves are at most the weight of the start, and lead to ends that agree
+pub record Returns (n : ℕ) (w : World) : Type 0 where
+  pub few : (moves : List Move) → AreOwn Whole moves w → length moves ≤ n
+  pub agreed : (moves : List Move) → AreOwn Whole moves w → Rests Whole (run Whole moves w) → AreAgreed (run Whole moves w)
+
+pub returns_from : (N : ℕ) → 1 ≤ N → (n : ℕ) (w : World) → Coming N false n w → Facts N w → IsConsistentWorld Whole w → Returns n w
+returns_from N some n w c f preserved = record {
+  few = λ moves own. (own_moves_reach false N some n w moves c f own).few;
+  agreed = λ moves own rests.
+      let now = run Whole moves w in
+      let reached = own_moves_reach false N some n w moves c f own in
+      let still = rests_still now.user now.network now.to_user now.to_network rests in
+      agreed_at_rest false N (n - length moves) now reached.arriving reached.facts (run_consistent Whole moves w preserved) still rests;
+}
+
+line_comes_back : (N : ℕ) → 1 ≤ N → (w : World) → IsInvariant w → IsConsistentWorld Whole w → AreSettledEnds w → HaveTimersOfStates w → AreClearIn5 w → IsAfterOutage N w → ComesBack Whole N w
 line_comes_back N some w i preserved settled have clear a =
     let n = most_own_moves N w in
     let c = begins N some w.user w.network w.to_user w.to_network i preserved settled a in
     let f : Facts N w = record { holds = i; settled = settled; have = have; clear = clear; few_user = a.user_retries; few_network = a.network_retries } in
-    record {
-      few = λ moves own. (own_moves_reach false N some n w moves c f own).few;
-      agreed = λ moves own rests.
-          let now = run Whole moves w in
-          let reached = own_moves_reach false N some n w moves c f own in
-          let still = rests_still now.user now.network now.to_user now.to_network rests in
-          agreed_at_rest false N (n - length moves) now reached.arriving reached.facts (run_consistent Whole moves w preserved) still rests;
-    }
+    let back = returns_from N some n w c f preserved in
+    record { few = λ moves own. back.few moves own; agreed = λ moves own rests. back.agreed moves own rests }
 
 -- ---- After every run, on whole numbers and on tags.
 
@@ -430,7 +434,7 @@ unmapped : (l : List Flight) → map tag_flight l ≡ [] → l ≡ []
 unmapped [] none = refl
 unmapped (f ∷ fs) none = cc
 
-free_by_tags : (e : End) → IsFree (tag_end e) → IsFree e
+pub free_by_tags : (e : End) → IsFree (tag_end e) → IsFree e
 unfolding tag_variables
 free_by_tags e free = free
 
@@ -489,8 +493,8 @@ held_begin N some x y i preserved settled x_free y_free few_x few_y held = by_op
 
     by_open : (a b : Bool) → is_7_or_8 x.end.state ≡ a → is_7_or_8 y.end.state ≡ b → Coming N true (most_own_moves N (at x y [] [])) (at x y [] [])
     by_open true true o p = inl (more (draining_begins x y i settled preserved.user.settled preserved.network.settled true o p (x_free o) (y_free p) (λ _. refl) (λ _. refl)))
-    by_open true false o c = inr (inl (alone_begins N some x y i preserved.user.settled preserved.network.settled few_x few_y true o c (λ _. held.network)))
-    by_open false true c o = inr (inr (subst (λ m. Half N true m (swapped w)) swapped_bound (alone_begins N some y x (exchanged w i) preserved.network.settled preserved.user.settled few_y few_x true o c (λ _. held.user))))
+    by_open true false o c = inr (inl (alone_begins N some x y (left_of x) (left_of y) (user_left w i preserved.user.settled) (network_left w i preserved.network.settled) few_x few_y true o c (λ _. held.network)))
+    by_open false true c o = inr (inr (subst (λ m. Half N true m (swapped w)) swapped_bound (alone_begins N some y x (left_of y) (left_of x) (user_left (swapped w) (exchanged w i) preserved.network.settled) (network_left (swapped w) (exchanged w i) preserved.user.settled) few_y few_x true o c (λ _. held.user))))
     by_open false false c d = absurd (one_open c d held.open_state)
 
 held_begins : (N : ℕ) → 1 ≤ N → (x y : Station) (to_user to_network : List Flight) → IsInvariant (at x y to_user to_network) → IsConsistentWorld Whole (at x y to_user to_network) → AreSettledEnds (at x y to_user to_network) → IsAfterOutage N (at x y to_user to_network) → IsHeldUp (at x y to_user to_network) → Coming N true (most_own_moves N (at x y to_user to_network)) (at x y to_user to_network)

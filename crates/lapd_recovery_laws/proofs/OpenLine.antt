@@ -34,7 +34,7 @@ use Rattle.lapd_recovery_laws.proofs.LostExpires.{BothLost}
 
 -- ---- The remaining work at the start.
 
-same_in_transit : (rejecting : Bool) (low end : ℕ) → low ≡ end → IsInTransit rejecting low end []
+pub same_in_transit : (rejecting : Bool) (low end : ℕ) → low ≡ end → IsInTransit rejecting low end []
 same_in_transit false low end same = same
 same_in_transit true low end same = same
 
@@ -47,7 +47,7 @@ burden_begins x y low high = by_fresh y.rejecting
     by_fresh false = omega (arith, low, high)
 
 -- in state 7
-stream_begins : (x : Source) (y : Sink) → x.state ≡ MultipleFrameEstablished → x.va ≤ y.vr → y.vr ≤ x.vs → (x.t200 ≡ false → (x.vs ≡ x.va) × (x.busy ≡ false)) → Stream x y [] [] (3 * (x.unsent + (x.vs - x.va)) + 4)
+pub stream_begins : (x : Source) (y : Sink) → x.state ≡ MultipleFrameEstablished → x.va ≤ y.vr → y.vr ≤ x.vs → (x.t200 ≡ false → (x.vs ≡ x.va) × (x.busy ≡ false)) → Stream x y [] [] (3 * (x.unsent + (x.vs - x.va)) + 4)
 stream_begins x y is low high timed = by_timer x.t200 refl
   where
     by_timer : (on : Bool) → x.t200 ≡ on → Stream x y [] [] (3 * (x.unsent + (x.vs - x.va)) + 4)
@@ -61,7 +61,7 @@ stream_begins x y is low high timed = by_timer x.t200 refl
           most = omega (arith, same);
         }
 
-in_7 : (e : End) → e.state ≡ MultipleFrameEstablished → IsTimedIn e.state e.t200 e.window.vs e.window.va e.window.peer_busy → e.t200 ≡ false → (e.window.vs ≡ e.window.va) × (e.window.peer_busy ≡ false)
+pub in_7 : (e : End) → e.state ≡ MultipleFrameEstablished → IsTimedIn e.state e.t200 e.window.vs e.window.va e.window.peer_busy → e.t200 ≡ false → (e.window.vs ≡ e.window.va) × (e.window.peer_busy ≡ false)
 in_7 e is timed = let t : IsTimedIn MultipleFrameEstablished e.t200 e.window.vs e.window.va e.window.peer_busy = rw is at timed in t
 
 -- the messages of a side that are left
@@ -75,6 +75,87 @@ side_left s base num passed settled =
 
 tries_so : (a b : ℕ) → a < b → nat_lt a b ≡ true
 tries_so a b less = grind (arith, nat_tests, less)
+
+module _ (x y : Station) (i : IsInvariant (at x y [] [])) (ends_settled : AreSettledEnds (at x y [] [])) (last : Bool) (x_opened : is_7_or_8 x.end.state ≡ true) (y_opened : is_7_or_8 y.end.state ≡ true) (x_free : x.end.window.own_busy ≡ false) (y_free : y.end.window.own_busy ≡ false) (x_tries : x.end.state ≡ TimerRecovery → (last || nat_lt x.end.rc x.end.parameters.n200) ≡ true) (y_tries : y.end.state ≡ TimerRecovery → (last || nat_lt y.end.rc y.end.parameters.n200) ≡ true) (a b n : ℕ) (stream_x : x.end.state ≡ MultipleFrameEstablished → Stream (source x.end) (sink y.end) [] [] a) (stream_y : y.end.state ≡ MultipleFrameEstablished → Stream (source y.end) (sink x.end) [] [] b) (burden_x : burden 3 (source x.end) (sink y.end) ≤ a) (burden_y : burden 3 (source y.end) (sink x.end) ≤ b) (all : a + b ≤ n) where
+  abbrev begun : World
+  begun = at x y [] []
+
+  both_in_7 : x.end.state ≡ MultipleFrameEstablished → y.end.state ≡ MultipleFrameEstablished → Drains n begun
+  both_in_7 is its_is = record {
+    holds = i;
+    ends_settled = ends_settled;
+    sees = record {
+      flow = record { a = a; b = b; mine = stream_x is; its = stream_y its_is; most = let le = all in omega (arith, le) };
+      idle = x_free;
+      its_idle = y_free;
+      proceeding = tt;
+      arriving = tt;
+    };
+  }
+
+  user_in_8 : x.end.state ≡ TimerRecovery → y.end.state ≡ MultipleFrameEstablished → UserLost last n begun
+  user_in_8 is its_is = lost_so last n begun (record {
+    holds = i;
+    ends_settled = ends_settled;
+    in_8 = is;
+    tries = x_tries is;
+    peer_open = y_opened;
+    lost = record { polls = refl; finals = refl; no_message = refl };
+    b = b;
+    its = stream_y its_is;
+    idle = x_free;
+    its_idle = y_free;
+    proceeding = tt;
+    arriving = tt;
+    most = let le = all in let heavy = burden_x in omega (arith, le, heavy);
+  })
+
+  network_in_8 : x.end.state ≡ MultipleFrameEstablished → y.end.state ≡ TimerRecovery → UserLost last n (swapped begun)
+  network_in_8 is its_is = lost_so last n (swapped begun) (record {
+    holds = exchanged begun i;
+    ends_settled = record { user = ends_settled.network; network = ends_settled.user };
+    in_8 = its_is;
+    tries = y_tries its_is;
+    peer_open = x_opened;
+    lost = record { polls = refl; finals = refl; no_message = refl };
+    b = a;
+    its = stream_x is;
+    idle = y_free;
+    its_idle = x_free;
+    proceeding = tt;
+    arriving = tt;
+    most = let le = all in let heavy = burden_y in omega (arith, le, heavy);
+  })
+
+  both_in_8 : x.end.state ≡ TimerRecovery → y.end.state ≡ TimerRecovery → BothLost last n begun
+  both_in_8 is its_is = record {
+    to_user = refl;
+    to_network = refl;
+    holds = i;
+    ends_settled = ends_settled;
+    user_in_8 = is;
+    network_in_8 = its_is;
+    user_tries = x_tries is;
+    network_tries = y_tries its_is;
+    user_idle = x_free;
+    network_idle = y_free;
+    most = let le = all in let heavy = burden_x in let heavy_too = burden_y in omega (arith, le, heavy, heavy_too);
+  }
+
+  pub draining_from : Draining last n begun
+  draining_from = by_states x.end.state y.end.state refl refl x_opened y_opened
+    where
+      by_states : (one other : State) → x.end.state ≡ one → y.end.state ≡ other → is_7_or_8 one ≡ true → is_7_or_8 other ≡ true → Draining last n begun
+      by_states MultipleFrameEstablished MultipleFrameEstablished is its_is o p = inl (both_in_7 is its_is)
+      by_states TimerRecovery MultipleFrameEstablished is its_is o p = inr (inl (user_in_8 is its_is))
+      by_states MultipleFrameEstablished TimerRecovery is its_is o p = inr (inr (inl (network_in_8 is its_is)))
+      by_states TimerRecovery TimerRecovery is its_is o p = inr (inr (inr (both_in_8 is its_is)))
+      by_states TeiAssigned other is its_is o p = cc
+      by_states AwaitingEstablishment other is its_is o p = cc
+      by_states AwaitingRelease other is its_is o p = cc
+      by_states one TeiAssigned is its_is o p = cc
+      by_states one AwaitingEstablishment is its_is o p = cc
+      by_states one AwaitingRelease is its_is o p = cc
 
 module _ (x y : Station) (i : IsInvariant (at x y [] [])) (ends_settled : AreSettledEnds (at x y [] [])) (x_settled : AreSettled x.history) (y_settled : AreSettled y.history) (last : Bool) (x_opened : is_7_or_8 x.end.state ≡ true) (y_opened : is_7_or_8 y.end.state ≡ true) (x_free : x.end.window.own_busy ≡ false) (y_free : y.end.window.own_busy ≡ false) (x_tries : x.end.state ≡ TimerRecovery → (last || nat_lt x.end.rc x.end.parameters.n200) ≡ true) (y_tries : y.end.state ≡ TimerRecovery → (last || nat_lt y.end.rc y.end.parameters.n200) ≡ true) where
   abbrev w : World
@@ -113,86 +194,12 @@ module _ (x y : Station) (i : IsInvariant (at x y [] [])) (ends_settled : AreSet
   burden_y : burden 3 (source y.end) (sink x.end) ≤ most_of y
   burden_y = burden_begins (source y.end) (sink x.end) between_its.0 between_its.1
 
-  both_in_7 : x.end.state ≡ MultipleFrameEstablished → y.end.state ≡ MultipleFrameEstablished → Drains (most_moves w) w
-  both_in_7 is its_is = record {
-    holds = i;
-    ends_settled = ends_settled;
-    sees = record {
-      flow = record { a = most_of x; b = most_of y; mine = stream_x is; its = stream_y its_is; most = let le = all in omega (arith, le) };
-      idle = x_free;
-      its_idle = y_free;
-      proceeding = tt;
-      arriving = tt;
-    };
-  }
-
-  user_in_8 : x.end.state ≡ TimerRecovery → y.end.state ≡ MultipleFrameEstablished → UserLost last (most_moves w) w
-  user_in_8 is its_is = lost_so last (most_moves w) w (record {
-    holds = i;
-    ends_settled = ends_settled;
-    in_8 = is;
-    tries = x_tries is;
-    peer_open = y_opened;
-    lost = record { polls = refl; finals = refl; no_message = refl };
-    b = most_of y;
-    its = stream_y its_is;
-    idle = x_free;
-    its_idle = y_free;
-    proceeding = tt;
-    arriving = tt;
-    most = let le = all in let heavy = burden_x in omega (arith, le, heavy);
-  })
-
-  network_in_8 : x.end.state ≡ MultipleFrameEstablished → y.end.state ≡ TimerRecovery → UserLost last (most_moves w) (swapped w)
-  network_in_8 is its_is = lost_so last (most_moves w) (swapped w) (record {
-    holds = exchanged w i;
-    ends_settled = record { user = ends_settled.network; network = ends_settled.user };
-    in_8 = its_is;
-    tries = y_tries its_is;
-    peer_open = x_opened;
-    lost = record { polls = refl; finals = refl; no_message = refl };
-    b = most_of x;
-    its = stream_x is;
-    idle = y_free;
-    its_idle = x_free;
-    proceeding = tt;
-    arriving = tt;
-    most = let le = all in let heavy = burden_y in omega (arith, le, heavy);
-  })
-
-  both_in_8 : x.end.state ≡ TimerRecovery → y.end.state ≡ TimerRecovery → BothLost last (most_moves w) w
-  both_in_8 is its_is = record {
-    to_user = refl;
-    to_network = refl;
-    holds = i;
-    ends_settled = ends_settled;
-    user_in_8 = is;
-    network_in_8 = its_is;
-    user_tries = x_tries is;
-    network_tries = y_tries its_is;
-    user_idle = x_free;
-    network_idle = y_free;
-    most = let le = all in let heavy = burden_x in let heavy_too = burden_y in omega (arith, le, heavy, heavy_too);
-  }
-
   pub draining_begins : Draining last (most_moves w) w
-  draining_begins = by_states x.end.state y.end.state refl refl x_opened y_opened
-    where
-      by_states : (a b : State) → x.end.state ≡ a → y.end.state ≡ b → is_7_or_8 a ≡ true → is_7_or_8 b ≡ true → Draining last (most_moves w) w
-      by_states MultipleFrameEstablished MultipleFrameEstablished is its_is o p = inl (both_in_7 is its_is)
-      by_states TimerRecovery MultipleFrameEstablished is its_is o p = inr (inl (user_in_8 is its_is))
-      by_states MultipleFrameEstablished TimerRecovery is its_is o p = inr (inr (inl (network_in_8 is its_is)))
-      by_states TimerRecovery TimerRecovery is its_is o p = inr (inr (inr (both_in_8 is its_is)))
-      by_states TeiAssigned b is its_is o p = cc
-      by_states AwaitingEstablishment b is its_is o p = cc
-      by_states AwaitingRelease b is its_is o p = cc
-      by_states a TeiAssigned is its_is o p = cc
-      by_states a AwaitingEstablishment is its_is o p = cc
-      by_states a AwaitingRelease is its_is o p = cc
+  draining_begins = draining_from x y i ends_settled last x_opened y_opened x_free y_free x_tries y_tries (most_of x) (most_of y) (most_moves w) stream_x stream_y burden_x burden_y all
 
 -- ---- The world at the end.
 
-in_transit_none : (rejecting : Bool) (low end : ℕ) → IsInTransit rejecting low end [] → low ≡ end
+pub in_transit_none : (rejecting : Bool) (low end : ℕ) → IsInTransit rejecting low end [] → low ≡ end
 in_transit_none false low end c = c
 in_transit_none true low end c = c
 

@@ -31,7 +31,7 @@ after_on_tags : (w : World) (r : Result Happened Refusal) → world_after (tag_w
 after_on_tags w (Ok happened) = refl
 after_on_tags w (Err refusal) = refl
 
-world_on_tags : (move : Move) (w : World) → IsInvariant w → IsConsistentWorld Whole w → world_after (tag_world w) (happens Tagged move (tag_world w)) ≡ tag_world (world_after w (happens Whole move w))
+pub world_on_tags : (move : Move) (w : World) → IsInvariant w → IsConsistentWorld Whole w → world_after (tag_world w) (happens Tagged move (tag_world w)) ≡ tag_world (world_after w (happens Whole move w))
 world_on_tags move w i preserved = ap (λ r. world_after (tag_world w) r) (move_tagged move w i preserved) ∙ after_on_tags w (happens Whole move w)
 
 empty_on_tags : (l : List Flight) → is_empty (map tag_flight l) ≡ is_empty l
@@ -50,7 +50,7 @@ due_on_tags (Busy on) w = refl
 due_on_tags (UnitData octets) w = refl
 due_on_tags Restart w = refl
 
-ok_on_tags : (move : Move) (w : World) → IsInvariant w → IsConsistentWorld Whole w → is_ok (happens Tagged move (tag_world w)) ≡ is_ok (happens Whole move w)
+pub ok_on_tags : (move : Move) (w : World) → IsInvariant w → IsConsistentWorld Whole w → is_ok (happens Tagged move (tag_world w)) ≡ is_ok (happens Whole move w)
 ok_on_tags move w i preserved = ap is_ok (move_tagged move w i preserved) ∙ admitted_on_tags (happens Whole move w)
 
 own_by_tags : (move : Move) (w : World) → IsInvariant w → IsConsistentWorld Whole w → IsOwn Tagged move (tag_world w) → IsOwn Whole move w

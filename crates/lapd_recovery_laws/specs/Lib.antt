@@ -1,5 +1,7 @@
 pub mod AfterOutage
 pub mod Agreed
+pub mod Deliveries
+pub mod EveryWorld
 pub mod LoneLine
 pub mod OpenLine
 pub mod Own

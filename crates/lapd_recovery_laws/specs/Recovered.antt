@@ -1,12 +1,14 @@
 -- Worked worlds that try the line's own moves. N200 is three.
-use Rattle.std.specs.Prelude.{ℕ, nat_le, Bool, true, false, List, [], ◌∷◌, ◌++◌, length, is_none}
+use Rattle.std.specs.Prelude.{ℕ, zero, suc, nat_le, Bool, true, false, List, [], ◌∷◌, ◌++◌, length, is_none}
 use Rattle.lapd_mod128.specs.Counting.{Reading}
 use Rattle.lapd_link_definition.specs.declared.state.State.{State}
 use Rattle.lapd_link_definition.specs.declared.state.State.TheVariants.{TeiAssigned, MultipleFrameEstablished, TimerRecovery}
 use Rattle.lapd_pair_laws.specs.Move.{Move, Give, Establish, Release, Deliver, Lose, Restart, Expire200, Expire203}
 use Rattle.lapd_pair_laws.specs.Schedule.{of_user, of_network, establishing}
-use Rattle.lapd_pair_laws.specs.World.{World, run, left}
-use Rattle.lapd_recovery_laws.specs.Own.{IsFree, first_own, most_own_moves, recovering, tried}
+use Rattle.lapd_pair_laws.specs.World.{World, world_after, happens, run, left}
+use Rattle.lapd_recovery_laws.specs.Deliveries.{most_deliveries}
+use Rattle.lapd_recovery_laws.specs.EveryWorld.{most_moves_from}
+use Rattle.lapd_recovery_laws.specs.Own.{IsFree, first_own, most_own_moves, then_on, recovering, tried}
 
 -- The result of the own moves. `moves`: how many were made; `few`: whether they are at most
 -- `most_own_moves`; `rest`: whether no own move is possible; `left`: how many messages are left;
@@ -94,6 +96,38 @@ longest = establishing ++ of_user Expire203 ∷ of_network Deliver ∷ of_user (
     ∷ of_user (Give (1 ∷ [])) ∷ of_network Establish ∷ of_user (Lose 0) ∷ of_network Expire200
     ∷ of_user (Lose 0) ∷ of_network Expire200 ∷ of_user (Lose 0) ∷ of_network Expire200
     ∷ of_user (Lose 0) ∷ []
+
+-- ---- Frames in transit at the start.
+
+-- the deliveries to the network first, and else to the user, at most n
+abbrev pub delivering : Reading → ℕ → World → List Move
+delivering r zero w = []
+delivering r (suc n) w = then_on
+    (first_own r (of_network Deliver ∷ of_user Deliver ∷ []) w)
+    (λ move. delivering r n (world_after w (happens r move w)))
+
+-- after deliveries alone, and after own moves from a world with frames in transit
+abbrev pub after_deliveries : Reading → List Move → World → RecoveryOutcome
+after_deliveries r moves w = looked_at r (length moves) (most_deliveries w) (run r moves w)
+
+abbrev pub outcome_of_deliveries : Reading → World → RecoveryOutcome
+outcome_of_deliveries r w = after_deliveries r (delivering r 40 w) w
+
+abbrev pub after_all : Reading → List Move → World → RecoveryOutcome
+after_all r moves w = looked_at r (length moves) (most_moves_from 3 w) (run r moves w)
+
+abbrev pub outcome_from : Reading → World → RecoveryOutcome
+outcome_from r w = after_all r (recovering r 40 w) w
+
+-- three messages are in transit, and the first is lost
+abbrev pub first_of_three_lost : List Move
+first_of_three_lost = establishing ++ of_user (Give (1 ∷ [])) ∷ of_user (Give (2 ∷ []))
+    ∷ of_user (Give (3 ∷ [])) ∷ of_network (Lose 0) ∷ []
+
+-- a poll of the user meets a SABME of the network, and a message waits
+abbrev pub poll_meets_sabme : List Move
+poll_meets_sabme = establishing ++ of_user Expire203 ∷ of_user (Give (1 ∷ []))
+    ∷ of_network Establish ∷ []
 
 -- ---- A busy end.
 

@@ -13,7 +13,7 @@
 mod recovery;
 
 pub use recovery::{
-    every_held_line_stays_up, every_line_comes_back, every_lone_line_comes_up,
-    every_open_line_comes_up, every_released_line_comes_down, recovery_is_computed,
-    timers_of_states_run,
+    every_held_line_stays_up, every_line_comes_back, every_line_runs_empty,
+    every_lone_line_comes_up, every_open_line_comes_up, every_released_line_comes_down,
+    every_world_comes_back, recovery_is_computed, timers_of_states_run,
 };

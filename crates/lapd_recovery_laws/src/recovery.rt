@@ -10,15 +10,19 @@ ghost use Rattle.lapd_pair_laws.specs.Worked.{new_pair, busy};
 ghost use Rattle.lapd_pair_laws.specs.World.{new_world, run};
 ghost use Rattle.lapd_recovery_laws.specs.AfterOutage.{IsAfterOutage, IsHeldUp, StaysUp};
 ghost use Rattle.lapd_recovery_laws.specs.Agreed.{ComesBack};
+ghost use Rattle.lapd_recovery_laws.specs.EveryWorld.{IsFreeWorld, WorldComesBack};
+ghost use Rattle.lapd_recovery_laws.specs.Deliveries.{RunsEmpty};
 ghost use Rattle.lapd_recovery_laws.specs.LoneLine.{IsLoneLine, ComesUpAnew};
 ghost use Rattle.lapd_recovery_laws.specs.OpenLine.{IsOpenLine, ComesUp};
-ghost use Rattle.lapd_recovery_laws.specs.Recovered.{outcome_of, both_sabmes_lost, network_restarts, restarts_with_one_sent, release_unheard, disc_meets_sabme, longest, both_in_7, both_in_4, held_up, IsBusy};
+ghost use Rattle.lapd_recovery_laws.specs.Recovered.{outcome_of, outcome_of_deliveries, outcome_from, first_of_three_lost, poll_meets_sabme, both_sabmes_lost, network_restarts, restarts_with_one_sent, release_unheard, disc_meets_sabme, longest, both_in_7, both_in_4, held_up, IsBusy};
 ghost use Rattle.lapd_recovery_laws.specs.ReleasedLine.{IsReleasedLine, ComesDown};
 ghost use Rattle.lapd_recovery_laws.specs.Timers.{HaveTimersOfStates};
 
 /// Worked worlds come back as expected, on whole numbers and on tags, with either `Recovery`: the
 /// network restarts, without and with a message in transit; both SABMEs are lost; each DISC of a
-/// release is lost, which undoes it; a DISC and a SABME cross; and a world that takes 31 moves.
+/// release is lost, which undoes it; a DISC and a SABME cross; and a world that takes 31 moves. With
+/// frames in transit: three messages, of which the first is lost, arrive by deliveries alone, the
+/// last two twice; and a poll and a SABME cross while a message waits.
 /// Without T203, a network that restarts leaves the ends apart. With a busy end the moves are not few.
 pub fn recovery_is_computed()
     ensures restart { (r : Reading) → outcome_of r (run r network_restarts (new_pair 1 Enquiry))
@@ -45,6 +49,16 @@ pub fn recovery_is_computed()
         ≡ both_in_7 31 0 1 }
     ensures longest_by_last { (r : Reading) → outcome_of r (run r longest (new_pair 1 LastMessage))
         ≡ both_in_7 31 0 1 }
+    ensures first_lost { (r : Reading)
+        → outcome_of_deliveries r (run r first_of_three_lost (new_pair 3 Enquiry))
+        ≡ both_in_7 9 3 0 }
+    ensures first_lost_by_last { (r : Reading)
+        → outcome_of_deliveries r (run r first_of_three_lost (new_pair 3 LastMessage))
+        ≡ both_in_7 9 3 0 }
+    ensures poll_meets_sabme { (r : Reading)
+        → outcome_from r (run r poll_meets_sabme (new_pair 1 Enquiry)) ≡ both_in_7 5 1 0 }
+    ensures poll_meets_sabme_by_last { (r : Reading)
+        → outcome_from r (run r poll_meets_sabme (new_pair 1 LastMessage)) ≡ both_in_7 5 1 0 }
     ensures apart_without_t203 { (r : Reading)
         → next_move r (run r network_restarts (new_pair 1 Enquiry)) ≡ None }
     ensures held_up { (r : Reading) → outcome_of r (run r busy (new_pair 1 Enquiry)) ≡ held_up }
@@ -115,4 +129,28 @@ pub fn every_held_line_stays_up()
         → IsAfterOutage n200 (run r moves (new_world user network))
         → IsHeldUp (run r moves (new_world user network))
         → StaysUp r (run r moves (new_world user network)) }
+{}
+
+/// The line runs empty: deliveries alone, in any order of the two directions, are at most two per
+/// frame in transit, three per message left, and four more. When none is possible any more, no frame
+/// is in transit. An end may be own receiver busy. The run starts in a new world, on whole numbers
+/// or on tags, with windows of 1 to 127 and either `Recovery`.
+pub fn every_line_runs_empty()
+    ensures { (r : Reading) (user network : Parameters)
+        → user.k ≤ 127 → network.k ≤ 127 → 1 ≤ user.k → 1 ≤ network.k → (moves : List Move)
+        → RunsEmpty r (run r moves (new_world user network)) }
+{}
+
+/// Every world comes back by itself. Whatever happened before, with frames in transit or not, if no
+/// end in state 7 or 8 is own receiver busy, then the line's own moves, in any order, are at most
+/// two per frame in transit, three per message left, six per retransmission that N200 allows, and 15
+/// more. When none is possible any more, both ends agree: both in state 4, or both in state 7 with
+/// equal numbers, and no message is left. The run starts in a new world, on whole numbers or on
+/// tags, with windows of 1 to 127 and either `Recovery`. The argument is at least N200 of both ends,
+/// and 1.
+pub fn every_world_comes_back()
+    ensures { (r : Reading) (n200 : ℕ) → 1 ≤ n200 → (user network : Parameters)
+        → user.k ≤ 127 → network.k ≤ 127 → 1 ≤ user.k → 1 ≤ network.k → (moves : List Move)
+        → IsFreeWorld n200 (run r moves (new_world user network))
+        → WorldComesBack r n200 (run r moves (new_world user network)) }
 {}

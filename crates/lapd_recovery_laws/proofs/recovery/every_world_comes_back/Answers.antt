@@ -1,0 +1,5 @@
+use Rattle.lapd_recovery_laws.proofs.EveryWorld.{every_world_comes_back}
+use Rattle.lapd_recovery_laws.proofs.recovery.every_world_comes_back.Goals as goal
+
+pub returns : goal.returns
+returns c = every_world_comes_back
