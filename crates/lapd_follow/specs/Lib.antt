@@ -1,0 +1,7 @@
+pub mod Ends
+pub mod Exchange
+pub mod Follower
+pub mod Link
+pub mod Remarks
+pub mod Texts
+pub mod Worked

@@ -1,0 +1,199 @@
+-- What is said of the next frame, by what was known before it, and the class of each remark.
+use Rattle.std.specs.Prelude.{ℕ, ◌-◌, ◌==◌, ◌&&◌, ◌||◌, nat_lt, nat_le, if◌then◌else◌, Bool, true, false, List, Option, Some, None, is_some}
+use Rattle.std.specs.Str.{bytes_eq}
+use Rattle.lapd_mod128.specs.Counting.{Tagged, steps, lies_within}
+use Rattle.lapd_frame.specs.declared.Role.{Role}
+use Rattle.lapd_frame.specs.declared.Control.{Control}
+use Rattle.lapd_frame.specs.declared.Control.TheVariants.{I, Rr, Rnr, Rej, Sabme, Dm, Ui, Disc, Ua, Frmr, Xid}
+use Rattle.lapd_frame.specs.Frame.{Fields}
+use Rattle.lapd_frame.specs.Reading.{is_command}
+use Rattle.lapd_follow.specs.declared.packet.Packet.{Packet}
+use Rattle.lapd_follow.specs.declared.polls.Polls.{Polls}
+use Rattle.lapd_follow.specs.declared.numbering.Numbering.{Numbering}
+use Rattle.lapd_follow.specs.declared.end.Busy.{Busy}
+use Rattle.lapd_follow.specs.declared.end.Busy.TheVariants as busy
+use Rattle.lapd_follow.specs.declared.remark.Class.{Class}
+use Rattle.lapd_follow.specs.declared.remark.Class.TheVariants.{Normal, Recovery, Violation}
+use Rattle.lapd_follow.specs.declared.remark.Remark.{Remark}
+use Rattle.lapd_follow.specs.declared.remark.Remark.TheVariants.{Begins, LateUa, UaWithoutCommand, FirstNs, NsExpected, Repeated, RepeatedOtherwise, WindowExceeded, SentToBusy, SentToKnownBusy, NrOutside, Answers, LateResponse, ResponseWithoutPoll, NotAnswered}
+use Rattle.lapd_follow.specs.declared.remarks.Remarks.{Remarks}
+use Rattle.lapd_follow.specs.Ends.{one_more, from_end}
+use Rattle.lapd_follow.specs.Exchange.{Exchange, begins_establishment}
+
+-- Normal: what an undisturbed data link does. Recovery: also two ends that follow Q.921 do this, if
+-- frames are lost or late. Violation: no two ends do that follow it.
+abbrev pub class_of : Remark → Class
+class_of (Begins n) = Normal
+class_of LateUa = Recovery
+class_of UaWithoutCommand = Violation
+class_of (FirstNs ns) = Recovery
+class_of (NsExpected ns expected) = Recovery
+class_of Repeated = Recovery
+class_of RepeatedOtherwise = Violation
+class_of (WindowExceeded k) = Violation
+class_of SentToBusy = Recovery
+class_of SentToKnownBusy = Violation
+class_of (NrOutside nr first last) = Violation
+class_of (Answers packet after) = Normal
+class_of LateResponse = Recovery
+class_of ResponseWithoutPoll = Violation
+class_of (NotAnswered packet) = Recovery
+
+abbrev pub is_violation_class : Class → Bool
+is_violation_class Normal = false
+is_violation_class Recovery = false
+is_violation_class Violation = true
+
+abbrev pub is_violation : Option Remark → Bool
+is_violation None = false
+is_violation (Some remark) = is_violation_class (class_of remark)
+
+-- ---- Establishment: of a UA (Q.921 5.5.1.2, 5.5.3.2).
+
+-- a UA is sent for a SABME or DISC alone
+abbrev pub unexpected_ua : Polls → Remark
+unexpected_ua commands = if commands.complete && (commands.unanswered == 0) then UaWithoutCommand else LateUa
+
+abbrev pub ua_remark : Exchange → Option Remark
+ua_remark x = if is_some x.to.commands.last
+    then (if begins_establishment x then Some (Begins (one_more x.establishments)) else None)
+    else Some (unexpected_ua x.to.commands)
+
+abbrev pub establishment_remark : Control → Exchange → Option Remark
+establishment_remark (Ua f) x = ua_remark x
+establishment_remark control x = None
+
+-- ---- N(S): of an I frame, if the numbers of both ends are known (Q.921 3.5.2.4, 5.6.1, 5.6.4).
+
+-- the same octets as before, or others
+abbrev pub repeated : List ℕ → Option (List ℕ) → Remark → Remark
+repeated octets None unknown = unknown
+repeated octets (Some earlier) unknown = if bytes_eq earlier octets then Repeated
+    else RepeatedOtherwise
+
+-- a frame that is not the next: the first of an establishment, or an unacknowledged one again, or
+-- out of sequence
+abbrev pub out_of_sequence : ℕ → List ℕ → Numbering → List (List ℕ) → Remark
+out_of_sequence ns octets own unacknowledged = if own.is_first then FirstNs ns
+    else repeated octets (from_end (steps Tagged ns own.next) unacknowledged)
+    (NsExpected ns own.next)
+
+abbrev pub ns_remark : ℕ → List ℕ → List (List ℕ) → Option Numbering → Option Numbering
+    → Option Remark
+ns_remark ns octets unacknowledged None peer = None
+ns_remark ns octets unacknowledged (Some own) None = None
+ns_remark ns octets unacknowledged (Some own) (Some peer) = if ns == own.next then None
+    else Some (out_of_sequence ns octets own unacknowledged)
+
+-- ---- The window (Q.921 5.9.5). At most k I frames follow V(A), which is at most the last N(R) of
+-- the peer. A frame is within, if fewer than k steps lead to it from that N(R), or if it is one of
+-- the last k, whose acknowledgement may be lost.
+abbrev pub is_in_window : ℕ → ℕ → Numbering → Numbering → Bool
+is_in_window k ns own peer = if nat_lt (steps Tagged peer.nr ns) k then true
+    else (nat_lt 0 (steps Tagged ns own.next) && nat_le (steps Tagged ns own.next) k)
+
+abbrev pub window_remark : Option ℕ → ℕ → Option Numbering → Option Numbering → Option Remark
+window_remark None ns own peer = None
+window_remark (Some k) ns None peer = None
+window_remark (Some k) ns (Some own) None = None
+window_remark (Some k) ns (Some own) (Some peer) = if is_in_window k ns own peer then None
+    else Some (WindowExceeded k)
+
+-- ---- Busy: of an I frame whose receiver is busy (Q.921 5.6.5). The last I frame again, with P=1,
+-- is an enquiry of a sender that has no answer yet (5.6.7).
+abbrev pub sent_to_busy : Bool → Busy → Option Remark
+sent_to_busy p busy.Free = None
+sent_to_busy p busy.Reported = Some SentToBusy
+sent_to_busy true busy.Answered = Some SentToBusy
+sent_to_busy false busy.Answered = Some SentToKnownBusy
+
+-- ---- N(R): of an I or S frame, if the numbers of both ends are known (Q.921 3.5.2.3, 5.8.2).
+abbrev pub nr_remark : ℕ → Option Numbering → Option Numbering → Option Remark
+nr_remark nr None peer = None
+nr_remark nr (Some own) None = None
+nr_remark nr (Some own) (Some peer) = if lies_within Tagged own.nr nr peer.next then None
+    else Some (NrOutside nr own.nr peer.next)
+
+-- ---- Polls and their answers (Q.921 3.5.1, 5.6.2.1, 5.6.7).
+
+-- the microseconds from one moment to another, if both are known
+abbrev pub time_from : Option ℕ → Option ℕ → Option ℕ
+time_from None last = None
+time_from (Some first) None = None
+time_from (Some first) (Some last) = Some (last - first)
+
+-- this packet answers that one
+abbrev pub answers_poll : Packet → Packet → Remark
+answers_poll packet poll = Answers poll.number (time_from poll.moment packet.moment)
+
+-- of a UA or DM with F=1, if it answers the last SABME or DISC
+abbrev pub answer_to : Packet → Option Packet → Option Remark
+answer_to packet None = None
+answer_to packet (Some poll) = Some (answers_poll packet poll)
+
+-- of an S response with F=1
+abbrev pub response_to : Packet → Option Packet → Polls → Remark
+response_to packet (Some poll) polls = answers_poll packet poll
+response_to packet None polls = if polls.complete && (polls.unanswered == 0) then ResponseWithoutPoll
+    else LateResponse
+
+-- of a poll, while the one before it is not answered
+abbrev pub left_unanswered : Option Packet → Option Remark
+left_unanswered None = None
+left_unanswered (Some poll) = Some (NotAnswered poll.number)
+
+abbrev pub supervisory_remark : Role → Bool → Packet → Exchange → Option Remark
+supervisory_remark role false packet x = None
+supervisory_remark role true packet x = if is_command role then left_unanswered x.from.polls.last
+    else Some (response_to packet x.to.polls.last x.to.polls)
+
+abbrev pub answer_remark : Control → Role → Packet → Exchange → Option Remark
+answer_remark (I ns nr p) role packet x = if p then left_unanswered x.from.polls.last else None
+answer_remark (Rr nr pf) role packet x = supervisory_remark role pf packet x
+answer_remark (Rnr nr pf) role packet x = supervisory_remark role pf packet x
+answer_remark (Rej nr pf) role packet x = supervisory_remark role pf packet x
+answer_remark (Sabme p) role packet x = left_unanswered x.from.commands.last
+answer_remark (Dm f) role packet x = if f then answer_to packet x.to.commands.last else None
+answer_remark (Ui p) role packet x = None
+answer_remark (Disc p) role packet x = left_unanswered x.from.commands.last
+answer_remark (Ua f) role packet x = answer_to packet x.to.commands.last
+answer_remark (Frmr f) role packet x = None
+answer_remark (Xid pf) role packet x = None
+
+-- ---- All that is said of a frame.
+
+abbrev pub ns_of : Control → List ℕ → Exchange → Option Remark
+ns_of (I ns nr p) octets x =
+    ns_remark ns octets x.from.unacknowledged x.from.numbering x.to.numbering
+ns_of control octets x = None
+
+abbrev pub window_of : Option ℕ → Control → Exchange → Option Remark
+window_of k (I ns nr p) x = window_remark k ns x.from.numbering x.to.numbering
+window_of k control x = None
+
+abbrev pub busy_of : Control → Exchange → Option Remark
+busy_of (I ns nr p) x = sent_to_busy p x.to.busy
+busy_of control x = None
+
+abbrev pub nr_of : Control → Exchange → Option Remark
+nr_of (I ns nr p) x = nr_remark nr x.from.numbering x.to.numbering
+nr_of (Rr nr pf) x = nr_remark nr x.from.numbering x.to.numbering
+nr_of (Rnr nr pf) x = nr_remark nr x.from.numbering x.to.numbering
+nr_of (Rej nr pf) x = nr_remark nr x.from.numbering x.to.numbering
+nr_of control x = None
+
+-- the remarks on the frame in this packet; `k` is the window, if it is known
+abbrev pub remarks_on : Option ℕ → Packet → Fields → Exchange → Remarks
+remarks_on k packet f x = record {
+  establishment = establishment_remark f.control x;
+  ns = ns_of f.control f.info x;
+  window = window_of k f.control x;
+  busy = busy_of f.control x;
+  nr = nr_of f.control x;
+  answer = answer_remark f.control f.address.role packet x;
+}
+
+-- one of the remarks is a violation
+abbrev pub has_violation : Remarks → Bool
+has_violation r = is_violation r.establishment || is_violation r.ns || is_violation r.window
+    || is_violation r.busy || is_violation r.nr || is_violation r.answer

@@ -1,0 +1,30 @@
+-- The words of each remark.
+use Rattle.std.specs.Prelude.{ℕ, ◌/◌, ◌%◌, List, [], ◌++◌, codes, Option, Some, None}
+use Rattle.std.specs.Fmt.{decimal}
+use Rattle.lapd_follow.specs.declared.remark.Remark.{Remark}
+use Rattle.lapd_follow.specs.declared.remark.Remark.TheVariants.{Begins, LateUa, UaWithoutCommand, FirstNs, NsExpected, Repeated, RepeatedOtherwise, WindowExceeded, SentToBusy, SentToKnownBusy, NrOutside, Answers, LateResponse, ResponseWithoutPoll, NotAnswered}
+
+-- so many microseconds, in seconds with three digits after the point
+abbrev pub after_text : Option ℕ → List ℕ
+after_text None = []
+after_text (Some n) = codes " after " ++ (decimal (n / 1000000) ++ (codes "." ++ (decimal (n / 100000 % 10)
+    ++ (decimal (n / 10000 % 10) ++ (decimal (n / 1000 % 10) ++ codes " s")))))
+
+abbrev pub remark_text : Remark → List ℕ
+remark_text (Begins n) = codes "begins establishment " ++ decimal n
+remark_text LateUa = codes "answers an earlier SABME or DISC"
+remark_text UaWithoutCommand = codes "UA without SABME or DISC"
+remark_text (FirstNs ns) = codes "first N(S) is " ++ (decimal ns ++ codes ", not 0")
+remark_text (NsExpected ns expected) = codes "N(S) " ++ (decimal ns ++ (codes ", "
+    ++ (decimal expected ++ codes " expected")))
+remark_text Repeated = codes "repeated"
+remark_text RepeatedOtherwise = codes "repeated with other octets"
+remark_text (WindowExceeded k) = codes "window of " ++ (decimal k ++ codes " is exceeded")
+remark_text SentToBusy = codes "sent to a busy peer"
+remark_text SentToKnownBusy = codes "sent to a peer that answered a poll by RNR"
+remark_text (NrOutside nr first last) = codes "N(R) " ++ (decimal nr ++ (codes " is not from "
+    ++ (decimal first ++ (codes " to " ++ decimal last))))
+remark_text (Answers packet after) = codes "answers packet " ++ (decimal packet ++ after_text after)
+remark_text LateResponse = codes "answers an earlier poll"
+remark_text ResponseWithoutPoll = codes "response without a poll"
+remark_text (NotAnswered packet) = codes "packet " ++ (decimal packet ++ codes " is not answered")

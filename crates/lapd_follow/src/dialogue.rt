@@ -1,0 +1,245 @@
+ghost use Rattle.std.specs.Prelude.{◌≡◌, IfOk};
+ghost use Rattle.lapd_follow.specs.Exchange.{Exchange, turned, sender_begins, commands, disconnects, begins_establishment, accepts, accepts_late, acknowledges_mode, takes_nr, polls, sends, answers, poll_or_final, answers_only_poll, busy_if, busy_after_rnr, reports, supervises, after_control};
+
+use crate::end::{Busy, End};
+use crate::numbering::{counter, is_valid_nr};
+use crate::{Packet, Polls};
+use lapd_frame::{Control, Number, Role, Side};
+use std::marker::Model;
+use std::mem;
+
+/// Both ends, as the sender of the next frame sees them.
+#[derive(Drop)]
+pub(crate) struct Dialogue {
+    pub(crate) from: End,
+    pub(crate) to: End,
+    pub(crate) establishments: u64,
+}
+
+impl Model for Dialogue {
+    ghost use Rattle.lapd_follow.specs.Exchange.{Exchange};
+
+    ghost Value = { Exchange };
+
+    ghost view = { λ d. record { from = d.from; to = d.to; establishments = d.establishments } };
+}
+
+/// The sender changes.
+#[tactic(auto, unfolding(crate::specs::Exchange::turned))]
+impl Dialogue {
+    /// The same, as the sender `now` sees it, and not the sender `before`.
+    pub(crate) fn turn(&mut self, before: Side, now: Side)
+        ensures { self.new ≡ turned before now self.old }
+    {
+        match (before, now) {
+            (Side::Network, Side::User) | (Side::User, Side::Network) => {
+                mem::swap(&mut self.from, &mut self.to);
+            }
+            _ => {}
+        }
+    }
+}
+
+/// U frames.
+#[tactic(auto, unfolding(crate::specs::Exchange::sender_begins, crate::specs::Exchange::commands, crate::specs::Exchange::disconnects, crate::specs::Exchange::accepts, crate::specs::Exchange::accepts_late, crate::specs::Exchange::acknowledges_mode))]
+impl Dialogue {
+    /// The sender begins anew.
+    fn begin(&mut self)
+        ensures { self.new ≡ sender_begins self.old }
+    {
+        self.from.begin();
+        self.to.lose_numbers();
+        self.to.end_polls();
+    }
+
+    /// A SABME or a DISC.
+    fn command(&mut self, is_sabme: bool, packet: Packet)
+        ensures { self.new ≡ commands is_sabme packet self.old }
+    {
+        self.begin();
+        self.from.command(is_sabme, packet);
+    }
+
+    /// A DM.
+    fn disconnect(&mut self, f: bool)
+        ensures { self.new ≡ disconnects f self.old }
+    {
+        self.begin();
+        if f {
+            self.to.take_command_answer();
+        }
+    }
+
+    /// Whether a UA begins an establishment.
+    pub(crate) fn begins_establishment(&self) -> bool
+        ensures { result ≡ begins_establishment self.now }
+    {
+        self.to.awaits_ua() && !self.from.awaits_ua()
+    }
+
+    /// A UA that answers the last SABME or DISC.
+    fn accept(&mut self)
+        ensures { self.new ≡ accepts self.old }
+    {
+        if self.begins_establishment() {
+            self.establishments = self.establishments.saturating_add(1);
+        }
+        self.from.begin();
+        self.from.end_polls();
+        self.to.report(Busy::Free);
+        self.to.end_polls();
+        self.to.take_command_answer();
+    }
+
+    /// A UA that answers an earlier SABME or DISC, or none.
+    fn accept_late(&mut self)
+        ensures { self.new ≡ accepts_late self.old }
+    {
+        self.from.begin();
+        self.to.lose_numbers();
+        self.to.take_command_answer();
+    }
+
+    /// A UA.
+    fn acknowledge_mode(&mut self)
+        ensures { self.new ≡ acknowledges_mode self.old }
+    {
+        if self.to.commands.last.is_some() {
+            self.accept();
+        } else {
+            self.accept_late();
+        }
+    }
+}
+
+/// I and S frames.
+#[tactic(auto, unfolding(crate::specs::Exchange::takes_nr, crate::specs::Exchange::polls, crate::specs::Exchange::sends, crate::specs::Exchange::answers, crate::specs::Exchange::reports))]
+impl Dialogue {
+    /// An N(R).
+    fn take_nr(&mut self, nr: Number)
+        ensures { self.new ≡ takes_nr nr self.old }
+    {
+        let nr = counter(nr);
+        if is_valid_nr(nr, self.from.numbering, self.to.numbering) {
+            self.from.acknowledge(nr);
+            self.to.take_acknowledgement(nr);
+        }
+    }
+
+    /// The P bit of a command.
+    fn poll(&mut self, p: bool, packet: Packet)
+        ensures { self.new ≡ polls p packet self.old }
+    {
+        if p {
+            self.from.poll(packet);
+        }
+    }
+
+    /// An I frame.
+    fn send(&mut self, ns: Number, octets: Vec<u8>)
+        ensures { self.new ≡ sends ns octets.items self.old }
+    {
+        self.from.send(counter(ns), octets);
+    }
+
+    /// The F bit of an S response.
+    fn answer(&mut self, f: bool)
+        ensures { self.new ≡ answers f self.old }
+    {
+        if f {
+            self.to.take_response();
+        }
+    }
+
+    /// The busy condition of the sender.
+    fn report(&mut self, busy: Busy)
+        ensures { self.new ≡ reports busy self.old }
+    {
+        self.from.report(busy);
+    }
+}
+
+/// S frames.
+#[tactic(auto, unfolding(crate::specs::Exchange::supervises))]
+impl Dialogue {
+    /// The P or F bit of an S frame.
+    fn poll_or_answer(&mut self, role: Role, pf: bool, packet: Packet)
+        ensures { self.new ≡ poll_or_final role pf packet self.old }
+    {
+        match role {
+            Role::Command => self.poll(pf, packet),
+            Role::Answer => self.answer(pf),
+        }
+    }
+
+    /// The busy condition of the sender after its RNR.
+    fn busy_after_rnr(&self, role: Role, pf: bool) -> Busy
+        ensures { result ≡ busy_after_rnr role pf self.now }
+    {
+        busy_if(self.from.busy, answers_only_poll(role, pf, self.to.polls))
+    }
+
+    /// An S frame.
+    fn supervise(&mut self, role: Role, pf: bool, nr: Number, busy: Busy, packet: Packet)
+        ensures { self.new ≡ supervises role pf nr busy packet self.old }
+    {
+        self.take_nr(nr);
+        self.report(busy);
+        self.poll_or_answer(role, pf, packet);
+    }
+}
+
+/// Each frame.
+#[tactic(auto)]
+impl Dialogue {
+    /// A frame with this control field and role. `octets` are its information.
+    pub(crate) fn take(&mut self, control: &Control, role: Role, octets: Vec<u8>, packet: Packet)
+        ensures { self.new ≡ after_control control.now role octets.items packet self.old }
+    {
+        match *control {
+            Control::I { ns, nr, p } => {
+                self.take_nr(nr);
+                self.send(ns, octets);
+                self.poll(p, packet);
+            }
+            Control::Rr { nr, pf } | Control::Rej { nr, pf } => {
+                self.supervise(role, pf, nr, Busy::Free, packet);
+            }
+            Control::Rnr { nr, pf } => {
+                let busy = self.busy_after_rnr(role, pf);
+                self.supervise(role, pf, nr, busy, packet);
+            }
+            Control::Sabme { .. } => self.command(true, packet),
+            Control::Disc { .. } => self.command(false, packet),
+            Control::Dm { f } => self.disconnect(f),
+            Control::Ua { .. } => self.acknowledge_mode(),
+            Control::Ui { .. } | Control::Frmr { .. } | Control::Xid { .. } => {}
+        }
+    }
+}
+
+/// Whether an S frame answers the only poll that may still be answered.
+fn answers_only_poll(role: Role, pf: bool, polls: Polls) -> bool
+    ensures { result ≡ answers_only_poll role pf polls }
+{
+    match role {
+        Role::Command => false,
+        Role::Answer => pf && polls.is_only_one(),
+    }
+}
+
+/// The busy condition after an RNR.
+fn busy_if(busy: Busy, is_answer: bool) -> Busy
+    ensures { result ≡ busy_if busy is_answer }
+{
+    match busy {
+        Busy::Answered => Busy::Answered,
+        Busy::Free | Busy::Reported => {
+            if is_answer {
+                Busy::Answered
+            } else {
+                Busy::Reported
+            }
+        }
+    }
+}

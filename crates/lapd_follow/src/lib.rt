@@ -1,0 +1,31 @@
+//! Follows the data links of the ISDN D channel by the frames on the line alone, after ITU-T Q.921
+//! (09/97), clause 5.
+//!
+//! Begin with [`Follower`], or [`LinkFollower`] for one link: it takes frames in the order in which they are seen,
+//! at either end or between, and returns [`Remarks`] on each: a repeated I frame, an N(R) out of
+//! range, the poll that a response answers. Each [`Remark`] has a [`Class`]. A violation is a frame
+//! that no two ends send which follow the standard, whatever frames are lost, if T200 exceeds the
+//! time until an answer (Q.921 5.9.1).
+#![tactic(auto)]
+
+mod dialogue;
+mod end;
+mod follower;
+mod laws;
+mod link_follower;
+mod numbering;
+mod packet;
+mod polls;
+mod remark;
+mod remarks;
+mod unacknowledged;
+
+pub use end::Busy;
+pub use follower::Follower;
+pub use laws::remarks_are_computed;
+pub use link_follower::LinkFollower;
+pub use numbering::Numbering;
+pub use packet::Packet;
+pub use polls::Polls;
+pub use remark::{Class, Remark};
+pub use remarks::Remarks;

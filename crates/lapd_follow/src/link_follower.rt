@@ -1,0 +1,79 @@
+ghost use Rattle.std.specs.Prelude.{◌≡◌, IfOk, OnOk, OnErr};
+ghost use Rattle.lapd_follow.specs.Link.{Sighting, new_link, said_of, link_after};
+
+use crate::dialogue::Dialogue;
+use crate::end::End;
+use crate::remarks::remarks_on;
+use crate::{Packet, Remarks};
+use lapd_frame::{Frame, Side};
+use std::alloc::{AllocError, Global};
+use std::marker::Model;
+
+/// Follows both ends of one data link by the frames on the line alone.
+#[derive(Drop)]
+pub struct LinkFollower {
+    alloc: Global,
+    k: Option<u8>,
+    dialogue: Dialogue,
+    /// The sender of the last frame, which `dialogue` calls `from`.
+    sender: Side,
+}
+
+impl Model for LinkFollower {
+    ghost use Rattle.lapd_follow.specs.Link.{LinkKnown, with_exchange};
+
+    ghost Value = { LinkKnown };
+
+    ghost view = { λ l. with_exchange l.k l.sender l.dialogue };
+}
+
+#[tactic(auto, using(crate::proofs::Turned::seen_is_turned))]
+impl LinkFollower {
+    /// A link of which nothing was seen. `k` is its window, 1 to 127, if it is known. It allocates
+    /// the places for 127 I frames of each end.
+    pub fn new(alloc: Global, k: Option<u8>) -> Result<LinkFollower, AllocError>
+        ensures { IfOk result (λ l. l ≡ new_link k) }
+    {
+        Ok(LinkFollower {
+            alloc,
+            k,
+            dialogue: Dialogue {
+                from: End::new(alloc)?,
+                to: End::new(alloc)?,
+                establishments: 0,
+            },
+            sender: Side::User,
+        })
+    }
+
+    /// Takes the next frame of the link, and returns the remarks on it. Frames of each end come in
+    /// the order in which it sent them.
+    ///
+    /// It keeps the octets of an I frame, and fails if they can't be allocated.
+    pub fn frame(
+        &mut self,
+        packet: Packet,
+        sender: Side,
+        frame: &Frame<'_>,
+    ) -> Result<Remarks, AllocError>
+        ensures remarks { IfOk result (λ said. said ≡ said_of (record {
+          packet = packet;
+          sender = sender;
+          frame = frame.now;
+        }) self.old) }
+        ensures after { OnOk result (self.new ≡ link_after (record {
+          packet = packet;
+          sender = sender;
+          frame = frame.now;
+        }) self.old) }
+        ensures unchanged { OnErr result (self.new ≡ self.old) }
+    {
+        let octets = frame.info().to_vec(self.alloc)?;
+        self.dialogue.turn(self.sender, sender);
+        self.sender = sender;
+        let said = remarks_on(self.k, packet, frame, &self.dialogue);
+        self.dialogue
+            .take(&frame.control(), frame.address().role, octets, packet);
+        Ok(said)
+    }
+}

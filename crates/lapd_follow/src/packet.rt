@@ -1,0 +1,8 @@
+/// The place of a frame in a capture.
+#[derive(Clone, Copy, Debug, PartialEq, Eq)]
+pub struct Packet {
+    /// The number of the packet, as the caller counts them.
+    pub number: u64,
+    /// When it was captured, in microseconds, if this is known.
+    pub moment: Option<u64>,
+}

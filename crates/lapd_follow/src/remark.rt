@@ -1,0 +1,145 @@
+ghost use Rattle.std.specs.Prelude.{◌≡◌, Some};
+ghost use Rattle.lapd_follow.specs.Remarks.{class_of};
+ghost use Rattle.lapd_follow.specs.Texts.{remark_text};
+
+use lapd_mod128::Seq;
+use std::fmt;
+
+/// What a remark means.
+#[derive(Clone, Copy, Debug, PartialEq, Eq)]
+pub enum Class {
+    /// An undisturbed data link does it.
+    Normal,
+    /// Also two ends that follow Q.921 do it, if frames are lost or late.
+    Recovery,
+    /// No two ends that follow Q.921 do it.
+    Violation,
+}
+
+/// A remark on a frame.
+#[derive(Clone, Copy, Debug, PartialEq, Eq)]
+pub enum Remark {
+    /// The UA begins the establishment with this number (Q.921 5.5.1.2).
+    Begins(u64),
+    /// The UA answers an earlier SABME or DISC, or one that was not seen.
+    LateUa,
+    /// A UA, but every SABME and DISC is answered (Q.921 3.6.8).
+    UaWithoutCommand,
+    /// The first N(S) of an establishment is this, and not 0 (Q.921 5.5.1.2).
+    FirstNs(Seq),
+    /// The N(S) is not the next one (Q.921 5.6.2).
+    NsExpected {
+        /// N(S) of the frame.
+        ns: Seq,
+        /// The N(S) that its receiver expects.
+        expected: Seq,
+    },
+    /// An I frame that is not acknowledged is sent again (Q.921 5.6.4).
+    Repeated,
+    /// An N(S) that is not acknowledged is used again, for other octets (Q.921 5.6.1).
+    RepeatedOtherwise,
+    /// More than k I frames are outstanding (Q.921 5.9.5).
+    WindowExceeded(u8),
+    /// An I frame to an end that reported that it is busy; the report may be lost (Q.921 5.6.5).
+    SentToBusy,
+    /// An I frame to an end that reported, in answer to a poll, that it is busy (Q.921 5.6.5).
+    SentToKnownBusy,
+    /// The N(R) is not from the last one to the next N(S) of the peer (Q.921 3.5.2.3).
+    NrOutside {
+        /// N(R) of the frame.
+        nr: Seq,
+        /// The last N(R) of its sender.
+        first: Seq,
+        /// The next N(S) of the peer.
+        last: Seq,
+    },
+    /// The response answers a poll (Q.921 3.5.1).
+    Answers {
+        /// The number of the packet that polled.
+        packet: u64,
+        /// How many microseconds after it, if both moments are known.
+        after: Option<u64>,
+    },
+    /// The response has F=1 and answers an earlier poll, or one that was not seen.
+    LateResponse,
+    /// The response has F=1, but every poll is answered (Q.921 5.6.2.1).
+    ResponseWithoutPoll,
+    /// The poll is sent while the one in this packet is not answered (Q.921 5.6.7).
+    NotAnswered(u64),
+}
+
+impl Remark {
+    /// What the remark means.
+    pub fn class(&self) -> Class
+        ensures { result ≡ class_of self.now }
+    {
+        match *self {
+            Remark::Begins(_) | Remark::Answers { .. } => Class::Normal,
+            Remark::LateUa
+            | Remark::FirstNs(_)
+            | Remark::NsExpected { .. }
+            | Remark::Repeated
+            | Remark::SentToBusy
+            | Remark::LateResponse
+            | Remark::NotAnswered(_) => Class::Recovery,
+            Remark::UaWithoutCommand
+            | Remark::RepeatedOtherwise
+            | Remark::WindowExceeded(_)
+            | Remark::SentToKnownBusy
+            | Remark::NrOutside { .. }
+            | Remark::ResponseWithoutPoll => Class::Violation,
+        }
+    }
+}
+
+impl fmt::Display for Remark {
+    ghost output = { λ remark. Some (remark_text remark) };
+
+    fn fmt<W: fmt::Write>(&self, f: &mut fmt::Formatter<W>) -> fmt::Result {
+        match *self {
+            Remark::Begins(number) => write!(f, "begins establishment {number}"),
+            Remark::LateUa => write!(f, "answers an earlier SABME or DISC"),
+            Remark::UaWithoutCommand => write!(f, "UA without SABME or DISC"),
+            Remark::FirstNs(ns) => {
+                let ns = ns.value();
+                write!(f, "first N(S) is {ns}, not 0")
+            }
+            Remark::NsExpected { ns, expected } => {
+                let ns = ns.value();
+                let expected = expected.value();
+                write!(f, "N(S) {ns}, {expected} expected")
+            }
+            Remark::Repeated => write!(f, "repeated"),
+            Remark::RepeatedOtherwise => write!(f, "repeated with other octets"),
+            Remark::WindowExceeded(k) => write!(f, "window of {k} is exceeded"),
+            Remark::SentToBusy => write!(f, "sent to a busy peer"),
+            Remark::SentToKnownBusy => write!(f, "sent to a peer that answered a poll by RNR"),
+            Remark::NrOutside { nr, first, last } => {
+                let nr = nr.value();
+                let first = first.value();
+                let last = last.value();
+                write!(f, "N(R) {nr} is not from {first} to {last}")
+            }
+            Remark::Answers {
+                packet,
+                after: None,
+            } => write!(f, "answers packet {packet}"),
+            Remark::Answers {
+                packet,
+                after: Some(after),
+            } => {
+                let seconds = after / 1_000_000;
+                let tenths = after / 100_000 % 10;
+                let hundredths = after / 10_000 % 10;
+                let thousandths = after / 1_000 % 10;
+                write!(
+                    f,
+                    "answers packet {packet} after {seconds}.{tenths}{hundredths}{thousandths} s"
+                )
+            }
+            Remark::LateResponse => write!(f, "answers an earlier poll"),
+            Remark::ResponseWithoutPoll => write!(f, "response without a poll"),
+            Remark::NotAnswered(packet) => write!(f, "packet {packet} is not answered"),
+        }
+    }
+}

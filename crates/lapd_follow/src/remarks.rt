@@ -1,0 +1,363 @@
+ghost use Rattle.std.specs.Prelude.{◌≡◌, Option};
+ghost use Rattle.lapd_frame.specs.Reading.{is_command};
+ghost use Rattle.lapd_follow.specs.Exchange.{Exchange};
+ghost use Rattle.lapd_follow.specs.Remarks.{unexpected_ua, ua_remark, establishment_remark, repeated, out_of_sequence, ns_remark, is_in_window, window_remark, sent_to_busy, nr_remark, time_from, answers_poll, answer_to, response_to, left_unanswered, supervisory_remark, answer_remark, ns_of, window_of, busy_of, nr_of, remarks_on, has_violation, is_violation};
+
+use crate::dialogue::Dialogue;
+use crate::end::Busy;
+use crate::numbering::counter;
+use crate::unacknowledged::Unacknowledged;
+use crate::{Class, Numbering, Packet, Polls, Remark};
+use lapd_frame::{Control, Frame, Role};
+use lapd_mod128::Seq;
+
+/// The remarks on one frame, at most one of each kind.
+#[derive(Clone, Copy, Debug, PartialEq, Eq)]
+pub struct Remarks {
+    /// Of a UA: whether it begins an establishment.
+    pub establishment: Option<Remark>,
+    /// Of an I frame: its N(S).
+    pub ns: Option<Remark>,
+    /// Of an I frame: the window.
+    pub window: Option<Remark>,
+    /// Of an I frame: whether its receiver is busy.
+    pub busy: Option<Remark>,
+    /// Of an I or S frame: its N(R).
+    pub nr: Option<Remark>,
+    /// Of a poll or a response: what it answers, or what was not answered.
+    pub answer: Option<Remark>,
+}
+
+impl Remarks {
+    /// Whether one of them is a violation.
+    pub fn has_violation(&self) -> bool
+        ensures { result ≡ has_violation self.now }
+    {
+        is_violation(&self.establishment)
+            || is_violation(&self.ns)
+            || is_violation(&self.window)
+            || is_violation(&self.busy)
+            || is_violation(&self.nr)
+            || is_violation(&self.answer)
+    }
+}
+
+/// Whether the remark is a violation.
+fn is_violation(remark: &Option<Remark>) -> bool
+    ensures { result ≡ is_violation remark.now }
+{
+    match remark {
+        None => false,
+        Some(remark) => matches!(remark.class(), Class::Violation),
+    }
+}
+
+/// The remarks on a frame. `k` is the window, if it is known.
+pub(crate) fn remarks_on(
+    k: Option<u8>,
+    packet: Packet,
+    frame: &Frame<'_>,
+    dialogue: &Dialogue,
+) -> Remarks
+    ensures { result ≡ remarks_on k packet frame.now dialogue.now }
+{
+    let control = frame.control();
+    Remarks {
+        establishment: establishment_remark(&control, dialogue),
+        ns: ns_of(&control, frame.info(), dialogue),
+        window: window_of(k, &control, dialogue),
+        busy: busy_of(&control, dialogue),
+        nr: nr_of(&control, dialogue),
+        answer: answer_remark(&control, frame.address().role, packet, dialogue),
+    }
+}
+
+/// Of a UA.
+fn establishment_remark(control: &Control, dialogue: &Dialogue) -> Option<Remark>
+    ensures { result ≡ establishment_remark control.now dialogue.now }
+{
+    match *control {
+        Control::Ua { .. } => ua_remark(dialogue),
+        _ => None,
+    }
+}
+
+fn ua_remark(dialogue: &Dialogue) -> Option<Remark>
+    ensures { result ≡ ua_remark dialogue.now }
+{
+    if dialogue.to.commands.last.is_none() {
+        Some(unexpected_ua(dialogue.to.commands))
+    } else if dialogue.begins_establishment() {
+        Some(Remark::Begins(dialogue.establishments.saturating_add(1)))
+    } else {
+        None
+    }
+}
+
+fn unexpected_ua(commands: Polls) -> Remark
+    ensures { result ≡ unexpected_ua commands }
+{
+    if commands.complete && commands.unanswered == 0 {
+        Remark::UaWithoutCommand
+    } else {
+        Remark::LateUa
+    }
+}
+
+/// Of an I frame: its N(S).
+fn ns_of(control: &Control, octets: &[u8], dialogue: &Dialogue) -> Option<Remark>
+    ensures { result ≡ ns_of control.now octets.now dialogue.now }
+{
+    match *control {
+        Control::I { ns, .. } => ns_remark(
+            counter(ns),
+            octets,
+            &dialogue.from.unacknowledged,
+            dialogue.from.numbering,
+            dialogue.to.numbering,
+        ),
+        _ => None,
+    }
+}
+
+fn ns_remark(
+    ns: Seq,
+    octets: &[u8],
+    unacknowledged: &Unacknowledged,
+    own: Option<Numbering>,
+    peer: Option<Numbering>,
+) -> Option<Remark>
+    ensures { result ≡ ns_remark ns octets.now unacknowledged.now own peer }
+{
+    match (own, peer) {
+        (Some(own), Some(_)) if ns.value() != own.next.value() => {
+            Some(out_of_sequence(ns, octets, own, unacknowledged))
+        }
+        _ => None,
+    }
+}
+
+fn out_of_sequence(
+    ns: Seq,
+    octets: &[u8],
+    own: Numbering,
+    unacknowledged: &Unacknowledged,
+) -> Remark
+    ensures { result ≡ out_of_sequence ns octets.now own unacknowledged.now }
+{
+    if own.is_first {
+        return Remark::FirstNs(ns);
+    }
+    let distance = usize::from(Seq::distance(ns, own.next));
+    match unacknowledged.from_end(distance) {
+        None => Remark::NsExpected {
+            ns,
+            expected: own.next,
+        },
+        Some(earlier) => {
+            if earlier == octets {
+                Remark::Repeated
+            } else {
+                Remark::RepeatedOtherwise
+            }
+        }
+    }
+}
+
+/// Of an I frame: the window.
+fn window_of(k: Option<u8>, control: &Control, dialogue: &Dialogue) -> Option<Remark>
+    ensures { result ≡ window_of k control.now dialogue.now }
+{
+    match *control {
+        Control::I { ns, .. } => window_remark(
+            k,
+            counter(ns),
+            dialogue.from.numbering,
+            dialogue.to.numbering,
+        ),
+        _ => None,
+    }
+}
+
+fn window_remark(
+    k: Option<u8>,
+    ns: Seq,
+    own: Option<Numbering>,
+    peer: Option<Numbering>,
+) -> Option<Remark>
+    ensures { result ≡ window_remark k ns own peer }
+{
+    match (k, own, peer) {
+        (Some(k), Some(own), Some(peer)) => {
+            if is_in_window(k, ns, own, peer) {
+                None
+            } else {
+                Some(Remark::WindowExceeded(k))
+            }
+        }
+        _ => None,
+    }
+}
+
+/// Whether an I frame is within the window.
+fn is_in_window(k: u8, ns: Seq, own: Numbering, peer: Numbering) -> bool
+    ensures { result ≡ is_in_window k ns own peer }
+{
+    let back = Seq::distance(ns, own.next);
+    Seq::distance(peer.nr, ns) < k || (0 < back && back <= k)
+}
+
+/// Of an I frame: whether its receiver is busy.
+fn busy_of(control: &Control, dialogue: &Dialogue) -> Option<Remark>
+    ensures { result ≡ busy_of control.now dialogue.now }
+{
+    match *control {
+        Control::I { p, .. } => sent_to_busy(p, dialogue.to.busy),
+        _ => None,
+    }
+}
+
+fn sent_to_busy(p: bool, busy: Busy) -> Option<Remark>
+    ensures { result ≡ sent_to_busy p busy }
+{
+    match (busy, p) {
+        (Busy::Free, _) => None,
+        (Busy::Answered, false) => Some(Remark::SentToKnownBusy),
+        _ => Some(Remark::SentToBusy),
+    }
+}
+
+/// Of an I or S frame: its N(R).
+fn nr_of(control: &Control, dialogue: &Dialogue) -> Option<Remark>
+    ensures { result ≡ nr_of control.now dialogue.now }
+{
+    match *control {
+        Control::I { nr, .. }
+        | Control::Rr { nr, .. }
+        | Control::Rnr { nr, .. }
+        | Control::Rej { nr, .. } => nr_remark(
+            counter(nr),
+            dialogue.from.numbering,
+            dialogue.to.numbering,
+        ),
+        _ => None,
+    }
+}
+
+fn nr_remark(nr: Seq, own: Option<Numbering>, peer: Option<Numbering>) -> Option<Remark>
+    ensures { result ≡ nr_remark nr own peer }
+{
+    match (own, peer) {
+        (Some(own), Some(peer)) => {
+            if Seq::within(own.nr, nr, peer.next) {
+                None
+            } else {
+                Some(Remark::NrOutside {
+                    nr,
+                    first: own.nr,
+                    last: peer.next,
+                })
+            }
+        }
+        _ => None,
+    }
+}
+
+/// The packet answers this poll.
+fn answers_poll(packet: Packet, poll: Packet) -> Remark
+    ensures { result ≡ answers_poll packet poll }
+{
+    Remark::Answers {
+        packet: poll.number,
+        after: time_from(poll.moment, packet.moment),
+    }
+}
+
+/// The time from one moment to another.
+fn time_from(first: Option<u64>, last: Option<u64>) -> Option<u64>
+    ensures { result ≡ time_from first last }
+{
+    match (first, last) {
+        (Some(first), Some(last)) => Some(last.saturating_sub(first)),
+        _ => None,
+    }
+}
+
+fn answer_to(packet: Packet, poll: Option<Packet>) -> Option<Remark>
+    ensures { result ≡ answer_to packet poll }
+{
+    match poll {
+        None => None,
+        Some(poll) => Some(answers_poll(packet, poll)),
+    }
+}
+
+fn response_to(packet: Packet, polls: Polls) -> Remark
+    ensures { result ≡ response_to packet polls.last polls }
+{
+    match polls.last {
+        Some(poll) => answers_poll(packet, poll),
+        None => {
+            if polls.complete && polls.unanswered == 0 {
+                Remark::ResponseWithoutPoll
+            } else {
+                Remark::LateResponse
+            }
+        }
+    }
+}
+
+fn left_unanswered(poll: Option<Packet>) -> Option<Remark>
+    ensures { result ≡ left_unanswered poll }
+{
+    match poll {
+        None => None,
+        Some(poll) => Some(Remark::NotAnswered(poll.number)),
+    }
+}
+
+/// Of an S frame.
+fn supervisory_remark(role: Role, pf: bool, packet: Packet, dialogue: &Dialogue) -> Option<Remark>
+    ensures { result ≡ supervisory_remark role pf packet dialogue.now }
+{
+    match (pf, role) {
+        (false, _) => None,
+        (true, Role::Command) => left_unanswered(dialogue.from.polls.last),
+        (true, Role::Answer) => Some(response_to(packet, dialogue.to.polls)),
+    }
+}
+
+/// Of polls and responses.
+fn answer_remark(
+    control: &Control,
+    role: Role,
+    packet: Packet,
+    dialogue: &Dialogue,
+) -> Option<Remark>
+    ensures { result ≡ answer_remark control.now role packet dialogue.now }
+{
+    match *control {
+        Control::I { p, .. } => {
+            if p {
+                left_unanswered(dialogue.from.polls.last)
+            } else {
+                None
+            }
+        }
+        Control::Rr { pf, .. } | Control::Rnr { pf, .. } | Control::Rej { pf, .. } => {
+            supervisory_remark(role, pf, packet, dialogue)
+        }
+        Control::Sabme { .. } | Control::Disc { .. } => {
+            left_unanswered(dialogue.from.commands.last)
+        }
+        Control::Dm { f } => {
+            if f {
+                answer_to(packet, dialogue.to.commands.last)
+            } else {
+                None
+            }
+        }
+        Control::Ua { .. } => answer_to(packet, dialogue.to.commands.last),
+        Control::Ui { .. } | Control::Frmr { .. } | Control::Xid { .. } => None,
+    }
+}
