@@ -20,6 +20,7 @@ pub mod NetworkOwn
 pub mod TerminalOwn
 pub mod UserOwn
 pub mod AsMade
+pub mod NewLinks
 pub mod ExactLinks
 pub mod ExactNetwork
 pub mod ExactUser

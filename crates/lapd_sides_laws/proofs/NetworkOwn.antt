@@ -45,7 +45,7 @@ pub record PreservesHeld (s : Network) (a : Reaction Network) : Type 0 where
   pub after : AreHeld a.after
   pub quiet : IsQuietFor s.served.links a.effects
 
-assigner_leaves : (s : Network) (e : AssignerEvent) → LeavesOwn (λ n. is_held s.assigner.held n ≡ true) (λ n. is_held (assigner_step s.assigner e).now.held n ≡ true) (assigner_step s.assigner e).outs
+pub assigner_leaves : (s : Network) (e : AssignerEvent) → LeavesOwn (λ n. is_held s.assigner.held n ≡ true) (λ n. is_held (assigner_step s.assigner e).now.held n ≡ true) (assigner_step s.assigner e).outs
 assigner_leaves s e =
     let f : GivesFree s.assigner.held (assigner_step s.assigner e) = gives_free s.assigner e in
     record { given = f.given; stays = f.stays_held; quiet = λ n held. quiet_by n (list_any (is_assignment n) (filter_map outcome_of (assigner_step s.assigner e).outs)) refl f held }

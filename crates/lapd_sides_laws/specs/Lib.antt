@@ -10,3 +10,4 @@ pub mod ExactTimers
 pub mod ManagementTimers
 pub mod Calls
 pub mod Schedule
+pub mod NewLinks

@@ -31,6 +31,7 @@ ghost use Rattle.lapd_sides_laws.specs.Establishments.{records_of};
 ghost use Rattle.lapd_sides_laws.specs.ExactTimers.{HasExactTimers, HaveExactTimers, BothHaveExactTimers, RunByState, IsWoken, AreOctets, BringsOctets, SideStep, stepped_by_all, new_view};
 ghost use Rattle.lapd_sides_laws.specs.Interface.{user_behaviour, network_behaviour, Configs, Move, Interface, new_interface, from_here, run};
 ghost use Rattle.lapd_sides_laws.specs.ManagementTimers.{HasTimerOfTerminal, HasTimerOfAssigner, HaveTimersOfManagement, IsAwaited};
+ghost use Rattle.lapd_sides_laws.specs.NewLinks.{HasNoLinks, network_after, user_after};
 ghost use Rattle.lapd_sides_laws.specs.Owed.{ServesLink};
 ghost use Rattle.lapd_sides_laws.specs.Premises.{AreTimely, GiveTeiOnce, SatisfyPremises, SatisfyPremisesAsMade};
 ghost use Rattle.lapd_sides_laws.specs.Projects.{IsReceivedByNetwork, IsReceivedByUser, IsUnskippedByNetwork, IsUnskippedByUser, IsSafeAt};
@@ -309,4 +310,22 @@ pub fn management_timers_run_while_it_waits()
     ensures assigner_is_woken { (s : Network) (next : Option ℕ) → HasTimerOfAssigner s
         → is_some s.assigner.check ≡ true → IsNextDeadline s.served next
         → IsAwaited T201 s.served.timers next }
+{}
+
+/// A TEI has no links when a side assigns or obtains it. So the links that the side then adds
+/// replace no others.
+///
+/// This holds for a newly created side after any steps, whatever octets arrive, and needs no
+/// premise: a TEI may be removed and assigned again. `given_for` and `got_for` are the TEI that
+/// received octets make a side assign or obtain. A table of links in code that represents the side
+/// has no link of this TEI either (`IsAbsent`).
+pub fn added_links_are_new()
+    ensures network { (config : Config) (known : List ℕ) (side_steps : List SideStep)
+        (octets : List ℕ)
+        → HasNoLinks side.Network (network_after config known side_steps).served.links
+        (given_for (network_after config known side_steps).assigner octets) }
+    ensures user { (config : Config) (fixed : Option ℕ) (random : Lcg)
+        (side_steps : List SideStep) (octets : List ℕ)
+        → HasNoLinks side.User (user_after config fixed random side_steps).served.links
+        (got_for (user_after config fixed random side_steps) octets) }
 {}

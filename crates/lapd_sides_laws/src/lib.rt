@@ -33,6 +33,7 @@
 //!   link's end requires it. In a `SideStep` octets arrive at one side from anyone, and then an
 //!   event of that side follows. `ManagementTimers`: T201 and T202 run exactly while TEI management
 //!   waits.
+//! - `NewLinks`: a TEI has no links, in the definition and in the table of the code.
 //! - `Calls`: which event a call of a side in code is. `Schedule`: worked runs.
 //!
 //! The laws:
@@ -47,6 +48,7 @@
 //! - [`timers_run_as_ends_require`]: no link ever lacks the timer that it waits for, whatever
 //!   arrives and whatever the side does.
 //! - [`management_timers_run_while_it_waits`]: the same for TEI management.
+//! - [`added_links_are_new`]: a TEI has no links when a side assigns or obtains it.
 //!
 //! [`NetSide`]: lapd_sides::NetSide
 //! [`UserSide`]: lapd_sides::UserSide
@@ -55,6 +57,7 @@
 mod laws;
 
 pub use laws::{
-    calls_are_events, each_link_gets_its_own, each_link_is_safe, each_premise_is_needed,
-    management_timers_run_while_it_waits, schedule_is_computed, timers_run_as_ends_require,
+    added_links_are_new, calls_are_events, each_link_gets_its_own, each_link_is_safe,
+    each_premise_is_needed, management_timers_run_while_it_waits, schedule_is_computed,
+    timers_run_as_ends_require,
 };

@@ -1,0 +1,149 @@
+-- A side assigns or obtains no TEI whose links exist, after any steps from its creation.
+use Rattle.std.proofs.Common.{◌≡◌, ℕ, List, [], ◌∷◌, ◌++◌, Bool, true, false, if◌then◌else◌, Option, Some, None, Result, Ok, Err, refl, sym, subst, ◌∙◌, arith}
+use Rattle.std.specs.Prelude.{is_some, ◌==◌, ◌||◌}
+use Rattle.std.specs.List.{list_any, filter_map}
+use Rattle.std.proofs.lemmas.Bool.Decides.{nat_tests}
+use Rattle.rand_pcg.specs.Lcg.{Lcg}
+use Rattle.lapd_timers.specs.Due.{Timers}
+use Rattle.lapd_frame.specs.declared.Side.{Side}
+use Rattle.lapd_frame.specs.declared.Side.TheVariants as side
+use Rattle.lapd_frame.specs.declared.frame_fault.FrameFault.{FrameFault}
+use Rattle.lapd_frame.specs.Frame.{Fields}
+use Rattle.lapd_frame.specs.Reading.{frame_at}
+use Rattle.lapd_link.specs.declared.link.Link.{Link}
+use Rattle.lapd_tei.specs.declared.message.TeiMessage.{TeiMessage}
+use Rattle.lapd_tei.specs.declared.fault.TeiFault.{TeiFault}
+use Rattle.lapd_tei.specs.declared.assigner.AssignerEvent.TheVariants as assigner
+use Rattle.lapd_tei.specs.declared.terminal.TerminalEvent.TheVariants as terminal
+use Rattle.lapd_tei.specs.declared.out.TeiOut.{TeiOut}
+use Rattle.lapd_tei.specs.declared.out.TeiOut.TheVariants as outcome
+use Rattle.lapd_tei.specs.Assigner.{assigner_step}
+use Rattle.lapd_tei.specs.Terminal.{terminal_step}
+use Rattle.lapd_tei.specs.Message.{message_at}
+use Rattle.lapd_tei.specs.Out.{tei_given}
+use Rattle.lapd_table.specs.declared.link_id.LinkId.{LinkId}
+use Rattle.lapd_table.specs.LinkTable.{link_at}
+use Rattle.lapd_sides_links.specs.declared.config.Config.{Config}
+use Rattle.lapd_sides_links.specs.Effects.{outcome_of}
+use Rattle.lapd_sides_links.specs.Links.{Links, Linked}
+use Rattle.lapd_sides_links.specs.Shown.{timers_at, IsLinked}
+use Rattle.lapd_sides.specs.Management.{carries_message}
+use Rattle.lapd_sides.specs.Network.{Network, new_network, given_for_message, given_for_frame, given_for}
+use Rattle.lapd_sides.specs.User.{User, new_user, next_reference, got_for_message, got_for_frame, got_for}
+use Rattle.lapd_sides_laws.specs.ExactTimers.{SideStep, stepped, stepped_by_all, new_view}
+use Rattle.lapd_sides_laws.specs.Interface.{network_behaviour, user_behaviour}
+use Rattle.lapd_sides_laws.specs.NewLinks.{network_after, user_after, IsAbsent, HasNoLinks}
+use Rattle.lapd_sides_laws.specs.Premises.{is_assignment}
+use Rattle.lapd_sides_laws.specs.SideView.{SideView, does}
+use Rattle.lapd_sides_laws.proofs.AsMade.{new_are_own, new_are_held}
+use Rattle.lapd_sides_laws.proofs.Managed.{some_same}
+use Rattle.lapd_sides_laws.proofs.NetworkOwn.{AreHeld, network_preserves, assigner_leaves}
+use Rattle.lapd_sides_laws.proofs.OwnTeis.{AreOf, LeavesOwn}
+use Rattle.lapd_sides_laws.proofs.TerminalOwn.{Owns, terminal_leaves}
+use Rattle.lapd_sides_laws.proofs.UserOwn.{AreOwn, user_preserves}
+
+-- ---- The TEI of these outputs.
+
+same_or : (u t : ℕ) (rest : Bool) → u ≡ t → ((u == t) || rest) ≡ true
+same_or u t rest same = by_test (u == t) refl
+  where
+    by_test : (test : Bool) → (u == t) ≡ test → (test || rest) ≡ true
+    by_test true is = refl
+    by_test false is = let no : true ≡ false = grind (arith, nat_tests, same, is) in cc
+
+-- a TEI that is assigned or obtained is reported
+given_is_reported : (t : ℕ) (outs : List TeiOut) → tei_given outs ≡ Some t → list_any (is_assignment t) (filter_map outcome_of outs) ≡ true
+given_is_reported t [] is = cc
+given_is_reported t (outcome.Given u ∷ outs) is = same_or u t _ (some_same u t is)
+given_is_reported t (outcome.Got u ∷ outs) is = same_or u t _ (some_same u t is)
+given_is_reported t (outcome.Free u ∷ outs) is = given_is_reported t outs is
+given_is_reported t (outcome.Doubled u ∷ outs) is = given_is_reported t outs is
+given_is_reported t (outcome.Gone u ∷ outs) is = given_is_reported t outs is
+given_is_reported t (outcome.InUse u ∷ outs) is = given_is_reported t outs is
+given_is_reported t (outcome.Failed ∷ outs) is = given_is_reported t outs is
+given_is_reported t (outcome.Send message ∷ outs) is = given_is_reported t outs is
+given_is_reported t (outcome.Start timer ∷ outs) is = given_is_reported t outs is
+given_is_reported t (outcome.Stop timer ∷ outs) is = given_is_reported t outs is
+
+absent_in : (l : Option Linked) (links : Links) (id : LinkId) → links id ≡ l → (is_some (links id) ≡ true → ⊥) → l ≡ None
+absent_in None links id is none = refl
+absent_in (Some l) links id is none = absurd (none (subst (λ (o : Option Linked). is_some o ≡ true) (sym is) refl))
+
+unlinked : (link : Option Link) (t : Option Timers) (l : Option Linked) → l ≡ None → IsLinked link t l → link ≡ None
+unlinked None t l none h = refl
+unlinked (Some link) None None none h = absurd h
+unlinked (Some link) None (Some l) none h = absurd h
+unlinked (Some link) (Some t) None none h = absurd h
+unlinked (Some link) (Some t) (Some l) none h = absurd (cc)
+
+is_absent : (side : Side) (links : Links) (id : LinkId) → (is_some (links id) ≡ true → ⊥) → IsAbsent side links id
+is_absent side links id none =
+    let l = absent_in (links id) links id refl none in
+    record { link = l; table = λ set shown. unlinked (link_at set.table id) (timers_at set.link_timers id) (links id) l (shown.each id) }
+
+-- TEI management that holds or has the TEI of each link assigns or obtains none of them
+free_of_links : (side : Side) (links : Links) (outs : List TeiOut) (P Q : ℕ → Type 0) → LeavesOwn P Q outs → AreOf P links → HasNoLinks side links (tei_given outs)
+free_of_links side links outs P Q leaves are id given = is_absent side links id (λ there.
+    let no : true ≡ false = sym (given_is_reported id.tei outs given) ∙ leaves.quiet id.tei (are id there) in
+    absurd (cc))
+
+no_tei : (side : Side) (links : Links) → HasNoLinks side links None
+no_tei side links id given = absurd (cc)
+
+either : (side : Side) (links : Links) (test : Bool) (tei : Option ℕ) → HasNoLinks side links tei → HasNoLinks side links (if test then tei else None)
+either side links true tei h = h
+either side links false tei h = no_tei side links
+
+-- ---- A network side.
+
+module _ (s : Network) (held : AreHeld s) where
+  message_to_network : (m : Result TeiMessage TeiFault) → HasNoLinks side.Network s.served.links (given_for_message s.assigner m)
+  message_to_network (Ok m) = free_of_links side.Network s.served.links (assigner_step s.assigner (assigner.Heard m)).outs _ _ (assigner_leaves s (assigner.Heard m)) held
+  message_to_network (Err fault) = no_tei side.Network s.served.links
+
+  frame_to_network : (f : Result Fields FrameFault) → HasNoLinks side.Network s.served.links (given_for_frame s.assigner f)
+  frame_to_network (Ok frame) = either side.Network s.served.links (carries_message frame) (given_for_message s.assigner (message_at frame.info)) (message_to_network (message_at frame.info))
+  frame_to_network (Err fault) = no_tei side.Network s.served.links
+
+  octets_to_network : (octets : List ℕ) → HasNoLinks side.Network s.served.links (given_for s.assigner octets)
+  unfolding given_for
+  octets_to_network octets = frame_to_network (frame_at side.User octets)
+
+network_steps_held : (config : Config) (side_steps : List SideStep) (v : SideView Network) → AreHeld v.now → AreHeld (stepped_by_all (network_behaviour config) side_steps v).now
+unfolding does
+network_steps_held config [] v held = held
+network_steps_held config (side_step ∷ side_steps) v held =
+    let before : SideView Network = record v { incoming = v.incoming ++ side_step.arrives } in
+    network_steps_held config side_steps (stepped (network_behaviour config) side_step v) (network_preserves config before side_step.event held).after
+
+pub network_adds_new : (config : Config) (known : List ℕ) (side_steps : List SideStep) (octets : List ℕ)
+    → HasNoLinks side.Network (network_after config known side_steps).served.links (given_for (network_after config known side_steps).assigner octets)
+network_adds_new config known side_steps octets =
+    octets_to_network (network_after config known side_steps) (network_steps_held config side_steps (new_view (new_network config known)) (new_are_held config known)) octets
+
+-- ---- A user side.
+
+module _ (s : User) (own : AreOwn s) where
+  message_to_user : (m : Result TeiMessage TeiFault) → HasNoLinks side.User s.served.links (got_for_message s m)
+  message_to_user (Ok m) = free_of_links side.User s.served.links (terminal_step s.terminal (terminal.Heard m (next_reference s.random))).outs _ _ (terminal_leaves s.terminal (terminal.Heard m (next_reference s.random))) own
+  message_to_user (Err fault) = no_tei side.User s.served.links
+
+  frame_to_user : (f : Result Fields FrameFault) → HasNoLinks side.User s.served.links (got_for_frame s f)
+  frame_to_user (Ok frame) = either side.User s.served.links (carries_message frame) (got_for_message s (message_at frame.info)) (message_to_user (message_at frame.info))
+  frame_to_user (Err fault) = no_tei side.User s.served.links
+
+  octets_to_user : (octets : List ℕ) → HasNoLinks side.User s.served.links (got_for s octets)
+  unfolding got_for
+  octets_to_user octets = frame_to_user (frame_at side.Network octets)
+
+user_steps_own : (config : Config) (side_steps : List SideStep) (v : SideView User) → AreOwn v.now → AreOwn (stepped_by_all (user_behaviour config) side_steps v).now
+unfolding does
+user_steps_own config [] v own = own
+user_steps_own config (side_step ∷ side_steps) v own =
+    let before : SideView User = record v { incoming = v.incoming ++ side_step.arrives } in
+    user_steps_own config side_steps (stepped (user_behaviour config) side_step v) (user_preserves config before side_step.event own).after
+
+pub user_adds_new : (config : Config) (fixed : Option ℕ) (random : Lcg) (side_steps : List SideStep) (octets : List ℕ)
+    → HasNoLinks side.User (user_after config fixed random side_steps).served.links (got_for (user_after config fixed random side_steps) octets)
+user_adds_new config fixed random side_steps octets =
+    octets_to_user (user_after config fixed random side_steps) (user_steps_own config side_steps (new_view (new_user config fixed random)) (new_are_own config fixed random)) octets
