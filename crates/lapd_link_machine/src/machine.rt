@@ -20,8 +20,10 @@ mod refusals;
 mod step;
 mod tei_assigned;
 mod timer_recovery;
+mod usual;
 
 pub use outs::Outs;
+pub use usual::{NrEffect, UsualOuts};
 
 /// The most outputs of a step: seven, and 127 messages with the start and stop of a timer.
 pub const MOST_OUTPUTS: usize = 136;
