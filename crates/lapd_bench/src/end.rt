@@ -79,7 +79,7 @@ impl End {
     /// Sends the frames of its last step, and counts the messages that the step reports.
     #[inline(always)]
     fn carry_out(&mut self, to: &mut Wire) -> Result<(), BenchFault> {
-        for out in &self.outs {
+        for out in self.outs.as_slice() {
             match out {
                 Out::Up => self.received = self.received.wrapping_add(1),
                 Out::Acknowledged(count) => {

@@ -86,7 +86,7 @@ fn reply(
 ) -> Result<u64, BenchFault> {
     let id = table.dispatch_into(bytes, outs)?;
     let mut sent: u64 = 0;
-    for out in &*outs {
+    for out in outs.as_slice() {
         if let Out::Send(role, control) = out {
             match Frame::new(id.address(*role), *control, &[]) {
                 Ok(frame) => {

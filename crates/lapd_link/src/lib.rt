@@ -25,13 +25,14 @@
 //!
 //! ```text
 //! let mut link = Link::new(alloc, Side::User, Sapi::Call, tei, Params::basic(Sapi::Call))?;
-//! for out in link.handle(Event::Establish)? {
+//! let outs = link.handle(Event::Establish)?;
+//! for out in outs.as_slice() {
 //!     match out {
-//!         Out::Start(timer) => start(timer),
-//!         Out::Stop(timer) => stop(timer),
-//!         out => match link.frame(&out, &[]) {
+//!         Out::Start(timer) => start(*timer),
+//!         Out::Stop(timer) => stop(*timer),
+//!         out => match link.frame(out, &[]) {
 //!             Some(frame) => send(&frame),
-//!             None => report(&out),
+//!             None => report(out),
 //!         },
 //!     }
 //! }
@@ -49,7 +50,7 @@ pub use lapd_frame::{
     Address, Control, FaultKind, Frame, FrameFault, Number, Role, Sapi, Side, Tei,
 };
 pub use lapd_link_definition::{Event, Letter, LinkFault, Out, Params, Recovery, Refused, State};
-pub use lapd_link_machine::{MOST_OUTPUTS, Outs};
+pub use lapd_link_machine::{MOST_OUTPUTS, NrEffect, Outs, UsualOuts};
 pub use lapd_queue::IQueue;
 pub use lapd_supervision::{Seq, Window};
 pub use lapd_timers::Timer;

@@ -1,9 +1,9 @@
-ghost use Rattle.std.specs.Prelude.{◌≡◌, ◌<◌, ◌≢◌, [], IfOk, IfErr, OnOk, OnErr};
+ghost use Rattle.std.specs.Prelude.{◌≡◌, ◌<◌, ◌≢◌, [], IfOk, IfErr, IfNone, IfSome, OnOk, OnErr};
 ghost use Rattle.lapd_link_machine.specs.Sent.{IsBetweenSteps};
 
-use lapd_frame::{Address, Sapi, Side, Tei};
+use lapd_frame::{Address, Control, Role, Sapi, Side, Tei};
 use lapd_link_definition::{Event, LinkFault, Params, Refused, State};
-use lapd_link_machine::{Machine, Outs};
+use lapd_link_machine::{Machine, Outs, UsualOuts};
 use lapd_queue::IQueue;
 use lapd_supervision::Window;
 use lapd_timers::Timer;
@@ -36,11 +36,12 @@ impl Link {
     ghost use Rattle.std.specs.Prelude.{ℕ, List, length};
     ghost use Rattle.lapd_link_definition.specs.Begins.{begins};
     ghost use Rattle.lapd_link_definition.specs.End.{End, new_end};
-    ghost use Rattle.lapd_link_definition.specs.Input.{input_of, Give};
+    ghost use Rattle.lapd_link_definition.specs.Input.{input_of, Give, Heard};
     ghost use Rattle.lapd_link_definition.specs.Refusal.{refused};
     ghost use Rattle.lapd_link.specs.Link.{LinkRepresents, Setup, setup_of, Steps, Refuses, IsForLink, is_address_of};
     ghost use Rattle.lapd_link.specs.SentFrame.{HasFramesOf};
     ghost use Rattle.lapd_link_machine.specs.Bounds.{IsBounded};
+    ghost use Rattle.lapd_link_machine.specs.Usual.{usual_outs};
 
     /// Makes a link in state 4, of this side, for `sapi` (not management) and `tei` (not the group
     /// TEI). It allocates its I queue.
@@ -118,6 +119,19 @@ impl Link {
                 Ok(())
             }
         }
+    }
+
+    /// Handles a frame with this control field and role, if its step is usual
+    /// ([`Machine::usual_step`]). The step is that of [`Link::handle`], and its outputs are returned
+    /// as values. Otherwise it returns `None`, and the link is unchanged.
+    #[inline(always)]
+    pub fn usual_step(&mut self, control: &Control, role: Role) -> Option<UsualOuts>
+        ensures ok { IfSome result (λ outs. Steps self.old self.new (Heard control.now role)
+            (usual_outs outs)) }
+        ensures unchanged { IfNone result (self.new ≡ self.old) }
+        ensures setup { setup_of self.new ≡ setup_of self.old }
+    {
+        self.machine.usual_step(control, role)
     }
 
     /// Queues a message of layer 3 (DL-DATA request), and returns what to do for it, in order. Does

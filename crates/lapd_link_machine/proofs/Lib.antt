@@ -4,3 +4,4 @@ pub mod Guards
 pub mod Outstanding
 pub mod Rows
 pub mod Tails
+pub mod Usual

@@ -1,5 +1,6 @@
 -- A row with a test, if the machine shows its result.
-use Rattle.std.proofs.Common.{◌≡◌, ℕ, ◌<◌, ◌≤◌, nat_lt, Bool, true, false, if◌then◌else◌, List, ap, sym, ◌∙◌, arith}
+use Rattle.std.proofs.Common.{◌≡◌, ℕ, ◌<◌, ◌≤◌, nat_lt, Bool, true, false, if◌then◌else◌, List, Option, Some, None, refl, ap, sym, ◌∙◌, arith}
+use Rattle.std.specs.Option.{is_some}
 use Rattle.std.proofs.lemmas.Bool.Decides.{nat_tests}
 use Rattle.lapd_link_definition.specs.declared.out.Out.{Out}
 use Rattle.lapd_link_machine.specs.declared.machine.Machine.{Machine}
@@ -34,3 +35,8 @@ n200_of p q n h k = let N200 : Parameters → ℕ = λ r. r.n200 in ap N200 h �
 -- the frame that T200 sends in state 7, as the machine shows it
 pub sends_last_of : (p q : Parameters) (v w : StateVariables) (b : Bool) → p ≡ q → v ≡ w → sends_last q.recovery w ≡ b → sends_last p.recovery v ≡ b
 sends_last_of p q v w b same alike h = rw (same, alike) h
+
+-- an option that is empty
+pub is_none : {X : Type 0} (o : Option X) → is_some o ≡ false → o ≡ None
+is_none None h = refl
+is_none (Some x) h = cc

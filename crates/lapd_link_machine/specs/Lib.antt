@@ -15,3 +15,4 @@ pub mod Bounds
 pub mod Sent
 pub mod Represents
 pub mod Tail
+pub mod Usual

@@ -8,4 +8,4 @@
 
 mod machine;
 
-pub use machine::{MOST_OUTPUTS, Machine, Outs};
+pub use machine::{MOST_OUTPUTS, Machine, NrEffect, Outs, UsualOuts};

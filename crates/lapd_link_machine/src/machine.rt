@@ -3,7 +3,6 @@
 ghost use Rattle.std.specs.Prelude.{◌≡◌, ◌<◌, ◌+◌, [], ◌∷◌, ◌++◌};
 ghost use Rattle.arrayvec.specs.ArrayVec.{array_vec_len};
 
-use arrayvec::ArrayVec;
 use lapd_frame::Control;
 use lapd_link_definition::{Out, Params, State};
 use lapd_queue::IQueue;
@@ -15,17 +14,19 @@ mod begins;
 mod dispatcher;
 mod end_of_step;
 mod established;
+mod outs;
 mod procedures;
 mod refusals;
 mod step;
 mod tei_assigned;
 mod timer_recovery;
+mod usual;
+
+pub use outs::Outs;
+pub use usual::{NrEffect, UsualOuts};
 
 /// The most outputs of a step: seven, and 127 messages with the start and stop of a timer.
 pub const MOST_OUTPUTS: usize = 136;
-
-/// The outputs of one step, in order.
-pub type Outs = ArrayVec<Out, MOST_OUTPUTS>;
 
 /// The variables of an end (Q.921 Annex B).
 #[derive(Drop)]

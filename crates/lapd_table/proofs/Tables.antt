@@ -1,5 +1,5 @@
 -- How a step of a link changes its table.
-use Rattle.std.proofs.Common.{◌≡◌, ℕ, List, [], true, false, Option, Some, None, Result, Ok, Err, IsSome, IfSome, IfOk, IfErr, OnOk, OnErr, Bor, option_copied, Contains, ◌↔◌, refl, sym, ap, subst, ◌∙◌, inl, inr, eq-eqb}
+use Rattle.std.proofs.Common.{◌≡◌, ℕ, List, [], true, false, Option, Some, None, Result, Ok, Err, IsSome, IfNone, IfSome, IfOk, IfErr, OnOk, OnErr, Bor, option_copied, Contains, ◌↔◌, refl, sym, ap, subst, ◌∙◌, inl, inr, eq-eqb}
 use Rattle.std.specs.Prelude.{◌==◌, option_and_then, is_some, IsSomeAnd}
 use Rattle.std.proofs.lemmas.Bool.{and_from, cases_eq}
 use Rattle.std.specs.BTreeMap as tree
@@ -51,6 +51,10 @@ on_err (Err e) P Q f h = f h
 pub if_err : {A E : Type 0} (r : Result A E) (P Q : E → Type 0) → ((e : E) → P e → Q e) → IfErr r P → IfErr r Q
 if_err (Ok a) P Q f h = tt
 if_err (Err e) P Q f h = f e h
+
+pub if_none : {A : Type 0} (o : Option A) (P Q : Type 0) → (P → Q) → IfNone o P → IfNone o Q
+if_none None P Q f h = f h
+if_none (Some a) P Q f h = h
 
 pub is_some_of : {A : Type 0} (o : Option A) (a : A) → o ≡ Some a → IsSome o
 is_some_of o a h = ap is_some h

@@ -1,17 +1,18 @@
-ghost use Rattle.std.specs.Prelude.{◌≡◌, None, Some, Ok, Err, [], IsSome, IfSome, IfOk, IfErr, OnOk, OnErr, option_copied, ◌↔◌, Contains};
+ghost use Rattle.std.specs.Prelude.{◌≡◌, None, Some, Ok, Err, [], IsSome, IfNone, IfSome, IfOk, IfErr, OnOk, OnErr, option_copied, ◌↔◌, Contains};
 ghost use Rattle.std.specs.List.Sorted.{IsStrictlySortedBy};
 ghost use Rattle.std.proofs.Props.{props};
 ghost use Rattle.lapd_link_definition.specs.End.{End};
-ghost use Rattle.lapd_link_definition.specs.Input.{input_of, Give};
+ghost use Rattle.lapd_link_definition.specs.Input.{input_of, Give, Heard};
 ghost use Rattle.lapd_link_definition.specs.Refusal.{refused};
 ghost use Rattle.lapd_link.specs.Link.{setup_of};
 ghost use Rattle.lapd_link_machine.specs.Bounds.{IsBounded};
+ghost use Rattle.lapd_link_machine.specs.Usual.{usual_outs};
 ghost use Rattle.lapd_table.specs.LinkId.{id_cmp, id_of_setup, setup_for};
 ghost use Rattle.lapd_table.specs.Index.{IsIndex, key_of};
 
 use crate::{LinkId, LinkKey, TableFault};
-use lapd_frame::{FrameFault, Side, read};
-use lapd_link::{Event, Link, LinkFault, Outs, Refused};
+use lapd_frame::{Control, FrameFault, Role, Side, read};
+use lapd_link::{Event, Link, LinkFault, Outs, Refused, UsualOuts};
 use slab::Slab;
 use std::alloc::{AllocError, Global};
 use std::collections::BTreeMap;
@@ -307,6 +308,24 @@ impl LinkTable {
         ensures key { IsKey self.new key.now }
     {
         self.handle_under(key.place, key.id, event, outs)
+    }
+
+    /// Handles a frame for the link with this key, if its step is usual ([`Link::usual_step`]).
+    /// Otherwise it returns `None`, and the links are unchanged.
+    #[inline(always)]
+    pub fn usual_step_at(
+        &mut self,
+        key: &LinkKey,
+        control: &Control,
+        role: Role,
+    ) -> Option<UsualOuts>
+        requires key { IsKey self.old key.now }
+        ensures ok { IfSome result (λ outs. StepsAt self.old self.new key.now.id
+            (Heard control.now role) (usual_outs outs)) }
+        ensures unchanged { IfNone result (IsUnchanged self.old self.new) }
+        ensures key { IsKey self.new key.now }
+    {
+        self.links[key.place].usual_step(control, role)
     }
 
     /// Submits a layer 3 message to an existing link. Does not allocate. For speed, pass the

@@ -287,7 +287,7 @@ impl Machine {
     }
 
     /// Whether this N(R) acknowledges nothing new.
-    fn acknowledges_nothing_new(&self, nr: Number) -> bool
+    pub(crate) fn acknowledges_nothing_new(&self, nr: Number) -> bool
         ensures { result ≡ (nr == self.now.window.va) }
     {
         nr.value() == self.window.va().value()

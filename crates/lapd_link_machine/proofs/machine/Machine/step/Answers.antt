@@ -1,4 +1,4 @@
-use Rattle.std.proofs.Common.{◌≡◌, ◌≤◌, length, ap, arith}
+use Rattle.std.proofs.Common.{length, ap, arith}
 use Rattle.lapd_link_definition.specs.EndOfStep.{is_established}
 use Rattle.lapd_link_definition.specs.Input.{input_of}
 use Rattle.lapd_link_machine.proofs.Bounds.{bounded}

@@ -1,0 +1,16 @@
+use Rattle.std.proofs.Common.{refl}
+use Rattle.lapd_link_definition.specs.Input.{Heard}
+use Rattle.lapd_link_machine.proofs.BetweenSteps.{step_done, settles}
+use Rattle.lapd_link_machine.proofs.Usual.{if_some, stays_between_when_usual}
+use Rattle.lapd_link.proofs.link.Link.usual_step.Goals as goal
+
+pub invariant_of-self : goal.invariant_of-self
+invariant_of-self c = record {
+  between = stays_between_when_usual c.usual_step.result c.args.control.now c.args.role _ _ c.args.self.now.between c.usual_step.ensures.step c.usual_step.ensures.unchanged
+      c.usual_step.ensures.numbers;
+}
+
+pub returns-clause-ok : goal.returns-clause-ok
+returns-clause-ok c = if_some c.usual_step.result _ _ (λ outs step e h.
+    let done = step e h in
+    (_, step_done (Heard c.args.control.now c.args.role) e refl, done.put, settles _ _ _ done)) c.usual_step.ensures.step

@@ -1,0 +1,30 @@
+use Rattle.std.proofs.Common.{◌≡◌, true, false, [], sym, ap, ◌∙◌}
+use Rattle.lapd_mod128.specs.Counting.{Tagged}
+use Rattle.lapd_supervision.specs.StateVariables.{with_peer_busy, is_valid_nr, outstanding}
+use Rattle.lapd_supervision.proofs.Outstanding.{outstanding_with_peer_busy}
+use Rattle.lapd_link_definition.specs.Procedures.{set_peer_busy}
+use Rattle.lapd_link_definition.specs.Established.{multiple_frame_established, rr_nr, poll_or_final}
+use Rattle.lapd_link_machine.proofs.Rows.{then_row}
+use Rattle.lapd_link_machine.proofs.machine.Machine.usual_response.Goals as goal
+
+pub take_nr_quietly-nr-requires-clause-counted : goal.take_nr_quietly-nr-requires-clause-counted
+take_nr_quietly-nr-requires-clause-counted c = c.requires.counted ∙ sym (ap (outstanding Tagged) c.peer-window.ensures ∙ outstanding_with_peer_busy Tagged false c.args.self.now.window)
+
+pub returns-in-Some-clause-step : goal.returns-in-Some-clause-step
+unfolding multiple_frame_established rr_nr poll_or_final set_peer_busy
+returns-in-Some-clause-step c = λ s h.
+    let window : with_peer_busy false s.end.window ≡ c.peer-window.result = ap (with_peer_busy false) h.window ∙ sym c.peer-window.ensures in
+    let valid : is_valid_nr Tagged c.args.nr (with_peer_busy false s.end.window) ≡ true = ap (is_valid_nr Tagged c.args.nr) window ∙ sym c.in-Some.ensures.valid in
+    c.end_quietly-acknowledgement.ensures.step _ _ (then_row _ _ _ _ _ valid (c.take_nr_quietly-nr.ensures.step _ [] (record {
+      parameters = h.parameters;
+      state = h.state;
+      rc = h.rc;
+      window = window;
+      layer3_initiated = h.layer3_initiated;
+      release_pending = h.release_pending;
+      t200 = h.t200;
+      t203 = h.t203;
+      queue = h.queue;
+      room = h.room;
+      put = h.put;
+    })))

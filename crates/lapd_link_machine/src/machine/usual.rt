@@ -1,0 +1,326 @@
+//! The frames that are usual in state 7: an I frame in sequence, an RR, and a poll. Their outputs are
+//! returned as values, which costs less than a list.
+
+ghost use Rattle.std.specs.Prelude.{◌≡◌, ◌++◌, ◌∷◌, [], List, None, true, false, IfNone, IfSome};
+ghost use Rattle.lapd_frame.specs.declared.Role.TheVariants.{Command, Answer};
+ghost use Rattle.lapd_frame.specs.declared.Control.TheVariants.{I, Rr};
+ghost use Rattle.lapd_timers.specs.declared.timer.Timer.TheVariants.{T200, T203};
+ghost use Rattle.lapd_mod128.specs.Counting.{Tagged};
+ghost use Rattle.lapd_supervision.specs.StateVariables.{AreTags};
+ghost use Rattle.lapd_link_definition.specs.EndOfStep.{end_step};
+ghost use Rattle.lapd_link_definition.specs.End.{End, StepState, begin};
+ghost use Rattle.lapd_link_definition.specs.Input.{Heard};
+ghost use Rattle.lapd_link_definition.specs.Table.{row};
+ghost use Rattle.lapd_link_definition.specs.declared.out.Out.{Out};
+ghost use Rattle.lapd_link_definition.specs.declared.out.Out.TheVariants.{Acknowledged, Start, Stop};
+ghost use Rattle.lapd_link_definition.specs.Procedures.{acknowledge, stop, start, out_where, counted, response_of};
+ghost use Rattle.lapd_link_definition.specs.Established.{acknowledge_with_timers, multiple_frame_established};
+ghost use Rattle.lapd_link_machine.specs.Usual.{nr_outs, usual_outs, IsIdle};
+
+use crate::machine::Machine;
+use lapd_frame::{Control, Number, Role};
+use lapd_link_definition::State;
+use lapd_supervision::{Advance, Window};
+
+/// What an N(R) acknowledges, and its effect on the timers (Q.921 Figure B.7).
+#[derive(Clone, Copy)]
+pub enum NrEffect {
+    /// This many messages, and none is outstanding: T200 is stopped if it runs, and T203 started.
+    All { count: u16, stops: bool },
+    /// This many messages, and others are outstanding: T200 is restarted.
+    Part { count: u16 },
+    /// Nothing new, and messages are outstanding: the timers keep running.
+    Nothing,
+}
+
+/// The outputs of a usual step, in the order of the fields.
+#[derive(Clone, Copy)]
+pub struct UsualOuts {
+    /// The response to a poll.
+    pub response: Option<Control>,
+    /// Whether the information of the frame is delivered to layer 3.
+    pub is_up: bool,
+    /// The effect of the N(R).
+    pub nr: NrEffect,
+    /// The RR that acknowledges an I frame.
+    pub acknowledgement: Option<Control>,
+}
+
+/// Actions that return their output.
+#[tactic(auto, using(crate::proofs::Tails::tail_acknowledged), unfolding(lapd_link_definition::specs::Procedures::stop, lapd_link_definition::specs::Procedures::start, lapd_link_definition::specs::Procedures::acknowledge))]
+impl Machine {
+    ghost use Rattle.lapd_link_machine.specs.Sent.{SentAreOutstanding, IsTaken};
+    ghost use Rattle.lapd_link_machine.specs.Represents.{Represents};
+
+    /// STOP T200. Returns whether it ran.
+    #[inline(always)]
+    fn stop_t200_quietly(&mut self) -> bool
+        ensures step { (s : StepState) (outs : List Out) → Represents self.old outs s
+            → Represents self.new (outs ++ out_where result (Stop T200)) (stop T200 s) }
+        ensures idle { IsIdle self.old → IsIdle self.new }
+    {
+        let ran = self.t200;
+        self.t200 = false;
+        ran
+    }
+
+    /// START T203.
+    #[inline(always)]
+    fn start_t203_quietly(&mut self)
+        ensures step { (s : StepState) (outs : List Out) → Represents self.old outs s
+            → Represents self.new (outs ++ Start T203 ∷ []) (start T203 s) }
+        ensures idle { IsIdle self.old → IsIdle self.new }
+    {
+        self.t203 = true;
+    }
+
+    /// START T200.
+    #[inline(always)]
+    fn start_t200_quietly(&mut self)
+        ensures step { (s : StepState) (outs : List Out) → Represents self.old outs s
+            → Represents self.new (outs ++ Start T200 ∷ []) (start T200 s) }
+        ensures idle { IsIdle self.old → IsIdle self.new }
+    {
+        self.t200 = true;
+    }
+
+    /// V(A) = N(R). Returns how many messages are acknowledged.
+    #[inline(always)]
+    fn acknowledge_quietly(&mut self, nr: Number, taken: (Window, Advance)) -> u16
+        requires taken { IsTaken nr self.old.window taken }
+        requires counted { SentAreOutstanding self.old }
+        ensures step { (s : StepState) (outs : List Out) → Represents self.old outs s
+            → Represents self.new (outs ++ counted result Acknowledged)
+            (acknowledge Tagged nr s) }
+        ensures idle { IsIdle self.old → IsIdle self.new }
+    {
+        let count = u16::from(taken.1.count);
+        self.window = taken.0;
+        self.queue.acknowledge(count);
+        count
+    }
+}
+
+/// The usual frames.
+#[tactic(auto, using(crate::proofs::Rows::then_row, crate::proofs::Rows::else_row), unfolding(lapd_link_definition::specs::Established::acknowledge_with_timers, lapd_link_definition::specs::Established::multiple_frame_established))]
+impl Machine {
+    ghost use Rattle.lapd_link_machine.specs.Sent.{SentAreOutstanding, IsBetweenSteps, IsTaken};
+    ghost use Rattle.lapd_link_machine.specs.Represents.{Represents};
+
+    /// Processes a valid N(R), and T200 and T203 by whether it acknowledges all, nothing new, or
+    /// some.
+    #[inline(always)]
+    fn take_nr_quietly(&mut self, nr: Number, taken: (Window, Advance)) -> NrEffect
+        requires taken { IsTaken nr self.old.window taken }
+        requires counted { SentAreOutstanding self.old }
+        ensures step { (s : StepState) (outs : List Out) → Represents self.old outs s
+            → Represents self.new (outs ++ nr_outs result) (acknowledge_with_timers Tagged nr s) }
+        ensures idle { IsIdle self.old → IsIdle self.new }
+    {
+        if taken.1.all {
+            let count = self.acknowledge_quietly(nr, taken);
+            let stops = self.stop_t200_quietly();
+            self.start_t203_quietly();
+            NrEffect::All { count, stops }
+        } else if self.acknowledges_nothing_new(nr) {
+            NrEffect::Nothing
+        } else {
+            let count = self.acknowledge_quietly(nr, taken);
+            self.start_t200_quietly();
+            NrEffect::Part { count }
+        }
+    }
+
+    /// Ends the step: no message is unsent, so at most the pending acknowledgement is sent.
+    #[inline(always)]
+    fn end_quietly(&mut self) -> Option<Control>
+        requires idle { IsIdle self.old }
+        ensures step { (s : StepState) (outs : List Out) → Represents self.old outs s
+            → Represents self.new (outs ++ response_of result) (end_step Tagged s) }
+    {
+        if self.window.ack_pending() {
+            let (window, control) = self.window.acknowledge();
+            self.window = window;
+            Some(control)
+        } else {
+            None
+        }
+    }
+
+    /// Receives an I command with P=0 that is in sequence, while both ends are ready.
+    #[inline(always)]
+    fn usual_i_frame(&mut self, ns: Number, nr: Number) -> Option<UsualOuts>
+        requires idle { IsIdle self.old }
+        requires counted { SentAreOutstanding self.old }
+        ensures step { IfSome result (λ outs. (s : StepState) → Represents self.old [] s
+            → Represents self.new (usual_outs outs) (end_step Tagged
+            (multiple_frame_established Tagged (Heard (I ns nr false) Command) s))) }
+        ensures unchanged { IfNone result (self.new ≡ self.old) }
+    {
+        if self.window.peer_busy() {
+            return None;
+        }
+        let (window, receipt) = self.window.take_ns(ns, false);
+        if !receipt.accepted || receipt.answer.is_some() {
+            return None;
+        }
+        match window.take_nr(nr) {
+            Some(taken) => {
+                self.window = window;
+                let nr = self.take_nr_quietly(nr, taken);
+                let acknowledgement = self.end_quietly();
+                Some(UsualOuts {
+                    response: None,
+                    is_up: true,
+                    nr,
+                    acknowledgement,
+                })
+            }
+            None => None,
+        }
+    }
+
+    /// Receives an RR response with F=0.
+    #[inline(always)]
+    fn usual_response(&mut self, nr: Number) -> Option<UsualOuts>
+        requires idle { IsIdle self.old }
+        requires counted { SentAreOutstanding self.old }
+        ensures step { IfSome result (λ outs. (s : StepState) → Represents self.old [] s
+            → Represents self.new (usual_outs outs) (end_step Tagged
+            (multiple_frame_established Tagged (Heard (Rr nr false) Answer) s))) }
+        ensures unchanged { IfNone result (self.new ≡ self.old) }
+    {
+        let window = self.window.peer(false);
+        match window.take_nr(nr) {
+            Some(taken) => {
+                self.window = window;
+                let nr = self.take_nr_quietly(nr, taken);
+                let acknowledgement = self.end_quietly();
+                Some(UsualOuts {
+                    response: None,
+                    is_up: false,
+                    nr,
+                    acknowledgement,
+                })
+            }
+            None => None,
+        }
+    }
+
+    /// Receives an RR command with P=1, which is answered first.
+    #[inline(always)]
+    fn usual_poll(&mut self, nr: Number) -> Option<UsualOuts>
+        requires idle { IsIdle self.old }
+        requires counted { SentAreOutstanding self.old }
+        ensures step { IfSome result (λ outs. (s : StepState) → Represents self.old [] s
+            → Represents self.new (usual_outs outs) (end_step Tagged
+            (multiple_frame_established Tagged (Heard (Rr nr true) Command) s))) }
+        ensures unchanged { IfNone result (self.new ≡ self.old) }
+    {
+        let (window, response) = self.window.peer(false).answer_poll();
+        match window.take_nr(nr) {
+            Some(taken) => {
+                self.window = window;
+                let nr = self.take_nr_quietly(nr, taken);
+                let acknowledgement = self.end_quietly();
+                Some(UsualOuts {
+                    response: Some(response),
+                    is_up: false,
+                    nr,
+                    acknowledgement,
+                })
+            }
+            None => None,
+        }
+    }
+
+    /// Makes the step of a received frame, if it is usual: in state 7 with no message unsent, an I
+    /// command with P=0 that is in sequence while both ends are ready, an RR response with F=0, or
+    /// an RR command with P=1, each with a valid N(R). Otherwise it returns `None`, and the machine
+    /// is unchanged.
+    #[inline(always)]
+    pub fn usual_step(&mut self, control: &Control, role: Role) -> Option<UsualOuts>
+        requires between { IsBetweenSteps self.old }
+        ensures step { IfSome result (λ outs. (e : End) → Represents self.old [] (begin e)
+            → Represents self.new (usual_outs outs) (end_step Tagged
+            (row Tagged e.state (Heard control.now role) (begin e)))) }
+        ensures numbers { AreTags self.new.window }
+        ensures unchanged { IfNone result (self.new ≡ self.old) }
+    {
+        let outs = self.usual_row(control, role);
+        prove!(self.window.vs().value() < 128);
+        prove!(self.window.va().value() < 128);
+        prove!(self.window.vr().value() < 128);
+        outs
+    }
+
+    /// Makes the step, by the role.
+    #[inline(always)]
+    fn usual_row(&mut self, control: &Control, role: Role) -> Option<UsualOuts>
+        requires between { IsBetweenSteps self.old }
+        ensures step { IfSome result (λ outs. (e : End) → Represents self.old [] (begin e)
+            → Represents self.new (usual_outs outs) (end_step Tagged
+            (row Tagged e.state (Heard control.now role) (begin e)))) }
+        ensures unchanged { IfNone result (self.new ≡ self.old) }
+    {
+        if !self.is_idle() {
+            return None;
+        }
+        match role {
+            Role::Command => self.usual_command(control),
+            Role::Answer => self.usual_answer(control),
+        }
+    }
+
+    /// Receives a command.
+    #[inline(always)]
+    fn usual_command(&mut self, control: &Control) -> Option<UsualOuts>
+        requires idle { IsIdle self.old }
+        requires counted { SentAreOutstanding self.old }
+        ensures step { IfSome result (λ outs. (e : End) → Represents self.old [] (begin e)
+            → Represents self.new (usual_outs outs) (end_step Tagged
+            (row Tagged e.state (Heard control.now Command) (begin e)))) }
+        ensures unchanged { IfNone result (self.new ≡ self.old) }
+    {
+        match control {
+            Control::I { ns, nr, p } => {
+                if *p {
+                    None
+                } else {
+                    self.usual_i_frame(*ns, *nr)
+                }
+            }
+            Control::Rr { nr, pf } => { if *pf { self.usual_poll(*nr) } else { None } }
+            _ => None,
+        }
+    }
+
+    /// Receives a response.
+    #[inline(always)]
+    fn usual_answer(&mut self, control: &Control) -> Option<UsualOuts>
+        requires idle { IsIdle self.old }
+        requires counted { SentAreOutstanding self.old }
+        ensures step { IfSome result (λ outs. (e : End) → Represents self.old [] (begin e)
+            → Represents self.new (usual_outs outs) (end_step Tagged
+            (row Tagged e.state (Heard control.now Answer) (begin e)))) }
+        ensures unchanged { IfNone result (self.new ≡ self.old) }
+    {
+        match control {
+            Control::Rr { nr, pf } => { if *pf { None } else { self.usual_response(*nr) } }
+            _ => None,
+        }
+    }
+
+    /// Whether the state is 7, and no message is unsent.
+    fn is_idle(&self) -> bool
+        ensures { result ≡ true → IsIdle self.now }
+    {
+        match self.state {
+            State::MultipleFrameEstablished => self.queue.sent() == self.queue.len(),
+            State::TeiAssigned
+            | State::AwaitingEstablishment
+            | State::AwaitingRelease
+            | State::TimerRecovery => false,
+        }
+    }
+}

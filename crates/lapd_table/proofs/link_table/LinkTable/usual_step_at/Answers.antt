@@ -1,0 +1,29 @@
+use Rattle.std.proofs.Common.{refl}
+use Rattle.lapd_table.specs.LinkTable.{IsKey}
+use Rattle.lapd_link_machine.proofs.Usual.{if_some}
+use Rattle.lapd_table.proofs.Tables.{has_link, if_none, after_index, steps_at, unchanged_by}
+use Rattle.lapd_table.proofs.link_table.LinkTable.usual_step_at.Goals as goal
+
+pub index_mut-requires : goal.index_mut-requires
+unfolding IsKey
+index_mut-requires c = has_link c.args.self.now c.args.key.now.id c.args.key.now.place c.requires.key
+
+pub invariant_of-self : goal.invariant_of-self
+unfolding IsKey
+invariant_of-self c = record {
+  index = after_index c.args.self.now c.args.key.now.id c.args.key.now.place c.requires.key _ c.index_mut.ensures.value _ c.usual_step.ensures.setup;
+}
+
+pub returns-clause-ok : goal.returns-clause-ok
+unfolding IsKey
+returns-clause-ok c = if_some c.usual_step.result _ _
+    (λ outs steps. steps_at c.args.self.now c.args.key.now.id c.args.key.now.place c.requires.key _ c.index_mut.ensures.value _ c.usual_step.ensures.setup _ refl refl refl _ _ steps) c.usual_step.ensures.ok
+
+pub returns-clause-unchanged : goal.returns-clause-unchanged
+unfolding IsKey
+returns-clause-unchanged c = if_none c.usual_step.result _ _
+    (λ same. unchanged_by c.args.self.now c.args.key.now.id c.args.key.now.place c.requires.key _ c.index_mut.ensures.value _ same _ refl refl refl) c.usual_step.ensures.unchanged
+
+pub returns-clause-key : goal.returns-clause-key
+unfolding IsKey
+returns-clause-key c = c.requires.key
