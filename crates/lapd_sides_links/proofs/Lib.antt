@@ -7,3 +7,4 @@ pub mod Dues
 pub mod Outcomes
 pub mod Tournaments
 pub mod Spellings
+pub mod UsualSteps

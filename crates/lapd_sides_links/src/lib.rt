@@ -17,6 +17,7 @@ mod running_timer;
 mod side_fault;
 mod timer_places;
 mod tournament;
+mod usual;
 
 pub use acts::{Acts, remove_first};
 pub use config::Config;

@@ -1,11 +1,12 @@
 //! The links of a side with their timers.
 
-ghost use Rattle.std.specs.Prelude.{◌≡◌, ◌≢◌, ◌≤◌, ◌<◌, ◌+◌, ◌++◌, length, map, option_map, [], Some, None, IfSome, option_copied, IfOk, IfErr, OnOk, OnErr};
+ghost use Rattle.std.specs.Prelude.{◌≡◌, ◌≢◌, ◌≤◌, ◌<◌, ◌+◌, ◌++◌, length, map, option_map, [], true, false, Some, None, IfSome, option_copied, IfOk, IfErr, OnOk, OnErr};
 ghost use Rattle.std.specs.List.{filter_map};
 ghost use Rattle.lapd_frame.specs.declared.Side.{Side};
 ghost use Rattle.lapd_link.specs.Link.{LinkRepresents};
 ghost use Rattle.lapd_link.specs.declared.link.Link.{Link};
 ghost use Rattle.lapd_link_machine.specs.Bounds.{primitive_count};
+ghost use Rattle.lapd_link_machine.specs.Usual.{usual_outs};
 ghost use Rattle.lapd_link_definition.specs.End.{End};
 ghost use Rattle.lapd_link_definition.specs.Input.{input_of, Give, UnitData};
 ghost use Rattle.lapd_link_definition.specs.Input as input;
@@ -22,9 +23,10 @@ ghost use Rattle.lapd_sides_links.specs.Rooms.{HasRoomFor, AddsAtMost};
 use crate::delivery::{deliver_all, put_frames};
 use crate::link_timers::LinkTimers;
 use crate::side_fault::refused;
+use crate::usual::{deliver_acknowledged, deliver_message, put_response};
 use crate::{Acts, Config, Primitive, RunningTimer, SideFault, SideKind, What};
 use lapd_frame::N201;
-use lapd_link::{Event, Link, LinkFault, Outs, Params, Sapi, Side, State, Tei};
+use lapd_link::{Event, Link, LinkFault, Outs, Params, Sapi, Side, State, Tei, UsualOuts};
 use lapd_table::{LinkId, LinkKey, LinkTable};
 use lapd_tei::Assigner;
 use lapd_timers::{Durations, Timer, TimerSet};
@@ -228,6 +230,45 @@ impl LinkSet {
         self.link_timers.apply_outputs(key.id(), outs, now);
     }
 
+    /// Carries out the outputs of a usual step of a link: its frames, primitives and timers.
+    #[inline(always)]
+    fn carry_out_usual(
+        &mut self,
+        key: &LinkKey,
+        outs: &UsualOuts,
+        octets: &[u8],
+        now: u64,
+        acts: &mut Acts,
+    )
+        requires key { IsKey self.old.table key.now }
+        requires fits { length octets.now ≤ N201 }
+        requires frame_room { length acts.old.frames + 2 ≤ MOST_FRAMES }
+        requires primitive_room { length acts.old.primitives + 2 ≤ MOST_PRIMITIVES }
+        ensures frames { (link : Link) (e : End) → link_at self.old.table key.now.id ≡ Some link
+            → LinkRepresents link e
+            → acts.new.frames ≡ acts.old.frames
+            ++ filter_map (made_by (setup_for (side_of self.old.table) key.now.id) e octets.now)
+            (usual_outs outs.now) }
+        ensures primitives { acts.new.primitives ≡ acts.old.primitives
+            ++ map (Of key.now.id) (filter_map (what_of octets.now) (usual_outs outs.now)) }
+        ensures most_frames { length acts.new.frames ≤ length acts.old.frames + 2 }
+        ensures most_primitives { length acts.new.primitives ≤ length acts.old.primitives + 2 }
+        ensures own { timers_at self.new.link_timers key.now.id
+            ≡ option_map (timed now (usual_outs outs.now))
+            (timers_at self.old.link_timers key.now.id) }
+        ensures others { (other : LinkId) → other ≢ key.now.id
+            → timers_at self.new.link_timers other ≡ timers_at self.old.link_timers other }
+        ensures table { self.new.table ≡ self.old.table }
+    {
+        let link = self.table.link_at(key);
+        let id = key.id();
+        put_response(link, outs.response, acts);
+        deliver_message(id, outs.is_up, octets, acts);
+        deliver_acknowledged(id, outs.nr, acts);
+        put_response(link, outs.acknowledgement, acts);
+        self.link_timers.apply_nr(id, outs.nr, now);
+    }
+
     /// Processes an event in the link with this id, at the time `now`. `octets` are the information
     /// of the received frame, or the unit data to send. The results are appended to `acts`.
     ///
@@ -261,8 +302,77 @@ impl LinkSet {
         }
     }
 
-    /// Like `act`, for a link that has been found.
+    /// Like `act`, for a link that has been found. A usual step is tried first, because it costs less.
     fn act_at(
+        &mut self,
+        key: &LinkKey,
+        event: Event,
+        octets: &[u8],
+        now: u64,
+        acts: &mut Acts,
+    ) -> Result<(), SideKind>
+        requires key { IsKey self.old.table key.now }
+        requires for_link { IsFor key.now.id event }
+        requires fits { length octets.now ≤ N201 }
+        requires room { HasRoomFor (input_of event) acts.old }
+        ensures ok { OnOk result (LinksDo self.old self.new acts.old acts.new
+            (λ side. in_links key.now.id (link_acts side key.now.id now
+            (input_of event.entry) octets.now))) }
+        ensures err { IfErr result (LinksRefuseAs self.old
+            (λ side. in_links key.now.id (link_acts side key.now.id now
+            (input_of event.entry) octets.now))) }
+        ensures unchanged { OnErr result (ShowsLinksAsBefore self.old self.new) }
+        ensures nothing { OnErr result (acts.new ≡ acts.old) }
+        ensures most { AddsAtMost (input_of event.entry) acts.old acts.new }
+    {
+        if self.act_usually(key, &event, octets, now, acts) {
+            Ok(())
+        } else {
+            self.act_in_general(key, event, octets, now, acts)
+        }
+    }
+
+    /// Processes the event, if it is a frame whose step is usual. Otherwise it returns `false`, and the
+    /// links are unchanged.
+    #[inline(always)]
+    fn act_usually(
+        &mut self,
+        key: &LinkKey,
+        event: &Event,
+        octets: &[u8],
+        now: u64,
+        acts: &mut Acts,
+    ) -> bool
+        requires key { IsKey self.old.table key.now }
+        requires fits { length octets.now ≤ N201 }
+        requires room { HasRoomFor (input_of event.now) acts.old }
+        ensures ok { result ≡ true → LinksDo self.old self.new acts.old acts.new
+            (λ side. in_links key.now.id (link_acts side key.now.id now
+            (input_of event.now) octets.now)) }
+        ensures unchanged { result ≡ false → ShowsLinksAsBefore self.old self.new }
+        ensures nothing { result ≡ false → acts.new ≡ acts.old }
+        ensures key { IsKey self.new.table key.now }
+        ensures most { AddsAtMost (input_of event.now) acts.old acts.new }
+    {
+        let Event::Heard(frame) = event else {
+            return false;
+        };
+        match self
+            .table
+            .usual_step_at(key, &frame.control(), frame.address().role)
+        {
+            Some(outs) => {
+                self.carry_out_usual(key, &outs, octets, now, acts);
+                true
+            }
+            None => false,
+        }
+    }
+
+    /// Like `act_at`, for any step.
+    // If inlined, it would cost a usual step stack and registers.
+    #[inline(never)]
+    fn act_in_general(
         &mut self,
         key: &LinkKey,
         event: Event,

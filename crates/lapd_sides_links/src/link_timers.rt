@@ -2,6 +2,7 @@
 
 ghost use Rattle.std.specs.Prelude.{◌≡◌, ◌≢◌, ℕ, ◌<◌, ◌≤◌, Some, option_map, option_copied, IfOk, IfSome};
 ghost use Rattle.lapd_timers.specs.Due.{all_stopped, deadline_of};
+ghost use Rattle.lapd_link_machine.specs.Usual.{nr_outs};
 ghost use Rattle.lapd_table.specs.declared.link_id.LinkId.{LinkId};
 ghost use Rattle.lapd_sides_links.specs.declared.tournament.TheConstants.{PLACES};
 ghost use Rattle.lapd_sides_links.specs.Effects.{timed, stopped};
@@ -14,7 +15,7 @@ use crate::RunningTimer;
 use crate::running_timer::sooner;
 use crate::timer_places::TimerPlaces;
 use crate::tournament::Tournament;
-use lapd_link::{Out, Sapi};
+use lapd_link::{NrEffect, Out, Sapi};
 use lapd_table::LinkId;
 use lapd_timers::{Durations, Timer, TimerSet};
 use std::alloc::{AllocError, Global};
@@ -94,6 +95,28 @@ impl LinkTimers {
     {
         self.places.apply_outputs(id, outs, now);
         enter(&mut self.expiries, id, self.places.get(id));
+    }
+
+    /// Starts and stops the timers of one link according to an N(R) of a usual step.
+    pub fn apply_nr(&mut self, id: &LinkId, nr: NrEffect, now: u64)
+        ensures own { placed self.new id.now
+            ≡ option_map (timed now (nr_outs nr)) (placed self.old id.now) }
+        ensures others { (other : LinkId) → other ≢ id.now
+            → placed self.new other ≡ placed self.old other }
+    {
+        match nr {
+            NrEffect::All { count: _, stops } => {
+                if stops {
+                    self.apply_outputs(id, &[Out::Stop(Timer::T200), Out::Start(Timer::T203)], now);
+                } else {
+                    self.apply_outputs(id, &[Out::Start(Timer::T203)], now);
+                }
+            }
+            NrEffect::Part { count: _ } => {
+                self.apply_outputs(id, &[Out::Start(Timer::T200)], now);
+            }
+            NrEffect::Nothing => {}
+        }
     }
 
     /// Stops a timer of one link.
