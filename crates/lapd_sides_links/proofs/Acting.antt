@@ -1,9 +1,8 @@
 -- How a step of one link changes the links of a side.
-use Rattle.std.proofs.Common.{◌≡◌, ◌≢◌, ◌≤◌, ℕ, List, ◌∷◌, ◌++◌, [], drop, length, map, Bool, true, false, Option, Some, None, Result, Err, option_map, option_copied, Bor, rules, refl, sym, ap, subst, ◌∙◌, arith}
+use Rattle.std.proofs.Common.{◌≡◌, ◌≢◌, ◌≤◌, ℕ, List, ◌∷◌, ◌++◌, [], drop, length, map, Bool, true, false, Option, Some, None, Result, Err, option_map, option_copied, Bor, refl, sym, ap, subst, ◌∙◌, arith}
 use Rattle.std.specs.Prelude.{IsSomeAnd, IfSome, if◌then◌else◌}
 use Rattle.std.proofs.lemmas.List.Elements.{All-head, All-tail}
 use Rattle.std.specs.List.{All, cons_option, filter_map}
-use Rattle.std.specs.Cmp.Rules.{comparing}
 use Rattle.lapd_timers.specs.declared.timer.Timer.{Timer}
 use Rattle.lapd_timers.specs.Due.{Timers, deadline_of}
 use Rattle.lapd_frame.specs.declared.Side.{Side}
@@ -22,7 +21,7 @@ use Rattle.lapd_table.specs.declared.link_id.LinkId.{LinkId}
 use Rattle.lapd_table.specs.LinkId.{id_eq, setup_for}
 use Rattle.lapd_table.specs.LinkTable.{link_at, side_of, StepsAt, RefusesAt}
 use Rattle.lapd_table.specs.declared.link_table.LinkTable.{LinkTable}
-use Rattle.lapd_table.proofs.Ids.{same_id_eq}
+use Rattle.lapd_table.proofs.Ids.{same_id_eq, id_eq_self}
 use Rattle.lapd_table.proofs.Tables.{setup_at}
 use Rattle.lapd_sides_links.specs.declared.running_timer.RunningTimer.{RunningTimer as Due}
 use Rattle.lapd_sides_links.specs.declared.link_set.LinkSet.{LinkSet}
@@ -110,10 +109,6 @@ other_linked old new links id other l false is own table link_timers reflexive h
 
 pub same_effects : (a : Effects) (frames : List (List ℕ)) (primitives : List Primitive) → a.frames ≡ frames → a.primitives ≡ primitives → a ≡ record { frames = frames; primitives = primitives }
 same_effects a frames primitives f p = rw (sym f, sym p) refl
-
--- an id equals itself
-id_eq_self : (a : LinkId) → id_eq a a ≡ true
-id_eq_self a = search (comparing, rules)
 
 -- the octets that the code makes of the outputs are those that are sent
 same_octets : (setup : Setup) (e : End) (octets : List ℕ) (outs : List Out) → All (λ output. made_frame setup (drop e.first e.given) octets output ≡ sent_frame setup (drop e.first e.given) octets output) outs

@@ -1,9 +1,9 @@
 //! The links of a side with their timers.
 
-ghost use Rattle.std.specs.Prelude.{◌≡◌, ◌≢◌, ◌≤◌, ◌<◌, ◌+◌, ◌++◌, length, map, option_map, [], true, false, Some, None, IfSome, option_copied, IfOk, IfErr, OnOk, OnErr};
+ghost use Rattle.std.specs.Prelude.{◌≡◌, ◌≢◌, ◌≤◌, ◌<◌, ◌+◌, ◌++◌, length, map, option_map, [], true, false, Some, None, IsSome, IfSome, option_copied, IfOk, IfErr, OnOk, OnErr};
 ghost use Rattle.std.specs.List.{filter_map};
 ghost use Rattle.lapd_frame.specs.declared.Side.{Side};
-ghost use Rattle.lapd_link.specs.Link.{LinkRepresents};
+ghost use Rattle.lapd_link.specs.Link.{LinkRepresents, setup_of};
 ghost use Rattle.lapd_link.specs.declared.link.Link.{Link};
 ghost use Rattle.lapd_link_machine.specs.Bounds.{primitive_count};
 ghost use Rattle.lapd_link_machine.specs.Usual.{usual_outs};
@@ -11,13 +11,13 @@ ghost use Rattle.lapd_link_definition.specs.End.{End};
 ghost use Rattle.lapd_link_definition.specs.Input.{input_of, Give, UnitData};
 ghost use Rattle.lapd_link_definition.specs.Input as input;
 ghost use Rattle.lapd_table.specs.declared.link_id.LinkId.{LinkId};
-ghost use Rattle.lapd_table.specs.LinkTable.{link_at, side_of, IsFor, IsKey};
+ghost use Rattle.lapd_table.specs.LinkTable.{link_at, side_of, Changes, IsFor, IsKey, IsUnchanged};
 ghost use Rattle.lapd_table.specs.LinkId.{setup_for};
 ghost use Rattle.lapd_sides_links.specs.declared.acts.TheConstants.{MOST_FRAMES, MOST_PRIMITIVES};
 ghost use Rattle.lapd_sides_links.specs.declared.primitive.Primitive.TheVariants.{Of};
 ghost use Rattle.lapd_sides_links.specs.Effects.{timed, what_of};
 ghost use Rattle.lapd_sides_links.specs.Expiries.{IsFirst, IsPast, IsTimerOf, Runs, of_links};
-ghost use Rattle.lapd_sides_links.specs.Links.{Links, IsOfLink, no_links, of_sapi, with_link, with_tei, without_tei, new_linked, release_at_removal, primitives_of, primitives_at_removal, primitive_of_tei, links_of_held, in_links, link_acts, link_expires};
+ghost use Rattle.lapd_sides_links.specs.Links.{Links, IsOfLink, no_links, of_sapi, with_link, with_tei, without_tei, release_at_removal, primitives_of, primitives_at_removal, primitive_of_tei, links_of_held, in_links, link_acts, link_expires};
 ghost use Rattle.lapd_sides_links.specs.Rooms.{HasRoomFor, AddsAtMost};
 
 use crate::delivery::{deliver_all, put_frames};
@@ -43,7 +43,7 @@ pub struct LinkSet {
 }
 
 impl LinkSet {
-    ghost use Rattle.lapd_sides_links.specs.Shown.{timers_at, made_by, ShowLinks, LinksDo, LinksRefuseAs, Becomes, ShowsLinksAsBefore};
+    ghost use Rattle.lapd_sides_links.specs.Shown.{timers_at, made_by, HasNewLink, ShowLinks, LinksDo, LinksRefuseAs, Becomes, ShowsLinksAsBefore};
 
     /// Creates a set without links, and allocates room for the timers of all links that can exist.
     ///
@@ -60,35 +60,8 @@ impl LinkSet {
         })
     }
 
-    /// Adds a link in state 4, of SAPI 0 or 16 and TEI 0 to 126, with no timer running. The link
-    /// must not exist yet.
-    ///
-    /// # Errors
-    ///
-    /// `AllocError` if an allocation failed. Nothing is changed.
-    fn add(
-        &mut self,
-        alloc: Global,
-        id: &LinkId,
-        params: Params,
-        durations: Durations,
-    ) -> Result<(), AllocError>
-        requires sapi { id.now.sapi ≢ Sapi.Management }
-        requires tei { id.now.tei < 127 }
-        ensures ok { OnOk result (Becomes self.old self.new
-            (with_link id.now (Some (new_linked params durations)))) }
-        ensures unchanged { OnErr result (ShowsLinksAsBefore self.old self.new) }
-        ensures new { OnOk result (link_at self.old.table id.now ≡ None) }
-    {
-        let link = Link::new(alloc, self.table.side(), id.sapi, id.tei, params)?;
-        let Ok(()) = self.table.add(link) else {
-            return Err(AllocError);
-        };
-        self.link_timers.reset(id, durations);
-        Ok(())
-    }
-
-    /// Adds the links of a TEI that has none: of SAPI 0, and of SAPI 16 if it is served.
+    /// Adds the links of a TEI, in state 4 and with no timer running: of SAPI 0, and of SAPI 16 if
+    /// it is served. They replace the links of this TEI, if it has any.
     ///
     /// # Errors
     ///
@@ -99,15 +72,62 @@ impl LinkSet {
         ensures unchanged { OnErr result (ShowsLinksAsBefore self.old self.new) }
     {
         let call = name(Sapi::Call, tei);
-        self.add(alloc, &call, config.params0, config.durations)?;
+        let replaced = self.insert(alloc, &call, config.params0)?;
         if config.sapi16 {
             let packet = name(Sapi::Packet, tei);
-            let Ok(()) = self.add(alloc, &packet, config.params16, config.durations) else {
-                self.remove(&name(Sapi::Call, tei));
+            let Ok(_) = self.insert(alloc, &packet, config.params16) else {
+                self.put_back(&call, replaced);
                 return Err(AllocError);
             };
+            self.link_timers.reset(&call, config.durations);
+            self.link_timers.reset(&packet, config.durations);
+            return Ok(());
         }
+        self.link_timers.reset(&call, config.durations);
         Ok(())
+    }
+
+    /// Stores a new link in state 4, of SAPI 0 or 16 and TEI 0 to 126. Returns the link that it
+    /// replaces, if one exists. Its timers are unchanged.
+    ///
+    /// # Errors
+    ///
+    /// `AllocError` if an allocation failed. Nothing is changed.
+    fn insert(
+        &mut self,
+        alloc: Global,
+        id: &LinkId,
+        params: Params,
+    ) -> Result<Option<Link>, AllocError>
+        requires sapi { id.now.sapi ≢ Sapi.Management }
+        requires tei { id.now.tei < 127 }
+        ensures replaced { IfOk result (λ replaced. replaced ≡ link_at self.old.table id.now) }
+        ensures ok { OnOk result (HasNewLink self.old.table self.new.table id.now params) }
+        ensures unchanged { OnErr result (IsUnchanged self.old.table self.new.table) }
+        ensures timers { self.new.link_timers ≡ self.old.link_timers }
+    {
+        let link = Link::new(alloc, self.table.side(), id.sapi, id.tei, params)?;
+        self.table.insert(link)
+    }
+
+    /// Puts back the link that the link with this id replaced, or removes the link if it replaced
+    /// none. Its timers are unchanged.
+    fn put_back(&mut self, id: &LinkId, replaced: Option<Link>)
+        requires there { IsSome (link_at self.old.table id.now) }
+        requires its { IfSome replaced (λ link. setup_of link
+            ≡ setup_for (side_of self.old.table) id.now) }
+        ensures table { Changes self.old.table self.new.table id.now replaced }
+        ensures timers { self.new.link_timers ≡ self.old.link_timers }
+    {
+        match replaced {
+            Some(link) => match self.table.insert(link) {
+                Ok(_) => {}
+                Err(AllocError) => unreachable!(),
+            },
+            None => {
+                let _new = self.table.remove(*id);
+            }
+        }
     }
 
     /// Adds the links of all held TEIs to an empty set.

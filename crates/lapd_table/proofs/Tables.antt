@@ -244,11 +244,10 @@ module _ (old : LinkTable) (link : Link) (side : (setup_of link).side ≡ side_o
         let before = same_found old.side old.links old.keys old.index roomy old.keys preserved (λ at. refl) in
         record { there = now.there; others = λ other differs. now.others other differs ∙ before other }
 
-    pub with_link : (new : LinkTable) → new.side ≡ old.side → new.links ≡ links → new.keys ≡ keys → Changes old new (id_of_setup (setup_of link)) (Some link)
+    pub with_link : (new : LinkTable) → new.side ≡ old.side → new.links ≡ links → new.keys ≡ keys → Changes old new id (Some link)
     with_link new same_side same_links same_keys =
         let now : Finds old.links old.keys new.links new.keys id (Some link) = rw (same_links, same_keys) added in
-        let Here : LinkId → Type 0 = λ i. Changes old new i (Some link) in
-        subst Here its (changed old new id (Some link) same_side now)
+        changed old new id (Some link) same_side now
 
   -- the map could not allocate, and the link is removed again
   module _ (back : Links) (out : slab.Updates links back key None) (keys : Keys) (same : keys.entries ≡ old.keys.entries) where
@@ -265,6 +264,21 @@ module _ (old : LinkTable) (link : Link) (side : (setup_of link).side ≡ side_o
     as_before new same_side same_links same_keys =
         unchanged old new same_side (λ i. ap (λ l. found_in l new.keys i) same_links ∙ ap (λ k. found_in back k i) same_keys
         ∙ same_found old.side old.links old.keys old.index back keys as_before_links as_before_keys i)
+
+-- a link takes the place of another one with its SAPI and TEI
+module _ (old : LinkTable) (link : Link) (side : (setup_of link).side ≡ side_of old) (id : LinkId) (its : id ≡ id_of_setup (setup_of link)) (key : ℕ) (there : key_of old.keys id ≡ Some key)
+    (before : Link) (was : slab.get old.links key ≡ Some before) (after : Link) (is : after ≡ link) where
+  same_setup : setup_of after ≡ setup_of before
+  same_setup = ap setup_of is ∙ setup_in old link side ∙ ap (setup_for old.side) (sym its) ∙ sym (before_setup old id key there before was)
+
+  pub replaced_index : IsIndex old.side (slab.with_value old.links key after) old.keys
+  replaced_index = after_index old id key there before was after same_setup
+
+  pub replaced : (new : LinkTable) → new.side ≡ old.side → new.links ≡ slab.with_value old.links key after → new.keys ≡ old.keys → Changes old new (id_of_setup (setup_of link)) (Some link)
+  replaced new same_side same_links same_keys =
+      let now = changed old new id (Some after) same_side (finds old id key there before was after same_setup new same_side same_links same_keys) in
+      let Here : LinkId → Type 0 = λ i. Changes old new i (Some link) in
+      subst Here its (subst (λ l. Changes old new id (Some l)) is now)
 
 -- only the slab tried to allocate
 pub with_room : (old new : LinkTable) → new.side ≡ old.side → slab.SameValues old.links new.links → new.keys ≡ old.keys → IsUnchanged old new

@@ -16,6 +16,7 @@ use lapd_link::{Event, Link, LinkFault, Outs, Refused, UsualOuts};
 use slab::Slab;
 use std::alloc::{AllocError, Global};
 use std::collections::BTreeMap;
+use std::mem::replace;
 
 /// The links of one side of the interface, each under its SAPI and TEI.
 #[derive(Drop)]
@@ -74,13 +75,57 @@ impl LinkTable {
         if self.keys.contains_key(&id) {
             return Err((TableFault::AlreadyThere, link));
         }
+        match self.store(id, link) {
+            Ok(()) => Ok(()),
+            Err(link) => Err((TableFault::Memory, link)),
+        }
+    }
+
+    /// Stores a link, and returns the link with this SAPI and TEI that it replaces, if one exists.
+    /// The link must belong to the table's side ([`LinkTable::side`]). To replace a link allocates
+    /// nothing.
+    ///
+    /// # Errors
+    ///
+    /// `AllocError` if no such link exists and an allocation failed. The table is unchanged.
+    pub fn insert(&mut self, link: Link) -> Result<Option<Link>, AllocError>
+        requires side { (setup_of link).side ≡ side_of self.old }
+        ensures replaced { IfOk result (λ replaced. replaced
+            ≡ link_at self.old (id_of_setup (setup_of link))) }
+        ensures ok { OnOk result (Changes self.old self.new (id_of_setup (setup_of link))
+            (Some link)) }
+        ensures new { OnErr result (link_at self.old (id_of_setup (setup_of link)) ≡ None) }
+        ensures unchanged { OnErr result (IsUnchanged self.old self.new) }
+    {
+        let id = LinkId::of_link(&link);
+        match self.keys.get(&id).copied() {
+            Some(key) => Ok(Some(replace(&mut self.links[key], link))),
+            None => {
+                let Ok(()) = self.store(id, link) else {
+                    return Err(AllocError);
+                };
+                Ok(None)
+            }
+        }
+    }
+
+    /// Stores a link with this id, which no other link has. Returns the link if an allocation
+    /// failed; then the table is unchanged.
+    fn store(&mut self, id: LinkId, link: Link) -> Result<(), Link>
+        requires side { (setup_of link).side ≡ side_of self.old }
+        requires its { id ≡ id_of_setup (setup_of link) }
+        requires absent { key_of self.old.keys id ≡ None }
+        ensures ok { OnOk result (Changes self.old self.new id (Some link)) }
+        ensures returned { IfErr result (λ returned. returned ≡ link) }
+        ensures unchanged { OnErr result (IsUnchanged self.old self.new) }
+    {
         if self.links.reserve(1).is_err() {
-            return Err((TableFault::Memory, link));
+            return Err(link);
         }
         let key = self.links.insert_reserved(link);
         match self.keys.insert(id, key) {
             Ok(_) => Ok(()),
-            Err(_) => Err((TableFault::Memory, self.links.remove(key))),
+            Err(_) => Err(self.links.remove(key)),
         }
     }
 

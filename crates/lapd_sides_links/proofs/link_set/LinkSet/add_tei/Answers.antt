@@ -1,29 +1,33 @@
-use Rattle.std.proofs.Common.{◌≡◌, None, Some, subst}
-use Rattle.lapd_frame.specs.declared.Sapi.TheVariants.{Call}
-use Rattle.lapd_table.specs.declared.link_id.LinkId.{LinkId}
-use Rattle.lapd_table.specs.LinkTable.{link_at}
-use Rattle.lapd_sides_links.specs.Links.{of_sapi, with_link, new_linked}
-use Rattle.lapd_sides_links.specs.Shown.{ShowLinks}
-use Rattle.lapd_sides_links.proofs.Arrivals.{both_added, one_added, taken_back, with_call}
+use Rattle.std.proofs.Common.{subst, ◌∙◌}
+use Rattle.lapd_sides_links.specs.declared.timer_places.TimerPlaces.{TimerPlaces}
+use Rattle.lapd_sides_links.proofs.Arrivals.{AreReset, one_new, both_new, still_there, replaced_setup, put_back_as}
 use Rattle.lapd_sides_links.proofs.link_set.LinkSet.add_tei.Goals as goal
+
+pub put_back-requires-clause-there : goal.put_back-requires-clause-there
+put_back-requires-clause-there c = still_there _ _ c.name-call.result _ c.in_ok-replaced.ensures.ok.changes.there c.in_default.ensures.unchanged
+
+pub put_back-requires-clause-its : goal.put_back-requires-clause-its
+put_back-requires-clause-its c = replaced_setup _ _ c.name-call.result _ c.in_ok-replaced.ensures.replaced (c.in_default.ensures.unchanged.side ∙ c.in_ok-replaced.ensures.ok.changes.side)
 
 pub returns-in_default-clause-unchanged : goal.returns-in_default-clause-unchanged
 returns-in_default-clause-unchanged c = λ side links shown.
-    let config = c.args.config.now in
-    let first = subst (λ (id : LinkId). ShowLinks side c.add.new.self (with_link id (Some (new_linked config.params0 config.durations)) links)) c.name-call.ensures (c.in_ok-add.ensures.ok side links shown) in
-    let back = subst (λ (id : LinkId). ShowLinks side c.remove.new.self (with_link id None (with_call config c.args.tei links))) c.name.ensures (c.remove.ensures side _ (c.in_default.ensures.unchanged side _ first)) in
-    let absent = subst (λ (id : LinkId). link_at c.args.self.now.table id ≡ None) c.name-call.ensures c.in_ok-add.ensures.new in
-    taken_back side c.args.self.now c.remove.new.self links (of_sapi Call c.args.tei) (Some (new_linked config.params0 config.durations)) absent shown back
+    let back = c.put_back.ensures.table in
+    let same = c.in_default.ensures.unchanged in
+    let added = c.in_ok-replaced.ensures.ok.changes in
+    put_back_as side c.args.self.now c.put_back.new.self links c.name-call.result _ c.in_ok-replaced.ensures.replaced (back.side ∙ same.side ∙ added.side)
+    back.there (λ other apart. back.others other apart ∙ same.links other ∙ added.others other apart)
+    (c.put_back.ensures.timers ∙ c.insert-then-config.ensures.timers ∙ c.insert.ensures.timers) shown
 
-pub returns-in-Ok-clause-ok : goal.returns-in-Ok-clause-ok
-returns-in-Ok-clause-ok c = λ side links shown.
-    let config = c.args.config.now in
-    let first = subst (λ (id : LinkId). ShowLinks side c.add.new.self (with_link id (Some (new_linked config.params0 config.durations)) links)) c.name-call.ensures (c.in_ok-add.ensures.ok side links shown) in
-    let second = subst (λ (id : LinkId). ShowLinks side c.add-then-config.new.self (with_link id (Some (new_linked config.params16 config.durations)) (with_call config c.args.tei links))) c.name-packet.ensures (c.in-Ok.ensures.ok side _ first) in
-    both_added side c.add-then-config.new.self config c.args.tei links c.if-config.true second
+pub returns-then-config-clause-ok : goal.returns-then-config-clause-ok
+returns-then-config-clause-ok c = λ side links shown.
+    let timers = c.insert-then-config.ensures.timers ∙ c.insert.ensures.timers in
+    let first : AreReset c.args.self.now.link_timers c.reset.new.self c.name-call.result c.args.config.now.durations =
+    subst (λ (t : TimerPlaces). AreReset t c.reset.new.self c.name-call.result c.args.config.now.durations) timers (record { own = c.reset.ensures.own; others = c.reset.ensures.others }) in
+    both_new side c.args.self.now _ c.args.config.now c.args.tei links c.requires.tei c.name-call.result c.name-call.ensures shown
+    c.name-packet.result _ c.reset.new.self c.name-packet.ensures c.if-config.true c.in_ok-replaced.ensures.ok c.in-Ok.ensures.ok first (record { own = c.reset-then-config.ensures.own; others = c.reset-then-config.ensures.others })
 
-pub returns-else-config-clause-ok : goal.returns-else-config-clause-ok
-returns-else-config-clause-ok c = λ side links shown.
-    let config = c.args.config.now in
-    let first = subst (λ (id : LinkId). ShowLinks side c.add.new.self (with_link id (Some (new_linked config.params0 config.durations)) links)) c.name-call.ensures (c.in_ok-add.ensures.ok side links shown) in
-    one_added side c.add.new.self config c.args.tei links c.if-config.false first
+pub returns-clause-ok : goal.returns-clause-ok
+returns-clause-ok c = λ side links shown.
+    let reset : AreReset c.args.self.now.link_timers c.reset-2.new.self c.name-call.result c.args.config.now.durations =
+    subst (λ (t : TimerPlaces). AreReset t c.reset-2.new.self c.name-call.result c.args.config.now.durations) c.insert.ensures.timers (record { own = c.reset-2.ensures.own; others = c.reset-2.ensures.others }) in
+    one_new side c.args.self.now _ c.args.config.now c.args.tei links c.requires.tei c.name-call.result c.name-call.ensures shown c.if-config.false c.in_ok-replaced.ensures.ok reset

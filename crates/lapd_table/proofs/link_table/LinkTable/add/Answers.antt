@@ -1,49 +1,19 @@
-use Rattle.std.proofs.Common.{refl, sym, ap, subst, ◌∙◌, IsSome, ◌≡◌, None, rules}
-use Rattle.slab.specs.Slab as slab
-use Rattle.lapd_table.specs.LinkTable.{link_at}
-use Rattle.lapd_table.proofs.Tables.{key_is_there, no_key, none_at, with_link_index, with_link, as_before_index, as_before, with_room}
+use Rattle.std.proofs.Common.{sym, subst, ◌∙◌, IsSome, ◌≡◌, None, Some}
+use Rattle.lapd_table.specs.LinkTable.{link_at, Changes}
+use Rattle.lapd_table.proofs.Tables.{key_is_there, no_key, none_at}
 use Rattle.lapd_table.proofs.link_table.LinkTable.add.Goals as goal
 
 pub returns-then-contains_key-clause-err : goal.returns-then-contains_key-clause-err
 returns-then-contains_key-clause-err c = subst (λ id. IsSome (link_at c.args.self.now id)) c.of_link-id.ensures (key_is_there c.args.self.now c.of_link-id.result (sym c.contains_key.ensures ∙ c.if-contains_key.true))
 
-pub returns-then-is_err-clause-err : goal.returns-then-is_err-clause-err
-returns-then-is_err-clause-err c = subst (λ id. link_at c.args.self.now id ≡ None) c.of_link-id.ensures (none_at c.args.self.now c.of_link-id.result (no_key _ (sym c.contains_key.ensures ∙ c.if-contains_key.false)))
-
-pub returns-then-is_err-clause-unchanged : goal.returns-then-is_err-clause-unchanged
-returns-then-is_err-clause-unchanged c = with_room c.args.self.now _ refl (λ at. ap (λ l. slab.get l at) c.reserve.ensures.rest_kept) refl
-
-pub invariant_of-self-in-Ok : goal.invariant_of-self-in-Ok
-invariant_of-self-in-Ok c = record {
-  index = with_link_index c.args.self.now c.args.link c.requires.side c.of_link-id.result c.of_link-id.ensures (no_key _ (sym c.contains_key.ensures ∙ c.if-contains_key.false))
-      c.reserve.new.self (λ at. ap (λ l. slab.get l at) c.reserve.ensures.rest_kept) c.insert_reserved-key.result c.insert_reserved-key.ensures.was_vacant _ c.insert_reserved-key.ensures.updates
-      _ c.in-Ok.ensures.updates;
-}
+pub store-requires-clause-absent : goal.store-requires-clause-absent
+store-requires-clause-absent c = no_key _ (sym c.contains_key.ensures ∙ c.if-contains_key.false)
 
 pub returns-in-Ok-clause-new : goal.returns-in-Ok-clause-new
 returns-in-Ok-clause-new c = subst (λ id. link_at c.args.self.now id ≡ None) c.of_link-id.ensures (none_at c.args.self.now c.of_link-id.result (no_key _ (sym c.contains_key.ensures ∙ c.if-contains_key.false)))
 
 pub returns-in-Ok-clause-ok : goal.returns-in-Ok-clause-ok
-returns-in-Ok-clause-ok c =
-    with_link c.args.self.now c.args.link c.requires.side c.of_link-id.result c.of_link-id.ensures (no_key _ (sym c.contains_key.ensures ∙ c.if-contains_key.false))
-    c.reserve.new.self (λ at. ap (λ l. slab.get l at) c.reserve.ensures.rest_kept) c.insert_reserved-key.result c.insert_reserved-key.ensures.was_vacant _ c.insert_reserved-key.ensures.updates
-    _ c.in-Ok.ensures.updates _ refl refl refl
-
-pub invariant_of-self-in-Err : goal.invariant_of-self-in-Err
-invariant_of-self-in-Err c = record {
-  index = as_before_index c.args.self.now c.args.link c.requires.side c.of_link-id.result c.of_link-id.ensures (no_key _ (sym c.contains_key.ensures ∙ c.if-contains_key.false))
-      c.reserve.new.self (λ at. ap (λ l. slab.get l at) c.reserve.ensures.rest_kept) c.insert_reserved-key.result c.insert_reserved-key.ensures.was_vacant _ c.insert_reserved-key.ensures.updates
-      c.remove.new.self c.remove.ensures.updates _ c.in-Err.ensures.err;
-}
+returns-in-Ok-clause-ok c = subst (λ id. Changes c.args.self.now c.store.new.self id (Some c.args.link)) c.of_link-id.ensures c.in-Ok.ensures.ok
 
 pub returns-in-Err-clause-err : goal.returns-in-Err-clause-err
 returns-in-Err-clause-err c = subst (λ id. link_at c.args.self.now id ≡ None) c.of_link-id.ensures (none_at c.args.self.now c.of_link-id.result (no_key _ (sym c.contains_key.ensures ∙ c.if-contains_key.false)))
-
-pub returns-in-Err-clause-unchanged : goal.returns-in-Err-clause-unchanged
-returns-in-Err-clause-unchanged c =
-    as_before c.args.self.now c.args.link c.requires.side c.of_link-id.result c.of_link-id.ensures (no_key _ (sym c.contains_key.ensures ∙ c.if-contains_key.false))
-    c.reserve.new.self (λ at. ap (λ l. slab.get l at) c.reserve.ensures.rest_kept) c.insert_reserved-key.result c.insert_reserved-key.ensures.was_vacant _ c.insert_reserved-key.ensures.updates
-    c.remove.new.self c.remove.ensures.updates _ c.in-Err.ensures.err _ refl refl refl
-
-pub invariant_of-self : goal.invariant_of-self
-invariant_of-self c = search rules

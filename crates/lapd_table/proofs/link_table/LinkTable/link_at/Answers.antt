@@ -1,6 +1,6 @@
 -- link_at
-use Rattle.std.proofs.Common.{◌∙◌, sym, Some}
-use Rattle.lapd_table.specs.LinkTable.{IsKey, link_at}
+use Rattle.std.proofs.Common.{◌∙◌}
+use Rattle.lapd_table.specs.LinkTable.{IsKey}
 use Rattle.lapd_table.proofs.Tables.{has_link, link_at_key, setup_at}
 use Rattle.lapd_table.proofs.link_table.LinkTable.link_at.Goals as goal
 
