@@ -1,8 +1,12 @@
 -- The words of each remark.
 use Rattle.std.specs.Prelude.{ℕ, ◌/◌, ◌%◌, List, [], ◌++◌, codes, Option, Some, None}
 use Rattle.std.specs.Fmt.{decimal}
+use Rattle.lapd_follow.specs.declared.remark.Class.{Class}
+use Rattle.lapd_follow.specs.declared.remark.Class.TheVariants.{Normal, Recovery, Violation}
 use Rattle.lapd_follow.specs.declared.remark.Remark.{Remark}
 use Rattle.lapd_follow.specs.declared.remark.Remark.TheVariants.{Begins, LateUa, UaWithoutCommand, FirstNs, NsExpected, Repeated, RepeatedOtherwise, WindowExceeded, SentToBusy, SentToKnownBusy, NrOutside, Answers, LateResponse, ResponseWithoutPoll, NotAnswered}
+use Rattle.lapd_follow.specs.declared.remarks.Remarks.{Remarks}
+use Rattle.lapd_follow.specs.Remarks.{class_of}
 
 -- so many microseconds, in seconds with three digits after the point
 abbrev pub after_text : Option ℕ → List ℕ
@@ -28,3 +32,18 @@ remark_text (Answers packet after) = codes "answers packet " ++ (decimal packet 
 remark_text LateResponse = codes "answers an earlier poll"
 remark_text ResponseWithoutPoll = codes "response without a poll"
 remark_text (NotAnswered packet) = codes "packet " ++ (decimal packet ++ codes " is not answered")
+
+-- a remark behind the line of its frame, in brackets; a violation is marked
+abbrev pub marked_text : Class → List ℕ → List ℕ
+marked_text Normal words = codes " [" ++ (words ++ codes "]")
+marked_text Recovery words = codes " [" ++ (words ++ codes "]")
+marked_text Violation words = codes " [violation: " ++ (words ++ codes "]")
+
+abbrev pub noted_text : Option Remark → List ℕ
+noted_text None = []
+noted_text (Some remark) = marked_text (class_of remark) (remark_text remark)
+
+-- all remarks on a frame, in the order of their kinds
+abbrev pub remarks_text : Remarks → List ℕ
+remarks_text r = noted_text r.establishment ++ (noted_text r.ns ++ (noted_text r.window
+    ++ (noted_text r.busy ++ (noted_text r.nr ++ noted_text r.answer))))

@@ -7,10 +7,10 @@ ghost use Rattle.lapd_follow.specs.Worked.{told, undisturbed, vr_not_reset, sent
 /// What is said of each frame of worked dialogues: nothing but establishments and answers on an
 /// undisturbed link, recoveries after a loss, and violations where an end has an error.
 pub fn remarks_are_computed()
-    ensures undisturbed { told undisturbed ≡ [] ∷ (Begins 1 ∷ Answers 1 (Some 1000) ∷ []) ∷ [] ∷ [] ∷ []
-        ∷ [] ∷ [] ∷ (Answers 7 (Some 1000) ∷ []) ∷ [] }
-    ensures vr_not_reset { told vr_not_reset ≡ [] ∷ (Begins 1 ∷ Answers 1 (Some 1000) ∷ []) ∷ [] ∷ []
-        ∷ [] ∷ (Begins 2 ∷ Answers 5 (Some 1000) ∷ []) ∷ [] ∷ (NrOutside 2 0 1 ∷ []) ∷ [] }
+    ensures undisturbed { told undisturbed ≡ [] ∷ (Begins 1 ∷ Answers 1 (Some 1000) ∷ []) ∷ []
+        ∷ [] ∷ [] ∷ [] ∷ [] ∷ (Answers 7 (Some 1000) ∷ []) ∷ [] }
+    ensures vr_not_reset { told vr_not_reset ≡ [] ∷ (Begins 1 ∷ Answers 1 (Some 1000) ∷ []) ∷ []
+        ∷ [] ∷ [] ∷ (Begins 2 ∷ Answers 5 (Some 1000) ∷ []) ∷ [] ∷ (NrOutside 2 0 1 ∷ []) ∷ [] }
     ensures sent_again { told sent_again ≡ [] ∷ (Begins 1 ∷ Answers 1 (Some 1000) ∷ []) ∷ []
         ∷ (NsExpected 2 1 ∷ []) ∷ [] ∷ [] ∷ (Repeated ∷ []) ∷ (RepeatedOtherwise ∷ []) ∷ [] }
     ensures without_cause { told without_cause ≡ [] ∷ (Begins 1 ∷ Answers 1 (Some 1000) ∷ [])
@@ -18,8 +18,9 @@ pub fn remarks_are_computed()
     ensures to_busy { told to_busy ≡ [] ∷ (Begins 1 ∷ Answers 1 (Some 1000) ∷ []) ∷ [] ∷ []
         ∷ (Repeated ∷ SentToBusy ∷ []) ∷ [] ∷ (Answers 6 (Some 1000) ∷ [])
         ∷ (Repeated ∷ SentToKnownBusy ∷ []) ∷ [] }
-    ensures window { told four_messages ≡ [] ∷ (Begins 1 ∷ Answers 1 (Some 1000) ∷ []) ∷ [] ∷ [] ∷ []
-        ∷ (WindowExceeded 3 ∷ []) ∷ [] }
-    ensures collision { told collision ≡ [] ∷ (Begins 1 ∷ Answers 1 (Some 1000) ∷ []) ∷ [] ∷ [] ∷ [] ∷ []
-        ∷ (Answers 6 (Some 1000) ∷ []) ∷ (Begins 2 ∷ Answers 4 (Some 4000) ∷ []) ∷ [] ∷ [] ∷ [] }
+    ensures window { told four_messages ≡ [] ∷ (Begins 1 ∷ Answers 1 (Some 1000) ∷ []) ∷ [] ∷ []
+        ∷ [] ∷ (WindowExceeded 3 ∷ []) ∷ [] }
+    ensures collision { told collision ≡ [] ∷ (Begins 1 ∷ Answers 1 (Some 1000) ∷ []) ∷ [] ∷ []
+        ∷ [] ∷ [] ∷ (Answers 6 (Some 1000) ∷ []) ∷ (Begins 2 ∷ Answers 4 (Some 4000) ∷ []) ∷ []
+        ∷ [] ∷ [] }
 {}

@@ -13,11 +13,13 @@ mod end;
 mod follower;
 mod laws;
 mod link_follower;
+mod noted;
 mod numbering;
 mod packet;
 mod polls;
 mod remark;
 mod remarks;
+mod tally;
 mod unacknowledged;
 
 pub use end::Busy;
@@ -29,3 +31,4 @@ pub use packet::Packet;
 pub use polls::Polls;
 pub use remark::{Class, Remark};
 pub use remarks::Remarks;
+pub use tally::{Kinds, Tally, Times};

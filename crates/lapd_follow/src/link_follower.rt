@@ -1,5 +1,5 @@
 ghost use Rattle.std.specs.Prelude.{◌≡◌, IfOk, OnOk, OnErr};
-ghost use Rattle.lapd_follow.specs.Link.{Sighting, new_link, said_of, link_after};
+ghost use Rattle.lapd_follow.specs.Link.{Sighting, new_link, end_of, said_of, link_after};
 
 use crate::dialogue::Dialogue;
 use crate::end::End;
@@ -75,5 +75,36 @@ impl LinkFollower {
         self.dialogue
             .take(&frame.control(), frame.address().role, octets, packet);
         Ok(said)
+    }
+
+    /// How many establishments began.
+    pub fn establishments(&self) -> u64
+        ensures { result ≡ self.now.establishments }
+    {
+        self.dialogue.establishments
+    }
+
+    /// The last I or S command with P=1 of this side, if it is not answered.
+    pub fn unanswered_poll(&self, side: Side) -> Option<Packet>
+        ensures { result ≡ (end_of side self.now).polls.last }
+    {
+        self.end(side).polls.last
+    }
+
+    /// The last SABME or DISC of this side, if it is not answered.
+    pub fn unanswered_command(&self, side: Side) -> Option<Packet>
+        ensures { result ≡ (end_of side self.now).commands.last }
+    {
+        self.end(side).commands.last
+    }
+
+    /// The end of this side.
+    fn end(&self, side: Side) -> &End
+        ensures { result.now ≡ end_of side self.now }
+    {
+        match (self.sender, side) {
+            (Side::User, Side::User) | (Side::Network, Side::Network) => &self.dialogue.from,
+            _ => &self.dialogue.to,
+        }
     }
 }

@@ -1,15 +1,18 @@
-ghost use Rattle.std.specs.Prelude.{◌≡◌, Option};
+ghost use Rattle.std.specs.Prelude.{◌≡◌, Option, Some};
 ghost use Rattle.lapd_frame.specs.Reading.{is_command};
 ghost use Rattle.lapd_follow.specs.Exchange.{Exchange};
 ghost use Rattle.lapd_follow.specs.Remarks.{unexpected_ua, ua_remark, establishment_remark, repeated, out_of_sequence, ns_remark, is_in_window, window_remark, sent_to_busy, nr_remark, time_from, answers_poll, answer_to, response_to, left_unanswered, supervisory_remark, answer_remark, ns_of, window_of, busy_of, nr_of, remarks_on, has_violation, is_violation};
+ghost use Rattle.lapd_follow.specs.Texts.{remarks_text};
 
 use crate::dialogue::Dialogue;
 use crate::end::Busy;
+use crate::noted::Noted;
 use crate::numbering::counter;
 use crate::unacknowledged::Unacknowledged;
 use crate::{Class, Numbering, Packet, Polls, Remark};
 use lapd_frame::{Control, Frame, Role};
 use lapd_mod128::Seq;
+use std::fmt;
 
 /// The remarks on one frame, at most one of each kind.
 #[derive(Clone, Copy, Debug, PartialEq, Eq)]
@@ -40,6 +43,28 @@ impl Remarks {
             || is_violation(&self.nr)
             || is_violation(&self.answer)
     }
+}
+
+impl fmt::Display for Remarks {
+    ghost output = { λ remarks. Some (remarks_text remarks) };
+
+    /// Each remark in brackets, after a space; a violation is marked as such.
+    fn fmt<W: fmt::Write>(&self, f: &mut fmt::Formatter<W>) -> fmt::Result {
+        let establishment = noted(self.establishment);
+        let ns = noted(self.ns);
+        let window = noted(self.window);
+        let busy = noted(self.busy);
+        let nr = noted(self.nr);
+        let answer = noted(self.answer);
+        write!(f, "{establishment}{ns}{window}{busy}{nr}{answer}")
+    }
+}
+
+/// A remark behind the line of its frame.
+fn noted(remark: Option<Remark>) -> Noted
+    ensures { result.remark ≡ remark }
+{
+    Noted { remark }
 }
 
 /// Whether the remark is a violation.

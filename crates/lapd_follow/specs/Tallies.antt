@@ -1,0 +1,69 @@
+-- How many frames of each kind one end of a link sent, and the time that it took to answer polls.
+use Rattle.std.specs.Prelude.{ℕ, ◌+◌, ◌-◌, ◌^◌, min, max, Bool, true, false, if◌then◌else◌, length, Option, Some, None}
+use Rattle.lapd_frame.specs.declared.Control.{Control}
+use Rattle.lapd_frame.specs.declared.Control.TheVariants.{I, Rr, Rnr, Rej, Sabme, Dm, Ui, Disc, Ua, Frmr, Xid}
+use Rattle.lapd_frame.specs.Frame.{Fields}
+use Rattle.lapd_follow.specs.declared.remark.Remark.{Remark}
+use Rattle.lapd_follow.specs.declared.remark.Remark.TheVariants.{Repeated, RepeatedOtherwise, Answers}
+use Rattle.lapd_follow.specs.declared.remarks.Remarks.{Remarks}
+use Rattle.lapd_follow.specs.declared.tally.Kinds.{Kinds}
+use Rattle.lapd_follow.specs.declared.tally.Times.{Times}
+use Rattle.lapd_follow.specs.declared.tally.Tally.{Tally}
+use Rattle.lapd_follow.specs.Ends.{one_more}
+
+-- a sum, up to the greatest number of 64 bits
+abbrev pub sum_of : ℕ → ℕ → ℕ
+sum_of n m = min (n + m) (2 ^ 64 - 1)
+
+-- one more frame of this kind
+abbrev pub counted : Control → Kinds → Kinds
+counted (I ns nr p) k = record k { i = one_more k.i }
+counted (Rr nr pf) k = record k { rr = one_more k.rr }
+counted (Rnr nr pf) k = record k { rnr = one_more k.rnr }
+counted (Rej nr pf) k = record k { rej = one_more k.rej }
+counted (Sabme p) k = record k { sabme = one_more k.sabme }
+counted (Dm f) k = record k { dm = one_more k.dm }
+counted (Ui p) k = record k { ui = one_more k.ui }
+counted (Disc p) k = record k { disc = one_more k.disc }
+counted (Ua f) k = record k { ua = one_more k.ua }
+counted (Frmr f) k = record k { frmr = one_more k.frmr }
+counted (Xid pf) k = record k { xid = one_more k.xid }
+
+-- whether an I frame is sent again
+abbrev pub is_repeat : Option Remark → Bool
+is_repeat (Some Repeated) = true
+is_repeat (Some RepeatedOtherwise) = true
+is_repeat remark = false
+
+-- the time after which the frame answers a poll, if it does and the time is known
+abbrev pub answer_time : Option Remark → Option ℕ
+answer_time (Some (Answers packet after)) = after
+answer_time remark = None
+
+-- the least and the greatest of some times, with one more
+abbrev pub least_with : ℕ → Option ℕ → ℕ
+least_with n None = n
+least_with n (Some m) = min m n
+
+abbrev pub greatest_with : ℕ → Option ℕ → ℕ
+greatest_with n None = n
+greatest_with n (Some m) = max m n
+
+-- one more time
+abbrev pub with_time : Option ℕ → Times → Times
+with_time None t = t
+with_time (Some n) t = record {
+  count = one_more t.count;
+  least = Some (least_with n t.least);
+  greatest = Some (greatest_with n t.greatest);
+  total = sum_of t.total n;
+}
+
+-- one more frame, with the remarks on it
+abbrev pub tallied : Fields → Remarks → Tally → Tally
+tallied f said t = record {
+  kinds = counted f.control t.kinds;
+  octets = sum_of t.octets (length f.info);
+  repeated = if is_repeat said.ns then one_more t.repeated else t.repeated;
+  times = with_time (answer_time said.answer) t.times;
+}
