@@ -3,4 +3,5 @@ pub mod Calling
 pub mod Using
 pub mod Managing
 pub mod Networking
+pub mod ReadFrames
 pub mod Receiving

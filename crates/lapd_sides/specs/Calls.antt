@@ -1,9 +1,13 @@
 -- How the calls of a side are specified, for the network side and the user side alike, whatever
 -- side of the definition the code represented before. `Show` relates a side in code to its
 -- configuration and its side of the definition.
-use Rattle.std.specs.Prelude.{◌≡◌, ℕ, Option, Some, None, Result, Ok, Err, IsSome, Vec, ⊤}
+use Rattle.std.specs.Prelude.{◌≡◌, ℕ, List, Option, Some, None, Result, Ok, Err, IsSome, Vec, ⊤}
 use Rattle.std.specs.declared.alloc.Global.{Global}
 use Rattle.lapd_timers.specs.declared.timer.Timer.{Timer}
+use Rattle.lapd_frame.specs.declared.Side.{Side}
+use Rattle.lapd_frame.specs.declared.FrameFault.{FrameFault}
+use Rattle.lapd_frame.specs.Frame.{Fields}
+use Rattle.lapd_frame.specs.Reading.{frame_at}
 use Rattle.lapd_table.specs.declared.link_id.LinkId.{LinkId}
 use Rattle.lapd_sides_links.specs.declared.config.Config.{Config}
 use Rattle.lapd_sides_links.specs.declared.running_timer.RunningTimer.{RunningTimer}
@@ -13,6 +17,10 @@ use Rattle.lapd_sides_links.specs.Effects.{Effects, and_then, no_effects}
 use Rattle.lapd_sides_links.specs.Expiries.{IsDue}
 use Rattle.lapd_sides_links.specs.Links.{Reaction, Served}
 use Rattle.lapd_sides.specs.Shows.{Step, RequestOutcome}
+
+-- some octets that this side sent are read as this frame or fault
+abbrev pub WasRead : Side → Result Fields FrameFault → Type 0
+WasRead from frame = (octets : List ℕ) × (frame ≡ frame_at from octets)
 
 -- ---- The result of a call.
 

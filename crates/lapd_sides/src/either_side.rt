@@ -1,11 +1,14 @@
 //! A side of either kind.
 
-ghost use Rattle.std.specs.Prelude.{◌≡◌, true, false, IfErr, option_copied};
+ghost use Rattle.std.specs.Prelude.{◌≡◌, ℕ, true, false, List, IfErr, option_copied};
+ghost use Rattle.lapd_frame.specs.Address.{other_side};
+ghost use Rattle.lapd_frame.specs.Reading.{frame_at};
 ghost use Rattle.lapd_sides_links.specs.Effects.{no_effects};
+ghost use Rattle.lapd_sides.specs.Calls.{WasRead};
 ghost use Rattle.lapd_sides.specs.Requests.{without_message};
 
 use crate::{Acts, NetSide, Request, SideFault, SideKind, UserSide};
-use lapd_frame::Side;
+use lapd_frame::{Frame, FrameFault, Side};
 use lapd_table::{LinkId, LinkTable};
 use lapd_timers::TimerSet;
 
@@ -46,6 +49,32 @@ impl EitherSide {
         match self {
             EitherSide::Network(side) => side.take(bytes, now, acts),
             EitherSide::User(side) => side.take(bytes, now, acts),
+        }
+    }
+
+    /// Processes octets received from the line at the time `now`, in milliseconds, as
+    /// [`EitherSide::take`] does, but does not read them again: `frame` is what
+    /// [`lapd_frame::read`] returned for them, sent by the other side.
+    ///
+    /// # Errors
+    ///
+    /// B3, as for [`EitherSide::take`].
+    pub fn take_frame(
+        &mut self,
+        frame: &Result<Frame<'_>, FrameFault>,
+        now: u64,
+        acts: &mut Acts,
+    ) -> Result<(), SideFault>
+        requires was_read { WasRead (other_side (side_of self.old)) frame.now }
+        ensures side { side_of self.new ≡ side_of self.old }
+        ensures received { (octets : List ℕ)
+            → frame.now ≡ frame_at (other_side (side_of self.old)) octets
+            → Takes octets now result self.old self.new acts.new }
+        ensures err { IfErr result (λ fault. fault ≡ without_message SideKind.Memory) }
+    {
+        match self {
+            EitherSide::Network(side) => side.take_frame(frame, now, acts),
+            EitherSide::User(side) => side.take_frame(frame, now, acts),
         }
     }
 

@@ -8,7 +8,8 @@
 //!
 //! 1. Create the side with a [`Config`], and one [`Acts`], which every call empties and then fills.
 //! 2. Pass octets from the line, without flags and check sequence, to `take`. Its only error is B3,
-//!    if the links of a TEI cannot be allocated; the frame may then be passed again.
+//!    if the links of a TEI cannot be allocated; the frame may then be passed again. A program that
+//!    prints frames too reads them by [`lapd_frame::read`], and passes the result to `take_frame`.
 //! 3. Pass the requests of layer 3 to `request`, as a [`Request`]. An error is a [`SideFault`],
 //!    which returns the message; the side is unchanged.
 //! 4. After each successful call, send the octets of `Acts::frames`, 3 to 264 each, in order, and

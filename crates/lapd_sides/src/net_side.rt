@@ -1,7 +1,8 @@
 //! The network side.
 
-ghost use Rattle.std.specs.Prelude.{◌≡◌, ◌≤◌, ◌<◌, true, false, length, [], Some, None, Ok, Err, OnOk, OnErr, IfOk, IfErr, option_copied};
+ghost use Rattle.std.specs.Prelude.{◌≡◌, ◌≤◌, ◌<◌, ℕ, true, false, List, length, [], Some, None, Ok, Err, OnOk, OnErr, IfOk, IfErr, option_copied};
 ghost use Rattle.std.specs.List.{All};
+ghost use Rattle.lapd_frame.specs.Reading.{frame_at};
 ghost use Rattle.lapd_link_definition.specs.Input.{input_of, Give};
 ghost use Rattle.lapd_tei.specs.Assigner.{AssignerState, assigner_step};
 ghost use Rattle.lapd_tei.specs.Out.{tei_given};
@@ -9,13 +10,14 @@ ghost use Rattle.lapd_table.specs.LinkTable.{IsFor};
 ghost use Rattle.lapd_sides_links.specs.Effects.{no_effects};
 ghost use Rattle.lapd_sides_links.specs.Rooms.{IsEmpty};
 ghost use Rattle.lapd_sides_links.specs.Expiries.{IsNextDeadline, of_served};
+ghost use Rattle.lapd_sides.specs.Calls.{WasRead};
 ghost use Rattle.lapd_sides.specs.Requests.{message_of, without_message};
 ghost use Rattle.lapd_sides.specs.Shows.{ShowEnds};
 ghost use Rattle.lapd_sides.specs.Network.{Network, new_network, network_takes, network_requested, assigner_acts, link_of_network, frame_received, unit_requested, unit_to_group, given_for, given_for_frame, given_for_message};
 
 use crate::links_and_timer::{Expired, LinksAndTimer, carries_message, without_message};
 use crate::{Acts, Config, Request, SideFault, SideKind};
-use lapd_frame::{Address, Control, Frame, N201, Role, Sapi, Side, Tei, read};
+use lapd_frame::{Address, Control, Frame, FrameFault, N201, Role, Sapi, Side, Tei, read};
 use lapd_link::{Event, LinkFault};
 use lapd_sides_links::{next_deadline, refused};
 use lapd_table::{LinkId, LinkTable};
@@ -72,23 +74,53 @@ impl NetSide {
             (λ s. given_for s.assigner bytes.now) (λ config. network_takes config bytes.now now) }
         ensures err { IfErr result (λ fault. fault ≡ without_message SideKind.Memory) }
     {
+        let frame = read(bytes, Side::User);
+        self.take_frame(&frame, now, acts)
+    }
+
+    /// Processes octets received from the line at the time `now`, as [`NetSide::take`] does, but
+    /// does not read them again: `frame` is what [`lapd_frame::read`] returned for them, sent by
+    /// the user side. So a program that prints the frame too reads its octets once.
+    ///
+    /// # Errors
+    ///
+    /// B3, as for [`NetSide::take`].
+    pub fn take_frame(
+        &mut self,
+        frame: &Result<Frame<'_>, FrameFault>,
+        now: u64,
+        acts: &mut Acts,
+    ) -> Result<(), SideFault>
+        requires was_read { WasRead Side.User frame.now }
+        ensures received { (octets : List ℕ) → frame.now ≡ frame_at Side.User octets
+            → NetworkReceives result self.old self.new acts.new
+            (λ s. given_for s.assigner octets) (λ config. network_takes config octets now) }
+        ensures err { IfErr result (λ fault. fault ≡ without_message SideKind.Memory) }
+    {
         acts.clear();
-        match self.receive_octets(bytes, now, acts) {
+        match self.receive_read(frame, now, acts) {
             Ok(()) => Ok(()),
             Err(AllocError) => Err(without_message(SideKind::Memory)),
         }
     }
 
-    /// Processes octets of the user side: a frame, or a fault.
-    fn receive_octets(&mut self, bytes: &[u8], now: u64, acts: &mut Acts) -> Result<(), AllocError>
+    /// Processes a frame, or a fault, that was read from octets of the user side.
+    fn receive_read(
+        &mut self,
+        frame: &Result<Frame<'_>, FrameFault>,
+        now: u64,
+        acts: &mut Acts,
+    ) -> Result<(), AllocError>
+        requires was_read { WasRead Side.User frame.now }
         requires empty { IsEmpty acts.old }
-        ensures { NetworkReceives result self.old self.new acts.new
-            (λ s. given_for s.assigner bytes.now) (λ config. network_takes config bytes.now now) }
+        ensures { (octets : List ℕ) → frame.now ≡ frame_at Side.User octets
+            → NetworkReceives result self.old self.new acts.new
+            (λ s. given_for s.assigner octets) (λ config. network_takes config octets now) }
     {
-        match read(bytes, Side::User) {
-            Ok(frame) => self.receive(&frame, now, acts),
+        match frame {
+            Ok(frame) => self.receive(frame, now, acts),
             Err(fault) => {
-                self.served.receive_fault(&fault, now, acts);
+                self.served.receive_fault(fault, now, acts);
                 Ok(())
             }
         }
@@ -168,8 +200,8 @@ impl NetSide {
     }
 
     /// The next moment at which [`NetSide::tick`] has something to do, in milliseconds; before it,
-    /// `tick` returns `false`. `None` if no timer runs. It changes only in `take`, `tick` and
-    /// `request`, so a program can sleep until this moment or until octets arrive.
+    /// `tick` returns `false`. `None` if no timer runs. It changes only in `take`, `take_frame`,
+    /// `tick` and `request`, so a program can sleep until this moment or until octets arrive.
     pub fn next_deadline(&self) -> Option<u64>
         ensures { EachShown self.now (λ s. IsNextDeadline s.served result) }
     {

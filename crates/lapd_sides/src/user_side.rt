@@ -1,7 +1,8 @@
 //! The user side.
 
-ghost use Rattle.std.specs.Prelude.{◌≡◌, ◌≤◌, ◌<◌, ◌+◌, ◌++◌, true, false, length, [], Some, None, Ok, Err, IfOk, IfErr, IfSome, option_copied};
+ghost use Rattle.std.specs.Prelude.{◌≡◌, ◌≤◌, ◌<◌, ◌+◌, ◌++◌, ℕ, true, false, List, length, [], Some, None, Ok, Err, IfOk, IfErr, IfSome, option_copied};
 ghost use Rattle.std.specs.List.{All};
+ghost use Rattle.lapd_frame.specs.Reading.{frame_at};
 ghost use Rattle.lapd_link_definition.specs.Input.{input_of, Establish, Release, UnitData, Give};
 ghost use Rattle.lapd_link_definition.specs.declared.event.LinkFault.TheVariants.{NotEstablished};
 ghost use Rattle.lapd_tei.specs.Out.{IsInRange, tei_given};
@@ -14,6 +15,7 @@ ghost use Rattle.lapd_sides_links.specs.Effects.{no_effects};
 ghost use Rattle.lapd_sides_links.specs.Expiries.{IsNextDeadline, of_served};
 ghost use Rattle.lapd_sides_links.specs.Links.{of_sapi};
 ghost use Rattle.lapd_sides_links.specs.Rooms.{HasRoomFor, AddsAtMost, IsEmpty};
+ghost use Rattle.lapd_sides.specs.Calls.{WasRead};
 ghost use Rattle.lapd_sides.specs.Requests.{message_of, without_message};
 ghost use Rattle.lapd_sides.specs.Shows.{ShowEnds};
 ghost use Rattle.lapd_sides.specs.User.{User, seeded, sends_message, new_user, user_takes, user_requested, terminal_acts, assigned, pending_after, establishes_pending, establishes, gives_up_pending, primitive_of_group, primitive_of_sapi, link_of_user, frame_received, data_received, for_layer_3, got_for, got_for_frame, got_for_message, wants, forgets, with_tei_or};
@@ -24,7 +26,7 @@ use crate::links_and_timer::{
 use crate::pending_establishments::PendingEstablishments;
 use crate::references::References;
 use crate::{Acts, Config, Octets, Primitive, Request, SideFault, SideKind, What};
-use lapd_frame::{Frame, N201, Sapi, Side, Tei, read};
+use lapd_frame::{Frame, FrameFault, N201, Sapi, Side, Tei, read};
 use lapd_link::{Event, LinkFault};
 use lapd_sides_links::{next_deadline, refused};
 use lapd_table::{LinkId, LinkTable};
@@ -89,23 +91,53 @@ impl UserSide {
             (λ s. got_for s bytes.now) (λ config. user_takes config bytes.now now) }
         ensures err { IfErr result (λ fault. fault ≡ without_message SideKind.Memory) }
     {
+        let frame = read(bytes, Side::Network);
+        self.take_frame(&frame, now, acts)
+    }
+
+    /// Processes octets received from the line at the time `now`, as [`UserSide::take`] does, but
+    /// does not read them again: `frame` is what [`lapd_frame::read`] returned for them, sent by
+    /// the network side. So a program that prints the frame too reads its octets once.
+    ///
+    /// # Errors
+    ///
+    /// B3, as for [`UserSide::take`].
+    pub fn take_frame(
+        &mut self,
+        frame: &Result<Frame<'_>, FrameFault>,
+        now: u64,
+        acts: &mut Acts,
+    ) -> Result<(), SideFault>
+        requires was_read { WasRead Side.Network frame.now }
+        ensures received { (octets : List ℕ) → frame.now ≡ frame_at Side.Network octets
+            → UserReceives result self.old self.new acts.new
+            (λ s. got_for s octets) (λ config. user_takes config octets now) }
+        ensures err { IfErr result (λ fault. fault ≡ without_message SideKind.Memory) }
+    {
         acts.clear();
-        match self.receive_octets(bytes, now, acts) {
+        match self.receive_read(frame, now, acts) {
             Ok(()) => Ok(()),
             Err(AllocError) => Err(without_message(SideKind::Memory)),
         }
     }
 
-    /// Processes octets of the network side: a frame, or a fault.
-    fn receive_octets(&mut self, bytes: &[u8], now: u64, acts: &mut Acts) -> Result<(), AllocError>
+    /// Processes a frame, or a fault, that was read from octets of the network side.
+    fn receive_read(
+        &mut self,
+        frame: &Result<Frame<'_>, FrameFault>,
+        now: u64,
+        acts: &mut Acts,
+    ) -> Result<(), AllocError>
+        requires was_read { WasRead Side.Network frame.now }
         requires empty { IsEmpty acts.old }
-        ensures { UserReceives result self.old self.new acts.new
-            (λ s. got_for s bytes.now) (λ config. user_takes config bytes.now now) }
+        ensures { (octets : List ℕ) → frame.now ≡ frame_at Side.Network octets
+            → UserReceives result self.old self.new acts.new
+            (λ s. got_for s octets) (λ config. user_takes config octets now) }
     {
-        match read(bytes, Side::Network) {
-            Ok(frame) => self.receive(&frame, now, acts),
+        match frame {
+            Ok(frame) => self.receive(frame, now, acts),
             Err(fault) => {
-                self.served.receive_fault(&fault, now, acts);
+                self.served.receive_fault(fault, now, acts);
                 Ok(())
             }
         }
@@ -187,8 +219,8 @@ impl UserSide {
     }
 
     /// The next moment at which [`UserSide::tick`] has something to do, in milliseconds; before it,
-    /// `tick` returns `false`. `None` if no timer runs. It changes only in `take`, `tick` and
-    /// `request`, so a program can sleep until this moment or until octets arrive.
+    /// `tick` returns `false`. `None` if no timer runs. It changes only in `take`, `take_frame`,
+    /// `tick` and `request`, so a program can sleep until this moment or until octets arrive.
     pub fn next_deadline(&self) -> Option<u64>
         ensures { EachShown self.now (λ s. IsNextDeadline s.served result) }
     {

@@ -4,9 +4,10 @@ ghost use Rattle.std.specs.String.{string_bytes};
 ghost use Rattle.hex.specs.Hex.{encode_lower};
 ghost use Rattle.lapd_frame.specs.Address.{sapi_value};
 ghost use Rattle.lapd_frame.specs.Frame.{IsFrame, spelling};
+ghost use Rattle.lapd_frame.specs.Reading.{frame_at};
 ghost use Rattle.lapd_trace.specs.Trace.{trace_line, frame_line, frame_text, direction_text, role_text, poll_text, address_text, control_text, octets_text};
 
-use lapd_frame::{Address, Control, Frame, N201, Number, Role, Sapi, Side};
+use lapd_frame::{Address, Control, Frame, FrameFault, N201, Number, Role, Sapi, Side};
 use std::alloc::{AllocError, Global};
 
 /// The greatest length of a line, in octets of text, less two digits for each octet of the frame.
@@ -58,9 +59,30 @@ pub fn push_line(
     ensures { OnOk result (string_bytes text.new
         ≡ string_bytes text.old ++ trace_line from bytes.now) }
 {
+    let frame = lapd_frame::read(bytes, from);
+    push_line_of(alloc, text, from, bytes, &frame)
+}
+
+/// Appends the line of text for `bytes`, as [`push_line`] does, but does not read them again:
+/// `frame` is what [`lapd_frame::read`] returned for them.
+///
+/// # Errors
+///
+/// `AllocError` if an allocation fails. The first part of the line may have been appended.
+pub fn push_line_of(
+    alloc: Global,
+    text: &mut String,
+    from: Side,
+    bytes: &[u8],
+    frame: &Result<Frame<'_>, FrameFault>,
+) -> Result<(), AllocError>
+    requires was_read { frame.now ≡ frame_at from bytes.now }
+    ensures { OnOk result (string_bytes text.new
+        ≡ string_bytes text.old ++ trace_line from bytes.now) }
+{
     text.push_str(direction_name(from))?;
-    match lapd_frame::read(bytes, from) {
-        Ok(frame) => push_frame(alloc, text, &frame),
+    match frame {
+        Ok(frame) => push_frame(alloc, text, frame),
         Err(fault) => {
             text.push_str(fault.kind.name())?;
             push_octets(alloc, text, " ", bytes)

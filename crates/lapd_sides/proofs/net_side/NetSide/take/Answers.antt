@@ -1,5 +1,4 @@
-use Rattle.std.proofs.Common.{rules}
 use Rattle.lapd_sides.proofs.net_side.NetSide.take.Goals as goal
 
-pub returns-in-Err-clause-received : goal.returns-in-Err-clause-received
-returns-in-Err-clause-received c = search rules
+pub take_frame-requires : goal.take_frame-requires
+take_frame-requires c = record { was_read = (c.args.bytes.now, c.read-frame.ensures.exact) }
