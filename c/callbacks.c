@@ -33,18 +33,16 @@ static void dl_init(struct dl *dl, const struct dl_callbacks *callbacks, void *u
 static bool dl_call_back(struct dl *dl)
 {
 	uint8_t octets[LAPD_MOST_FRAME];
-	lapd_primitive primitive;
-	size_t length;
+	lapd_primitive item;
+	size_t left;
 
-	if (lapd_side_frame(&dl->side, octets, sizeof octets, &length) == LAPD_DONE && length > 0) {
-		dl->callbacks.write(dl->user, octets, length);
-		return true;
-	}
-	if (lapd_side_primitive(&dl->side, &primitive, octets, sizeof octets) == LAPD_DONE && primitive.kind != LAPD_NOTHING) {
-		dl->callbacks.deliver(dl->user, &primitive, octets);
-		return true;
-	}
-	return false;
+	if (lapd_side_next(&dl->side, &item, octets, sizeof octets, &left) != LAPD_DONE || item.kind == LAPD_NOTHING)
+		return false;
+	if (item.kind == LAPD_FRAME)
+		dl->callbacks.write(dl->user, octets, item.octets);
+	else
+		dl->callbacks.deliver(dl->user, &item, octets);
+	return true;
 }
 
 /* Calls back with all that waits, unless a callback is running. Returns the call's code. */

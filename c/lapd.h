@@ -7,10 +7,10 @@
  *   passes in  each frame from the line (lapd_side_take), the requests of layer 3
  *              (lapd_side_establish, lapd_side_give and others), and the moments up to which timers
  *              expire (lapd_side_tick);
- *   fetches    the frames to send (lapd_side_frame) and the primitives for layer 3
- *              (lapd_side_primitive), each in order, until none is left. It may make other calls
- *              before it has fetched all, such as a request that answers a primitive; their frames
- *              and primitives are queued behind the rest;
+ *   fetches    the frames to send and the primitives for layer 3, each in order, until none is left
+ *              (lapd_side_next; or lapd_side_frame and lapd_side_primitive). It may make other
+ *              calls before it has fetched all, such as a request that answers a primitive; their
+ *              frames and primitives are queued behind the rest;
  *   waits      until lapd_side_deadline, or until a frame arrives.
  *
  * Before you expire timers for a moment, pass in every frame that had arrived by then. A loop reads
@@ -71,13 +71,15 @@ typedef struct lapd_side {
  *      cannot be created;
  *   3. LAPD_NO_SIDE;
  *   4. LAPD_PENDING;
- *   5. LAPD_NO_MEMORY: what the last call left to be fetched cannot be queued;
- *   6. the other codes, and LAPD_OUT_OF_RANGE for a buffer that is too small. */
+ *   5. LAPD_CHECK_RUNS;
+ *   6. LAPD_NO_MEMORY: what the last call left to be fetched cannot be queued;
+ *   7. the other codes, and LAPD_OUT_OF_RANGE for a buffer that is too small. */
 enum lapd_code {
 	LAPD_DONE = 0,
 	LAPD_NO_SIDE = 1,              /* the handle owns no side */
 	LAPD_PENDING = 2,              /* at least most_waiting frames or primitives wait */
 	LAPD_OUT_OF_RANGE = 3,         /* a number is out of range, or the buffer is too small */
+	LAPD_CHECK_RUNS = 4,           /* another check of a TEI is in progress */
 	LAPD_NO_LINK = 11,             /* B1: no link with this SAPI and TEI exists */
 	LAPD_NO_MEMORY = 13,           /* B3: an allocation failed; try again, or first fetch all */
 	LAPD_NOT_ESTABLISHED = 21,     /* L1: a message for a link that is not established */
@@ -87,11 +89,12 @@ enum lapd_code {
 	LAPD_LAYER_3_ESTABLISHING = 25 /* L5: a message while layer 3 establishes the link */
 };
 
-/* The primitives for layer 3 and management. Each comment begins with the fields that the primitive
- * uses besides kind, sapi and tei, if any.
+/* The primitives for layer 3 and management, and a frame to send. Each comment begins with the
+ * fields that the primitive uses besides kind, sapi and tei, if any.
  *
- * When a TEI is removed, each of its links delivers at most LAPD_RELEASE_IND, or LAPD_RELEASE_CONF
- * if a release was requested. Messages that still waited are not reported by LAPD_DROPPED. Before a
+ * When a TEI is removed, LAPD_TEI_GONE, LAPD_TEI_FREE or LAPD_TEI_DOUBLED is delivered first. Then
+ * each of its links, SAPI 0 before 16, delivers at most LAPD_RELEASE_IND, or LAPD_RELEASE_CONF if a
+ * release was requested. Messages that still waited are not reported by LAPD_DROPPED. Before a
  * call of yours that removes the TEI, read `waiting` by lapd_side_state. A frame or a timer may
  * remove it too, so in general count, for each link, the messages that were accepted, less those
  * acknowledged or dropped: each of the rest was lost, or was received without an
@@ -115,8 +118,10 @@ enum lapd_kind {
 	LAPD_TEI_FREE = 20,         /* network side: no terminal answered the check of tei; its links
 	                             * are removed */
 	LAPD_TEI_IN_USE = 21,       /* network side: one terminal answered the check of tei */
-	LAPD_TEI_DOUBLED = 22       /* network side: several terminals answered; tei and its links are
+	LAPD_TEI_DOUBLED = 22,      /* network side: several terminals answered; tei and its links are
 	                             * removed */
+	LAPD_FRAME = 32             /* octets: a frame to send, from lapd_side_next alone; sapi and tei
+	                             * are not used */
 };
 
 /* The configuration of a side. */
@@ -166,10 +171,11 @@ typedef struct lapd_link_state {
 	uint16_t waiting;   /* messages neither acknowledged nor dropped, 0 to 1024 */
 } lapd_link_state;
 
-#define LAPD_NO_TEI 255          /* for lapd_side_user: no fixed TEI */
+#define LAPD_NO_TEI 255          /* for lapd_side_user: no fixed TEI; from lapd_side_tei: no TEI */
 #define LAPD_GROUP_TEI 127       /* all terminals */
 #define LAPD_MOST_FRAME 264      /* the maximum number of octets of a frame */
 #define LAPD_MOST_MESSAGE 260    /* the maximum number of octets of a message or unit data (N201) */
+#define LAPD_MOST_NAME 26        /* the maximum number of octets of a name, with its final 0 */
 #define LAPD_NEVER UINT64_MAX    /* from lapd_side_deadline: no timer runs */
 
 uint32_t lapd_version(void);
@@ -217,8 +223,9 @@ uint32_t lapd_side_busy(lapd_side *side, uint8_t sapi, uint8_t tei, uint8_t on, 
 /* Requests a TEI if the user side has none. A network side ignores it. */
 uint32_t lapd_side_ask_tei(lapd_side *side, uint64_t now);
 
-/* Checks whether terminals have this TEI, 0 to 126. Ignored if tei is 127 or another check is in
- * progress, and by a user side. LAPD_OUT_OF_RANGE: tei is above 127. */
+/* Checks whether terminals have this TEI, 0 to 126. A user side ignores it. LAPD_OUT_OF_RANGE: tei
+ * is above 126. LAPD_CHECK_RUNS: another check is in progress; check again after its outcome,
+ * LAPD_TEI_FREE, LAPD_TEI_IN_USE or LAPD_TEI_DOUBLED. */
 uint32_t lapd_side_check_tei(lapd_side *side, uint8_t tei, uint64_t now);
 
 /* Expires the first timer that is due at `now`. *expired is 1 if one was due, else 0; call it until
@@ -236,9 +243,22 @@ uint32_t lapd_side_deadline(lapd_side *side, uint64_t *moment);
  * UINT64_MAX, and is 0 if the handle owns no side. */
 uint32_t lapd_side_discarded(lapd_side *side, uint64_t *count);
 
-/* The state of the link with a SAPI, 0, 16 or 63, and a TEI, 0 to 127. On a user side, too, `tei`
- * must be that of the link. LAPD_OUT_OF_RANGE, LAPD_NO_SIDE, LAPD_NO_LINK: all of *state is 0. */
+/* The state of the link with a SAPI, 0, 16 or 63, and a TEI, 0 to 127. A user side uses only the
+ * SAPI, as for requests. LAPD_OUT_OF_RANGE, LAPD_NO_SIDE, LAPD_NO_LINK: all of *state is 0. */
 uint32_t lapd_side_state(lapd_side *side, uint8_t sapi, uint8_t tei, lapd_link_state *state);
+
+/* The state of a user side's terminal (Q.921 Annex B): 1 TEI unassigned, 2 assign awaiting TEI,
+ * 3 establish awaiting TEI, 4 TEI assigned; and its TEI in state 4, else LAPD_NO_TEI. For a network
+ * side, and if the handle owns no side, they are 0 and LAPD_NO_TEI. */
+uint32_t lapd_side_tei(lapd_side *side, uint8_t *state, uint8_t *tei);
+
+/* Fetches the next frame to send or, if none is left, the next primitive, and its octets into the
+ * beginning of the buffer. The kind of a frame is LAPD_FRAME, and LAPD_NOTHING if neither is left.
+ * *left is the number of frames and primitives that still wait after the call, so a program need
+ * not call again to find none. A buffer of LAPD_MOST_FRAME octets has room for each.
+ * LAPD_OUT_OF_RANGE: there are more than `size` octets, and *item contains their number; nothing is
+ * written to the buffer, and the frame or primitive still waits. */
+uint32_t lapd_side_next(lapd_side *side, lapd_primitive *item, uint8_t *buffer, size_t size, size_t *left);
 
 /* Fetches the next frame to send, into the beginning of the buffer. *length is its number of
  * octets, or 0 if none is left. LAPD_OUT_OF_RANGE: the frame has more than `size` octets; nothing
@@ -252,11 +272,17 @@ uint32_t lapd_side_primitive(lapd_side *side, lapd_primitive *primitive, uint8_t
 
 /* Writes a line of text for the octets of a frame, as in `N>U SAPI 0 TEI 64 C RR N(R)=0 P=1`, or
  * for the first fault if they do not form a valid frame. The sender is a network side if `network`
- * is not 0, else a user side. The text is at the beginning of the buffer, without a final 0. *text
- * is its number of characters, at most 43 plus two for each octet. LAPD_OUT_OF_RANGE: that is more
- * than `size`, and nothing is written to the buffer. LAPD_NO_MEMORY: *text is 0. The call needs no
- * side. */
+ * is not 0, else a user side. The text is at the beginning of the buffer, with a 0 behind it if
+ * there is room. *text is its number of characters without the 0, at most 43 plus two for each
+ * octet. LAPD_OUT_OF_RANGE: that is more than `size`, and nothing is written to the buffer.
+ * LAPD_NO_MEMORY: *text is 0. The call needs no side. */
 uint32_t lapd_frame_text(const uint8_t *frame, size_t length, uint8_t network, uint8_t *buffer, size_t size, size_t *text);
+
+/* Writes the name of a code or a kind, as in `LAPD_NO_LINK`, as lapd_frame_text does. *text is
+ * its number of characters, 0 if the number has no name. A buffer of LAPD_MOST_NAME octets has room
+ * for each name and its final 0. */
+uint32_t lapd_code_name(uint32_t code, uint8_t *buffer, size_t size, size_t *text);
+uint32_t lapd_kind_name(uint8_t kind, uint8_t *buffer, size_t size, size_t *text);
 
 #ifdef __cplusplus
 }

@@ -23,19 +23,21 @@ static void send_and_report(struct terminal *t)
 {
 	static const uint8_t setup[] = { 0x08, 0x01 };
 	uint8_t octets[LAPD_MOST_FRAME];
-	lapd_primitive delivered;
-	size_t length;
+	lapd_primitive item;
+	size_t left;
 
 	do {
-		while (check(lapd_side_frame(&t->side, octets, sizeof octets, &length), "frame"), length > 0)
-			write_frame(t->line.socket, octets, length);
-		check(lapd_side_primitive(&t->side, &delivered, octets, sizeof octets), "primitive");
-		if (delivered.kind != LAPD_NOTHING)
-			printf("kind %u, SAPI %u, TEI %u, %u octets\n", delivered.kind, delivered.sapi, delivered.tei, (unsigned)delivered.octets);
-		if (delivered.kind == LAPD_ESTABLISH_CONF)
+		check(lapd_side_next(&t->side, &item, octets, sizeof octets, &left), "next");
+		if (item.kind == LAPD_FRAME)
+			write_frame(t->line.socket, octets, item.octets);
+		else if (item.kind != LAPD_NOTHING)
+			printf("kind %u, SAPI %u, TEI %u, %u octets\n", item.kind, item.sapi, item.tei, (unsigned)item.octets);
+		if (item.kind == LAPD_ESTABLISH_CONF) {
 			check(lapd_side_give(&t->side, 0, 0, setup, sizeof setup, clock_now()), "give");
-		t->finished = t->finished || delivered.kind == LAPD_ACKNOWLEDGED;
-	} while (delivered.kind != LAPD_NOTHING);
+			left++; /* its frame waits too */
+		}
+		t->finished = t->finished || item.kind == LAPD_ACKNOWLEDGED;
+	} while (left > 0);
 }
 
 /* Passes in every frame that has arrived. Returns a moment for which timers may expire: no other

@@ -3,8 +3,8 @@
 
 The header declares each export with the C types and names that correspond to its Rattle parameters,
 in order. Each struct has the fields of its Rattle struct, in order, and each code and kind has its
-number in the crate's definitions. The archive exports only these functions, and requires only
-memcpy, similar functions and the heap. Exit status 0 or 1."""
+number and its name in the crate's definitions. The version is one. The archive exports only these
+functions, and requires only memcpy, similar functions and the heap. Exit status 0 or 1."""
 
 import re
 import subprocess
@@ -92,6 +92,16 @@ def numbers_of_c(header, name):
     return sorted(int(n) for n in re.findall(r"= (\d+)", body))
 
 
+def names_of_c(header, name):
+    body = re.search(r"enum " + name + r" \{(.*?)\};", header, re.S)[1]
+    return {int(number): word for word, number in re.findall(r"(\w+) = (\d+)", body)}
+
+
+def names_of_rattle(source, function):
+    body = re.search(r"fn " + function + r"\(.*?\n\}\n", source, re.S)[0]
+    return {int(number): word for number, word in re.findall(r'(\d+) => "(\w+)"', body)}
+
+
 def numbers_of_rattle(source, pattern):
     return sorted({int(n) for n in re.findall(pattern, source)})
 
@@ -119,9 +129,21 @@ def main():
     codes = numbers_of_rattle(source("codes"), r"(?:u32 = |=> )(\d+)")
     if codes != numbers_of_c(text, "lapd_code"):
         wrong.append(f"codes: the crate has {codes}")
-    kinds = numbers_of_rattle(re.sub(r"127", "0", source("flat_primitive")), r"(?:What|TeiOut)::\w+(?:\(\w+\))? => (\d+)")
+    kinds = numbers_of_rattle(re.sub(r"127", "0", source("flat_primitive")), r"(?:(?:What|TeiOut)::\w+(?:\(\w+\))? =>|u8 =) (\d+)")
     if kinds != numbers_of_c(text, "lapd_kind"):
         wrong.append(f"kinds: the crate has {kinds}")
+    for function, enum in (("code_name", "lapd_code"), ("kind_name", "lapd_kind")):
+        names = names_of_rattle(source("names"), function)
+        if names != names_of_c(text, enum):
+            wrong.append(f"{function}: the crate has {names}")
+    longest = max(len(word) for enum in ("lapd_code", "lapd_kind") for word in names_of_c(text, enum).values())
+    if longest + 1 != int(re.search(r"LAPD_MOST_NAME (\d+)", text)[1]):
+        wrong.append(f"LAPD_MOST_NAME: the longest name has {longest} characters")
+    version = re.search(r'LAPD_VERSION_STRING "(\d+)\.(\d+)\.(\d+)"', text)
+    number = int(version[1]) * 10000 + int(version[2]) * 100 + int(version[3])
+    crates = re.search(r"fn lapd_version.*?\{\s*(\d+)\s*\}", re.sub(r"ensures \{.*?\}", "", source("lib")), re.S)[1]
+    if not number == int(re.search(r"LAPD_VERSION (\d+)", text)[1]) == int(crates):
+        wrong.append(f"version: the crate has {crates}, the text of the header is {number}")
     symbols = subprocess.run(["nm", archive], capture_output=True, text=True, check=True).stdout
     defined = set(re.findall(r" [A-Z] (\w+)$", symbols, re.M)) - set(re.findall(r" U (\w+)$", symbols, re.M)) - HEAP
     asked = set(re.findall(r" U (\w+)$", symbols, re.M)) - HEAP

@@ -1,5 +1,5 @@
-/* Tests the codes that calls return because of the handle, the results of queries, and that buffers
- * that are too small are unchanged. */
+/* Tests the codes that calls return because of the handle, the results of queries, names, and that
+ * buffers that are too small are unchanged. */
 #include "test.h"
 
 #include <string.h>
@@ -35,6 +35,7 @@ static void all_are_out_of_range(lapd_side *side)
 	WANT_CODE(lapd_side_give(side, 17, 64, message, sizeof message, 0), LAPD_OUT_OF_RANGE);
 	WANT_CODE(lapd_side_unit(side, 255, 127, message, sizeof message, 0), LAPD_OUT_OF_RANGE);
 	WANT_CODE(lapd_side_busy(side, 0, 255, 1, 0), LAPD_OUT_OF_RANGE);
+	WANT_CODE(lapd_side_check_tei(side, LAPD_GROUP_TEI, 0), LAPD_OUT_OF_RANGE);
 	WANT_CODE(lapd_side_check_tei(side, 128, 0), LAPD_OUT_OF_RANGE);
 	memset(&state, 1, sizeof state);
 	WANT_CODE(lapd_side_state(side, 2, 64, &state), LAPD_OUT_OF_RANGE);
@@ -46,7 +47,8 @@ static void no_side(lapd_side *side)
 	lapd_primitive delivered;
 	lapd_link_state state;
 	uint64_t moment = 0, count = 1;
-	size_t length = 1;
+	size_t length = 1, left = 1;
+	uint8_t phase = 1, tei = 1;
 
 	memset(&delivered, 1, sizeof delivered);
 	memset(&state, 1, sizeof state);
@@ -62,6 +64,11 @@ static void no_side(lapd_side *side)
 	WANT(length == 0);
 	WANT_CODE(lapd_side_primitive(side, &delivered, buffer, sizeof buffer), LAPD_NO_SIDE);
 	WANT(delivered.kind == LAPD_NOTHING && delivered.octets == 0);
+	memset(&delivered, 1, sizeof delivered);
+	WANT_CODE(lapd_side_next(side, &delivered, buffer, sizeof buffer, &left), LAPD_NO_SIDE);
+	WANT(delivered.kind == LAPD_NOTHING && delivered.octets == 0 && left == 0);
+	WANT_CODE(lapd_side_tei(side, &phase, &tei), LAPD_NO_SIDE);
+	WANT(phase == 0 && tei == LAPD_NO_TEI);
 }
 
 /* Settings with one number out of range: no side is created, and the handle is unchanged. */
@@ -201,7 +208,117 @@ static void a_pile(lapd_side *side, uint16_t most)
 	WANT(length == 0);
 }
 
-/* A line of text, with a buffer that just fits and one that is too small. */
+/* Fetches the next frame or primitive, also into a buffer that is too small for it, and checks how
+ * many are left. */
+static void an_item(lapd_side *side, unsigned kind, size_t octets, size_t waiting)
+{
+	lapd_primitive item;
+	size_t left = 0;
+
+	memset(buffer, 0xa5, sizeof buffer);
+	if (octets > 0) {
+		WANT_CODE(lapd_side_next(side, &item, buffer, octets - 1, &left), LAPD_OUT_OF_RANGE);
+		WANT(item.kind == kind && item.octets == octets && buffer[0] == 0xa5 && left == waiting);
+	}
+	DONE(lapd_side_next(side, &item, buffer, octets, &left));
+	WANT(item.kind == kind && item.octets == octets && buffer[octets] == 0xa5);
+	WANT(left == (waiting > 0 ? waiting - 1 : 0));
+}
+
+/* Frames are fetched before primitives, and each once. */
+static void next_items(lapd_side *side)
+{
+	const lapd_settings basic = LAPD_BASIC;
+	const uint8_t tei = 64;
+
+	DONE(lapd_side_network(side, &basic, &tei, 1));
+	an_item(side, LAPD_NOTHING, 0, 0);
+	DONE(lapd_side_take(side, (const uint8_t *)"\x00\x81\x7f", 3, 0));
+	DONE(lapd_side_take(side, (const uint8_t *)"\x00\x81\x10\x00\x08\x01\x02", 7, 0));
+	DONE(lapd_side_take(side, (const uint8_t *)"\x00\x81\x00\x00\x08\x01\x02", 7, 0));
+	an_item(side, LAPD_FRAME, 3, 5);
+	WANT(memcmp(buffer, "\x00\x81\x73", 3) == 0);
+	an_item(side, LAPD_FRAME, 4, 4);
+	an_item(side, LAPD_FRAME, 4, 3);
+	an_item(side, LAPD_ESTABLISH_IND, 0, 2);
+	an_item(side, LAPD_DATA_IND, 3, 1);
+	WANT(memcmp(buffer, "\x08\x01\x02", 3) == 0);
+	an_item(side, LAPD_NOTHING, 0, 0);
+}
+
+/* While a check is in progress, another one is refused, and nothing changes. */
+static void a_check(lapd_side *side)
+{
+	const lapd_settings basic = LAPD_BASIC;
+	const uint8_t tei = 64;
+	uint64_t moment = 0;
+	uint8_t expired = 0;
+	size_t length = 0;
+	int round;
+
+	DONE(lapd_side_network(side, &basic, &tei, 1));
+	DONE(lapd_side_check_tei(side, 64, 0));
+	WANT_CODE(lapd_side_check_tei(side, 64, 500), LAPD_CHECK_RUNS);
+	WANT_CODE(lapd_side_check_tei(side, 65, 500), LAPD_CHECK_RUNS);
+	for (round = 1; round <= 2; round++) {
+		DONE(lapd_side_frame(side, buffer, sizeof buffer, &length));
+		WANT(length == 8 && buffer[6] == 4 && buffer[7] == (64 << 1 | 1));
+		DONE(lapd_side_frame(side, buffer, sizeof buffer, &length));
+		WANT(length == 0);
+		DONE(lapd_side_deadline(side, &moment));
+		WANT(moment == 1000u * (unsigned)round);
+		DONE(lapd_side_tick(side, moment, &expired));
+		WANT(expired == 1);
+	}
+	an_item(side, LAPD_TEI_FREE, 0, 1);
+	DONE(lapd_side_check_tei(side, 65, 2000));
+	DONE(lapd_side_user(side, &basic, 64));
+	DONE(lapd_side_check_tei(side, 64, 0));
+	DONE(lapd_side_check_tei(side, 64, 0));
+}
+
+static void a_terminal(lapd_side *side, unsigned wanted, unsigned wanted_tei)
+{
+	uint8_t state = 9, tei = 9;
+
+	DONE(lapd_side_tei(side, &state, &tei));
+	WANT(state == wanted && tei == wanted_tei);
+}
+
+/* The terminal of a user side gets a TEI, and its link is found by any TEI. */
+static void terminals(lapd_side *side)
+{
+	const lapd_settings basic = LAPD_BASIC;
+	lapd_link_state link;
+	size_t length = 0;
+	uint8_t assigned[8];
+
+	DONE(lapd_side_network(side, &basic, message, 0));
+	a_terminal(side, 0, LAPD_NO_TEI);
+	DONE(lapd_side_user(side, &basic, 5));
+	a_terminal(side, 4, 5);
+	DONE(lapd_side_state(side, 0, 0, &link));
+	WANT(link.state == 4);
+	DONE(lapd_side_user(side, &basic, LAPD_NO_TEI));
+	a_terminal(side, 1, LAPD_NO_TEI);
+	WANT_CODE(lapd_side_state(side, 0, 0, &link), LAPD_NO_LINK);
+	DONE(lapd_side_ask_tei(side, 0));
+	a_terminal(side, 2, LAPD_NO_TEI);
+	DONE(lapd_side_establish(side, 0, 0, 0));
+	a_terminal(side, 3, LAPD_NO_TEI);
+	DONE(lapd_side_frame(side, assigned, sizeof assigned, &length));
+	WANT(length == 8 && assigned[6] == 1);
+	assigned[0] = 0xfe;
+	assigned[6] = 2;
+	assigned[7] = 70 << 1 | 1;
+	DONE(lapd_side_take(side, assigned, sizeof assigned, 0));
+	a_terminal(side, 4, 70);
+	DONE(lapd_side_state(side, 0, 127, &link));
+	WANT(link.state == 5);
+	WANT_CODE(lapd_side_state(side, 16, 70, &link), LAPD_NO_LINK);
+}
+
+/* A line of text, with a buffer that just fits, one that is too small, and one with room for a 0. */
 static void a_text(const char *octets, size_t count, uint8_t network, const char *wanted)
 {
 	uint8_t text[128];
@@ -212,6 +329,40 @@ static void a_text(const char *octets, size_t count, uint8_t network, const char
 	WANT(length == wants && text[0] == 0xa5);
 	DONE(lapd_frame_text((const uint8_t *)octets, count, network, text, wants, &length));
 	WANT(length == wants && memcmp(text, wanted, wants) == 0 && text[wants] == 0xa5);
+	DONE(lapd_frame_text((const uint8_t *)octets, count, network, text, wants + 2, &length));
+	WANT(length == wants && strcmp((const char *)text, wanted) == 0 && text[wants + 1] == 0xa5);
+}
+
+/* The names of codes or kinds: those of the header, and no others. */
+static void a_name(uint32_t number, bool is_kind, const char *wanted)
+{
+	uint8_t text[LAPD_MOST_NAME];
+	size_t length = 1, wants = strlen(wanted);
+
+	memset(text, 0xa5, sizeof text);
+	if (is_kind)
+		DONE(lapd_kind_name((uint8_t)number, text, sizeof text, &length));
+	else
+		DONE(lapd_code_name(number, text, sizeof text, &length));
+	WANT(length == wants && strcmp((const char *)text, wanted) == 0);
+}
+
+static void names(void)
+{
+	uint8_t text[4] = { 1, 1, 1, 1 };
+	size_t length = 0;
+
+	a_name(LAPD_DONE, false, "LAPD_DONE");
+	a_name(LAPD_CHECK_RUNS, false, "LAPD_CHECK_RUNS");
+	a_name(LAPD_LAYER_3_ESTABLISHING, false, "LAPD_LAYER_3_ESTABLISHING");
+	a_name(5, false, "");
+	a_name(UINT32_MAX, false, "");
+	a_name(LAPD_NOTHING, true, "LAPD_NOTHING");
+	a_name(LAPD_TEI_DOUBLED, true, "LAPD_TEI_DOUBLED");
+	a_name(LAPD_FRAME, true, "LAPD_FRAME");
+	a_name(255, true, "");
+	WANT_CODE(lapd_code_name(LAPD_NO_LINK, text, sizeof text, &length), LAPD_OUT_OF_RANGE);
+	WANT(length == 12 && text[0] == 1);
 }
 
 int main(void)
@@ -226,12 +377,16 @@ int main(void)
 	a_pile(&side, 1024);
 	a_pile(&side, 1);
 	a_pile(&side, 2000);
+	next_items(&side);
+	a_check(&side);
+	terminals(&side);
 	lapd_side_free(&side);
 	lapd_side_free(&side);
 	no_side(&side);
+	names();
 	a_text("\x02\x81\x01\x01", 4, 1, "N>U SAPI 0 TEI 64 C RR N(R)=0 P=1");
 	a_text("\x00\x81\x02\x04\x08\x02", 6, 0, "U>N SAPI 0 TEI 64 C I N(S)=1 N(R)=2 P=0 info=0802");
 	a_text("\x04\x81\x7f", 3, 0, "U>N F3 SapiNotServed 04817f");
-	printf("codes: of handles, buffers, settings, links and text\n");
+	printf("codes: of handles, buffers, settings, links, checks, terminals, names and text\n");
 	return 0;
 }

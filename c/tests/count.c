@@ -56,6 +56,38 @@ static void message(void)
 	carry(&user, &network);
 }
 
+/* Fetches all that waits by lapd_side_next, and passes the frames to the other side, until none is
+ * sent. */
+static void carry_next(lapd_side *from, lapd_side *to)
+{
+	uint8_t octets[LAPD_MOST_FRAME];
+	lapd_primitive item;
+	bool is_any = false;
+	size_t left;
+
+	do {
+		DONE(lapd_side_next(from, &item, octets, sizeof octets, &left));
+		if (item.kind == LAPD_FRAME) {
+			DONE(lapd_side_take(to, octets, item.octets, 0));
+			is_any = true;
+			frames++;
+		}
+		arrived += item.kind == LAPD_DATA_IND;
+		acknowledged += item.kind == LAPD_ACKNOWLEDGED;
+	} while (left > 0);
+	if (is_any)
+		carry_next(to, from);
+}
+
+/* The same as `message`, by lapd_side_next. */
+static void next_message(void)
+{
+	static const uint8_t octets[20] = { 0x08, 0x01, 0x01, 0x05 };
+
+	DONE(lapd_side_give(&user, 0, 0, octets, sizeof octets, 0));
+	carry_next(&user, &network);
+}
+
 /* Passes in an RR with P=1, and fetches the response. */
 static void poll(void)
 {
@@ -96,6 +128,7 @@ static void call(const char *what)
 
 	switch (what[0]) {
 	case 'm': message(); break;
+	case 'n': next_message(); break;
 	case 'p': poll(); break;
 	case 't': DONE(lapd_side_tick(&network, 1, &expired)); break;
 	case 'd': DONE(lapd_side_deadline(&network, &moment)); break;
@@ -108,7 +141,7 @@ int main(int count, char **words)
 	const uint8_t tei = 64;
 	long times = count == 3 ? atol(words[2]) : 0, at;
 
-	WANT(times > 0 && strchr("mptd", words[1][0]) != NULL);
+	WANT(times > 0 && strchr("mnptd", words[1][0]) != NULL);
 	DONE(lapd_side_network(&network, &settings, &tei, 1));
 	DONE(lapd_side_user(&user, &settings, tei));
 	DONE(lapd_side_establish(&user, 0, 0, 0));
@@ -118,7 +151,7 @@ int main(int count, char **words)
 		establish_all(settings);
 	for (at = 0; at < times; at++)
 		call(words[1]);
-	WANT(arrived == acknowledged && (words[1][0] != 'm' || (arrived == times && frames == 2 * times)));
+	WANT(arrived == acknowledged && (strchr("mn", words[1][0]) == NULL || (arrived == times && frames == 2 * times)));
 	lapd_side_free(&user);
 	lapd_side_free(&network);
 	return 0;

@@ -95,30 +95,31 @@ static void append_primitive(const lapd_primitive *delivered, const uint8_t *oct
 static void fetch(void)
 {
 	uint8_t octets[LAPD_MOST_FRAME];
-	lapd_primitive delivered;
-	size_t length;
+	lapd_primitive item;
+	size_t left;
 
-	for (;;) {
-		DONE(lapd_side_frame(&side, octets, sizeof octets, &length));
-		if (length == 0)
-			break;
-		append_octets(octets, length);
-		append(";");
-	}
-	for (;;) {
-		DONE(lapd_side_primitive(&side, &delivered, octets, sizeof octets));
-		if (delivered.kind == LAPD_NOTHING)
-			return;
-		append_primitive(&delivered, octets);
-	}
+	do {
+		DONE(lapd_side_next(&side, &item, octets, sizeof octets, &left));
+		if (item.kind == LAPD_FRAME) {
+			append_octets(octets, item.octets);
+			append(";");
+		} else if (item.kind != LAPD_NOTHING) {
+			append_primitive(&item, octets);
+		}
+	} while (left > 0);
 }
 
 static void append_refusal(uint32_t code)
 {
-	char words[32];
+	char words[64];
+	uint8_t name[LAPD_MOST_NAME];
+	size_t length;
 
+	DONE(lapd_code_name(code, name, sizeof name, &length));
 	if (code == LAPD_NO_LINK || code == LAPD_NO_MEMORY)
 		sprintf(words, "refused B%u;", (unsigned)code - 10);
+	else if (code < LAPD_NO_LINK)
+		sprintf(words, "refused %s;", (const char *)name);
 	else
 		sprintf(words, "refused L%u;", (unsigned)code - 20);
 	append(words);

@@ -1,24 +1,26 @@
 -- The effect of a call on a held side: that of the side's own call, and the results that are
 -- fetched.
-use Rattle.std.specs.Prelude.{◌≡◌, ◌≤◌, ◌⊎◌, ℕ, ◌++◌, ◌||◌, ◌&&◌, nat_eq, nat_lt, nat_le, Bool, true, false, List, length, drop, slice_get, Option, Some, None, Result, ⊤}
+use Rattle.std.specs.Prelude.{◌≡◌, ◌≤◌, ◌⊎◌, ℕ, ◌+◌, ◌-◌, ◌^◌, min, ◌++◌, ◌||◌, ◌&&◌, nat_eq, nat_lt, nat_le, Bool, true, false, List, length, drop, set, slice_get, Option, Some, None, Result, ⊤}
 use Rattle.lapd_link.specs.Link.{LinkRepresents}
 use Rattle.lapd_link.specs.declared.link.Link.{Link}
 use Rattle.lapd_link_definition.specs.End.{End}
 use Rattle.lapd_table.specs.declared.link_id.LinkId.{LinkId}
 use Rattle.lapd_table.specs.declared.link_table.LinkTable.{LinkTable}
-use Rattle.lapd_table.specs.LinkTable.{link_at}
 use Rattle.lapd_sides_links.specs.declared.side_fault.SideKind.TheVariants.{NoLink}
 use Rattle.lapd_sides_links.specs.declared.primitive.Primitive.{Primitive}
 use Rattle.lapd_sides_links.specs.declared.side_fault.SideFault.{SideFault}
 use Rattle.lapd_sides_links.specs.Effects.{Effects, and_then, no_effects}
 use Rattle.lapd_sides.specs.declared.either_side.EitherSide.{EitherSide}
-use Rattle.lapd_sides.specs.Either.{Expires, StaysIdle, HasNextDeadline, HasDiscarded, HasTable}
+use Rattle.lapd_sides.specs.declared.request.Request.TheVariants as request
+use Rattle.lapd_sides.specs.Either.{Answers, Expires, StaysIdle, HasNextDeadline, HasDiscarded, HasTable}
+use Rattle.lapd_tei.specs.declared.phase.Phase.{Phase}
 use Rattle.lapd_c.specs.declared.flat_primitive.FlatPrimitive.{FlatPrimitive}
 use Rattle.lapd_c.specs.declared.held_side.HeldSide.{HeldSide}
 use Rattle.lapd_c.specs.declared.link_state.LinkState.{LinkState}
-use Rattle.lapd_c.specs.Codes.{done, pending, out_of_range, memory, code_of, code_of_kind}
-use Rattle.lapd_c.specs.FlatPrimitives.{flat, nothing, octets_of}
+use Rattle.lapd_c.specs.Codes.{done, pending, out_of_range, check_runs, memory, code_of, code_of_kind}
+use Rattle.lapd_c.specs.FlatPrimitives.{flat, flat_frame, nothing, octets_of}
 use Rattle.lapd_c.specs.LinkStates.{state_of, no_state}
+use Rattle.lapd_c.specs.SideQueries.{HasCheck, HasTerminal, link_meant, meant, state_of_terminal, tei_of_terminal}
 
 -- ---- The results that wait to be fetched.
 
@@ -62,6 +64,21 @@ pub record HasNoMemory (old new : HeldSide) (code : ℕ) : Type 0 where
 pub record Asks (call : Call) (old new : HeldSide) (code : ℕ) : Type 0 where
   pub refused : is_full old ≡ true → (code ≡ pending) × (new ≡ old)
   pub called : is_full old ≡ false → HasNoMemory old new code ⊎ HasCalled call old new code
+
+-- a check of this TEI begins, unless another check is in progress: then nothing changes
+abbrev pub ChecksUnless : Option ℕ → ℕ → ℕ → HeldSide → HeldSide → ℕ → Type 0
+ChecksUnless None tei now old new code = Asks (Answers (request.Check tei) now) old new code
+ChecksUnless (Some other) tei now old new code = (code ≡ check_runs) × (new ≡ old)
+
+pub record HasRoomToCheck (tei now : ℕ) (old new : HeldSide) (code : ℕ) : Type 0 where
+  pub check : Option ℕ
+  pub has_check : HasCheck old.side check
+  pub begins : ChecksUnless check tei now old new code
+
+-- if too many results wait, the check is refused, and nothing changes
+pub record Checks (tei now : ℕ) (old new : HeldSide) (code : ℕ) : Type 0 where
+  pub refused : is_full old ≡ true → (code ≡ pending) × (new ≡ old)
+  pub called : is_full old ≡ false → HasRoomToCheck tei now old new code
 
 -- the first due timer has expired, or none is due and there are no results
 pub record HasTicked (now expired : ℕ) (old new : HeldSide) (code : ℕ) : Type 0 where
@@ -111,9 +128,20 @@ ReturnsLink delivered code (Some link) =
 pub record ReturnsState (id : LinkId) (delivered : LinkState) (old new : HeldSide) (code : ℕ) :
     Type 0 where
   pub same : new ≡ old
+  pub terminal : Option Phase
+  pub has_terminal : HasTerminal old.side terminal
   pub table : LinkTable
   pub has_table : HasTable old.side table
-  pub link : ReturnsLink delivered code (link_at table id)
+  pub link : ReturnsLink delivered code (link_meant table (meant terminal id))
+
+-- the state and the TEI of the terminal
+pub record ReturnsTerminal (state tei : ℕ) (old new : HeldSide) (code : ℕ) : Type 0 where
+  pub done : code ≡ done
+  pub same : new ≡ old
+  pub terminal : Option Phase
+  pub has_terminal : HasTerminal old.side terminal
+  pub is_state : state ≡ state_of_terminal terminal
+  pub is_tei : tei ≡ tei_of_terminal terminal
 
 -- ---- Calls that fetch.
 
@@ -182,13 +210,39 @@ abbrev pub FetchesPrimitive : HeldSide → HeldSide → ℕ → FlatPrimitive �
 FetchesPrimitive old new code delivered buffer =
     FetchesPrimitiveOr (slice_get (waiting old).primitives 0) old new code delivered buffer
 
+-- the first waiting frame, otherwise the first waiting primitive
+abbrev pub FetchesItemOr : Option (List ℕ) → HeldSide → HeldSide → ℕ → FlatPrimitive → Buffer
+    → Type 0
+FetchesItemOr None old new code item buffer = FetchesPrimitive old new code item buffer
+FetchesItemOr (Some frame) old new code item buffer = (item ≡ flat_frame frame)
+    × Fetches frame (without_first_frame (waiting old)) old new code buffer
+
+abbrev pub FetchesItem : HeldSide → HeldSide → ℕ → FlatPrimitive → Buffer → Type 0
+FetchesItem old new code item buffer =
+    FetchesItemOr (slice_get (waiting old).frames 0) old new code item buffer
+
+-- how many frames and primitives wait, up to the greatest number of 64 bits
+abbrev pub items_waiting : HeldSide → ℕ
+items_waiting held = min (length (waiting held).frames + length (waiting held).primitives)
+    (2 ^ 64 - 1)
+
+-- the same, and the number of those that still wait
+pub record FetchesNext (old new : HeldSide) (code : ℕ) (item : FlatPrimitive) (left : ℕ)
+    (buffer : Buffer) : Type 0 where
+  pub fetched : FetchesItem old new code item buffer
+  pub counted : left ≡ items_waiting new
+
 -- ---- Text.
 
--- the text is written to the beginning of the buffer, if it fits
+-- the text is written to the beginning of the buffer, with a 0 behind it if there is room
+abbrev pub ended : List ℕ → List ℕ → List ℕ
+ended text buffer = set (overwritten text buffer) (length text) 0
+
+-- the text is written, if it fits
 pub record ReturnsText (text : List ℕ) (code count : ℕ) (buffer : Buffer) : Type 0 where
   pub counted : count ≡ length text
   pub done : nat_lt (length buffer.before) (length text) ≡ false
-      → (code ≡ done) × (buffer.after ≡ overwritten text buffer.before)
+      → (code ≡ done) × (buffer.after ≡ ended text buffer.before)
   pub refused : nat_lt (length buffer.before) (length text) ≡ true
       → (code ≡ out_of_range) × (buffer.after ≡ buffer.before)
 

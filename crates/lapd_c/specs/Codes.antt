@@ -22,6 +22,10 @@ pending = 2
 abbrev pub out_of_range : ℕ
 out_of_range = 3
 
+-- a TEI is checked while another check is in progress
+abbrev pub check_runs : ℕ
+check_runs = 4
+
 -- B3: an allocation failed
 abbrev pub memory : ℕ
 memory = 13

@@ -93,6 +93,17 @@ flat (Management outcome) = record {
 abbrev pub nothing : FlatPrimitive
 nothing = record { kind = 0; sapi = 0; tei = 0; letter = 0; count = 0; octets = 0 }
 
+-- a frame to send, in the same form
+abbrev pub flat_frame : List ℕ → FlatPrimitive
+flat_frame frame = record {
+  kind = 32;
+  sapi = 0;
+  tei = 0;
+  letter = 0;
+  count = 0;
+  octets = length frame;
+}
+
 abbrev pub octets_of : Primitive → List ℕ
 octets_of (Of id delivered) = octets_up delivered
 octets_of (Management outcome) = []

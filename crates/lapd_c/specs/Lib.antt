@@ -3,6 +3,8 @@ pub mod CodeOrder
 pub mod Codes
 pub mod FlatPrimitives
 pub mod LinkStates
+pub mod Names
 pub mod Owned
 pub mod Settings
+pub mod SideQueries
 pub mod ThroughHandle

@@ -40,6 +40,9 @@ config_of s = if s.most_waiting == 0 then None
 abbrev pub is_own_tei : ℕ → Bool
 is_own_tei tei = nat_lt tei 127
 
+abbrev pub own_tei : ℕ → Option ℕ
+own_tei tei = if is_own_tei tei then Some tei else None
+
 abbrev pub network_config : Settings → List ℕ → Option Config
 network_config settings known = if list_all is_own_tei known then config_of settings else None
 

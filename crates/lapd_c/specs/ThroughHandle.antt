@@ -7,7 +7,7 @@ use Rattle.lapd_sides.specs.declared.either_side.EitherSide.{EitherSide}
 use Rattle.lapd_c.specs.declared.held_side.HeldSide.{HeldSide}
 use Rattle.lapd_c.specs.declared.link_state.LinkState.{LinkState}
 use Rattle.lapd_c.specs.LinkStates.{no_state}
-use Rattle.lapd_c.specs.Calls.{Call, Asks, ReturnsState}
+use Rattle.lapd_c.specs.Calls.{Call, Asks, Checks, ReturnsState}
 use Rattle.lapd_c.specs.Codes.{done, no_side, out_of_range, memory}
 use Rattle.lapd_c.specs.Owned.{Held}
 use Rattle.lapd_c.specs.Settings.{IsNew}
@@ -38,10 +38,11 @@ ReturnsStateOf delivered code old new (Some id) =
     Through (λ o n. ReturnsState id delivered o n code)
     ((code ≡ no_side) × (delivered ≡ no_state)) old new
 
--- a call for a TEI, likewise
-abbrev pub AsksTei : (ℕ → Call) → ℕ → Held → Held → Option ℕ → Type 0
-AsksTei call code old new None = (code ≡ out_of_range) × (new ≡ old)
-AsksTei call code old new (Some tei) = AsksSide (call tei) code old new
+-- a check of a TEI; if it is not valid, it is refused, and nothing changes
+abbrev pub AsksCheck : ℕ → ℕ → Held → Held → Option ℕ → Type 0
+AsksCheck now code old new None = (code ≡ out_of_range) × (new ≡ old)
+AsksCheck now code old new (Some tei) =
+    Through (λ o n. Checks tei now o n code) (code ≡ no_side) old new
 
 -- the octets of a request
 abbrev pub Message : Type 0

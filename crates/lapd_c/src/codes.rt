@@ -1,4 +1,4 @@
-//! The codes that calls return to C, as in c/lapd.h: 0 to 3 of the call itself, 11 and 13 for B1 and
+//! The codes that calls return to C, as in c/lapd.h: 0 to 4 of the call itself, 11 and 13 for B1 and
 //! B3, and 21 to 25 for L1 to L5.
 
 ghost use Rattle.std.specs.Prelude.{◌≡◌};
@@ -17,6 +17,9 @@ pub(crate) const PENDING: u32 = 2;
 
 /// A number is out of its range, or a buffer is too small.
 pub(crate) const OUT_OF_RANGE: u32 = 3;
+
+/// A TEI is to be checked while another check is in progress.
+pub(crate) const CHECK_RUNS: u32 = 4;
 
 /// B1: the link does not exist.
 pub(crate) const NO_LINK: u32 = 11;

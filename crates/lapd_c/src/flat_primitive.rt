@@ -1,7 +1,7 @@
 //! A primitive in the form that C reads.
 
 ghost use Rattle.std.specs.Prelude.{◌≡◌};
-ghost use Rattle.lapd_c.specs.FlatPrimitives.{flat, nothing, octets_of, octets_up, kind_of_link, count_of, letter_of, kind_of_outcome, tei_of_outcome, link_of};
+ghost use Rattle.lapd_c.specs.FlatPrimitives.{flat, flat_frame, nothing, octets_of, octets_up, kind_of_link, count_of, letter_of, kind_of_outcome, tei_of_outcome, link_of};
 ghost use Rattle.lapd_link_definition.specs.Out.{letter_code};
 
 use lapd_sides::{Letter, LinkId, Primitive, Sapi, Tei, TeiOut, What};
@@ -12,17 +12,20 @@ use lapd_sides::{Letter, LinkId, Primitive, Sapi, Tei, TeiOut, What};
 pub struct FlatPrimitive {
     /// The kind; 0 if no primitive is left.
     pub kind: u8,
-    /// The SAPI of the link; 63 for TEI management.
+    /// The SAPI of the link; 63 for TEI management, and 0 for a frame.
     pub sapi: u8,
-    /// The TEI of the link; 127 for the group, or if there is none.
+    /// The TEI of the link; 127 for the group, or if there is none; 0 for a frame.
     pub tei: u8,
     /// The letter of an error report, `A` to `O`; else 0.
     pub letter: u8,
     /// The number of messages that were acknowledged or dropped; else 0.
     pub count: u16,
-    /// The number of octets for layer 3.
+    /// The number of octets for layer 3, or of the frame.
     pub octets: usize,
 }
+
+/// The kind of a frame to send.
+const FRAME: u8 = 32;
 
 impl FlatPrimitive {
     /// The value that stands for no primitive.
@@ -36,6 +39,20 @@ impl FlatPrimitive {
             letter: 0,
             count: 0,
             octets: 0,
+        }
+    }
+
+    /// A frame to send, in the form of a primitive.
+    pub(crate) fn of_frame(frame: &[u8]) -> FlatPrimitive
+        ensures { result ≡ flat_frame frame.now }
+    {
+        FlatPrimitive {
+            kind: FRAME,
+            sapi: 0,
+            tei: 0,
+            letter: 0,
+            count: 0,
+            octets: frame.len(),
         }
     }
 

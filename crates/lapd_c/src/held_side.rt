@@ -3,13 +3,17 @@
 ghost use Rattle.std.specs.Prelude.{◌≡◌, ◌<◌, ◌≤◌, length, slice_get, option_copied, IfOk, OnOk, OnErr, false};
 ghost use Rattle.lapd_sides_links.specs.Effects.{no_effects};
 ghost use Rattle.lapd_sides.specs.Either.{Takes, Answers};
-ghost use Rattle.lapd_c.specs.Calls.{or_never, waiting, gives_nothing, is_full, without_first_frame, without_first_primitive, Asks, Ticks, ReturnsDeadline, ReturnsDiscarded, ReturnsState, FetchesFrame, FetchesPrimitive, overwritten};
+ghost use Rattle.lapd_c.specs.Calls.{or_never, waiting, items_waiting, gives_nothing, is_full, without_first_frame, without_first_primitive, Asks, Checks, Ticks, ReturnsDeadline, ReturnsDiscarded, ReturnsState, ReturnsTerminal, FetchesFrame, FetchesItem, FetchesNext, FetchesPrimitive, overwritten};
+ghost use Rattle.lapd_c.specs.SideQueries.{HasCheck, HasTerminal, link_meant, meant, or_no_tei, state_of_terminal, tei_of_terminal, with_own_tei};
 
 use crate::backlog::Backlog;
-use crate::codes::{DONE, MEMORY, NO_LINK, OUT_OF_RANGE, PENDING, code_of};
+use crate::codes::{CHECK_RUNS, DONE, MEMORY, NO_LINK, OUT_OF_RANGE, PENDING, code_of};
 use crate::flat_primitive::{FlatPrimitive, octets_of};
 use crate::link_state::LinkState;
-use lapd_sides::{Acts, EitherSide, LinkId, Primitive, Request};
+use lapd_link::Link;
+use lapd_sides::{
+    Acts, EitherSide, LinkId, LinkTable, Primitive, Request, Tei, Terminal,
+};
 use std::alloc::{AllocError, Global};
 
 /// A side, and the results of its calls that C has not fetched: the last in `acts`, the earlier
@@ -22,6 +26,9 @@ pub struct HeldSide {
     /// If this many frames or primitives wait, calls that could add more are refused.
     most_waiting: u16,
 }
+
+/// The number for no TEI, which is LAPD_NO_TEI in C.
+const NO_TEI: u8 = 255;
 
 impl HeldSide {
     /// Holds a new side without results, with this limit for waiting frames and for waiting
@@ -101,6 +108,29 @@ impl HeldSide {
         }
     }
 
+    /// Checks a TEI at the time `now`, unless another check is in progress.
+    pub(crate) fn check(&mut self, tei: Tei, now: u64) -> u32
+        ensures { Checks tei now self.old self.new result }
+    {
+        if self.is_full() {
+            return PENDING;
+        }
+        match self.checked() {
+            Some(_) => CHECK_RUNS,
+            None => self.request(Request::Check(tei), now),
+        }
+    }
+
+    /// The TEI under check, if this is a network side that checks one.
+    fn checked(&self) -> Option<Tei>
+        ensures { HasCheck self.now.side result }
+    {
+        match &self.side {
+            EitherSide::Network(side) => side.assigner().check(),
+            EitherSide::User(_) => None,
+        }
+    }
+
     /// Expires the first timer that is due at the time `now`. `expired` is 1 if one was due, else
     /// 0.
     pub(crate) fn tick(&mut self, now: u64, expired: &mut u8) -> u32
@@ -138,11 +168,31 @@ impl HeldSide {
         DONE
     }
 
-    /// Sets `state` to the state of a link.
+    /// The terminal of a user side.
+    fn terminal(&self) -> Option<&Terminal>
+        ensures { HasTerminal self.now.side (option_copied result) }
+    {
+        match &self.side {
+            EitherSide::Network(_) => None,
+            EitherSide::User(side) => Some(side.terminal()),
+        }
+    }
+
+    /// Sets `state` and `tei` to the state and the TEI of a user side's terminal.
+    pub(crate) fn terminal_state(&self, state: &mut u8, tei: &mut u8) -> u32
+        ensures { ReturnsTerminal state.new tei.new self.now self.now result }
+    {
+        let terminal = self.terminal();
+        *state = state_of_terminal(terminal);
+        *tei = tei_of_terminal(terminal);
+        DONE
+    }
+
+    /// Sets `state` to the state of a link. On a user side, the link has the terminal's TEI.
     pub(crate) fn state(&self, id: LinkId, state: &mut LinkState) -> u32
         ensures { ReturnsState id state.new self.now self.now result }
     {
-        match self.side.table().link(id) {
+        match link_meant(self.side.table(), meant(self.terminal(), id)) {
             Some(link) => {
                 *state = LinkState::of(link);
                 DONE
@@ -225,6 +275,48 @@ impl HeldSide {
         DONE
     }
 
+    /// Fetches the first waiting frame, otherwise the first waiting primitive. `left` is the number
+    /// of those that still wait.
+    pub(crate) fn next(
+        &mut self,
+        item: &mut FlatPrimitive,
+        buffer: &mut [u8],
+        left: &mut usize,
+    ) -> u32
+        ensures { FetchesNext self.old self.new result item.new left.new
+            (record { before = buffer.old; after = buffer.new }) }
+    {
+        let code = self.next_item(item, buffer);
+        *left = self.items_waiting();
+        code
+    }
+
+    /// Fetches the first waiting frame, otherwise the first waiting primitive.
+    fn next_item(&mut self, item: &mut FlatPrimitive, buffer: &mut [u8]) -> u32
+        ensures { FetchesItem self.old self.new result item.new
+            (record { before = buffer.old; after = buffer.new }) }
+    {
+        let Some(frame) = self.first_frame() else {
+            return self.next_primitive(item, buffer);
+        };
+        *item = FlatPrimitive::of_frame(frame);
+        if buffer.len() < frame.len() {
+            return OUT_OF_RANGE;
+        }
+        overwrite(buffer, frame);
+        self.remove_frame();
+        DONE
+    }
+
+    /// How many frames and primitives wait, up to the greatest `usize`.
+    fn items_waiting(&self) -> usize
+        ensures { result ≡ items_waiting self.now }
+    {
+        let frames = self.backlog.frames().len() + self.acts.frames().len();
+        let primitives = self.backlog.primitives().len() + self.acts.primitives().len();
+        frames.saturating_add(primitives)
+    }
+
     /// Fetches the first waiting primitive, and copies its octets to the beginning of the buffer.
     /// If the buffer is too small for them, the primitive still waits.
     pub(crate) fn next_primitive(&mut self, delivered: &mut FlatPrimitive, buffer: &mut [u8]) -> u32
@@ -253,6 +345,66 @@ fn moment_or_never(moment: Option<u64>) -> u64
     match moment {
         Some(moment) => moment,
         None => u64::MAX,
+    }
+}
+
+/// The state of a terminal, 1 to 4; 0 without a terminal.
+fn state_of_terminal(terminal: Option<&Terminal>) -> u8
+    ensures { result ≡ state_of_terminal (option_copied terminal.entry) }
+{
+    match terminal {
+        Some(terminal) => terminal.state(),
+        None => 0,
+    }
+}
+
+/// The TEI of a terminal; 255 if it has none, and without a terminal.
+fn tei_of_terminal(terminal: Option<&Terminal>) -> u8
+    ensures { result ≡ tei_of_terminal (option_copied terminal.entry) }
+{
+    match terminal {
+        Some(terminal) => or_no_tei(terminal.tei()),
+        None => NO_TEI,
+    }
+}
+
+/// The number of a TEI, or 255 if there is none.
+fn or_no_tei(tei: Option<Tei>) -> u8
+    ensures { result ≡ or_no_tei tei }
+{
+    match tei {
+        Some(tei) => tei.value(),
+        None => NO_TEI,
+    }
+}
+
+/// The id of the link that C means: on a user side, that of the terminal's own TEI.
+fn meant(terminal: Option<&Terminal>, id: LinkId) -> Option<LinkId>
+    ensures { result ≡ meant (option_copied terminal.entry) id }
+{
+    match terminal {
+        Some(terminal) => with_own_tei(id, terminal.tei()),
+        None => Some(id),
+    }
+}
+
+/// The id of a terminal's link, if the terminal has a TEI.
+fn with_own_tei(id: LinkId, tei: Option<Tei>) -> Option<LinkId>
+    ensures { result ≡ with_own_tei id tei }
+{
+    match tei {
+        Some(tei) => Some(LinkId { tei, sapi: id.sapi }),
+        None => None,
+    }
+}
+
+/// The link with this id, if there is one.
+fn link_meant(table: &LinkTable, id: Option<LinkId>) -> Option<&Link>
+    ensures { option_copied result ≡ link_meant table.now id }
+{
+    match id {
+        Some(id) => table.link(id),
+        None => None,
     }
 }
 

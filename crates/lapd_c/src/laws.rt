@@ -4,7 +4,7 @@ ghost use Rattle.std.specs.Prelude.{◌≡◌, ℕ, List, Option, is_some, true}
 ghost use Rattle.lapd_table.specs.declared.link_id.LinkId.{LinkId};
 ghost use Rattle.lapd_sides.specs.declared.request.Request.{Request};
 ghost use Rattle.lapd_sides.specs.Either.{Takes, Answers};
-ghost use Rattle.lapd_c.specs.ThroughHandle.{AsksSide, AsksTei, AsksLink, AsksLinkWith, Message, Through};
+ghost use Rattle.lapd_c.specs.ThroughHandle.{AsksSide, AsksCheck, AsksLink, AsksLinkWith, Message, Through};
 ghost use Rattle.lapd_c.specs.Calls.{Ticks};
 ghost use Rattle.lapd_c.specs.CodeOrder.{ReturnsInOrder};
 ghost use Rattle.lapd_c.specs.Codes.{memory, no_side};
@@ -21,9 +21,8 @@ pub fn codes_are_in_order()
     ensures link { (request : LinkId → Request) (now code : ℕ) (old new : Held)
         (id : Option LinkId) → AsksLink (λ id. Answers (request id) now) code old new id
         → ReturnsInOrder (is_some id) old code }
-    ensures tei { (request : ℕ → Request) (now code : ℕ) (old new : Held)
-        (tei : Option ℕ) → AsksTei (λ tei. Answers (request tei) now) code old new tei
-        → ReturnsInOrder (is_some tei) old code }
+    ensures check { (now code : ℕ) (old new : Held) (tei : Option ℕ)
+        → AsksCheck now code old new tei → ReturnsInOrder (is_some tei) old code }
     ensures message { (request : LinkId → Message → Request) (now : ℕ) (octets : List ℕ)
         (code : ℕ) (old new : Held) (id : Option LinkId)
         → AsksLinkWith (λ id message. Answers (request id message) now) octets code old new id

@@ -3,20 +3,21 @@
 //!
 //! Each exported function calls the function of [`lapd_sides::EitherSide`] that it is named after,
 //! and repeats its contract. It returns a code of `codes`: 3 if a number is out of range, otherwise 1
-//! if the handle owns no side, new or freed, otherwise 2 if too many results wait
-//! ([`codes_are_in_order`]). The results of calls wait, in order, until [`lapd_side_frame`] and
-//! [`lapd_side_primitive`] fetch them. `c/lapd.h` is the header, and docs/C.md lists the duties of
-//! a program.
+//! if the handle owns no side, otherwise 2 if too many results wait
+//! ([`codes_are_in_order`]). The results of calls wait, in order, until [`lapd_side_next`], or
+//! [`lapd_side_frame`] and [`lapd_side_primitive`], fetch them. `c/lapd.h` is the header, and
+//! docs/C.md lists the duties of a program.
 #![tactic(auto)]
 
 ghost use Rattle.std.specs.Prelude.{◌≡◌, ◌==◌, Some, None, not};
 ghost use Rattle.lapd_sides.specs.Either.{Takes, Answers};
-ghost use Rattle.lapd_frame.specs.Address.{number_at};
-ghost use Rattle.lapd_c.specs.ThroughHandle.{AsksSide, AsksTei, AsksLink, AsksLinkWith, Makes, ReturnsStateOf, Through};
-ghost use Rattle.lapd_c.specs.Calls.{or_never, Ticks, ReturnsDeadline, ReturnsDiscarded, FetchesFrame, FetchesPrimitive, ReturnsTextOrNothing};
+ghost use Rattle.lapd_c.specs.ThroughHandle.{AsksSide, AsksCheck, AsksLink, AsksLinkWith, Makes, ReturnsStateOf, Through};
+ghost use Rattle.lapd_c.specs.Calls.{or_never, Checks, Ticks, ReturnsDeadline, ReturnsDiscarded, ReturnsTerminal, FetchesFrame, FetchesNext, FetchesPrimitive, ReturnsText, ReturnsTextOrNothing};
 ghost use Rattle.lapd_trace.specs.Trace.{trace_line};
 ghost use Rattle.lapd_c.specs.FlatPrimitives.{link_of, nothing, sender};
-ghost use Rattle.lapd_c.specs.Settings.{IsNewNetwork, IsNewUser, network_config, user_config};
+ghost use Rattle.lapd_c.specs.Names.{code_name, kind_name};
+ghost use Rattle.lapd_c.specs.Settings.{IsNewNetwork, IsNewUser, network_config, own_tei, user_config};
+ghost use Rattle.lapd_c.specs.SideQueries.{or_no_tei};
 
 mod backlog;
 mod box_parts;
@@ -27,18 +28,20 @@ mod held_side;
 mod laws;
 mod link_state;
 mod making;
+mod names;
 mod settings;
 
 use codes::{DONE, MEMORY, NO_SIDE, OUT_OF_RANGE};
 use flat_primitive::{FlatPrimitive, link_of};
 use handle::{Handle, opened, shut};
-use held_side::{HeldSide, overwrite};
+use held_side::HeldSide;
 use lapd_sides::{Request, Side, Tei};
 use lapd_trace::line;
 pub use laws::codes_are_in_order;
 use link_state::LinkState;
 use making::{make_network, make_user};
-use settings::Settings;
+use names::{code_name, kind_name, write_text};
+use settings::{Settings, own_tei};
 use std::alloc::Global;
 
 /// The version of the library, 0.1.0: 10,000 times the major version, 100 times the minor one, and
@@ -244,16 +247,28 @@ pub extern "C" fn lapd_side_ask_tei(handle: &mut Handle, now: u64, alloc: Global
     ask(handle, Request::AskTei, now, alloc)
 }
 
-/// Checks a TEI. A user side ignores it.
+/// Checks a TEI, 0 to 126, unless another check is in progress. A user side ignores it.
 #[unsafe(no_mangle)]
 pub extern "C" fn lapd_side_check_tei(handle: &mut Handle, tei: u8, now: u64, alloc: Global) -> u32
-    ensures { AsksTei (λ tei. Answers (Request.Check tei) now) result
-        handle.old.held handle.new.held (number_at tei) }
+    ensures { AsksCheck now result handle.old.held handle.new.held (own_tei tei) }
 {
-    match Tei::new(tei) {
-        Some(tei) => ask(handle, Request::Check(tei), now, alloc),
+    match own_tei(tei) {
+        Some(tei) => check(handle, tei, now, alloc),
         None => OUT_OF_RANGE,
     }
+}
+
+/// Checks a TEI.
+fn check(handle: &mut Handle, tei: Tei, now: u64, alloc: Global) -> u32
+    ensures { Through (λ old new. Checks tei now old new result) (result ≡ 1)
+        handle.old.held handle.new.held }
+{
+    let Some(mut side) = opened(handle, alloc) else {
+        return NO_SIDE;
+    };
+    let code = side.check(tei, now);
+    shut(handle, side);
+    code
 }
 
 /// Expires the first timer that is due at `now`, in milliseconds. `expired` is 1 if one was due,
@@ -309,7 +324,31 @@ pub extern "C" fn lapd_side_discarded(handle: &mut Handle, count: &mut u64, allo
     code
 }
 
-/// Sets `state` to the state of a link; all fields are 0 if the link does not exist.
+/// Sets `state` to the state of a user side's terminal, 1 to 4, and `tei` to its TEI, or 255 if it
+/// has none. A network side has no terminal: 0 and 255, as if the handle owns no side.
+#[unsafe(no_mangle)]
+pub extern "C" fn lapd_side_tei(
+    handle: &mut Handle,
+    state: &mut u8,
+    tei: &mut u8,
+    alloc: Global,
+) -> u32
+    ensures { Through (λ old new. ReturnsTerminal state.new tei.new old new result)
+        ((result ≡ 1) × (state.new ≡ 0) × (tei.new ≡ or_no_tei None))
+        handle.old.held handle.new.held }
+{
+    let Some(side) = opened(handle, alloc) else {
+        *state = 0;
+        *tei = 255;
+        return NO_SIDE;
+    };
+    let code = side.terminal_state(state, tei);
+    shut(handle, side);
+    code
+}
+
+/// Sets `state` to the state of a link; all fields are 0 if the link does not exist. A user side
+/// uses only the SAPI.
 #[unsafe(no_mangle)]
 pub extern "C" fn lapd_side_state(
     handle: &mut Handle,
@@ -333,8 +372,8 @@ pub extern "C" fn lapd_side_state(
 }
 
 /// Writes a line of text for the octets of a frame, sent by a network side if `network` is not 0,
-/// else by a user side. The text is at the beginning of the buffer, without a final 0. `count` is
-/// its length, even if the buffer is too small.
+/// else by a user side. The text is at the beginning of the buffer, with a 0 behind it if there is
+/// room. `count` is its length, even if the buffer is too small.
 #[unsafe(no_mangle)]
 pub extern "C" fn lapd_frame_text(
     octets: &[u8],
@@ -350,12 +389,27 @@ pub extern "C" fn lapd_frame_text(
         *count = 0;
         return MEMORY;
     };
-    *count = text.len();
-    if buffer.len() < text.len() {
-        return OUT_OF_RANGE;
-    }
-    overwrite(buffer, text.as_bytes());
-    DONE
+    write_text(text.as_bytes(), buffer, count)
+}
+
+/// Writes the name of a code, as `LAPD_NO_LINK`, like [`lapd_frame_text`]. The name is empty if no
+/// code has this number.
+#[unsafe(no_mangle)]
+pub extern "C" fn lapd_code_name(code: u32, buffer: &mut [u8], count: &mut usize) -> u32
+    ensures { ReturnsText (code_name code) result count.new
+        (record { before = buffer.old; after = buffer.new }) }
+{
+    write_text(code_name(code).as_bytes(), buffer, count)
+}
+
+/// Writes the name of a kind, as `LAPD_DATA_IND`, like [`lapd_frame_text`]. The name is empty if no
+/// kind has this number.
+#[unsafe(no_mangle)]
+pub extern "C" fn lapd_kind_name(kind: u8, buffer: &mut [u8], count: &mut usize) -> u32
+    ensures { ReturnsText (kind_name kind) result count.new
+        (record { before = buffer.old; after = buffer.new }) }
+{
+    write_text(kind_name(kind).as_bytes(), buffer, count)
 }
 
 /// The side that sends: the network side if `network` is not 0.
@@ -413,6 +467,33 @@ pub extern "C" fn lapd_side_primitive(
         return NO_SIDE;
     };
     let code = side.next_primitive(delivered, buffer);
+    shut(handle, side);
+    code
+}
+
+/// Fetches the next frame to send or, if none is left, the next primitive, and copies its octets to
+/// the beginning of the buffer. The kind of a frame is 32, and 0 if neither is left. `left` is the
+/// number of frames and primitives that still wait. If the buffer is too small, nothing is written
+/// to it, and the frame or primitive still waits.
+#[unsafe(no_mangle)]
+pub extern "C" fn lapd_side_next(
+    handle: &mut Handle,
+    item: &mut FlatPrimitive,
+    buffer: &mut [u8],
+    left: &mut usize,
+    alloc: Global,
+) -> u32
+    ensures { Through (λ old new. FetchesNext old new result item.new left.new
+        (record { before = buffer.old; after = buffer.new }))
+        ((result ≡ 1) × (item.new ≡ nothing) × (left.new ≡ 0) × (buffer.new ≡ buffer.old))
+        handle.old.held handle.new.held }
+{
+    let Some(mut side) = opened(handle, alloc) else {
+        *item = FlatPrimitive::nothing();
+        *left = 0;
+        return NO_SIDE;
+    };
+    let code = side.next(item, buffer, left);
     shut(handle, side);
     code
 }

@@ -2,7 +2,7 @@
 
 ghost use Rattle.std.specs.Prelude.{◌≡◌, ◌<◌, IfOk, IfSome, MatchOption, true, false};
 ghost use Rattle.std.specs.List.{All, list_all};
-ghost use Rattle.lapd_c.specs.Settings.{config_of, network_config, user_config, is_own_tei, fixed_tei, is_fixed_tei};
+ghost use Rattle.lapd_c.specs.Settings.{config_of, network_config, user_config, is_own_tei, own_tei, fixed_tei, is_fixed_tei};
 
 use lapd_sides::{Config, Durations, Params, Tei};
 use std::alloc::{AllocError, Global};
@@ -112,9 +112,11 @@ pub(crate) fn known_teis(alloc: Global, values: &[u8]) -> Result<Vec<Tei>, Alloc
     Ok(known)
 }
 
-/// Converts a TEI, 0 to 126.
-fn own_tei(value: u8) -> Option<Tei>
-    ensures { MatchOption result (is_own_tei value ≡ false) (λ tei. (tei ≡ value) × (tei < 127)) }
+/// Converts a TEI, 0 to 126; `None` for any other number.
+pub(crate) fn own_tei(value: u8) -> Option<Tei>
+    ensures value { result ≡ own_tei value }
+    ensures named { MatchOption result (is_own_tei value ≡ false)
+        (λ tei. (tei ≡ value) × (tei < 127)) }
 {
     if value < 127 { Tei::new(value) } else { None }
 }
