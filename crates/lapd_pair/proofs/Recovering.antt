@@ -21,8 +21,11 @@ use Rattle.lapd_pair_laws.specs.Settle.{next_move}
 use Rattle.lapd_pair_laws.proofs.Stepping.{user_move, network_move, next_to_network, next_to_user, next_of_user, next_of_network, next_none}
 use Rattle.lapd_recovery_laws.specs.AfterOutage.{IsAfterOutage}
 use Rattle.lapd_recovery_laws.specs.Agreed.{IsLevel, AreLevel, AreReleased, AreAgreed}
+use Rattle.lapd_recovery_laws.specs.Deliveries.{frames}
+use Rattle.lapd_recovery_laws.specs.EveryWorld.{IsFreeWorld, most_moves_from}
 use Rattle.lapd_recovery_laws.specs.Own.{are_apart, is_due, IsOwn, AreOwn, Rests, most_own_moves, tried, first_own, recovering}
 use Rattle.lapd_recovery_laws.proofs.AfterOutage.{every_line_comes_back}
+use Rattle.lapd_recovery_laws.proofs.EveryWorld.{every_world_comes_back}
 use Rattle.lapd_pair.specs.declared.line.Line.{Line}
 use Rattle.lapd_pair.specs.declared.pair.Pair.{Pair}
 use Rattle.lapd_pair.specs.declared.pair_fault.PairFault.{PairFault}
@@ -344,6 +347,28 @@ outage_again p w v s t a =
       network_retries = right_retries v.user.end.parameters.n200 v.network.end.parameters.n200;
     }
 
+free_again : (p : Pair) (w v : World) → PairRepresents p w → PairRepresents p v → IsFreeWorld (most_retries w) w → IsFreeWorld (most_retries v) v
+unfolding begin
+free_again p w v s t a =
+    let user_state : w.user.end.state ≡ v.user.end.state = s.user.link.state ∙ sym t.user.link.state in
+    let network_state : w.network.end.state ≡ v.network.end.state = s.network.link.state ∙ sym t.network.link.state in
+    record {
+      user_free = λ up. ap (λ m. m.own_busy) (t.user.link.window ∙ sym s.user.link.window) ∙ a.user_free (ap is_7_or_8 user_state ∙ up);
+      network_free = λ up. ap (λ m. m.own_busy) (t.network.link.window ∙ sym s.network.link.window) ∙ a.network_free (ap is_7_or_8 network_state ∙ up);
+      user_retries = left_retries v.user.end.parameters.n200 v.network.end.parameters.n200;
+      network_retries = right_retries v.user.end.parameters.n200 v.network.end.parameters.n200;
+    }
+
+-- as many frames are in transit
+line_again : (from : Side) (line : Line) (fs gs : List Flight) → IsOn from line fs → IsOn from line gs → length fs ≡ length gs
+line_again from line fs gs on also = sym (ap length on.octets ∙ length-map fs (λ frame. spelling from (fields_of frame))) ∙ ap length also.octets ∙ length-map gs (λ frame. spelling from (fields_of frame))
+
+frames_again : (p : Pair) (w v : World) → PairRepresents p w → PairRepresents p v → frames w ≡ frames v
+frames_again p w v s t =
+    let to_user = line_again side.Network p.to_user w.to_user v.to_user s.to_user t.to_user in
+    let to_network = line_again side.User p.to_network w.to_network v.to_network s.to_network t.to_network in
+    omega (arith, to_user, to_network)
+
 retries_again : (p : Pair) (w v : World) → PairRepresents p w → PairRepresents p v → most_retries w ≡ most_retries v
 unfolding begin
 retries_again p w v s t =
@@ -413,9 +438,46 @@ module _ (old new : Pair) (done : Settled) (recovers : Recovers old new done) (s
         agreed = agreed_again new (recovered w) (recovered v) h.representation i.representation (c.agreed (recovering Tagged (recovery_bound v) v) own (none_rests Tagged (recovered v) none));
       }
 
-  pub come_back : HaveComeBack done w (recovered w)
+  pub come_back : HaveComeBack (most_own_moves (most_retries w) w) done (recovered w)
   come_back = record {
     rest = ∥∥₁_elim old.reached (Bool-set _ _) (λ x. (back_by x).rest);
     few = ∥∥₁_elim old.reached le_prop (λ x. (back_by x).few);
     agreed = ∥∥₁_map old.reached (λ x. (back_by x).agreed);
+  }
+
+-- ---- From every world with no busy end.
+
+module _ (old new : Pair) (done : Settled) (recovers : Recovers old new done) (some_retries : (w : World) → PairRepresents old w → 1 ≤ most_retries w) (w : World) (s : PairRepresents old w) (a : IsFreeWorld (most_retries w) w) where
+  abbrev most : ℕ
+  most = most_moves_from (most_retries w) w
+
+  record BackFromFrames : Type 0 where
+    rest : done.rest ≡ true
+    few : done.moves ≤ most
+    agreed : AreAgreed (recovered w)
+
+  back_from : IsReached old.user old.network old.to_user old.to_network → BackFromFrames
+  back_from x =
+      let v = run Tagged x.moves (new_world x.user x.network) in
+      let c = every_world_comes_back Tagged (most_retries v) (some_retries v x.represent) x.user x.network x.few_of_user x.few_of_network x.some_of_user x.some_of_network x.moves (free_again old w v s x.represent a) in
+      let h = recovers w s in
+      let i = recovers v x.represent in
+      let own = are_own Tagged (recovery_bound v) v in
+      let few = c.few (recovering Tagged (recovery_bound v) v) own in
+      let none = short_rests Tagged (recovery_bound v) v (omega (arith, few)) in
+      let moves = i.moves in
+      let left_same = left_again old w v s x.represent in
+      let retries = retries_again old w v s x.represent in
+      let in_transit = frames_again old w v s x.represent in
+      record {
+        rest = i.rest ∙ ap is_none none;
+        few = omega (arith, moves, few, left_same, retries, in_transit);
+        agreed = agreed_again new (recovered w) (recovered v) h.representation i.representation (c.agreed (recovering Tagged (recovery_bound v) v) own (none_rests Tagged (recovered v) none));
+      }
+
+  pub come_back_from : HaveComeBack most done (recovered w)
+  come_back_from = record {
+    rest = ∥∥₁_elim old.reached (Bool-set _ _) (λ x. (back_from x).rest);
+    few = ∥∥₁_elim old.reached le_prop (λ x. (back_from x).few);
+    agreed = ∥∥₁_map old.reached (λ x. (back_from x).agreed);
   }

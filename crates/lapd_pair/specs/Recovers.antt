@@ -5,6 +5,7 @@ use Rattle.lapd_pair_laws.specs.Move as world
 use Rattle.lapd_pair_laws.specs.World.{World, happens, run, left}
 use Rattle.lapd_recovery_laws.specs.AfterOutage.{IsAfterOutage}
 use Rattle.lapd_recovery_laws.specs.Agreed.{AreAgreed}
+use Rattle.lapd_recovery_laws.specs.EveryWorld.{IsFreeWorld, most_moves_from}
 use Rattle.lapd_recovery_laws.specs.Own.{first_own, most_own_moves, recovering, tried}
 use Rattle.lapd_pair.specs.Runs.{PairRepresents}
 use Rattle.lapd_pair.specs.declared.pair.Pair.{Pair}
@@ -19,8 +20,8 @@ greater m n = if nat_lt m n then n else m
 abbrev pub most_retries : World → ℕ
 most_retries w = greater w.user.end.parameters.n200 w.network.end.parameters.n200
 
--- The most moves that are made. They exceed `most_own_moves`, so they never end the recovery of a
--- line after an outage.
+-- The most moves that are made. They exceed `most_moves_from`, so they never end the recovery of a
+-- line with no busy end.
 abbrev pub recovery_bound : World → ℕ
 recovery_bound w =
     2 * (length w.to_user + length w.to_network) + 3 * left w + 6 * most_retries w + 16
@@ -52,13 +53,19 @@ abbrev pub StopsRecovering : Pair → Pair → PairFault → Type 0
 StopsRecovering old new fault =
     (w : World) → PairRepresents old w → HasStoppedRecovering fault new w
 
--- No further move is possible, at most `most_own_moves` moves were made, and both ends agree.
-pub record HaveComeBack (done : Settled) (before after : World) : Type 0 where
+-- No further move is possible, at most this many moves were made, and both ends agree.
+pub record HaveComeBack (most : ℕ) (done : Settled) (after : World) : Type 0 where
   pub rest : done.rest ≡ true
-  pub few : done.moves ≤ most_own_moves (most_retries before) before
+  pub few : done.moves ≤ most
   pub agreed : ∥ AreAgreed after ∥₁
+
+-- if the pair represented a world with no busy end in state 7 or 8, its ends agree
+abbrev pub ComesBack : Pair → Settled → Type 0
+ComesBack old done = (w : World) → PairRepresents old w → IsFreeWorld (most_retries w) w
+    → HaveComeBack (most_moves_from (most_retries w) w) done (recovered w)
 
 -- if the pair represented a world after an outage, its ends agree again
 abbrev pub ComesBackAfterOutage : Pair → Settled → Type 0
 ComesBackAfterOutage old done = (w : World) → PairRepresents old w
-    → IsAfterOutage (most_retries w) w → HaveComeBack done w (recovered w)
+    → IsAfterOutage (most_retries w) w
+    → HaveComeBack (most_own_moves (most_retries w) w) done (recovered w)

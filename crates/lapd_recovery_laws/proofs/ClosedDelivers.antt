@@ -1,4 +1,4 @@
--- Any frame is delivered to an end in state 4, 5 or 6: what is still to come falls.
+-- Any frame is delivered to an end in state 4, 5 or 6: the weight falls.
 use Rattle.std.proofs.Common.{◌≡◌, inl, inr, ℕ, ◌+◌, ◌-◌, ◌*◌, ◌≤◌, ◌==◌, nat_lt, if◌then◌else◌, Bool, true, false, List, [], ◌∷◌, ◌++◌, length, option_map, append-nil, refl, sym, ap, subst, ◌∙◌, arith}
 use Rattle.std.proofs.lemmas.Bool.{eqb-true}
 use Rattle.lapd_timers.specs.declared.timer.Timer.TheVariants.{T200, T203}

@@ -1,4 +1,4 @@
--- What the frames in transit and the messages of a side may still bring, while frames alone are
+-- The weight of the frames in transit and of the messages of each side, while frames alone are
 -- delivered.
 use Rattle.std.proofs.Common.{◌≡◌, ◌⊎◌, inl, inr, ℕ, ◌+◌, ◌-◌, ◌*◌, ◌≤◌, Bool, true, false, List, [], ◌∷◌, ◌++◌, length, Option, Some, None, option_map, refl, sym, ap, subst, ◌∙◌, arith}
 use Rattle.lapd_link_definition.specs.declared.state.State.{State}

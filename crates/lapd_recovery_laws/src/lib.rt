@@ -2,10 +2,12 @@
 //! `lapd_pair_laws`. Nothing here runs.
 //!
 //! Whatever happened before, the line's own moves lead to a world in which both ends agree. Begin
-//! with [`every_line_comes_back`] and [`every_held_line_stays_up`]. Read specs/ in this order:
+//! with [`every_world_comes_back`], [`every_line_comes_back`] and [`every_held_line_stays_up`]. Read
+//! specs/ in this order:
 //!
 //! - `Own`, the moves that the line makes by itself; `Agreed`, the world that they lead to;
-//!   `AfterOutage`, the worlds from which they do;
+//!   `AfterOutage`, worlds with no frame in transit; `Deliveries`, by which the line runs empty; and
+//!   `EveryWorld`, the worlds from which own moves lead to agreement;
 //! - `OpenLine`, `LoneLine` and `ReleasedLine`, kinds of such worlds of which more is known;
 //! - `Timers`, the timers between two moves; and `Recovered`, worlds that try the moves.
 #![tactic(auto)]

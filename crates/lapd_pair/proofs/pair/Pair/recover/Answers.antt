@@ -1,6 +1,6 @@
 use Rattle.std.proofs.Common.{is_none, sym, ap, subst, ◌∙◌, arith}
 use Rattle.lapd_pair.specs.Moves.{move_of}
-use Rattle.lapd_pair.proofs.Recovering.{HaveRecovered, no_own_made, one_own_made, no_own_move_is_left, all_own_made, own_stopped_at, come_back}
+use Rattle.lapd_pair.proofs.Recovering.{HaveRecovered, no_own_made, one_own_made, no_own_move_is_left, all_own_made, own_stopped_at, come_back, come_back_from}
 use Rattle.lapd_pair.proofs.SafePairs.{pair_is_safe}
 use Rattle.lapd_pair.proofs.SafeReaders.{readings_are_safe}
 use Rattle.lapd_pair.proofs.Settling.{none_mapped, none_is_not_some}
@@ -19,6 +19,9 @@ returns-in_default-clause-ok c = λ w s. no_own_move_is_left c.args.self.now c.l
 
 pub returns-in_default-clause-agreed : goal.returns-in_default-clause-agreed
 returns-in_default-clause-agreed c = come_back c.args.self.now c.loop-moves.self _ (returns-in_default-clause-ok c) c.most_recovery_moves-most.ensures.retries
+
+pub returns-in_default-clause-back : goal.returns-in_default-clause-back
+returns-in_default-clause-back c = come_back_from c.args.self.now c.loop-moves.self _ (returns-in_default-clause-ok c) c.most_recovery_moves-most.ensures.retries
 
 pub returns-in_default-clause-safe : goal.returns-in_default-clause-safe
 returns-in_default-clause-safe c = pair_is_safe _
@@ -39,6 +42,9 @@ returns-clause-ok c = λ w s. all_own_made c.args.self.now c.loop-moves.self c.m
 
 pub returns-clause-agreed : goal.returns-clause-agreed
 returns-clause-agreed c = come_back c.args.self.now c.loop-moves.self _ (returns-clause-ok c) c.most_recovery_moves-most.ensures.retries
+
+pub returns-clause-back : goal.returns-clause-back
+returns-clause-back c = come_back_from c.args.self.now c.loop-moves.self _ (returns-clause-ok c) c.most_recovery_moves-most.ensures.retries
 
 pub returns-clause-safe : goal.returns-clause-safe
 returns-clause-safe c = pair_is_safe _
