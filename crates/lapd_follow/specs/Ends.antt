@@ -32,7 +32,11 @@ with_poll packet polls = record {
 
 -- a poll is answered
 abbrev pub with_answer : Polls → Polls
-with_answer polls = record { last = None; unanswered = polls.unanswered - 1; complete = polls.complete }
+with_answer polls = record {
+  last = None;
+  unanswered = polls.unanswered - 1;
+  complete = polls.complete;
+}
 
 -- ---- The numbers of an end (Q.921 3.5.2).
 

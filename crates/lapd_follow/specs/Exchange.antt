@@ -65,8 +65,8 @@ accepts x = record {
       else x.establishments;
 }
 
--- A UA that answers an earlier SABME or DISC, or none: its sender begins anew, and how the other end
--- takes it is not known.
+-- A UA that answers an earlier SABME or DISC, or none: its sender begins anew, and how the other
+-- end takes it is not known.
 unfoldable pub accepts_late : Exchange → Exchange
 accepts_late x = record x { from = begun x.from; to = command_answered (unnumbered x.to) }
 

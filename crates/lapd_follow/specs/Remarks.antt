@@ -52,7 +52,8 @@ is_violation (Some remark) = is_violation_class (class_of remark)
 
 -- a UA is sent for a SABME or DISC alone
 abbrev pub unexpected_ua : Polls → Remark
-unexpected_ua commands = if commands.complete && (commands.unanswered == 0) then UaWithoutCommand else LateUa
+unexpected_ua commands = if commands.complete && (commands.unanswered == 0)
+    then UaWithoutCommand else LateUa
 
 abbrev pub ua_remark : Exchange → Option Remark
 ua_remark x = if is_some x.to.commands.last
@@ -134,8 +135,8 @@ answer_to packet (Some poll) = Some (answers_poll packet poll)
 -- of an S response with F=1
 abbrev pub response_to : Packet → Option Packet → Polls → Remark
 response_to packet (Some poll) polls = answers_poll packet poll
-response_to packet None polls = if polls.complete && (polls.unanswered == 0) then ResponseWithoutPoll
-    else LateResponse
+response_to packet None polls = if polls.complete && (polls.unanswered == 0)
+    then ResponseWithoutPoll else LateResponse
 
 -- of a poll, while the one before it is not answered
 abbrev pub left_unanswered : Option Packet → Option Remark

@@ -11,8 +11,9 @@ use Rattle.lapd_follow.specs.Remarks.{class_of}
 -- so many microseconds, in seconds with three digits after the point
 abbrev pub after_text : Option ℕ → List ℕ
 after_text None = []
-after_text (Some n) = codes " after " ++ (decimal (n / 1000000) ++ (codes "." ++ (decimal (n / 100000 % 10)
-    ++ (decimal (n / 10000 % 10) ++ (decimal (n / 1000 % 10) ++ codes " s")))))
+after_text (Some n) = codes " after " ++ (decimal (n / 1000000) ++ (codes "."
+    ++ (decimal (n / 100000 % 10) ++ (decimal (n / 10000 % 10)
+    ++ (decimal (n / 1000 % 10) ++ codes " s")))))
 
 abbrev pub remark_text : Remark → List ℕ
 remark_text (Begins n) = codes "begins establishment " ++ decimal n

@@ -1,11 +1,11 @@
 //! Follows the data links of the ISDN D channel by the frames on the line alone, after ITU-T Q.921
 //! (09/97), clause 5.
 //!
-//! Begin with [`Follower`], or [`LinkFollower`] for one link: it takes frames in the order in which they are seen,
-//! at either end or between, and returns [`Remarks`] on each: a repeated I frame, an N(R) out of
-//! range, the poll that a response answers. Each [`Remark`] has a [`Class`]. A violation is a frame
-//! that no two ends send which follow the standard, whatever frames are lost, if T200 exceeds the
-//! time until an answer (Q.921 5.9.1).
+//! Begin with [`Follower`], or [`LinkFollower`] for one link: it takes frames in the order in which
+//! they are seen, at either end or between, and returns [`Remarks`] on each: a repeated I frame, an
+//! N(R) out of range, the poll that a response answers. Each [`Remark`] has a [`Class`]. A violation
+//! is a frame that no two ends send which follow the standard, whatever frames are lost, if T200
+//! exceeds the time until an answer (Q.921 5.9.1). [`Tally`] counts the frames of one end.
 #![tactic(auto)]
 
 mod dialogue;
