@@ -122,8 +122,8 @@ impl Link {
     }
 
     /// Handles a frame with this control field and role, if its step is usual
-    /// ([`Machine::usual_step`]). The step is that of [`Link::handle`], and its outputs are returned
-    /// as values. Otherwise it returns `None`, and the link is unchanged.
+    /// ([`Machine::usual_step`]). The step is that of [`Link::handle`], and its outputs are
+    /// returned as values. Otherwise it returns `None`, and the link is unchanged.
     #[inline(always)]
     pub fn usual_step(&mut self, control: &Control, role: Role) -> Option<UsualOuts>
         ensures ok { IfSome result (λ outs. Steps self.old self.new (Heard control.now role)

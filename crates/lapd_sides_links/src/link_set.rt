@@ -322,7 +322,8 @@ impl LinkSet {
         }
     }
 
-    /// Like `act`, for a link that has been found. A usual step is tried first, because it costs less.
+    /// Like `act`, for a link that has been found. A usual step is tried first, because it costs
+    /// less.
     fn act_at(
         &mut self,
         key: &LinkKey,
@@ -352,8 +353,8 @@ impl LinkSet {
         }
     }
 
-    /// Processes the event, if it is a frame whose step is usual. Otherwise it returns `false`, and the
-    /// links are unchanged.
+    /// Processes the event, if it is a frame whose step is usual. Otherwise it returns `false`, and
+    /// the links are unchanged.
     #[inline(always)]
     fn act_usually(
         &mut self,

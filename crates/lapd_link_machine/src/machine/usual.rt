@@ -1,5 +1,5 @@
-//! The frames that are usual in state 7: an I frame in sequence, an RR, and a poll. Their outputs are
-//! returned as values, which costs less than a list.
+//! The frames that are usual in state 7: an I frame in sequence, an RR, and a poll. Their outputs
+//! are returned as values, which costs less than a list.
 
 ghost use Rattle.std.specs.Prelude.{◌≡◌, ◌++◌, ◌∷◌, [], List, None, true, false, IfNone, IfSome};
 ghost use Rattle.lapd_frame.specs.declared.Role.TheVariants.{Command, Answer};
