@@ -23,6 +23,9 @@ pub struct FrameStream {
     peer: SocketAddr,
     /// The octets that were read and not taken yet, each frame after its length.
     text: Vec<u8>,
+    /// The octets of the last read. They are reused, because a new buffer would have to be cleared
+    /// for each read.
+    part: Vec<u8>,
     /// Whether there may be unread octets, or a frame that was not taken yet.
     is_ready: bool,
     /// Whether the other side has stopped sending and everything it sent was read.
@@ -42,6 +45,7 @@ impl FrameStream {
             stream,
             peer,
             text: Vec::with_capacity(rt.alloc(), PART)?,
+            part: Vec::from_array(rt.alloc(), [0; PART])?,
             is_ready: true,
             is_ended: false,
             is_stuck: false,
@@ -138,10 +142,9 @@ impl FrameStream {
 
     /// Reads once, and keeps the octets.
     fn read_part(&mut self) -> io::Result<()> {
-        let mut part = [0; PART];
-        match self.stream.read(&mut part) {
+        match self.stream.read(self.part.as_mut_slice()) {
             Ok(0) => self.is_ended = true,
-            Ok(count) => self.text.extend_from_slice(&part[..count])?,
+            Ok(count) => self.text.extend_from_slice(&self.part[..count])?,
             Err(error) => match error.kind() {
                 ErrorKind::Interrupted => {}
                 ErrorKind::WouldBlock => self.is_ready = false,
