@@ -1,6 +1,6 @@
 -- Which step is made, by how many octets are left.
 use Rattle.std.specs.Prelude.{⊤}
-use Rattle.std.proofs.Common.{◌≡◌, ℕ, ◌+◌, ◌-◌, ◌%◌, ◌≤◌, ◌<◌, ◌==◌, List, [], ◌∷◌, ◌++◌, Option, Some, Result, Ok, Err, true, false, refl, sym, ap, ◌∙◌, subst, length, take, drop, min, nat_lt, slice_get, None, IsErrAnd, length-append, length-drop, drop-drop, take-append-drop, ◌≢◌, arith}
+use Rattle.std.proofs.Common.{◌≡◌, ℕ, ◌+◌, ◌-◌, ◌%◌, ◌≤◌, ◌<◌, ◌==◌, List, [], ◌++◌, Option, Some, Result, Ok, Err, true, false, refl, sym, ap, ◌∙◌, subst, length, take, drop, min, nat_lt, slice_get, None, IsErrAnd, length-append, length-drop, drop-drop, take-append-drop, ◌≢◌, arith}
 use Rattle.std.proofs.lemmas.Bool.Decides.{nat_tests}
 use Rattle.lapd_capture.specs.declared.item.CaptureItem.{CaptureItem}
 use Rattle.lapd_capture.specs.declared.item.CaptureItem.TheVariants.{End, Other}
@@ -148,9 +148,9 @@ rest_read n kept k number head last r after least most is_kept is_k enough more 
     let end : drop k (drop kept r.left) ≡ drop (n - 16) r.left = drop-drop k kept r.left ∙ ap (λ m. drop m r.left) front in
     let place : Reading = record r { left = drop (n - 12) r.left; body = take (min (n - 16) most_body) r.left } in
     let same_after : after ≡ place = is_after ∙ ap (λ l. record r { left = l; body = take kept r.left }) here
-        ∙ ap (λ m. record r { left = drop (n - 12) r.left; body = take m r.left }) is_kept in
+    ∙ ap (λ m. record r { left = drop (n - 12) r.left; body = take m r.left }) is_kept in
     let same_number : number ≡ number_at r.order 4 0 (take 4 (drop (n - 16) r.left)) = is_number ∙ ap (λ q. number_at q.order 4 0 last) same_after
-        ∙ ap (λ l. number_at r.order 4 0 l) (is_last ∙ ap (take 4) end) in
+    ∙ ap (λ l. number_at r.order 4 0 l) (is_last ∙ ap (take 4) end) in
     let rest : block_rest n head r ≡ block_ended (number_at r.order 4 0 (take 4 (drop (n - 16) r.left))) n head place = rw all refl in
     rest ∙ ap (λ x. block_ended x n head place) (sym same_number) ∙ ap (λ q. block_ended number n head q) (sym same_after)
 

@@ -1,6 +1,6 @@
 -- Reading a capture: its layout, and its next item. Each length is compared with the octets that
 -- are left before it is used.
-use Rattle.std.specs.Prelude.{◌≡◌, ℕ, ◌+◌, ◌*◌, ◌/◌, ◌%◌, ◌-◌, ◌^◌, min, ◌==◌, ◌||◌, nat_lt, not, if◌then◌else◌, List, [], ◌∷◌, ◌++◌, length, take, drop, Option, Some, None, Result, Ok, Err, slice_get}
+use Rattle.std.specs.Prelude.{ℕ, ◌+◌, ◌*◌, ◌/◌, ◌%◌, ◌-◌, ◌^◌, min, ◌==◌, ◌||◌, nat_lt, not, if◌then◌else◌, List, [], ◌∷◌, ◌++◌, length, take, drop, Option, Some, None, Result, Ok, Err, slice_get}
 use Rattle.lapd_capture.specs.declared.order.Order.{Order}
 use Rattle.lapd_capture.specs.declared.order.Order.TheVariants.{Big, Little}
 use Rattle.lapd_capture.specs.declared.item.CaptureItem.{CaptureItem}
@@ -131,11 +131,14 @@ block_moment n head r = if nat_lt n 32 then None else
 
 -- the reading after a packet block of this length
 abbrev pub packet_step : CaptureItem → Option ℕ → ℕ → Reading → Result Step CaptureFault
-packet_step item moment n r = Ok (record { item = item; reading = record r {
-  place = r.place + n;
-  packets = r.packets + 1;
-  moment = moment;
-} })
+packet_step item moment n r = Ok (record {
+  item = item;
+  reading = record r {
+    place = r.place + n;
+    packets = r.packets + 1;
+    moment = moment;
+  };
+})
 
 -- a block without a packet
 abbrev pub other_step : ℕ → Reading → Result Step CaptureFault

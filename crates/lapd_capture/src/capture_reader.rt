@@ -235,7 +235,11 @@ impl<R: Read> CaptureReader<R> {
             Taken::All => {}
             Taken::Part | Taken::Nothing => return Err(CUT),
         }
-        self.set_link(order, LinkType::of(order.u32_at(16, &header) % 0x1_0000), units)
+        self.set_link(
+            order,
+            LinkType::of(order.u32_at(16, &header) % 0x1_0000),
+            units,
+        )
     }
 
     /// Begins the records of a pcap file.
@@ -290,9 +294,9 @@ impl<R: Read> CaptureReader<R> {
     /// Counts a packet that was read.
     fn pass_packet(&mut self, count: usize, moment: Option<u64>) -> Result<(), ReadFault>
         ensures ok { OnOk result (self.new ≡ record self.old {
-            place = self.old.place + count;
-            packets = self.old.packets + 1;
-            moment = moment;
+          place = self.old.place + count;
+          packets = self.old.packets + 1;
+          moment = moment;
         }) }
         ensures err { IfErr result IsApart }
     {
@@ -497,7 +501,10 @@ impl<R: Read> CaptureReader<R> {
             SECTION => self.take_section(count),
             INTERFACE => self.take_interface(count, head),
             ENHANCED_PACKET => {
-                let (item, moment) = (self.enhanced_packet(count, head), self.block_moment(count, head));
+                let (item, moment) = (
+                    self.enhanced_packet(count, head),
+                    self.block_moment(count, head),
+                );
                 self.pass_packet(count, moment)?;
                 Ok(item)
             }

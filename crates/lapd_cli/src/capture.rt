@@ -3,9 +3,7 @@
 use crate::ending::print_memory;
 use crate::job::style_of;
 use lapd_cli_console::Watched;
-use lapd_cli_decode::{
-    CaptureReader, CaptureStop, CaptureStyle, ReadFault, Seen, decode_capture,
-};
+use lapd_cli_decode::{CaptureReader, CaptureStop, CaptureStyle, ReadFault, Seen, decode_capture};
 use lapd_cli_io::{KindReason, Reason};
 use lapd_cli_options::DecodeOptions;
 use lapd_cli_script::ScriptFault;

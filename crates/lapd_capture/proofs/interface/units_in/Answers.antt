@@ -1,4 +1,4 @@
-use Rattle.std.proofs.Common.{rules, sym, ◌∙◌, arith, ◌≤◌, ◌<◌, length}
+use Rattle.std.proofs.Common.{rules, sym, ◌∙◌}
 use Rattle.lapd_capture.proofs.Units.{among_end, among_found, among_none, among_passed, among_short}
 use Rattle.lapd_capture.proofs.interface.units_in.Goals as goal
 

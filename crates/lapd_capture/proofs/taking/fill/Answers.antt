@@ -1,4 +1,4 @@
-use Rattle.std.proofs.Common.{rules, ◌-◌, length, subst, sym, arith}
+use Rattle.std.proofs.Common.{rules, ◌-◌, length, subst, sym}
 use Rattle.std.specs.Io.KnownBytes.{Consumes}
 use Rattle.std.proofs.KnownBytes.{Consumes-trans, Consumes-kept}
 use Rattle.lapd_capture.proofs.Filling.{take-filled, take-filled_more}

@@ -1,4 +1,4 @@
-use Rattle.std.proofs.Common.{rules, ◌-◌, ◌≤◌, drop, length, arith}
+use Rattle.std.proofs.Common.{rules, ◌-◌, ◌≤◌, drop, arith}
 use Rattle.lapd_capture.proofs.Taken.{all_taken, skipped_fewer, skipped_more, too_few}
 use Rattle.lapd_capture.proofs.taking.skip.Goals as goal
 

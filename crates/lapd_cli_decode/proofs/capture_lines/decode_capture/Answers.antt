@@ -7,9 +7,12 @@ pub loop-step-preserved : goal.loop-step-preserved
 loop-step-preserved g c = λ left e.
     let p = c.loop-step.invariant left e in
     let step = rw c.if-branch.false at c.in_ok-print_next.ensures in
-    let s = step p.0 p.1 in
-    (s.0, s.1, PrintsTo-step c.args.how (reading_of c.args.capture.now left) (place_of c.loop-step.capture p.0 c.loop-step.seen) (place_of c.print_next.new.capture s.0 c.print_next.new.seen)
-        (g.W.Write.contents c.args.out.now) (g.W.Write.contents c.loop-step.out) (g.W.Write.contents c.print_next.new.out) p.2 s.2)
+    let s = step p.0 p.1 in (
+      s.0,
+      s.1,
+      PrintsTo-step c.args.how (reading_of c.args.capture.now left) (place_of c.loop-step.capture p.0 c.loop-step.seen) (place_of c.print_next.new.capture s.0 c.print_next.new.seen)
+          (g.W.Write.contents c.args.out.now) (g.W.Write.contents c.loop-step.out) (g.W.Write.contents c.print_next.new.out) p.2 s.2,
+    )
 
 pub returns-then-branch : goal.returns-then-branch
 returns-then-branch g c = λ left e.
