@@ -1,189 +1,219 @@
 -- Reading a capture: its layout, and its next item. Each length is compared with the octets that
 -- are left before it is used.
-use Rattle.std.specs.Prelude.{◌≡◌, ℕ, ◌+◌, ◌*◌, ◌/◌, ◌%◌, ◌-◌, ◌==◌, ◌||◌, nat_lt, not, if◌then◌else◌, Bool, true, false, List, [], ◌∷◌, ◌++◌, length, Option, Some, None, Result, Ok, Err, slice_get}
+use Rattle.std.specs.Prelude.{ℕ, ◌+◌, ◌*◌, ◌/◌, ◌%◌, ◌-◌, ◌^◌, min, ◌==◌, ◌||◌, nat_lt, not, if◌then◌else◌, List, [], ◌∷◌, ◌++◌, length, take, drop, Option, Some, None, Result, Ok, Err, slice_get}
 use Rattle.lapd_capture.specs.declared.order.Order.{Order}
 use Rattle.lapd_capture.specs.declared.order.Order.TheVariants.{Big, Little}
 use Rattle.lapd_capture.specs.declared.item.CaptureItem.{CaptureItem}
 use Rattle.lapd_capture.specs.declared.item.CaptureItem.TheVariants.{Other, Unreadable, End}
 use Rattle.lapd_capture.specs.declared.item.PacketFault.TheVariants.{NoInterface, Partial, BadLength as BadPacketLength}
 use Rattle.lapd_capture.specs.declared.fault.CaptureFault.{CaptureFault}
-use Rattle.lapd_capture.specs.declared.fault.CaptureFault.TheVariants.{NotACapture, LinkNotServed, Cut, BadLength, TooManyInterfaces}
+use Rattle.lapd_capture.specs.declared.fault.CaptureFault.TheVariants.{NotACapture, Gzip, LinkNotServed, Cut, BadLength, TooManyInterfaces}
 use Rattle.lapd_capture.specs.declared.link_type.LinkType.{LinkType}
 use Rattle.lapd_capture.specs.declared.link_type.LinkType.TheVariants.{NotServed}
-use Rattle.lapd_capture.specs.declared.capture.Layout.{Layout}
-use Rattle.lapd_capture.specs.declared.capture.Layout.TheVariants.{Records, Blocks}
+use Rattle.lapd_capture.specs.declared.interface.Interface.{Interface}
+use Rattle.lapd_capture.specs.declared.format.Format.{Format}
+use Rattle.lapd_capture.specs.declared.format.Format.TheVariants.{Pcap, Pcapng}
 use Rattle.lapd_capture.specs.Octets.{number_at}
 use Rattle.lapd_capture.specs.Packet.{link_type_of, whole_packet_at}
+use Rattle.lapd_capture.specs.Moment.{units_in, moment_in}
 
--- A capture and how far it is read: the layout, the link types of the interfaces (a pcap file has
--- one), how many packets were read, and when the last of them was captured, if the file says so.
+-- A capture and how far it is read: the octets that are left and how many were before them, the
+-- format, the interfaces (a pcap file has one), how many packets were read, when the last of them
+-- was captured, if the file says so, and the octets of the last record or block in which a frame
+-- is found.
 pub record Reading : Type 0 where
-  pub octets : List ℕ
+  pub left : List ℕ
   pub place : ℕ
   pub order : Order
-  pub layout : Layout
-  pub links : List LinkType
+  pub format : Format
+  pub interfaces : List Interface
   pub packets : ℕ
   pub moment : Option ℕ
+  pub body : List ℕ
 
 -- the item that was found, and the capture after it
 pub record Step : Type 0 where
   pub item : CaptureItem
   pub reading : Reading
 
--- ---- pcap: a header of 24 octets, followed by records of a header of 16 octets and a packet.
-
--- the greatest length of a packet of a pcap file
+-- the greatest length of a packet
 abbrev pub most_packet : ℕ
 most_packet = 262144
 
--- how many octets are left
-abbrev pub left_of : Reading → ℕ
-left_of reading = length reading.octets - reading.place
-
--- the number in `count` octets, the first of which is `behind` octets after the place
-abbrev pub number_in : Order → ℕ → ℕ → Reading → ℕ
-number_in order count behind reading = number_at order count (reading.place + behind) reading.octets
-
--- the packet on the interface with this number
-abbrev pub item_on : Option LinkType → ℕ → ℕ → ℕ → List ℕ → CaptureItem
+-- the packet on this interface
+abbrev pub item_on : Option Interface → ℕ → ℕ → ℕ → List ℕ → CaptureItem
 item_on None original start end octets = Unreadable NoInterface
-item_on (Some link) original start end octets = whole_packet_at original link start end octets
+item_on (Some interface) original start end octets =
+    whole_packet_at original interface.link start end octets
 
--- whether a pcap file has nanoseconds instead of microseconds, by its first four octets
-abbrev pub has_nanoseconds : List ℕ → Bool
-has_nanoseconds octets =
-    (number_at Big 4 0 octets == 0xA1B23C4D) || (number_at Big 4 0 octets == 0x4D3CB2A1)
+-- ---- pcap: a header of 24 octets, followed by records of a header of 16 octets and a packet.
 
--- the fraction of a second in microseconds; nanoseconds are rounded down
-abbrev pub microseconds : Bool → ℕ → ℕ
-microseconds true parts = parts / 1000
-microseconds false parts = parts
+-- the moment of a packet on this interface, from its seconds and the units of time after them
+abbrev pub moment_at : Option Interface → ℕ → ℕ → Option ℕ
+moment_at None seconds parts = None
+moment_at (Some interface) seconds parts =
+    moment_in interface.units (seconds * interface.units + parts)
 
--- the moment of a record, in microseconds since 1970: its seconds and its fraction of a second
-abbrev pub record_moment : Reading → ℕ
-record_moment r = number_in r.order 4 0 r * 1000000
-    + microseconds (has_nanoseconds r.octets) (number_in r.order 4 4 r)
+-- the packet in the body, which has this length, after a header with two numbers for the moment,
+-- the number of captured octets, and the original length
+abbrev pub record_found : List ℕ → ℕ → Reading → Result Step CaptureFault
+record_found header captured r = Ok (record {
+  item = item_on (slice_get r.interfaces 0) (number_at r.order 4 12 header) 0 captured r.body;
+  reading = record r {
+    place = r.place + (16 + captured);
+    packets = r.packets + 1;
+    moment = moment_at (slice_get r.interfaces 0) (number_at r.order 4 0 header)
+        (number_at r.order 4 4 header);
+  };
+})
 
--- the packet after a record's header, with the number of captured octets and its original length
-abbrev pub record_packet : ℕ → ℕ → Reading → Result Step CaptureFault
-record_packet captured original r = if nat_lt most_packet captured then Err BadLength else (
-    if nat_lt (left_of r - 16) captured then Err Cut else Ok (record {
-      item = item_on (slice_get r.links 0) original (r.place + 16) (r.place + 16 + captured)
-          r.octets;
-      reading = record r {
-        place = r.place + 16 + captured;
-        packets = r.packets + 1;
-        moment = Some (record_moment r);
-      };
-    }))
+-- the next octets, this many, as the body
+abbrev pub with_body : ℕ → Reading → Reading
+with_body count r = record r { left = drop count r.left; body = take count r.left }
 
--- a record: the moment in two numbers, the number of captured octets, and the original length
+abbrev pub record_packet : List ℕ → ℕ → Reading → Result Step CaptureFault
+record_packet header captured r = if nat_lt most_packet captured then Err BadLength else (
+    if nat_lt (length r.left) captured then Err Cut else
+    record_found header captured (with_body captured r))
+
+abbrev pub record_after : List ℕ → Reading → Result Step CaptureFault
+record_after header r = record_packet header (number_at r.order 4 8 header) r
+
+-- the next record
 abbrev pub record_step : Reading → Result Step CaptureFault
-record_step r = if nat_lt (left_of r) 16 then Err Cut else
-    record_packet (number_in r.order 4 8 r) (number_in r.order 4 12 r) r
+record_step r = if nat_lt (length r.left) 16 then Err Cut else
+    record_after (take 16 r.left) (record r { left = drop 16 r.left })
 
--- ---- pcapng: blocks, each with its kind, its length, its body, and its length again.
+-- ---- pcapng: blocks, each with its kind, its length, its body, and its length again. The head of
+-- a block is its first 12 octets.
+
+-- the greatest part of a body, after the head, that a packet block needs
+abbrev pub most_body : ℕ
+most_body = 262160
 
 -- the byte order of a section, by the magic number of its header
 abbrev pub order_of_magic : ℕ → Result Order CaptureFault
 order_of_magic magic = if magic == 0x1A2B3C4D then Ok Big else (
     if magic == 0x4D3C2B1A then Ok Little else Err NotACapture)
 
--- the byte order of the next block; a section header has its own
-abbrev pub block_order : Reading → Result Order CaptureFault
-block_order r = if number_in Big 4 0 r == 0x0A0D0D0A then order_of_magic (number_in Big 4 8 r)
-    else Ok r.order
+-- the byte order of a block with this head; a section header has its own
+abbrev pub block_order : List ℕ → Order → Result Order CaptureFault
+block_order head order = if number_at Big 4 0 head == 0x0A0D0D0A
+    then order_of_magic (number_at Big 4 8 head) else Ok order
 
--- the length of a block, if both of its ends have the same
-abbrev pub length_checked : ℕ → Order → Reading → Result ℕ CaptureFault
-length_checked n order r = if nat_lt n 12 then Err BadLength else (
-    if not (n % 4 == 0) then Err BadLength else (
-    if nat_lt (left_of r) n then Err Cut else (
-    if number_in order 4 (n - 4) r == n then Ok n else Err BadLength)))
-
-abbrev pub block_length : Order → Reading → Result ℕ CaptureFault
-block_length order r = length_checked (number_in order 4 4 r) order r
-
--- an enhanced packet block of this length: interface, moment, number of captured octets, original
--- length
-abbrev pub enhanced_packet : ℕ → Reading → CaptureItem
-enhanced_packet n r = if nat_lt n 32 then Unreadable BadPacketLength else (
-    if nat_lt (n - 32) (number_in r.order 4 20 r) then Unreadable BadPacketLength else
-    item_on (slice_get r.links (number_in r.order 4 8 r)) (number_in r.order 4 24 r)
-    (r.place + 28) (r.place + 28 + number_in r.order 4 20 r) r.octets)
+-- an enhanced packet block of this length: interface, moment in two numbers, number of captured
+-- octets, original length
+abbrev pub enhanced_packet : ℕ → List ℕ → Reading → CaptureItem
+enhanced_packet n head r = if nat_lt n 32 then Unreadable BadPacketLength else (
+    if nat_lt most_packet (number_at r.order 4 8 r.body) then Unreadable BadPacketLength else (
+    if nat_lt (n - 32) (number_at r.order 4 8 r.body) then Unreadable BadPacketLength else
+    item_on (slice_get r.interfaces (number_at r.order 4 8 head)) (number_at r.order 4 12 r.body)
+    16 (16 + number_at r.order 4 8 r.body) r.body))
 
 -- a simple packet block of this length: the original length of a packet on the first interface
-abbrev pub simple_packet : ℕ → Reading → CaptureItem
-simple_packet n r = if nat_lt n 16 then Unreadable BadPacketLength else (
-    if nat_lt (n - 16) (number_in r.order 4 8 r) then Unreadable Partial else
-    item_on (slice_get r.links 0) (number_in r.order 4 8 r)
-    (r.place + 12) (r.place + 12 + number_in r.order 4 8 r) r.octets)
+abbrev pub simple_packet : ℕ → List ℕ → Reading → CaptureItem
+simple_packet n head r = if nat_lt n 16 then Unreadable BadPacketLength else (
+    if nat_lt most_packet (number_at r.order 4 8 head) then Unreadable BadPacketLength else (
+    if nat_lt (n - 16) (number_at r.order 4 8 head) then Unreadable Partial else
+    item_on (slice_get r.interfaces 0) (number_at r.order 4 8 head) 0 (number_at r.order 4 8 head)
+    r.body))
 
--- the reading after the block of this length
-abbrev pub behind : ℕ → Reading → Reading
-behind n r = record r { place = r.place + n }
+-- the moment of a packet on this interface, from two numbers
+abbrev pub moment_on : Option Interface → ℕ → ℕ → Option ℕ
+moment_on None high low = None
+moment_on (Some interface) high low = moment_in interface.units (high * 2 ^ 32 + low)
 
--- the reading after a packet block; its moment is not read
-abbrev pub behind_packet : ℕ → Reading → Reading
-behind_packet n r = record r { place = r.place + n; packets = r.packets + 1; moment = None }
+-- when an enhanced packet block of this length was captured
+abbrev pub block_moment : ℕ → List ℕ → Reading → Option ℕ
+block_moment n head r = if nat_lt n 32 then None else
+    moment_on (slice_get r.interfaces (number_at r.order 4 8 head)) (number_at r.order 4 0 r.body)
+    (number_at r.order 4 4 r.body)
 
-abbrev pub packet_step : CaptureItem → ℕ → Reading → Result Step CaptureFault
-packet_step item n r = Ok (record { item = item; reading = behind_packet n r })
+-- the reading after a packet block of this length
+abbrev pub packet_step : CaptureItem → Option ℕ → ℕ → Reading → Result Step CaptureFault
+packet_step item moment n r = Ok (record {
+  item = item;
+  reading = record r {
+    place = r.place + n;
+    packets = r.packets + 1;
+    moment = moment;
+  };
+})
 
 -- a block without a packet
 abbrev pub other_step : ℕ → Reading → Result Step CaptureFault
-other_step n r = Ok (record { item = Other; reading = behind n r })
+other_step n r = Ok (record { item = Other; reading = record r { place = r.place + n } })
 
 -- a section header: it forgets the interfaces of the section before
 abbrev pub section_step : ℕ → Reading → Result Step CaptureFault
 section_step n r = if nat_lt n 28 then Err BadLength else
-    other_step n (record r { links = [] })
+    other_step n (record r { interfaces = [] })
 
--- an interface description
-abbrev pub interface_step : ℕ → Reading → Result Step CaptureFault
-interface_step n r = if nat_lt n 20 then Err BadLength else (
-    if length r.links == 64 then Err TooManyInterfaces else
+-- an interface description: its link type, and the units of its moments
+abbrev pub interface_step : ℕ → List ℕ → Reading → Result Step CaptureFault
+interface_step n head r = if nat_lt n 20 then Err BadLength else (
+    if length r.interfaces == 64 then Err TooManyInterfaces else
     other_step n (record r {
-      links = r.links ++ link_type_of (number_in r.order 2 8 r) ∷ [];
+      interfaces = r.interfaces ++ record {
+        link = link_type_of (number_at r.order 2 8 head);
+        units = units_in r.order (drop 4 r.body);
+      } ∷ [];
     }))
 
 -- a block of this kind and length
-abbrev pub block_of_kind : ℕ → ℕ → Reading → Result Step CaptureFault
-block_of_kind kind n r = if kind == 0x0A0D0D0A then section_step n r else (
-    if kind == 1 then interface_step n r else (
-    if kind == 6 then packet_step (enhanced_packet n r) n r else (
-    if kind == 3 then packet_step (simple_packet n r) n r else other_step n r)))
+abbrev pub block_of_kind : ℕ → ℕ → List ℕ → Reading → Result Step CaptureFault
+block_of_kind kind n head r = if kind == 0x0A0D0D0A then section_step n r else (
+    if kind == 1 then interface_step n head r else (
+    if kind == 6 then packet_step (enhanced_packet n head r) (block_moment n head r) n r else (
+    if kind == 3 then packet_step (simple_packet n head r) None n r else other_step n r)))
 
-abbrev pub block_of_length : Result ℕ CaptureFault → Reading → Result Step CaptureFault
-block_of_length (Err fault) r = Err fault
-block_of_length (Ok n) r = block_of_kind (number_in r.order 4 0 r) n r
+-- the same if the length at the block's end is the one at its front
+abbrev pub block_ended : ℕ → ℕ → List ℕ → Reading → Result Step CaptureFault
+block_ended last n head r = if last == n
+    then block_of_kind (number_at r.order 4 0 head) n head r else Err BadLength
 
-abbrev pub block_of_order : Result Order CaptureFault → Reading → Result Step CaptureFault
-block_of_order (Err fault) r = Err fault
-block_of_order (Ok order) r = block_of_length (block_length order r) (record r { order = order })
+-- the rest of a block of this length, at least 16: its body, of which only so much is kept as a
+-- packet block needs, and its length again
+abbrev pub block_rest : ℕ → List ℕ → Reading → Result Step CaptureFault
+block_rest n head r = if nat_lt (length r.left) (n - 12) then Err Cut else
+    block_ended (number_at r.order 4 0 (take 4 (drop (n - 16) r.left))) n head (record r {
+      left = drop (n - 12) r.left;
+      body = take (min (n - 16) most_body) r.left;
+    })
 
+-- a block of this length after its head
+abbrev pub block_of_length : ℕ → List ℕ → Reading → Result Step CaptureFault
+block_of_length n head r = if nat_lt n 12 then Err BadLength else (
+    if not (n % 4 == 0) then Err BadLength else (
+    if n == 12 then block_ended (number_at r.order 4 8 head) n head (record r { body = [] }) else
+    block_rest n head r))
+
+abbrev pub block_of_order : Result Order CaptureFault → List ℕ → Reading → Result Step CaptureFault
+block_of_order (Err fault) head r = Err fault
+block_of_order (Ok order) head r =
+    block_of_length (number_at order 4 4 head) head (record r { order = order })
+
+abbrev pub block_after : List ℕ → Reading → Result Step CaptureFault
+block_after head r = block_of_order (block_order head r.order) head r
+
+-- the next block
 abbrev pub block_step : Reading → Result Step CaptureFault
-block_step r = if nat_lt (left_of r) 12 then Err Cut else block_of_order (block_order r) r
+block_step r = if nat_lt (length r.left) 12 then Err Cut else
+    block_after (take 12 r.left) (record r { left = drop 12 r.left })
 
 -- ---- Both formats.
 
-abbrev pub step_of : Layout → Reading → Result Step CaptureFault
-step_of Records r = record_step r
-step_of Blocks r = block_step r
+-- this step, or the end if no octets are left
+abbrev pub or_end : (Reading → Result Step CaptureFault) → Reading → Result Step CaptureFault
+or_end step r = if length r.left == 0 then Ok (record { item = End; reading = r }) else step r
+
+abbrev pub step_of : Format → Reading → Result Step CaptureFault
+step_of Pcap r = or_end record_step r
+step_of Pcapng r = or_end block_step r
 
 -- the next item
 abbrev pub next_step : Reading → Result Step CaptureFault
-next_step r = if left_of r == 0 then Ok (record { item = End; reading = r })
-    else step_of r.layout r
-
--- a call returns the item of this step and moves to the place after it; on a fault the capture is
--- unchanged
-abbrev pub MakesStep : Result Step CaptureFault → Result CaptureItem CaptureFault → Reading
-    → Reading
-    → Type 0
-MakesStep step (Ok item) old new = step ≡ Ok (record { item = item; reading = new })
-MakesStep step (Err fault) old new = (step ≡ Err fault) × (new ≡ old)
+next_step r = step_of r.format r
 
 -- ---- The head of a file.
 
@@ -194,36 +224,59 @@ order_of_pcap magic = if magic == 0xA1B2C3D4 then Some Big else (
     if magic == 0xD4C3B2A1 then Some Little else (
     if magic == 0x4D3CB2A1 then Some Little else None)))
 
-abbrev pub with_link : Order → LinkType → List ℕ → Result Reading CaptureFault
-with_link order NotServed octets = Err LinkNotServed
-with_link order link octets = Ok (record {
-  octets = octets;
+-- how many units of time a second of a pcap file has, by its first four octets
+abbrev pub units_of_pcap : ℕ → ℕ
+units_of_pcap magic = if (magic == 0xA1B23C4D) || (magic == 0x4D3CB2A1) then 1000000000
+    else 1000000
+
+abbrev pub with_link : Order → LinkType → ℕ → Reading → Result Reading CaptureFault
+with_link order NotServed units r = Err LinkNotServed
+with_link order link units r = Ok (record r {
   place = 24;
   order = order;
-  layout = Records;
-  links = link ∷ [];
-  packets = 0;
-  moment = None;
+  format = Pcap;
+  interfaces = record { link = link; units = units } ∷ [];
 })
 
--- a pcap file: the low half of its last four header octets is its link type
-abbrev pub pcap_opened : Order → List ℕ → Result Reading CaptureFault
-pcap_opened order octets = if nat_lt (length octets) 24 then Err Cut else
-    with_link order (link_type_of (number_at order 4 20 octets % 0x10000)) octets
+-- the rest of a pcap file after its first four octets: the low half of its last four header octets
+-- is its link type
+abbrev pub pcap_opened : Order → ℕ → Reading → Result Reading CaptureFault
+pcap_opened order units r = if nat_lt (length r.left) 20 then Err Cut else
+    with_link order (link_type_of (number_at order 4 16 (take 20 r.left) % 0x10000)) units
+    (record r { left = drop 20 r.left })
 
-abbrev pub opened_by_order : Option Order → List ℕ → Result Reading CaptureFault
-opened_by_order None octets = Err NotACapture
-opened_by_order (Some order) octets = pcap_opened order octets
+-- the fault of a file with other first four octets; gzip has a magic number of two (RFC 1952)
+abbrev pub fault_of_magic : ℕ → CaptureFault
+fault_of_magic magic = if magic / 0x10000 == 0x1F8B then Gzip else NotACapture
 
--- the capture in these octets, at its first record or block
+abbrev pub opened_by_order : Option Order → ℕ → Reading → Result Reading CaptureFault
+opened_by_order None magic r = Err (fault_of_magic magic)
+opened_by_order (Some order) magic r = pcap_opened order (units_of_pcap magic) r
+
+-- a pcapng file after its first section header
+abbrev pub after_section : Result Step CaptureFault → Result Reading CaptureFault
+after_section (Err fault) = Err fault
+after_section (Ok step) = Ok step.reading
+
+-- a capture of which nothing is read
+abbrev pub unread_capture : List ℕ → Reading
+unread_capture octets = record {
+  left = octets;
+  place = 0;
+  order = Big;
+  format = Pcapng;
+  interfaces = [];
+  packets = 0;
+  moment = None;
+  body = [];
+}
+
+abbrev pub opened_from : Reading → Result Reading CaptureFault
+opened_from r = if nat_lt (length r.left) 4 then Err NotACapture else (
+    if number_at Big 4 0 (take 4 r.left) == 0x0A0D0D0A then after_section (block_step r) else
+    opened_by_order (order_of_pcap (number_at Big 4 0 (take 4 r.left)))
+    (number_at Big 4 0 (take 4 r.left)) (record r { left = drop 4 r.left }))
+
+-- the capture in these octets, at its first record, or after its first section header
 abbrev pub opened : List ℕ → Result Reading CaptureFault
-opened octets = if nat_lt (length octets) 4 then Err NotACapture else (
-    if number_at Big 4 0 octets == 0x0A0D0D0A then Ok (record {
-      octets = octets;
-      place = 0;
-      order = Big;
-      layout = Blocks;
-      links = [];
-      packets = 0;
-      moment = None;
-    }) else opened_by_order (order_of_pcap (number_at Big 4 0 octets)) octets)
+opened octets = opened_from (unread_capture octets)

@@ -3,32 +3,56 @@
 use crate::ending::print_memory;
 use crate::job::style_of;
 use lapd_cli_console::Watched;
-use lapd_cli_decode::{Capture, CaptureStop, CaptureStyle, decode_capture};
+use lapd_cli_decode::{CaptureReader, CaptureStop, CaptureStyle, ReadFault, Seen, decode_capture};
 use lapd_cli_io::{KindReason, Reason};
 use lapd_cli_options::DecodeOptions;
 use lapd_cli_script::ScriptFault;
-use std::fs;
-use std::io::{self, BufWriter, ErrorKind, Write};
+use std::fmt::Display;
+use std::fs::File;
+use std::io::{BufWriter, ErrorKind, Read, Write};
 use std::process::ExitCode;
 
 /// The exit status after a capture that could not be read to its end.
 const UNREADABLE: u8 = 1;
 
-/// Prints the frames of the capture in this file, and reports how that ended.
+/// The name of standard input as a file.
+const STANDARD_INPUT: &str = "-";
+
+/// Prints the frames of the capture in this file, or of standard input, and reports how that ended.
 pub fn do_capture(rt: &HostRuntime, file: &str, options: DecodeOptions) -> ExitCode {
-    match fs::read(rt, file) {
-        Ok(octets) => print_capture(rt, file, octets.as_slice(), options),
-        Err(error) if error.kind() == ErrorKind::OutOfMemory => print_memory(rt),
-        Err(error) => print_no_file(rt, file, &error),
+    if file == STANDARD_INPUT {
+        return read_capture(rt, "standard input", rt.stdin(), options);
+    }
+    match File::open(rt, file) {
+        Ok(source) => read_capture(rt, file, source, options),
+        Err(error) => print_no_file(rt, file, &Reason(&error)),
     }
 }
 
-// Prints the frames of a capture that was read from this file.
-fn print_capture(rt: &HostRuntime, file: &str, octets: &[u8], options: DecodeOptions) -> ExitCode {
-    let mut capture = match Capture::new(octets) {
-        Ok(capture) => capture,
-        Err(fault) => return print_stop(rt, file, CaptureStop::Capture(fault, 0), None),
-    };
+// Prints the frames of the capture in this reader.
+fn read_capture<R: Read + Drop>(
+    rt: &HostRuntime,
+    file: &str,
+    source: R,
+    options: DecodeOptions,
+) -> ExitCode {
+    match CaptureReader::new(rt.alloc(), source) {
+        Ok(mut capture) => print_capture(rt, file, &mut capture, options),
+        Err(ReadFault::Capture(fault)) => {
+            print_stop(rt, file, CaptureStop::Capture(fault, 0), None)
+        }
+        Err(ReadFault::Device(kind)) => print_no_file(rt, file, &KindReason(kind)),
+        Err(ReadFault::Memory) => print_memory(rt),
+    }
+}
+
+// Prints the frames of a capture.
+fn print_capture<R: Read>(
+    rt: &HostRuntime,
+    file: &str,
+    capture: &mut CaptureReader<R>,
+    options: DecodeOptions,
+) -> ExitCode {
     let how = CaptureStyle {
         style: style_of(options),
         sender: options.sender,
@@ -37,21 +61,31 @@ fn print_capture(rt: &HostRuntime, file: &str, octets: &[u8], options: DecodeOpt
     let Ok(mut out) = BufWriter::new(rt.alloc(), Watched::new(rt.stdout())) else {
         return print_memory(rt);
     };
-    let ended = decode_capture(rt.alloc(), &mut capture, &mut out, &mut rt.stderr(), how);
+    let ended = decode_capture(rt.alloc(), capture, &mut out, &mut rt.stderr(), how);
     let is_written = out.flush().is_ok();
     // Text that a failed writer did not accept is dropped.
     let (watched, _left) = out.into_parts();
     match ended {
-        Ok(()) if is_written => ExitCode::SUCCESS,
-        Ok(()) => print_stop(rt, file, CaptureStop::Device, watched.fault()),
+        Ok(seen) if is_written => {
+            print_none(rt, seen, capture.packets());
+            ExitCode::SUCCESS
+        }
+        Ok(_) => print_stop(rt, file, CaptureStop::Device, watched.fault()),
         Err(stop) => print_stop(rt, file, stop, watched.fault()),
     }
 }
 
+// Reports that a capture had no frame.
+fn print_none(rt: &HostRuntime, seen: Seen, packets: u64) {
+    if !seen.any {
+        let _ = eprintln!(rt; "0 of {packets} packets are LAPD");
+    }
+}
+
 // Reports why a file could not be read.
-fn print_no_file(rt: &HostRuntime, file: &str, error: &io::Error) -> ExitCode {
+fn print_no_file<D: Display>(rt: &HostRuntime, file: &str, reason: &D) -> ExitCode {
     let _ = eprintln!(rt; "{}", ScriptFault::Device);
-    let _ = eprintln!(rt; "{file}: {}", Reason(error));
+    let _ = eprintln!(rt; "{file}: {reason}");
     ExitCode::from(ScriptFault::Device.status())
 }
 
@@ -69,6 +103,7 @@ fn print_stop(
             let _ = eprintln!(rt; "{file}: {stop}");
             return ExitCode::from(UNREADABLE);
         }
+        (CaptureStop::Input(kind), _) => return print_no_file(rt, file, &KindReason(kind)),
         (CaptureStop::Device, Some(ErrorKind::BrokenPipe)) => {}
         (CaptureStop::Device, Some(kind)) => {
             let _ = eprintln!(rt; "{stop}");

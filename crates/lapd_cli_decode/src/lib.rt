@@ -11,8 +11,8 @@ mod line_decoder;
 mod line_form;
 mod style;
 
-pub use capture_lines::{CaptureStop, CaptureStyle, decode_capture};
-pub use lapd_capture::{Capture, CaptureFault, PacketFault};
+pub use capture_lines::{CaptureStop, CaptureStyle, Seen, decode_capture};
+pub use lapd_capture::{CaptureFault, CaptureReader, PacketFault, ReadFault};
 pub use lapd_frame::Side;
 pub use line_decoder::{decode_good_lines, decode_lines};
 pub use line_form::LineForm;

@@ -11,6 +11,9 @@ use lapd_cli_script::{Command, LineFault, ScriptFault, put_line, walk};
 use std::alloc::Global;
 use std::io::{Read, Write};
 
+/// The most octets of a bad line that are shown.
+const MOST_SHOWN: usize = 32;
+
 /// Reads lines of a form and prints them in a style. It reuses its buffers for the octets and the
 /// text of a line.
 #[derive(Drop)]
@@ -131,10 +134,19 @@ impl<E: Write> Command for GoodLines<E> {
     fn run<W: Write>(&mut self, line: &[u8], out: &mut W) -> Result<(), LineFault> {
         match self.decoder.decode(line, out) {
             Err(LineFault::Bad) => {
-                let _ = writeln!(self.errors, "skipped: {}", line.escape_ascii());
+                report(self.decoder.alloc, line, &mut self.errors);
                 Ok(())
             }
             ended => ended,
         }
+    }
+}
+
+/// Reports a bad line: its first 32 octets at most, in one write. A failure is ignored.
+fn report<E: Write>(alloc: Global, line: &[u8], errors: &mut E) {
+    let front = &line[..line.len().min(MOST_SHOWN)];
+    let end = if front.len() < line.len() { ".." } else { "" };
+    if let Ok(text) = format!(in alloc; "skipped: {}{end}\n", front.escape_ascii()) {
+        let _ = errors.write_all(text.as_bytes());
     }
 }

@@ -65,7 +65,8 @@ pub const JSON: &str = "Prints each frame as a JSON object, one per line";
 
 pub const KEEP_GOING: &str = "Reports a bad line or packet on standard error, and skips it";
 
-pub const PCAP: &str = "Prints the frames of this pcap or pcapng file; no script is read";
+pub const PCAP: &str =
+    "Prints the frames of this pcap or pcapng file as they come, - for standard input; no script is read";
 
 /// The help of `--json`, of `net` and `user`.
 pub const SIDE_JSON: &str = "Prints each line as a JSON object";
@@ -760,9 +761,9 @@ With --loose also:
   < [ 00 81 73 ]                the same: the other side sent these octets
 
 With --pcap no script is read. A capture is pcap or pcapng of link type 177 (LINUX_LAPD) or 203
-(LAPD), or GSMTAP over UDP in Ethernet or IPv4. Packets without LAPD are skipped. A fault is
-reported with the place of its packet or block in the file, in octets from 0, and the exit status is
-1.
+(LAPD), or GSMTAP over UDP in Ethernet or IPv4. Packets without LAPD are skipped. A line is printed
+before the program waits for the next packet, so FILE may be a pipe. A fault is reported with the
+place of its packet or block in the file, in octets from 0, and the exit status is 1.
 
 Output for a frame, in one line:
   U>N or N>U    the user side, or the network side, sent it
@@ -790,8 +791,7 @@ With --json a line is an object with these members, in the order of their names:
   message          with --names, the words above
   fault, octets    instead of all members but direction: \"F1 TooShort\" and \"HEX\"
   packet           with --pcap, the number of the packet, from 1
-  time             with --pcap, of a pcap file: \"SECONDS\" since 1970, with six digits after a
-                   point
+  time             with --pcap, if known: \"SECONDS\" since 1970, with six digits after a point
 For example: {\"direction\":\"U>N\",\"frame\":\"SABME\",\"p\":1,\"role\":\"command\",\"sapi\":0,\"tei\":64}
 
 Example. A line after < is a line of the script, and a line after > is printed.

@@ -1,8 +1,11 @@
 //! Reading captures, compared by the printed lines.
 
 use crate::wants::{is_printed_as, wants};
-use lapd_cli_decode::{Capture, CaptureStop, CaptureStyle, Side, Style, decode_capture};
+use lapd_cli_decode::{
+    CaptureReader, CaptureStop, CaptureStyle, ReadFault, Seen, Side, Style, decode_capture,
+};
 use std::alloc::Global;
+use std::io::{self, Read};
 use std::test::Fail;
 
 // A name, a capture, and the printed lines. The first seven captures were written by editcap and
@@ -25,6 +28,8 @@ no record|d4c3b2a102000400000000000000000000000400b1000000|";
 // A name, a capture, the fault it ends with, and the line printed before.
 const FAULTS: &str = "\
 empty||octet 0: not a pcap or pcapng file|
+pcapng, a packet above the greatest|0a0d0d0a1c0000004d3c2b1a01000000ffffffffffffffff1c0000000100000014000000b100000000000400140000000600000020000000000000000000000000000000010004000100040020000000|octet 48: packet: bad length|
+gzip|1f8b0800000000000003|octet 0: compressed by gzip; pipe it through zcat to --pcap -|
 other magic|0a0d0d0b00000000000000000000000000000000000000000000000000000000000000000000000000000000|octet 0: not a pcap or pcapng file|
 header cut|d4c3b2a102000400000000000000000000000400b10000|octet 0: cut short|
 Bluetooth|d4c3b2a102000400000000000000000000000400c9000000|octet 0: unsupported link type|
@@ -55,7 +60,11 @@ const OBJECTS: &str =
     r#"microseconds|d4c3b2a102000400000000000000000000000400b100000001000000d00700001300000013000000000420fd00010000000000000000003000817f020000003f420f001300000013000000000420fd00010000000000000000003000817f|{"direction":"U>N","frame":"SABME","p":1,"packet":1,"role":"command","sapi":0,"tei":64,"time":"1.002000"}/{"direction":"U>N","frame":"SABME","p":1,"packet":2,"role":"command","sapi":0,"tei":64,"time":"2.999999"}
 nanoseconds|4d3cb2a102000400000000000000000000000400b100000000000000ffc99a3b1300000013000000000420fd00010000000000000000003000817f|{"direction":"U>N","frame":"SABME","p":1,"packet":1,"role":"command","sapi":0,"tei":64,"time":"0.999999"}
 the greatest|d4c3b2a102000400000000000000000000000400b1000000ffffffffffffffff1300000013000000000420fd00010000000000000000003000817f|{"direction":"U>N","frame":"SABME","p":1,"packet":1,"role":"command","sapi":0,"tei":64,"time":"4294971589.967295"}
-pcapng, another packet and another block before it|0a0d0d0a1c0000004d3c2b1a01000000ffffffffffffffff1c00000001000000140000006900000000000000140000000100000014000000b10000000000000014000000060000002400000000000000000000000000000003000000030000006162630024000000050000000c0000000c00000006000000340000000100000000000000000000001300000013000000000420fd00010000000000000000003000817f0034000000|{"direction":"U>N","frame":"SABME","p":1,"packet":2,"role":"command","sapi":0,"tei":64}"#;
+pcapng, another packet and another block before it|0a0d0d0a1c0000004d3c2b1a01000000ffffffffffffffff1c00000001000000140000006900000000000000140000000100000014000000b10000000000000014000000060000002400000000000000000000000000000003000000030000006162630024000000050000000c0000000c00000006000000340000000100000000000000000000001300000013000000000420fd00010000000000000000003000817f0034000000|{"direction":"U>N","frame":"SABME","p":1,"packet":2,"role":"command","sapi":0,"tei":64,"time":"0.000000"}
+pcapng, nanoseconds|0a0d0d0a1c0000004d3c2b1a01000000ffffffffffffffff1c000000010000002c000000b100000000000400020005006973646e300000000900010009000000000000002c0000000600000034000000000000009d6deb18673843941300000013000000000420fd00010000000000000000003000817f0034000000|{"direction":"U>N","frame":"SABME","p":1,"packet":1,"role":"command","sapi":0,"tei":64,"time":"1795649400.002000"}
+pcapng, 1024 units a second, big endian|0a0d0d0a0000001c1a2b3c4d00010000ffffffffffffffff0000001c000000010000001c00b1000000040000000900018a0000000000001c000000060000003400000000000001ac1dbde2000000001300000013000420fd00010000000000000000003000817f0000000034|{"direction":"U>N","frame":"SABME","p":1,"packet":1,"role":"command","sapi":0,"tei":64,"time":"1795649400.500000"}
+pcapng, an unknown unit|0a0d0d0a1c0000004d3c2b1a01000000ffffffffffffffff1c000000010000001c000000b100000000000400090001007f0000001c0000000600000034000000000000009d6deb18673843941300000013000000000420fd00010000000000000000003000817f0034000000|{"direction":"U>N","frame":"SABME","p":1,"packet":1,"role":"command","sapi":0,"tei":64}
+pcapng, two interfaces of two units|0a0d0d0a1c0000004d3c2b1a01000000ffffffffffffffff1c000000010000001c000000b10000000000040009000100000000001c0000000100000014000000b1000000000004001400000006000000340000000000000000000000070000001300000013000000000420fd00010000000000000000003000817f003400000006000000340000000100000000000000c1cf6a001300000013000000000420fd00010000000000000000003000817f0034000000|{"direction":"U>N","frame":"SABME","p":1,"packet":1,"role":"command","sapi":0,"tei":64,"time":"7.000000"}/{"direction":"U>N","frame":"SABME","p":1,"packet":2,"role":"command","sapi":0,"tei":64,"time":"7.000001"}"#;
 
 // A name, a capture, and the printed lines if unreadable packets are skipped.
 const PASSED_OVER: &str = "\
@@ -110,30 +119,61 @@ fn result_is(alloc: Global, digits: &str, how: CaptureStyle, fault: &str, lines:
     }
 }
 
+// Whether a capture is printed so, read at once and octet by octet.
 fn prints(alloc: Global, octets: &[u8], how: CaptureStyle, fault: &str, lines: &str) -> bool {
+    prints_from(alloc, octets, how, fault, lines)
+        && prints_from(alloc, OctetByOctet(octets), how, fault, lines)
+}
+
+fn prints_from<R: Read + Drop>(
+    alloc: Global,
+    source: R,
+    how: CaptureStyle,
+    fault: &str,
+    lines: &str,
+) -> bool {
     let mut printed = Vec::new(alloc);
-    let ended = print_capture(alloc, octets, &mut printed, how);
+    let ended = print_capture(alloc, source, &mut printed, how);
     ends_by(alloc, ended, fault) && are_lines(printed.as_slice(), lines)
 }
 
+/// A reader that returns one octet a read.
+#[derive(Drop)]
+struct OctetByOctet<'a>(&'a [u8]);
+
+impl Read for OctetByOctet<'_> {
+    fn read(&mut self, octets: &mut [u8]) -> io::Result<usize> {
+        match (self.0, octets) {
+            ([first, rest @ ..], [place, ..]) => {
+                *place = *first;
+                self.0 = rest;
+                Ok(1)
+            }
+            _ => Ok(0),
+        }
+    }
+}
+
 // How printing a capture ends.
-fn print_capture(
+fn print_capture<R: Read + Drop>(
     alloc: Global,
-    octets: &[u8],
+    source: R,
     printed: &mut Vec<u8>,
     how: CaptureStyle,
-) -> Result<(), CaptureStop> {
+) -> Result<Seen, CaptureStop> {
     let mut lines_printed = Vec::new(alloc);
-    match Capture::new(octets) {
+    match CaptureReader::new(alloc, source) {
         Ok(mut capture) => decode_capture(alloc, &mut capture, printed, &mut lines_printed, how),
-        Err(fault) => Err(CaptureStop::Capture(fault, 0)),
+        Err(ReadFault::Capture(fault)) => Err(CaptureStop::Capture(fault, 0)),
+        Err(ReadFault::Device(kind)) => Err(CaptureStop::Input(kind)),
+        Err(ReadFault::Memory) => Err(CaptureStop::Memory),
     }
 }
 
 // Whether a capture ended with this fault, or without one if it is empty.
-fn ends_by(alloc: Global, ended: Result<(), CaptureStop>, fault: &str) -> bool {
+fn ends_by(alloc: Global, ended: Result<Seen, CaptureStop>, fault: &str) -> bool {
     match ended {
-        Ok(()) => fault.is_empty(),
+        Ok(_) => fault.is_empty(),
         Err(stop) => is_printed_as(alloc, &stop, fault),
     }
 }

@@ -1,0 +1,5 @@
+pub mod Filling
+pub mod Heads
+pub mod Steps
+pub mod Taken
+pub mod Units

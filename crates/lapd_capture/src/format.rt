@@ -1,0 +1,8 @@
+/// The format of a capture.
+#[derive(Clone, Copy)]
+pub(crate) enum Format {
+    /// pcap.
+    Pcap,
+    /// pcapng.
+    Pcapng,
+}
