@@ -11,9 +11,7 @@ use crate::codes::{CHECK_RUNS, DONE, MEMORY, NO_LINK, OUT_OF_RANGE, PENDING, cod
 use crate::flat_primitive::{FlatPrimitive, octets_of};
 use crate::link_state::LinkState;
 use lapd_link::Link;
-use lapd_sides::{
-    Acts, EitherSide, LinkId, LinkTable, Primitive, Request, Tei, Terminal,
-};
+use lapd_sides::{Acts, EitherSide, LinkId, LinkTable, Primitive, Request, Tei, Terminal};
 use std::alloc::{AllocError, Global};
 
 /// A side, and the results of its calls that C has not fetched: the last in `acts`, the earlier
