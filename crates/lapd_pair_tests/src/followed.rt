@@ -183,9 +183,10 @@ fn is_right(
         let pair = new_pair(alloc, (7, 64, recoveries.0, recoveries.1));
         let is_made = run(&mut draws, pair, &mut listener);
         *counts = listener.counts;
+        let packets = listener.packets;
         if let Some(said) = listener.wrong {
             text.shown("run ", &number);
-            text.shown(", packet ", &listener.packets);
+            text.shown(", packet ", &packets);
             text.made(": ", said);
         }
         if !is_made || !text.as_str().is_empty() {
