@@ -1,11 +1,11 @@
 //! Reading captures, compared by the printed lines.
 
+use crate::streams::Parts;
 use crate::wants::{is_printed_as, wants};
 use lapd_cli_decode::{
     CaptureReader, CaptureStop, CaptureStyle, ReadFault, Seen, Side, Style, decode_capture,
 };
 use std::alloc::Global;
-use std::io::{self, Read};
 use std::test::Fail;
 
 // A name, a capture, and the printed lines. The first seven captures were written by editcap and
@@ -121,13 +121,22 @@ fn result_is(alloc: Global, digits: &str, how: CaptureStyle, fault: &str, lines:
 
 // Whether a capture is printed so, read at once and octet by octet.
 fn prints(alloc: Global, octets: &[u8], how: CaptureStyle, fault: &str, lines: &str) -> bool {
-    prints_from(alloc, octets, how, fault, lines)
-        && prints_from(alloc, OctetByOctet(octets), how, fault, lines)
+    prints_in_parts(alloc, parts_of(octets, usize::MAX), how, fault, lines)
+        && prints_in_parts(alloc, parts_of(octets, 1), how, fault, lines)
 }
 
-fn prints_from<R: Read + Drop>(
+/// A reader of these octets that returns at most `most` per read.
+fn parts_of(octets: &[u8], most: usize) -> Parts<'_> {
+    Parts {
+        octets,
+        most,
+        fault: None,
+    }
+}
+
+fn prints_in_parts(
     alloc: Global,
-    source: R,
+    source: Parts<'_>,
     how: CaptureStyle,
     fault: &str,
     lines: &str,
@@ -137,27 +146,10 @@ fn prints_from<R: Read + Drop>(
     ends_by(alloc, ended, fault) && are_lines(printed.as_slice(), lines)
 }
 
-/// A reader that returns one octet a read.
-#[derive(Drop)]
-struct OctetByOctet<'a>(&'a [u8]);
-
-impl Read for OctetByOctet<'_> {
-    fn read(&mut self, octets: &mut [u8]) -> io::Result<usize> {
-        match (self.0, octets) {
-            ([first, rest @ ..], [place, ..]) => {
-                *place = *first;
-                self.0 = rest;
-                Ok(1)
-            }
-            _ => Ok(0),
-        }
-    }
-}
-
 // How printing a capture ends.
-fn print_capture<R: Read + Drop>(
+fn print_capture(
     alloc: Global,
-    source: R,
+    source: Parts<'_>,
     printed: &mut Vec<u8>,
     how: CaptureStyle,
 ) -> Result<Seen, CaptureStop> {
