@@ -96,12 +96,18 @@ stream_so x y n is low high timed heavy = by_timer x.t200 refl
 
 module _ (N : ℕ) (some : 1 ≤ N) where
   -- a world with its facts, and a bound of its deliveries
-  record Begins (n : ℕ) (w : World) : Type 0 where
-    facts : Facts N w
-    preserved : IsConsistentWorld Whole w
-    flow : runs.Flow n w
-    user_free : IsFree w.user.end
-    network_free : IsFree w.network.end
+  pub record Begins (n : ℕ) (w : World) : Type 0 where
+    pub facts : Facts N w
+    pub preserved : IsConsistentWorld Whole w
+    pub flow : runs.Flow n w
+    pub user_free : IsFree w.user.end
+    pub network_free : IsFree w.network.end
+
+  -- a world that comes back as after an outage; m bounds its own moves
+  pub record IsEmptied (n : ℕ) (w : World) : Type 0 where
+    pub m : ℕ
+    pub coming : Coming N false m w
+    pub most : m ≤ n + 6 * N + 11
 
   -- the ends of an empty line, with what each side accounts for
   module _ (n : ℕ) (x y : Station) (b : Begins n (at x y [] [])) where
@@ -148,20 +154,28 @@ module _ (N : ℕ) (some : 1 ≤ N) where
       few : length moves ≤ n + 6 * N + 11
       agreed : Rests Whole (run Whole moves w) → AreAgreed (run Whole moves w)
 
-    by_weight : (moves : List Move) → AreOwn Whole moves w → (m : ℕ) → m ≤ n + 6 * N + 11 → Coming N false m w → Ends moves
-    by_weight moves own m le c = let back = returns m c in let few = back.few moves own in record { few = omega (arith, few, le); agreed = λ rests. back.agreed moves own rests }
-
-    ends : (moves : List Move) → AreOwn Whole moves w → Ends moves
-    ends moves own = by_open (is_7_or_8 x.end.state) (is_7_or_8 y.end.state) refl refl
+    emptied : IsEmptied n w
+    emptied = by_open (is_7_or_8 x.end.state) (is_7_or_8 y.end.state) refl refl
       where
         u : 3 * unsent x.end + 3 * unsent y.end ≤ n
         u = let a = unsent_x in let c = unsent_y in let most = f.most in omega (arith, a, c, most)
 
-        by_open : (a c : Bool) → is_7_or_8 x.end.state ≡ a → is_7_or_8 y.end.state ≡ c → Ends moves
-        by_open true true o p = by_weight moves own (n + 8) (omega (arith, some)) (both_open o p)
-        by_open true false o c = let le = u in by_weight moves own alone_weight (omega (arith, le)) (inr (inl (alone_begins N some x y (unsent x.end) (unsent y.end) (omega arith) (omega arith) b.facts.few_user b.facts.few_network false o c (λ no_up. cc))))
-        by_open false true c o = let le = u in by_weight moves own alone_weight_too (omega (arith, le)) (inr (inr (alone_begins N some y x (unsent y.end) (unsent x.end) (omega arith) (omega arith) b.facts.few_network b.facts.few_user false o c (λ no_up. cc))))
-        by_open false false c d = let le = u in by_weight moves own alone_weight (omega (arith, le)) (inr (inl (closed_begins N some x y (unsent x.end) (unsent y.end) (omega arith) (omega arith) b.facts.few_user b.facts.few_network c d)))
+        by_open : (a c : Bool) → is_7_or_8 x.end.state ≡ a → is_7_or_8 y.end.state ≡ c → IsEmptied n w
+        by_open true true o p = record { m = n + 8; coming = both_open o p; most = omega (arith, some) }
+        by_open true false o c = let le = u in record { m = alone_weight; coming = inr (inl (alone_begins N some x y (unsent x.end) (unsent y.end) (omega arith) (omega arith) b.facts.few_user b.facts.few_network false o c (λ no_up. cc))); most = omega (arith, le) }
+        by_open false true c o = let le = u in record { m = alone_weight_too; coming = inr (inr (alone_begins N some y x (unsent y.end) (unsent x.end) (omega arith) (omega arith) b.facts.few_network b.facts.few_user false o c (λ no_up. cc))); most = omega (arith, le) }
+        by_open false false c d = let le = u in record { m = alone_weight; coming = inr (inl (closed_begins N some x y (unsent x.end) (unsent y.end) (omega arith) (omega arith) b.facts.few_user b.facts.few_network c d)); most = omega (arith, le) }
+
+    ends : (moves : List Move) → AreOwn Whole moves w → Ends moves
+    ends moves own =
+        let e = emptied in
+        let back = returns e.m e.coming in
+        let few = back.few moves own in
+        let most = e.most in
+        record { few = omega (arith, few, most); agreed = λ rests. back.agreed moves own rests }
+
+  pub emptied_at : (n : ℕ) (x y : Station) → Begins n (at x y [] []) → IsEmptied n (at x y [] [])
+  emptied_at n x y b = emptied n x y b
 
   from_empty : (n : ℕ) (x y : Station) (moves : List Move) → Begins n (at x y [] []) → AreOwn Whole moves (at x y [] []) → Comes N n (at x y [] []) moves
   from_empty n x y moves b own = let e = ends n x y b moves own in record { few = e.few; agreed = e.agreed }
@@ -214,7 +228,7 @@ module _ (N : ℕ) (some : 1 ≤ N) where
   comes (move ∷ moves) n x y (frame ∷ arriving) to_network b own = first_to_user n move.side move.event x y frame arriving to_network moves b (λ m w begins rest. comes moves m w.user w.network w.to_user w.to_network begins rest) own.0.due own.0.admitted own.1
   comes (move ∷ moves) n x y [] (frame ∷ arriving) b own = first_to_network n move.side move.event x y frame arriving moves b (λ m w begins rest. comes moves m w.user w.network w.to_user w.to_network begins rest) own.0.due own.0.admitted own.1
 
-  world_comes_back : (w : World) → Facts N w → IsConsistentWorld Whole w → IsFree w.user.end → IsFree w.network.end → WorldComesBack Whole N w
+  pub world_comes_back : (w : World) → Facts N w → IsConsistentWorld Whole w → IsFree w.user.end → IsFree w.network.end → WorldComesBack Whole N w
   world_comes_back w f preserved user_free network_free =
       let b : Begins (most_deliveries w) w = record { facts = f; preserved = preserved; flow = runs.flow_begins w f.holds preserved; user_free = user_free; network_free = network_free } in
       record {
@@ -238,7 +252,7 @@ on_tags N w i preserved c = record {
       subst AreAgreed (sym same) (agreed_on_tags now (c.agreed moves (are_own_by_tags moves w i preserved own) still));
 }
 
-free_world_by_tags : (N : ℕ) (w : World) → IsFreeWorld N (tag_world w) → IsFreeWorld N w
+pub free_world_by_tags : (N : ℕ) (w : World) → IsFreeWorld N (tag_world w) → IsFreeWorld N w
 free_world_by_tags N w a = record { user_free = free_by_tags w.user.end a.user_free; network_free = free_by_tags w.network.end a.network_free; user_retries = a.user_retries; network_retries = a.network_retries }
 
 module _ (N : ℕ) (some : 1 ≤ N) (user network : Parameters) (user_small : user.k ≤ 127) (network_small : network.k ≤ 127) (user_some : 1 ≤ user.k) (network_some : 1 ≤ network.k) (moves : List Move) where

@@ -4,6 +4,7 @@ pub mod Beside
 pub mod Cleared
 pub mod ClosedDelivers
 pub mod ClosedSteps
+pub mod DespiteLosses
 pub mod EndSends
 pub mod Establishes
 pub mod EveryWorld
@@ -12,6 +13,7 @@ pub mod HalfSteps
 pub mod Lone
 pub mod LoneAfterRuns
 pub mod LoneSteps
+pub mod LosesFrame
 pub mod Lost
 pub mod LostExpires
 pub mod LostMoves
@@ -30,6 +32,7 @@ pub mod Retry
 pub mod RunsEmpty
 pub mod SendsOn
 pub mod Situations
+pub mod TimersExpire
 pub mod TimersOfRuns
 pub mod Transitions
 pub mod WorkedWorlds

@@ -13,7 +13,7 @@ use Rattle.lapd_link_definition.specs.declared.out.Letter.TheVariants as letter
 use Rattle.lapd_link_definition.specs.declared.out.Out.TheVariants.{Send, Start, Stop, Report, Established}
 use Rattle.lapd_link_definition.specs.declared.state.State.TheVariants.{TeiAssigned, AwaitingEstablishment, MultipleFrameEstablished, TimerRecovery}
 use Rattle.lapd_link_definition.specs.EndOfStep.{is_7_or_8, is_established, end_step, acknowledge_pending, may_send_next}
-use Rattle.lapd_link_definition.specs.End.{End, StepState, begin, unsent}
+use Rattle.lapd_link_definition.specs.End.{End, StepState, begin, unsent, waiting}
 use Rattle.lapd_link_definition.specs.Established.{multiple_frame_established, established_t200, sends_last}
 use Rattle.lapd_link_definition.specs.Input.{Heard, Expiry}
 use Rattle.lapd_link_definition.specs.Procedures.{out_where, put, state_to, rc_to, increment_rc, layer3_initiated_to, release_pending_to, start, stop, expired, clear_exception_conditions, zero_state_variables, transmit_enquiry, retransmit_last_i_frame, establish_data_link, reestablish_data_link}
@@ -78,6 +78,7 @@ pub record HasPolled (before : End) (rc : ℕ) (e : End) : Type 0 where
   pub rc_is : e.rc ≡ rc
   pub parameters : e.parameters ≡ before.parameters
   pub unsent_is : unsent e ≡ unsent before
+  pub waiting_is : waiting e ≡ waiting before
   pub window : e.window ≡ without_ack_pending before.window
 
 and_off : (a b : Bool) → b ≡ false → (a && b) ≡ true → ⊥
@@ -117,13 +118,13 @@ module _ (x : Station) where
   unfolding view_after
   polls_view rc s p = record { polled = p.polled; frame = p.frame; ignored = p.ignored; outgoing = p.line; incoming = refl }
 
-  enquires : (s : StepState) (rc : ℕ) → s.end.parameters ≡ x.end.parameters → unsent s.end ≡ unsent x.end → s.end.window ≡ x.end.window → s.end.rc ≡ rc → (story c s).line ≡ [] → PollsBy rc (end_step Whole (state_to TimerRecovery (transmit_enquiry s)))
+  enquires : (s : StepState) (rc : ℕ) → s.end.parameters ≡ x.end.parameters → unsent s.end ≡ unsent x.end → waiting s.end ≡ waiting x.end → s.end.window ≡ x.end.window → s.end.rc ≡ rc → (story c s).line ≡ [] → PollsBy rc (end_step Whole (state_to TimerRecovery (transmit_enquiry s)))
   unfolding state_to transmit_enquiry without_ack_pending story_after
-  enquires s rc same_parameters same_unsent same_window same_rc none =
+  enquires s rc same_parameters same_unsent same_waiting same_window same_rc none =
       let t = state_to TimerRecovery (transmit_enquiry s) in
       let u = without_info Command (status_frame true s.end.window) in
       subst (λ (t : StepState). PollsBy rc t) (sym (closes_in_8 t refl refl)) (record {
-        polled = record { in_8 = refl; rc_is = same_rc; parameters = same_parameters; unsent_is = same_unsent; window = ap (λ w. without_ack_pending w) same_window };
+        polled = record { in_8 = refl; rc_is = same_rc; parameters = same_parameters; unsent_is = same_unsent; waiting_is = same_waiting; window = ap (λ w. without_ack_pending w) same_window };
         frame = u;
         ignored = ignored_status s.end.window;
         line = (enquiry_puts c s).line ∙ ap (λ l. l ++ u ∷ []) none;
@@ -139,7 +140,7 @@ module _ (x : Station) where
       let t = state_to TimerRecovery (rc_to 1 (retransmit_last_i_frame Whole (expired T200 s))) in
       let u = last_sent c (expired T200 s) in
       subst (λ (t : StepState). PollsBy 1 t) (sym (closes_in_8 t refl refl)) (record {
-        polled = record { in_8 = refl; rc_is = refl; parameters = refl; unsent_is = refl; window = refl };
+        polled = record { in_8 = refl; rc_is = refl; parameters = refl; unsent_is = refl; waiting_is = refl; window = refl };
         frame = u;
         ignored = refl;
         line = (last_puts c (expired T200 s)).line;
@@ -149,7 +150,7 @@ module _ (x : Station) where
       let t = state_to TimerRecovery (rc_to 1 (transmit_enquiry (expired T200 s))) in
       let u = without_info Command (status_frame true x.end.window) in
       subst (λ (t : StepState). PollsBy 1 t) (sym (closes_in_8 t refl refl)) (record {
-        polled = record { in_8 = refl; rc_is = refl; parameters = refl; unsent_is = refl; window = refl };
+        polled = record { in_8 = refl; rc_is = refl; parameters = refl; unsent_is = refl; waiting_is = refl; window = refl };
         frame = u;
         ignored = ignored_status x.end.window;
         line = (enquiry_puts c (expired T200 s)).line;
@@ -161,7 +162,7 @@ module _ (x : Station) where
 
   t203_in_7 : x.end.t203 ≡ true → PollsBy 0 (end_step Whole (row Whole MultipleFrameEstablished (Expiry T203) (begin x.end)))
   unfolding row by_state multiple_frame_established begin rc_to expired story_after
-  t203_in_7 on = by_test (λ (t : StepState). PollsBy 0 (end_step Whole t)) x.end.t203 _ _ (λ _. enquires (rc_to 0 (expired T203 (begin x.end))) 0 refl refl refl refl refl) (λ off. cc)
+  t203_in_7 on = by_test (λ (t : StepState). PollsBy 0 (end_step Whole t)) x.end.t203 _ _ (λ _. enquires (rc_to 0 (expired T203 (begin x.end))) 0 refl refl refl refl refl refl) (λ off. cc)
 
   retries_in_8 : x.end.state ≡ TimerRecovery → PollsBy (x.end.rc + 1) (end_step Whole (transmit_enquiry (expired T200 (increment_rc (begin x.end)))))
   unfolding increment_rc expired transmit_enquiry without_ack_pending story_after begin
@@ -169,7 +170,7 @@ module _ (x : Station) where
       let s = expired T200 (increment_rc (begin x.end)) in
       let t = transmit_enquiry s in
       subst (λ (t : StepState). PollsBy (x.end.rc + 1) t) (sym (closes_in_8 t is refl)) (record {
-        polled = record { in_8 = is; rc_is = refl; parameters = refl; unsent_is = refl; window = refl };
+        polled = record { in_8 = is; rc_is = refl; parameters = refl; unsent_is = refl; waiting_is = refl; window = refl };
         frame = without_info Command (status_frame true x.end.window);
         ignored = ignored_status x.end.window;
         line = (enquiry_puts c s).line;

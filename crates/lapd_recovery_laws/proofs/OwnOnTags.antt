@@ -38,7 +38,7 @@ empty_on_tags : (l : List Flight) → is_empty (map tag_flight l) ≡ is_empty l
 empty_on_tags [] = refl
 empty_on_tags (f ∷ fs) = refl
 
-due_on_tags : (event : PairEvent) (w : World) → is_due event (tag_world w) ≡ is_due event w
+pub due_on_tags : (event : PairEvent) (w : World) → is_due event (tag_world w) ≡ is_due event w
 due_on_tags Deliver w = refl
 due_on_tags Expire200 w = rw (empty_on_tags w.to_user, empty_on_tags w.to_network) refl
 due_on_tags Expire203 w = rw (empty_on_tags w.to_user, empty_on_tags w.to_network) refl

@@ -158,7 +158,7 @@ in_queue MultipleFrameEstablished asked leaving s n = let a = n.first in let b =
 in_queue TimerRecovery asked leaving s n = let a = n.first in let b = n.next in let o = n.ordered in omega (arith, a, b, o)
 
 -- an open side misses no more than is outstanding
-missing_few : (x y : Station) (base its_base : ℕ) (out back : List Kind) → Both (party base x) (party its_base y) out back → is_7_or_8 x.end.state ≡ true → missing x.end y.end ≤ waiting x.end - unsent x.end
+pub missing_few : (x y : Station) (base its_base : ℕ) (out back : List Kind) → Both (party base x) (party its_base y) out back → is_7_or_8 x.end.state ≡ true → missing x.end y.end ≤ waiting x.end - unsent x.end
 missing_few x y base its_base out back both opened = by_peer (is_7_or_8 y.end.state) refl
   where
     by_peer : (open_state : Bool) → is_7_or_8 y.end.state ≡ open_state → missing_in open_state x.end.window.vs y.end.window.vr (waiting x.end) (unsent x.end) ≤ waiting x.end - unsent x.end

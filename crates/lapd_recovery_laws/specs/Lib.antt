@@ -3,6 +3,7 @@ pub mod Agreed
 pub mod Deliveries
 pub mod EveryWorld
 pub mod LoneLine
+pub mod Losses
 pub mod OpenLine
 pub mod Own
 pub mod Recovered

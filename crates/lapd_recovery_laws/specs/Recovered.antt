@@ -8,6 +8,7 @@ use Rattle.lapd_pair_laws.specs.Schedule.{of_user, of_network, establishing}
 use Rattle.lapd_pair_laws.specs.World.{World, world_after, happens, run, left}
 use Rattle.lapd_recovery_laws.specs.Deliveries.{most_deliveries}
 use Rattle.lapd_recovery_laws.specs.EveryWorld.{most_moves_from}
+use Rattle.lapd_recovery_laws.specs.Losses.{losses, most_moves_despite}
 use Rattle.lapd_recovery_laws.specs.Own.{IsFree, first_own, most_own_moves, then_on, recovering, tried}
 
 -- The result of the own moves. `moves`: how many were made; `few`: whether they are at most
@@ -128,6 +129,22 @@ first_of_three_lost = establishing ++ of_user (Give (1 ∷ [])) ∷ of_user (Giv
 abbrev pub poll_meets_sabme : List Move
 poll_meets_sabme = establishing ++ of_user Expire203 ∷ of_user (Give (1 ∷ []))
     ∷ of_network Establish ∷ []
+
+-- ---- Frames that are lost meanwhile.
+
+-- a message is lost
+abbrev pub message_lost : List Move
+message_lost = establishing ++ of_user (Give (1 ∷ [])) ∷ of_network (Lose 0) ∷ []
+
+-- T200 of the user expires three times, and each poll is lost; then the user establishes anew
+abbrev pub three_polls_lost : List Move
+three_polls_lost = of_user Expire200 ∷ of_network (Lose 0) ∷ of_user Expire200
+    ∷ of_network (Lose 0) ∷ of_user Expire200 ∷ of_network (Lose 0) ∷ of_user Expire200
+    ∷ of_network Deliver ∷ of_user Deliver ∷ []
+
+abbrev pub outcome_despite : Reading → List Move → World → RecoveryOutcome
+outcome_despite r moves w =
+    looked_at r (length moves) (most_moves_despite (losses moves) 3 w) (run r moves w)
 
 -- ---- A busy end.
 

@@ -6,8 +6,9 @@
 //! specs/ in this order:
 //!
 //! - `Own`, the moves that the line makes by itself; `Agreed`, the world that they lead to;
-//!   `AfterOutage`, worlds with no frame in transit; `Deliveries`, by which the line runs empty; and
-//!   `EveryWorld`, the worlds from which own moves lead to agreement;
+//!   `AfterOutage`, worlds with no frame in transit; `Deliveries`, by which the line runs empty;
+//!   `EveryWorld`, the worlds from which own moves lead to agreement; and `Losses`, own moves while
+//!   frames are still lost;
 //! - `OpenLine`, `LoneLine` and `ReleasedLine`, kinds of such worlds of which more is known;
 //! - `Timers`, the timers between two moves; and `Recovered`, worlds that try the moves.
 #![tactic(auto)]
@@ -17,5 +18,6 @@ mod recovery;
 pub use recovery::{
     every_held_line_stays_up, every_line_comes_back, every_line_runs_empty,
     every_lone_line_comes_up, every_open_line_comes_up, every_released_line_comes_down,
-    every_world_comes_back, recovery_is_computed, timers_of_states_run,
+    every_world_comes_back, every_world_comes_back_despite_losses, recovery_is_computed,
+    timers_of_states_run,
 };

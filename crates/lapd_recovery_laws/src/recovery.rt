@@ -13,8 +13,9 @@ ghost use Rattle.lapd_recovery_laws.specs.Agreed.{ComesBack};
 ghost use Rattle.lapd_recovery_laws.specs.EveryWorld.{IsFreeWorld, WorldComesBack};
 ghost use Rattle.lapd_recovery_laws.specs.Deliveries.{RunsEmpty};
 ghost use Rattle.lapd_recovery_laws.specs.LoneLine.{IsLoneLine, ComesUpAnew};
+ghost use Rattle.lapd_recovery_laws.specs.Losses.{ComesBackDespite, AreOwnOrLosses};
 ghost use Rattle.lapd_recovery_laws.specs.OpenLine.{IsOpenLine, ComesUp};
-ghost use Rattle.lapd_recovery_laws.specs.Recovered.{outcome_of, outcome_of_deliveries, outcome_from, first_of_three_lost, poll_meets_sabme, both_sabmes_lost, network_restarts, restarts_with_one_sent, release_unheard, disc_meets_sabme, longest, both_in_7, both_in_4, held_up, IsBusy};
+ghost use Rattle.lapd_recovery_laws.specs.Recovered.{outcome_of, outcome_of_deliveries, outcome_from, first_of_three_lost, poll_meets_sabme, both_sabmes_lost, network_restarts, restarts_with_one_sent, release_unheard, disc_meets_sabme, longest, both_in_7, both_in_4, held_up, IsBusy, message_lost, three_polls_lost, outcome_despite};
 ghost use Rattle.lapd_recovery_laws.specs.ReleasedLine.{IsReleasedLine, ComesDown};
 ghost use Rattle.lapd_recovery_laws.specs.Timers.{HaveTimersOfStates};
 
@@ -23,6 +24,8 @@ ghost use Rattle.lapd_recovery_laws.specs.Timers.{HaveTimersOfStates};
 /// release is lost, which undoes it; a DISC and a SABME cross; and a world that takes 31 moves. With
 /// frames in transit: three messages, of which the first is lost, arrive by deliveries alone, the
 /// last two twice; and a poll and a SABME cross while a message waits.
+/// While frames are still lost: a message and the three polls for it, so that the link is established
+/// anew and the message dropped, in 9 moves.
 /// Without T203, a network that restarts leaves the ends apart. With a busy end the moves are not few.
 pub fn recovery_is_computed()
     ensures restart { (r : Reading) → outcome_of r (run r network_restarts (new_pair 1 Enquiry))
@@ -59,6 +62,14 @@ pub fn recovery_is_computed()
         → outcome_from r (run r poll_meets_sabme (new_pair 1 Enquiry)) ≡ both_in_7 5 1 0 }
     ensures poll_meets_sabme_by_last { (r : Reading)
         → outcome_from r (run r poll_meets_sabme (new_pair 1 LastMessage)) ≡ both_in_7 5 1 0 }
+    ensures polls_lost { (r : Reading)
+        → AreOwnOrLosses r three_polls_lost (run r message_lost (new_pair 1 Enquiry))
+        × (outcome_despite r three_polls_lost (run r message_lost (new_pair 1 Enquiry))
+        ≡ both_in_7 9 0 1) }
+    ensures polls_lost_by_last { (r : Reading)
+        → AreOwnOrLosses r three_polls_lost (run r message_lost (new_pair 1 LastMessage))
+        × (outcome_despite r three_polls_lost (run r message_lost (new_pair 1 LastMessage))
+        ≡ both_in_7 9 0 1) }
     ensures apart_without_t203 { (r : Reading)
         → next_move r (run r network_restarts (new_pair 1 Enquiry)) ≡ None }
     ensures held_up { (r : Reading) → outcome_of r (run r busy (new_pair 1 Enquiry)) ≡ held_up }
@@ -153,4 +164,17 @@ pub fn every_world_comes_back()
         → user.k ≤ 127 → network.k ≤ 127 → 1 ≤ user.k → 1 ≤ network.k → (moves : List Move)
         → IsFreeWorld n200 (run r moves (new_world user network))
         → WorldComesBack r n200 (run r moves (new_world user network)) }
+{}
+
+/// Every world comes back by itself although frames are lost meanwhile, if only so many are. The
+/// premises are those of [`every_world_comes_back`], but any frame in transit may be lost at any
+/// moment. Own moves and losses, in any order, are at most the moves of that law and, for each frame
+/// that may be lost, four per message left at the start, six per retransmission that N200 allows,
+/// and 18 more. When no own move is possible any more, both ends agree, however many frames were
+/// lost.
+pub fn every_world_comes_back_despite_losses()
+    ensures { (r : Reading) (n200 : ℕ) → 1 ≤ n200 → (user network : Parameters)
+        → user.k ≤ 127 → network.k ≤ 127 → 1 ≤ user.k → 1 ≤ network.k → (moves : List Move)
+        → IsFreeWorld n200 (run r moves (new_world user network))
+        → ComesBackDespite r n200 (run r moves (new_world user network)) }
 {}

@@ -1,0 +1,5 @@
+use Rattle.lapd_recovery_laws.proofs.DespiteLosses.{every_world_comes_back_despite_losses}
+use Rattle.lapd_recovery_laws.proofs.recovery.every_world_comes_back_despite_losses.Goals as goal
+
+pub returns : goal.returns
+returns c = every_world_comes_back_despite_losses
