@@ -51,7 +51,7 @@ use Rattle.lapd_recovery_laws.proofs.Transitions.{timers_in}
 
 -- ---- What each move keeps.
 
-same_parameters : (move : Move) (w : World) → IsInvariant w → ((world_after w (happens Whole move w)).user.end.parameters ≡ w.user.end.parameters) × ((world_after w (happens Whole move w)).network.end.parameters ≡ w.network.end.parameters)
+pub same_parameters : (move : Move) (w : World) → IsInvariant w → ((world_after w (happens Whole move w)).user.end.parameters ≡ w.user.end.parameters) × ((world_after w (happens Whole move w)).network.end.parameters ≡ w.network.end.parameters)
 same_parameters move w i = by_side move.side move.event
   where
     by_side : (s : Side) (event : PairEvent) → ((world_after w (happens Whole (record { side = s; event = event }) w)).user.end.parameters ≡ w.user.end.parameters) × ((world_after w (happens Whole (record { side = s; event = event }) w)).network.end.parameters ≡ w.network.end.parameters)

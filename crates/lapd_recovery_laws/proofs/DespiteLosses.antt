@@ -224,7 +224,7 @@ module _ (N : ℕ) (some : 1 ≤ N) (l : ℕ) where
 
 -- ---- From any world.
 
-despite_losses : (N : ℕ) → 1 ≤ N → (w : World) → Facts N w → IsConsistentWorld Whole w → IsFree w.user.end → IsFree w.network.end → ComesBackDespite Whole N w
+pub despite_losses : (N : ℕ) → 1 ≤ N → (w : World) → Facts N w → IsConsistentWorld Whole w → IsFree w.user.end → IsFree w.network.end → ComesBackDespite Whole N w
 despite_losses N some w facts preserved user_free network_free =
     let l = left w in
     let all = runs.left_waits w preserved in
@@ -245,7 +245,7 @@ despite_losses N some w facts preserved user_free network_free =
 
 -- ---- After every run, on whole numbers and on tags.
 
-own_or_losses_by_tags : (moves : List Move) (w : World) → IsInvariant w → IsConsistentWorld Whole w → AreOwnOrLosses Tagged moves (tag_world w) → AreOwnOrLosses Whole moves w
+pub own_or_losses_by_tags : (moves : List Move) (w : World) → IsInvariant w → IsConsistentWorld Whole w → AreOwnOrLosses Tagged moves (tag_world w) → AreOwnOrLosses Whole moves w
 own_or_losses_by_tags [] w i preserved own = tt
 own_or_losses_by_tags (move ∷ moves) w i preserved own =
     let now = world_after w (happens Whole move w) in (

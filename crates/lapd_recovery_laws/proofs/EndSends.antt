@@ -44,6 +44,14 @@ pub kinds_append : (fs gs : List Flight) → kinds (fs ++ gs) ≡ kinds fs ++ ki
 kinds_append [] gs = refl
 kinds_append (f ∷ fs) gs = ap (λ ks. kind f ∷ ks) (kinds_append fs gs)
 
+-- no message is dropped, and RC stays
+pub record IsCalm (c : Context) (s t : StepState) : Type 0 where
+  pub rc : t.end.rc ≡ s.end.rc
+  pub dropped : (story c t).history.dropped ≡ (story c s).history.dropped
+
+pub then_calm : {c : Context} {s t u : StepState} → IsCalm c s t → IsCalm c t u → IsCalm c s u
+then_calm a b = record { rc = b.rc ∙ a.rc; dropped = b.dropped ∙ a.dropped }
+
 -- these frames are sent: messages from V(S) on, and no REJ, UA or DM
 pub record Closes (c : Context) (s t : StepState) : Type 0 where
   pub frames : List Flight
@@ -57,9 +65,10 @@ pub record Closes (c : Context) (s t : StepState) : Type 0 where
   pub count : t.end.window.vs ≡ s.end.window.vs + sent
   pub light : weigh (kinds frames) + pending t.end ≤ sent + pending s.end
   pub same : unsending t.end ≡ unsending s.end
+  pub calm : IsCalm c s t
 
 closes_none : (c : Context) (s : StepState) → Closes c s s
-closes_none c s = record { frames = []; line = sym (append-nil (story c s).line); whole = refl; mild = refl; no_answer = refl; sent = 0; fewer = omega arith; only_7 = inl refl; count = omega arith; light = omega arith; same = refl }
+closes_none c s = record { frames = []; line = sym (append-nil (story c s).line); whole = refl; mild = refl; no_answer = refl; sent = 0; fewer = omega arith; only_7 = inl refl; count = omega arith; light = omega arith; same = refl; calm = record { rc = refl; dropped = refl } }
 
 then_closes : {c : Context} {s t u : StepState} → Closes c s t → Closes c t u → Closes c s u
 then_closes {c = c} {s = s} {t = t} {u = u} a b =
@@ -76,6 +85,7 @@ then_closes {c = c} {s = s} {t = t} {u = u} a b =
       count = let p = a.count in let q = b.count in omega (arith, p, q);
       light = let sum = ap (λ ks. weigh ks) both ∙ tally_append weight_of (kinds a.frames) (kinds b.frames) in let p = a.light in let q = b.light in omega (arith, sum, p, q);
       same = b.same ∙ a.same;
+      calm = then_calm a.calm b.calm;
     }
   where
     by_both : (a.sent ≡ 0) ⊎ (s.end.state ≡ MultipleFrameEstablished) → (b.sent ≡ 0) ⊎ (t.end.state ≡ MultipleFrameEstablished) → (a.sent + b.sent ≡ 0) ⊎ (s.end.state ≡ MultipleFrameEstablished)
@@ -101,6 +111,7 @@ closes_next c s go =
       count = omega arith;
       light = omega arith;
       same = refl;
+      calm = record { rc = refl; dropped = (ensure_puts c (transmit_i_frame Whole s)).dropped ∙ (next_puts c s).dropped };
     }
 
 closes_rr : (c : Context) (s : StepState) → s.end.window.ack_pending ≡ true → Closes c s (transmit_rr s)
@@ -117,6 +128,7 @@ closes_rr c s on = record {
   count = omega arith;
   light = let one : pending s.end ≡ 1 = ap pending_in on in omega (arith, one);
   same = refl;
+  calm = record { rc = refl; dropped = (rr_puts c s).dropped };
 }
 
 closes_all : (c : Context) (n : ℕ) (s : StepState) → Closes c s (send_all Whole n s)

@@ -9,6 +9,7 @@ pub mod EndSends
 pub mod Establishes
 pub mod EveryWorld
 pub mod Exchanges
+pub mod FewLosses
 pub mod HalfSteps
 pub mod Lone
 pub mod LoneAfterRuns

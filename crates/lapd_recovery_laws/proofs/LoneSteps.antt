@@ -23,7 +23,8 @@ use Rattle.lapd_link_definition.specs.TimerRecovery.{timer_recovery, timer_recov
 use Rattle.lapd_link_definition.proofs.Sending.{sends_none}
 use Rattle.lapd_pair_laws.specs.Line.{Flight, without_info}
 use Rattle.lapd_pair_laws.specs.Move.{Expire200, Expire203, Station, View, ViewStep, Refusal, acts, takes, expires_200, expires_203, view_after, story_after}
-use Rattle.lapd_pair_laws.proofs.ActionEffects.{Context, story}
+use Rattle.lapd_pair_laws.specs.Kinds.{kind, poll_of}
+use Rattle.lapd_pair_laws.proofs.ActionEffects.{Context, story, enquiry_kind}
 use Rattle.lapd_pair_laws.proofs.ClosedActions.{closes_nothing}
 use Rattle.lapd_pair_laws.proofs.Lists.{by_test}
 use Rattle.lapd_pair_laws.proofs.Steps.{context}
@@ -98,8 +99,10 @@ pub record Polls (x : Station) (rc : ℕ) (v : View) : Type 0 where
   pub polled : HasPolled x.end rc v.station.end
   pub frame : Flight
   pub ignored : is_ignored frame.control ≡ true
+  pub polls : poll_of (kind frame) ≡ 1
   pub outgoing : v.outgoing ≡ frame ∷ []
   pub incoming : v.incoming ≡ []
+  pub none_dropped : v.station.history.dropped ≡ x.history.dropped
 
 module _ (x : Station) where
   abbrev v : View
@@ -112,22 +115,26 @@ module _ (x : Station) where
     polled : HasPolled x.end rc s.end
     frame : Flight
     ignored : is_ignored frame.control ≡ true
+    polls : poll_of (kind frame) ≡ 1
     line : (story c s).line ≡ frame ∷ []
+    none_dropped : (story c s).history.dropped ≡ x.history.dropped
 
   polls_view : (rc : ℕ) (s : StepState) → PollsBy rc s → Polls x rc (view_after [] 0 v s)
   unfolding view_after
-  polls_view rc s p = record { polled = p.polled; frame = p.frame; ignored = p.ignored; outgoing = p.line; incoming = refl }
+  polls_view rc s p = record { polled = p.polled; frame = p.frame; ignored = p.ignored; polls = p.polls; outgoing = p.line; incoming = refl; none_dropped = p.none_dropped }
 
-  enquires : (s : StepState) (rc : ℕ) → s.end.parameters ≡ x.end.parameters → unsent s.end ≡ unsent x.end → waiting s.end ≡ waiting x.end → s.end.window ≡ x.end.window → s.end.rc ≡ rc → (story c s).line ≡ [] → PollsBy rc (end_step Whole (state_to TimerRecovery (transmit_enquiry s)))
+  enquires : (s : StepState) (rc : ℕ) → s.end.parameters ≡ x.end.parameters → unsent s.end ≡ unsent x.end → waiting s.end ≡ waiting x.end → s.end.window ≡ x.end.window → s.end.rc ≡ rc → (story c s).line ≡ [] → (story c s).history.dropped ≡ x.history.dropped → PollsBy rc (end_step Whole (state_to TimerRecovery (transmit_enquiry s)))
   unfolding state_to transmit_enquiry without_ack_pending story_after
-  enquires s rc same_parameters same_unsent same_waiting same_window same_rc none =
+  enquires s rc same_parameters same_unsent same_waiting same_window same_rc none same_dropped =
       let t = state_to TimerRecovery (transmit_enquiry s) in
       let u = without_info Command (status_frame true s.end.window) in
       subst (λ (t : StepState). PollsBy rc t) (sym (closes_in_8 t refl refl)) (record {
         polled = record { in_8 = refl; rc_is = same_rc; parameters = same_parameters; unsent_is = same_unsent; waiting_is = same_waiting; window = ap (λ w. without_ack_pending w) same_window };
         frame = u;
         ignored = ignored_status s.end.window;
+        polls = ap poll_of (enquiry_kind s.end.window);
         line = (enquiry_puts c s).line ∙ ap (λ l. l ++ u ∷ []) none;
+        none_dropped = (enquiry_puts c s).dropped ∙ same_dropped;
       })
 
   -- T200 expires in state 7
@@ -143,7 +150,9 @@ module _ (x : Station) where
         polled = record { in_8 = refl; rc_is = refl; parameters = refl; unsent_is = refl; waiting_is = refl; window = refl };
         frame = u;
         ignored = refl;
+        polls = refl;
         line = (last_puts c (expired T200 s)).line;
+        none_dropped = (last_puts c (expired T200 s)).dropped;
       }))
       (λ _.
       let s = begin x.end in
@@ -153,7 +162,9 @@ module _ (x : Station) where
         polled = record { in_8 = refl; rc_is = refl; parameters = refl; unsent_is = refl; waiting_is = refl; window = refl };
         frame = u;
         ignored = ignored_status x.end.window;
+        polls = ap poll_of (enquiry_kind x.end.window);
         line = (enquiry_puts c (expired T200 s)).line;
+        none_dropped = (enquiry_puts c (expired T200 s)).dropped;
       }))
 
   t200_in_7 : x.end.t200 ≡ true → PollsBy 1 (end_step Whole (row Whole MultipleFrameEstablished (Expiry T200) (begin x.end)))
@@ -162,7 +173,7 @@ module _ (x : Station) where
 
   t203_in_7 : x.end.t203 ≡ true → PollsBy 0 (end_step Whole (row Whole MultipleFrameEstablished (Expiry T203) (begin x.end)))
   unfolding row by_state multiple_frame_established begin rc_to expired story_after
-  t203_in_7 on = by_test (λ (t : StepState). PollsBy 0 (end_step Whole t)) x.end.t203 _ _ (λ _. enquires (rc_to 0 (expired T203 (begin x.end))) 0 refl refl refl refl refl refl) (λ off. cc)
+  t203_in_7 on = by_test (λ (t : StepState). PollsBy 0 (end_step Whole t)) x.end.t203 _ _ (λ _. enquires (rc_to 0 (expired T203 (begin x.end))) 0 refl refl refl refl refl refl refl) (λ off. cc)
 
   retries_in_8 : x.end.state ≡ TimerRecovery → PollsBy (x.end.rc + 1) (end_step Whole (transmit_enquiry (expired T200 (increment_rc (begin x.end)))))
   unfolding increment_rc expired transmit_enquiry without_ack_pending story_after begin
@@ -173,7 +184,9 @@ module _ (x : Station) where
         polled = record { in_8 = is; rc_is = refl; parameters = refl; unsent_is = refl; waiting_is = refl; window = refl };
         frame = without_info Command (status_frame true x.end.window);
         ignored = ignored_status x.end.window;
+        polls = ap poll_of (enquiry_kind x.end.window);
         line = (enquiry_puts c s).line;
+        none_dropped = (enquiry_puts c s).dropped;
       })
 
   t200_in_8 : x.end.state ≡ TimerRecovery → x.end.t200 ≡ true → nat_lt x.end.rc x.end.parameters.n200 ≡ true → PollsBy (x.end.rc + 1) (end_step Whole (row Whole TimerRecovery (Expiry T200) (begin x.end)))

@@ -93,11 +93,11 @@ pub record Loses (n : ℕ) (w now : World) : Type 0 where
   pub flow : Flow (n + waiting w.user.end + waiting w.network.end) now
 
 -- the frame at this position is in transit to the user
-record IsGone (at : ℕ) (v now : View) : Type 0 where
-  there : at + 1 ≤ length v.incoming
-  same : now ≡ record v { incoming = without_lost at v.incoming }
+pub record IsGone (at : ℕ) (v now : View) : Type 0 where
+  pub there : at + 1 ≤ length v.incoming
+  pub same : now ≡ record v { incoming = without_lost at v.incoming }
 
-user_loses : (at : ℕ) (v : View) → is_ok (acts Whole side.User (Lose at) v) ≡ true → IsGone at v (left_by v (acts Whole side.User (Lose at) v))
+pub user_loses : (at : ℕ) (v : View) → is_ok (acts Whole side.User (Lose at) v) ≡ true → IsGone at v (left_by v (acts Whole side.User (Lose at) v))
 unfolding acts loses
 user_loses at v =
     by_test (λ (o : Result ViewStep Refusal). is_ok o ≡ true → IsGone at v (left_by v o)) (nat_lt at (length v.incoming)) _ _

@@ -24,7 +24,7 @@ use Rattle.lapd_recovery_laws.proofs.OpenLine.{open_line_comes_up}
 use Rattle.lapd_recovery_laws.proofs.OwnOnTags.{are_own_by_tags, rests_by_tags, ran_on_tags, are_level_on_tags, agreed_on_tags}
 use Rattle.lapd_recovery_laws.proofs.TimersOfRuns.{new_has_timers, timers_after_run}
 
-up_on_tags : (w v : World) → IsUp w v → IsUp (tag_world w) (tag_world v)
+pub up_on_tags : (w v : World) → IsUp w v → IsUp (tag_world w) (tag_world v)
 up_on_tags w v u = record {
   agreed = agreed_on_tags v u.agreed;
   level = are_level_on_tags v.user.end v.network.end u.level;

@@ -22,7 +22,7 @@ use Rattle.lapd_link_definition.specs.TimerRecovery.{timer_recovery}
 use Rattle.lapd_pair_laws.specs.Histories.{Occasion, Story, after_outputs}
 use Rattle.lapd_pair_laws.specs.Line.{Flight, without_info}
 use Rattle.lapd_pair_laws.specs.Move.{Station, View, story_after}
-use Rattle.lapd_pair_laws.specs.Kinds.{Kind, Asks, Accepts, Refuses, Unnumbered, kind, kind_of, kinds, messages, rejections, tally, answer_of}
+use Rattle.lapd_pair_laws.specs.Kinds.{Kind, Asks, Accepts, Refuses, Unnumbered, kind, kind_of, kinds, messages, rejections, tally, ask_of, answer_of, poll_of, final_of}
 use Rattle.lapd_pair_laws.specs.Parties.{party, next_reception, received_in, OnReception}
 use Rattle.lapd_pair_laws.specs.Conjuncts.{IsNumbering, most_asks}
 use Rattle.lapd_pair_laws.specs.Invariant.{Both}
@@ -30,16 +30,16 @@ use Rattle.lapd_pair_laws.specs.Timed.{IsSettledEnd}
 use Rattle.lapd_pair_laws.proofs.ActionEffects.{Context, story, seen, line, HoldsMid}
 use Rattle.lapd_pair_laws.proofs.ClosedActions.{closes_nothing}
 use Rattle.lapd_pair_laws.proofs.Flow.{IsWhole, fresh}
-use Rattle.lapd_pair_laws.proofs.Lists.{by_test}
+use Rattle.lapd_pair_laws.proofs.Lists.{by_test, tally_append}
 use Rattle.lapd_pair_laws.proofs.MidSteps.{enter, numbering, open_asks_none}
 use Rattle.lapd_pair_laws.proofs.OpenRows.{no_foreign}
 use Rattle.lapd_pair_laws.proofs.Steps.{context, begun}
-use Rattle.lapd_recovery_laws.proofs.EndSends.{Unsending, pending_in, pending, end_closes}
+use Rattle.lapd_recovery_laws.proofs.EndSends.{Unsending, pending_in, pending, kinds_append, end_closes}
 use Rattle.lapd_recovery_laws.proofs.Establishes.{discards_by}
 use Rattle.lapd_recovery_laws.proofs.LoneSteps.{is_ignored}
 use Rattle.lapd_recovery_laws.proofs.OpenDelivers.{Delivered, by_answer, answered_so, by_back}
 use Rattle.lapd_recovery_laws.proofs.Proceeding.{weigh, plain_of, heard, extra, extra_few, extra_open, extra_first, Arrives, no_number_no_rejection, behind_first, missing_in, missing, load, load_open, load_closed, once_more, none_more, Share, Pays}
-use Rattle.lapd_recovery_laws.proofs.Replies.{Keeps, Turns, passes, i_in_7, i_in_8, rr_in_7, rr_in_8, rnr_in_7, rnr_in_8, rej_in_7, rej_in_8}
+use Rattle.lapd_recovery_laws.proofs.Replies.{Sending, Keeps, Replies, Backs, Turns, passes, i_in_7, i_in_8, rr_in_7, rr_in_8, rnr_in_7, rnr_in_8, rej_in_7, rej_in_8}
 
 pub most_one : (state : State) → most_asks state ≤ 1
 most_one TeiAssigned = omega arith
@@ -92,6 +92,24 @@ pub unit_kind : (control : Control) (role : Role) (octets : List ℕ) (place : �
 unit_kind (Ui p) Command octets place is = refl
 unit_kind control role octets place is = cc
 
+-- An end in state 7 or 8 stays so, drops no message, keeps RC while it is in state 8, and answers a
+-- poll by a final.
+pub record Stays (before : End) (dropped_before : List ℕ) (k : Kind) (outgoing : List Flight) (x : End) (dropped : List ℕ) (line : List Flight) : Type 0 where
+  pub open_state : is_7_or_8 x.state ≡ true
+  pub none_dropped : dropped ≡ dropped_before
+  pub in_8 : x.state ≡ TimerRecovery → (before.state ≡ TimerRecovery) × (x.rc ≡ before.rc) × (final_of k ≡ 0)
+  pub finals : poll_of k + tally final_of (kinds outgoing) ≤ tally final_of (kinds line)
+  pub polls : tally poll_of (kinds outgoing) ≤ tally poll_of (kinds line)
+
+tally_line : (f : Kind → ℕ) (line outgoing fs gs : List Flight) → line ≡ outgoing ++ (fs ++ gs) → tally f (kinds line) ≡ tally f (kinds outgoing) + (tally f (kinds fs) + tally f (kinds gs))
+tally_line f line outgoing fs gs is =
+    let all : tally f (kinds line) ≡ tally f (kinds (outgoing ++ (fs ++ gs))) = ap (λ l. tally f (kinds l)) is in
+    let one : tally f (kinds (outgoing ++ (fs ++ gs))) ≡ tally f (kinds outgoing ++ kinds (fs ++ gs)) = ap (λ l. tally f l) (kinds_append outgoing (fs ++ gs)) in
+    let two = tally_append f (kinds outgoing) (kinds (fs ++ gs)) in
+    let three : tally f (kinds (fs ++ gs)) ≡ tally f (kinds fs ++ kinds gs) = ap (λ l. tally f l) (kinds_append fs gs) in
+    let four = tally_append f (kinds fs) (kinds gs) in
+    omega (arith, all, one, two, three, four)
+
 module _ (station peer : Station) (frame : Flight) (rest outgoing : List Flight) (base its_base : ℕ) (settled : IsSettledEnd station.end) (opened : is_7_or_8 station.end.state ≡ true) (both : Both (party base station) (party its_base peer) (kinds outgoing) (kinds (frame ∷ rest))) where
   abbrev v : View
   v = record { station = station; incoming = frame ∷ rest; outgoing = outgoing }
@@ -111,8 +129,11 @@ module _ (station peer : Station) (frame : Flight) (rest outgoing : List Flight)
   abbrev out : List Kind
   out = kinds outgoing
 
+  abbrev Open : Kind → StepState → Type 0
+  Open k t = Stays e station.history.dropped k outgoing (end_step Whole t).end (story c (end_step Whole t)).history.dropped (story c (end_step Whole t)).line
+
   abbrev Done : Kind → StepState → Type 0
-  Done k t = Delivered e peer.end k ks outgoing (end_step Whole t).end (story c (end_step Whole t)).line
+  Done k t = Delivered e peer.end k ks outgoing (end_step Whole t).end (story c (end_step Whole t)).line × (ask_of k ≡ 0 → Open k t)
 
   abbrev Arriving : Kind → Type 0
   Arriving k = HoldsMid c (k ∷ ks) s
@@ -124,10 +145,46 @@ module _ (station peer : Station) (frame : Flight) (rest outgoing : List Flight)
   none_pending : e.window.ack_pending ≡ false
   none_pending = settled.closed.acknowledged opened
 
+  open_answer : (k : Kind) (t : StepState) → Replies c k s t → Open k t
+  unfolding begin story_after
+  open_answer k t r =
+      let cl = end_closes c t in
+      let u = end_step Whole t in
+      let state : u.end.state ≡ e.state = ap (λ (v : Unsending). v.state) cl.same ∙ ap (λ (v : Sending). v.state) r.sending_same in
+      let line : (story c u).line ≡ outgoing ++ (r.frames ++ cl.frames) = cl.line ∙ ap (λ l. l ++ cl.frames) r.line ∙ append_assoc outgoing r.frames cl.frames in
+      let f = tally_line final_of (story c u).line outgoing r.frames cl.frames line in
+      let p = tally_line poll_of (story c u).line outgoing r.frames cl.frames line in
+      let answered = r.finals in
+      record {
+        open_state = ap is_7_or_8 state ∙ opened;
+        none_dropped = cl.calm.dropped ∙ r.calm.dropped;
+        in_8 = λ is. (sym state ∙ is, cl.calm.rc ∙ r.calm.rc, r.no_final);
+        finals = omega (arith, f, answered);
+        polls = omega (arith, p);
+      }
+
+  open_back : (k : Kind) (t : StepState) → Backs c k ks s t → Open k t
+  unfolding begin story_after
+  open_back k t b =
+      let cl = end_closes c t in
+      let u = end_step Whole t in
+      let state : u.end.state ≡ MultipleFrameEstablished = ap (λ (v : Unsending). v.state) cl.same ∙ b.in_7 in
+      let line : (story c u).line ≡ outgoing ++ ([] ++ cl.frames) = cl.line ∙ ap (λ l. l ++ cl.frames) b.line in
+      let f = tally_line final_of (story c u).line outgoing [] cl.frames line in
+      let p = tally_line poll_of (story c u).line outgoing [] cl.frames line in
+      let none = b.no_poll in
+      record {
+        open_state = ap is_7_or_8 state;
+        none_dropped = cl.calm.dropped ∙ b.calm.dropped;
+        in_8 = λ is. let never : MultipleFrameEstablished ≡ TimerRecovery = sym state ∙ is in cc;
+        finals = omega (arith, f, none);
+        polls = omega (arith, p);
+      }
+
   by_turn : (k : Kind) (t : StepState) → Turns c k ks s t → Done k t
   unfolding begin story_after
-  by_turn k t (inl r) = by_answer e (end_step Whole t).end peer.end k ks outgoing (story c (end_step Whole t)).line opened (answered_so c k s t outgoing refl r)
-  by_turn k t (inr b) = by_back c peer.end k ks s t outgoing refl opened b b.arrives b.awaited (ap pending_in none_pending) (λ p. b.unwanted p.in_7 p.wanted)
+  by_turn k t (inl r) = (by_answer e (end_step Whole t).end peer.end k ks outgoing (story c (end_step Whole t)).line opened (answered_so c k s t outgoing refl r), λ _. open_answer k t r)
+  by_turn k t (inr b) = (by_back c peer.end k ks s t outgoing refl opened b b.arrives b.awaited (ap pending_in none_pending) (λ p. b.unwanted p.in_7 p.wanted), λ _. open_back k t b)
 
   queue : unsent e ≤ waiting e
   unfolding begin
@@ -203,19 +260,21 @@ module _ (station peer : Station) (frame : Flight) (rest outgoing : List Flight)
         let fewer = cl.fewer in
         let q = queue in
         let whole : IsWhole 0 u.end.window.vs (messages fs) = subst (λ n. IsWhole n u.end.window.vs (messages fs)) r.vs cl.whole in
-        let arrives : OnReception (Arrives u.end.window.vs) (heard peer.end (out ++ Accepts ∷ fs)) = reset_arrives peer.end.state peer.end.release_pending peer.end.window.vs peer.end.window.va peer.end.window.vr u.end.window.vs peer.end.window.rejecting out fs closed no_ua whole in
-        record {
-          new = without_info Answer (Ua true) ∷ cl.frames;
-          sent = cl.line ∙ ap (λ l. l ++ cl.frames) r.sent ∙ append_assoc outgoing (without_info Answer (Ua true) ∷ []) cl.frames;
-          advances = record {
-            relief = 0;
-            mine = pays u.end cl.frames (unsent t.end) cl.sent (ap (λ (v : Unsending). v.state) cl.same ∙ r.in_7) (omega (arith, given, first, all)) fewer (omega (arith, l, none)) few arrives;
-            its_load = closed_falls u.end (extra_few u.end ks);
-            its = λ p. absurd (not_in_7 p.in_7);
-          };
-          fewer = omega (arith, given, first, all, few, q);
-          free = λ was o. ap (λ (v : Unsending). v.own_busy) cl.same ∙ r.idle;
-        }
+        let arrives : OnReception (Arrives u.end.window.vs) (heard peer.end (out ++ Accepts ∷ fs)) = reset_arrives peer.end.state peer.end.release_pending peer.end.window.vs peer.end.window.va peer.end.window.vr u.end.window.vs peer.end.window.rejecting out fs closed no_ua whole in (
+          record {
+            new = without_info Answer (Ua true) ∷ cl.frames;
+            sent = cl.line ∙ ap (λ l. l ++ cl.frames) r.sent ∙ append_assoc outgoing (without_info Answer (Ua true) ∷ []) cl.frames;
+            advances = record {
+              relief = 0;
+              mine = pays u.end cl.frames (unsent t.end) cl.sent (ap (λ (v : Unsending). v.state) cl.same ∙ r.in_7) (omega (arith, given, first, all)) fewer (omega (arith, l, none)) few arrives;
+              its_load = closed_falls u.end (extra_few u.end ks);
+              its = λ p. absurd (not_in_7 p.in_7);
+            };
+            fewer = omega (arith, given, first, all, few, q);
+            free = λ was o. ap (λ (v : Unsending). v.own_busy) cl.same ∙ r.idle;
+          },
+          λ asked. cc,
+        )
 
     abbrev reset : StepState → StepState
     reset d = d ▷ stop T200 ▷ start T203 ▷ zero_state_variables ▷ state_to MultipleFrameEstablished
@@ -240,19 +299,21 @@ module _ (station peer : Station) (frame : Flight) (rest outgoing : List Flight)
     by_disc : Done Asks (in_7_and_8 (Heard (Disc true) Command) s)
     unfolding in_7_and_8 discard_i_queue put stop state_to begin story_after
     by_disc =
-        let t = in_7_and_8 (Heard (Disc true) Command) s in
-        subst (λ (u : StepState). Delivered e peer.end Asks ks outgoing u.end (story c u).line) (sym (closes_nothing t refl)) (record {
-          new = without_info Answer (Ua true) ∷ [];
-          sent = released_line (nat_lt 0 (waiting e)) e.t200 e.t203 (waiting e) _ _;
-          advances = record {
-            relief = 0;
-            mine = λ n share. record { a = 0; share = inl (let none = extra_first peer.end out closed no_ua in omega (arith, none)); most = omega arith };
-            its_load = closed_falls t.end (omega arith);
-            its = λ p. absurd (not_in_7 p.in_7);
-          };
-          fewer = omega arith;
-          free = λ was o. cc;
-        })
+        let t = in_7_and_8 (Heard (Disc true) Command) s in (
+          subst (λ (u : StepState). Delivered e peer.end Asks ks outgoing u.end (story c u).line) (sym (closes_nothing t refl)) (record {
+            new = without_info Answer (Ua true) ∷ [];
+            sent = released_line (nat_lt 0 (waiting e)) e.t200 e.t203 (waiting e) _ _;
+            advances = record {
+              relief = 0;
+              mine = λ n share. record { a = 0; share = inl (let none = extra_first peer.end out closed no_ua in omega (arith, none)); most = omega arith };
+              its_load = closed_falls t.end (omega arith);
+              its = λ p. absurd (not_in_7 p.in_7);
+            };
+            fewer = omega arith;
+            free = λ was o. cc;
+          }),
+          λ asked. cc,
+        )
 
   -- ---- Frames that do not arrive, and unit data.
 
@@ -266,10 +327,10 @@ module _ (station peer : Station) (frame : Flight) (rest outgoing : List Flight)
 
   unit_keeps : Keeps c s (put UnitUp s)
   unfolding put story_after begin
-  unit_keeps = record { line = refl; sending_same = refl; receiving_same = refl; first = omega arith }
+  unit_keeps = record { line = refl; sending_same = refl; receiving_same = refl; first = omega arith; calm = record { rc = refl; dropped = refl } }
 
   by_unit : Done Unnumbered (put UnitUp s)
-  by_unit = by_turn Unnumbered (put UnitUp s) (inl (passes Unnumbered refl none_now (omega arith) unit_keeps))
+  by_unit = by_turn Unnumbered (put UnitUp s) (inl (passes Unnumbered refl refl refl none_now (omega arith) unit_keeps))
 
   -- ---- All frames.
 

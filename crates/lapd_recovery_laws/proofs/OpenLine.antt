@@ -216,7 +216,7 @@ or_second : (a b : Bool) → b ≡ false → (a || b) ≡ true → a ≡ true
 or_second true b absent either = refl
 or_second false b absent either = cc
 
-side_served : (before after : Station) → AreSettled after.history → left_of after ≡ 0 → after.history.dropped ≡ before.history.dropped → IsServed before after
+pub side_served : (before after : Station) → AreSettled after.history → left_of after ≡ 0 → after.history.dropped ≡ before.history.dropped → IsServed before after
 side_served before after settled none same = record {
   dropped = same;
   acknowledged = λ place there not_dropped.

@@ -19,7 +19,7 @@ use Rattle.lapd_link_definition.specs.Procedures.{out_where, state_to, start, st
 use Rattle.lapd_link_definition.specs.TimerRecovery.{poll, i_frame_nr_in_recovery, rr_nr_in_recovery, rnr_nr_in_recovery, timer_recovery}
 use Rattle.lapd_pair_laws.specs.Line.{Flight, without_info}
 use Rattle.lapd_pair_laws.specs.Move.{story_after}
-use Rattle.lapd_pair_laws.specs.Kinds.{Message, Kind, Numbered, Status, Rejection, Enquiry, Final, kind_of, kinds, message_of, messages, numbers, rejection_of, rejections, tally, answer_of}
+use Rattle.lapd_pair_laws.specs.Kinds.{Message, Kind, Numbered, Status, Rejection, Enquiry, Final, kind_of, kinds, message_of, messages, numbers, rejection_of, rejections, tally, answer_of, poll_of, final_of}
 use Rattle.lapd_pair_laws.specs.Conjuncts.{IsNumbering}
 use Rattle.lapd_link_definition.specs.EndOfStep.{is_7_or_8}
 use Rattle.lapd_pair_laws.specs.Parties.{receives, OnReception}
@@ -36,7 +36,7 @@ use Rattle.lapd_pair_laws.proofs.Receptions.{by_open}
 use Rattle.lapd_pair_laws.proofs.Runs.{climb_top}
 use Rattle.lapd_pair_laws.proofs.Sends.{same_or_not}
 use Rattle.lapd_pair_laws.proofs.States.{PutsFrame, start_200_puts, start_203_puts, stop_200_puts, acknowledge_puts, response_puts, unanswered_puts, answered_puts}
-use Rattle.lapd_recovery_laws.proofs.EndSends.{pending_in, pending}
+use Rattle.lapd_recovery_laws.proofs.EndSends.{pending_in, pending, IsCalm, then_calm}
 use Rattle.lapd_recovery_laws.proofs.Proceeding.{weight_of, weigh, plain_of, Arrives}
 
 -- ---- What an action changes.
@@ -67,6 +67,7 @@ pub record Keeps (c : Context) (s t : StepState) : Type 0 where
   pub sending_same : sending t.end ≡ sending s.end
   pub receiving_same : receiving t.end ≡ receiving s.end
   pub first : s.end.first ≤ t.end.first
+  pub calm : IsCalm c s t
 
 pub then_keeps : {c : Context} {s t u : StepState} → Keeps c s t → Keeps c t u → Keeps c s u
 then_keeps a b = record {
@@ -74,6 +75,7 @@ then_keeps a b = record {
   sending_same = b.sending_same ∙ a.sending_same;
   receiving_same = b.receiving_same ∙ a.receiving_same;
   first = let p = a.first in let q = b.first in omega (arith, p, q);
+  calm = then_calm a.calm b.calm;
 }
 
 -- what the peer accounts for, with this V(S), falls by `relief`
@@ -96,6 +98,9 @@ pub record Replies (c : Context) (k : Kind) (s t : StepState) : Type 0 where
   pub plain : relief ≤ plain_of k
   pub sending_same : sending t.end ≡ sending s.end
   pub first : s.end.first ≤ t.end.first
+  pub calm : IsCalm c s t
+  pub finals : poll_of k ≤ tally final_of (kinds frames)
+  pub no_final : final_of k ≡ 0
   pub busy : s.end.window.own_busy ≡ true → (rejections (kinds frames) ≡ []) × Lacks c.peer.sends.vs (receiving s.end) (receiving t.end) relief
   pub idle : s.end.window.own_busy ≡ false → (end : ℕ) (ks : List Kind) → IsInTransit s.end.window.rejecting s.end.window.vr end (messages (k ∷ ks))
       → (rejections (kinds frames) ≡ []) × IsInTransit t.end.window.rejecting t.end.window.vr end (messages ks) × Lacks c.peer.sends.vs (receiving s.end) (receiving t.end) relief
@@ -111,6 +116,7 @@ pub record Backs (c : Context) (k : Kind) (ks : List Kind) (s t : StepState) : T
   pub own_busy : t.end.window.own_busy ≡ s.end.window.own_busy
   pub receiving_same : receiving t.end ≡ receiving s.end
   pub first : s.end.first ≤ t.end.first
+  pub calm : IsCalm c s t
   pub resent : unsent t.end ≤ unsent s.end + (s.end.window.vs - nr)
   pub awaited : is_7_or_8 c.peer.state ≡ true → c.peer.takes.vr ≡ nr
   pub outstanding : s.end.window.vs - nr ≤ waiting s.end - unsent s.end
@@ -119,6 +125,7 @@ pub record Backs (c : Context) (k : Kind) (ks : List Kind) (s t : StepState) : T
   pub free : s.end.state ≡ MultipleFrameEstablished → t.end.window.peer_busy ≡ false
   pub no_message : message_of k ≡ []
   pub light : weight_of k ≡ 1
+  pub no_poll : poll_of k ≡ 0
   pub wanted : rejections ks ≡ []
   pub unwanted : s.end.state ≡ MultipleFrameEstablished → rejections (k ∷ ks) ≡ [] → ⊥
   pub arrives : OnReception (Arrives nr) (receives c.peer (kinds (story c s).line))
@@ -140,6 +147,9 @@ keeps_replies {c = c} {k = k} {u = u} a r = record {
   plain = r.plain;
   sending_same = r.sending_same ∙ a.sending_same;
   first = let p = a.first in let q = r.first in omega (arith, p, q);
+  calm = then_calm a.calm r.calm;
+  finals = r.finals;
+  no_final = r.no_final;
   busy = λ is. let both = r.busy (ap (λ (v : Sending). v.own_busy) a.sending_same ∙ is) in (both.0, subst (λ (v : Receiving). Lacks c.peer.sends.vs v (receiving u.end) r.relief) a.receiving_same both.1);
   idle = λ is end ks there.
       let all = r.idle (ap (λ (v : Sending). v.own_busy) a.sending_same ∙ is) end ks (subst (λ (v : Receiving). IsInTransit v.rejecting v.vr end (messages (k ∷ ks))) (sym a.receiving_same) there) in
@@ -158,6 +168,9 @@ replies_keep {c = c} {k = k} {s = s} r a = record {
   plain = r.plain;
   sending_same = a.sending_same ∙ r.sending_same;
   first = let p = a.first in let q = r.first in omega (arith, p, q);
+  calm = then_calm r.calm a.calm;
+  finals = r.finals;
+  no_final = r.no_final;
   busy = λ is. let both = r.busy is in (both.0, subst (λ (v : Receiving). Lacks c.peer.sends.vs (receiving s.end) v r.relief) (sym a.receiving_same) both.1);
   idle = λ is end ks there.
       let all = r.idle is end ks there in
@@ -165,8 +178,8 @@ replies_keep {c = c} {k = k} {s = s} r a = record {
 }
 
 -- a frame without message is not answered
-pub passes : {c : Context} {s t : StepState} (k : Kind) → message_of k ≡ [] → s.end.window.ack_pending ≡ false → 1 ≤ weight_of k → Keeps c s t → Replies c k s t
-passes {c = c} {s = s} {t = t} k none no_ack some a = record {
+pub passes : {c : Context} {s t : StepState} (k : Kind) → message_of k ≡ [] → poll_of k ≡ 0 → final_of k ≡ 0 → s.end.window.ack_pending ≡ false → 1 ≤ weight_of k → Keeps c s t → Replies c k s t
+passes {c = c} {s = s} {t = t} k none no_poll no_final no_ack some a = record {
   frames = [];
   line = a.line ∙ sym (append-nil (story c s).line);
   silent = refl;
@@ -177,6 +190,9 @@ passes {c = c} {s = s} {t = t} k none no_ack some a = record {
   plain = omega arith;
   sending_same = a.sending_same;
   first = a.first;
+  calm = a.calm;
+  finals = omega (arith, no_poll);
+  no_final = no_final;
   busy = λ is. (refl, subst (λ (v : Receiving). Lacks c.peer.sends.vs (receiving s.end) v 0) (sym a.receiving_same) (omega arith));
   idle = λ is end ks there. (
     refl,
@@ -186,12 +202,12 @@ passes {c = c} {s = s} {t = t} k none no_ack some a = record {
 }
 
 -- one frame answers
-answers_by : (c : Context) (k : Kind) (s t : StepState) (u : Control) (q : Kind) → kind_of Answer u [] 0 ≡ q → message_of q ≡ [] → answer_of q ≡ 0 → weight_of q ≡ 1 → (relief : ℕ) → weight_of k + relief ≡ 2 → Falls c.peer.sends.vs (receiving s.end) (receiving t.end) relief → relief ≤ plain_of k
+answers_by : (c : Context) (k : Kind) (s t : StepState) (u : Control) (q : Kind) → kind_of Answer u [] 0 ≡ q → message_of q ≡ [] → answer_of q ≡ 0 → weight_of q ≡ 1 → poll_of k ≤ final_of q → final_of k ≡ 0 → t.end.rc ≡ s.end.rc → (relief : ℕ) → weight_of k + relief ≡ 2 → Falls c.peer.sends.vs (receiving s.end) (receiving t.end) relief → relief ≤ plain_of k
     → PutsFrame c (without_info Answer u) s t → t.end.window.ack_pending ≡ false → sending t.end ≡ sending s.end → s.end.first ≤ t.end.first
     → (s.end.window.own_busy ≡ true → (rejection_of q ≡ []) × Lacks c.peer.sends.vs (receiving s.end) (receiving t.end) relief)
     → (s.end.window.own_busy ≡ false → (end : ℕ) (ks : List Kind) → IsInTransit s.end.window.rejecting s.end.window.vr end (messages (k ∷ ks)) → (rejection_of q ≡ []) × IsInTransit t.end.window.rejecting t.end.window.vr end (messages ks) × Lacks c.peer.sends.vs (receiving s.end) (receiving t.end) relief)
     → Replies c k s t
-answers_by c k s t u q is no_message no_answer one relief two falls plain puts no_ack same first busy idle =
+answers_by c k s t u q is no_message no_answer one polls no_final rc relief two falls plain puts no_ack same first busy idle =
     let all : kinds (without_info Answer u ∷ []) ≡ q ∷ [] = ap (λ k. k ∷ []) is in
     record {
       frames = without_info Answer u ∷ [];
@@ -204,6 +220,9 @@ answers_by c k s t u q is no_message no_answer one relief two falls plain puts n
       plain = plain;
       sending_same = same;
       first = first;
+      calm = record { rc = rc; dropped = puts.dropped };
+      finals = let f : tally final_of (kinds (without_info Answer u ∷ [])) ≡ final_of q + 0 = ap (λ ks. tally final_of ks) all in omega (arith, f, polls);
+      no_final = no_final;
       busy = λ is. let both = busy is in (ap rejections all ∙ ap (λ l. l ++ []) both.0, both.1);
       idle = λ is end ks there. let three = idle is end ks there in (ap rejections all ∙ ap (λ l. l ++ []) three.0, three.1, three.2);
     }
@@ -240,22 +259,22 @@ module _ (c : Context) (ns nr : ℕ) (s : StepState) (none_pending : s.end.windo
   becomes now = record { vr = now.vr; rejecting = now.rejecting; ack_pending = now.ack_pending }
 
   -- the answer is this one, and the variables are these
-  answered : (p accepted : Bool) (now : StateVariables) (u : Control) (q : Kind) → Receives Whole ns p w now accepted (Some u) → kind_of Answer u [] 0 ≡ q → message_of q ≡ [] → answer_of q ≡ 0 → weight_of q ≡ 1
+  answered : (p accepted : Bool) (now : StateVariables) (u : Control) (q : Kind) → Receives Whole ns p w now accepted (Some u) → kind_of Answer u [] 0 ≡ q → message_of q ≡ [] → answer_of q ≡ 0 → weight_of q ≡ 1 → poll_of (k p) ≤ final_of q
       → (relief : ℕ) → weight_of (k p) + relief ≡ 2 → Falls pvs was (becomes now) relief → relief ≤ plain_of (k p)
       → now.ack_pending ≡ false → now.vs ≡ w.vs → now.own_busy ≡ w.own_busy → (w.own_busy ≡ true → (rejection_of q ≡ []) × Lacks pvs was (becomes now) relief)
       → (w.own_busy ≡ false → (end : ℕ) (ks : List Kind) → IsInTransit w.rejecting w.vr end (messages (k p ∷ ks)) → (rejection_of q ≡ []) × IsInTransit now.rejecting now.vr end (messages ks) × Lacks pvs was (becomes now) relief)
       → Replies c (k p) s (i_frame_ns Whole ns p s)
-  answered p accepted now u q r is no_message no_answer one relief two falls plain no_ack same_vs same_busy busy idle =
+  answered p accepted now u q r is no_message no_answer one polls relief two falls plain no_ack same_vs same_busy busy idle =
       subst (λ (t : StepState). Replies c (k p) s t) (sym (as_received ns p s now accepted (Some u) r))
-      (answers_by c (k p) s (left s now accepted (Some u)) u q is no_message no_answer one relief two falls plain (answered_puts c s now accepted u) no_ack (both same_vs same_busy) (omega arith) busy idle)
+      (answers_by c (k p) s (left s now accepted (Some u)) u q is no_message no_answer one polls refl refl relief two falls plain (answered_puts c s now accepted u) no_ack (both same_vs same_busy) (omega arith) busy idle)
     where
       both : now.vs ≡ w.vs → now.own_busy ≡ w.own_busy → sending (record (s.end) { window = now }) ≡ sending s.end
       both a b = ap (λ v. record (sending s.end) { vs = v; own_busy = now.own_busy }) a ∙ ap (λ o. record (sending s.end) { own_busy = o }) b
 
-  unanswered : (p accepted : Bool) (now : StateVariables) → Receives Whole ns p w now accepted None → (relief : ℕ) → pending_in now.ack_pending + 1 ≤ weight_of (k p) + relief → Falls pvs was (becomes now) relief → relief ≤ plain_of (k p) → Lacks pvs was (becomes now) relief → now.vs ≡ w.vs → now.own_busy ≡ w.own_busy
+  unanswered : (p accepted : Bool) (now : StateVariables) → Receives Whole ns p w now accepted None → poll_of (k p) ≡ 0 → (relief : ℕ) → pending_in now.ack_pending + 1 ≤ weight_of (k p) + relief → Falls pvs was (becomes now) relief → relief ≤ plain_of (k p) → Lacks pvs was (becomes now) relief → now.vs ≡ w.vs → now.own_busy ≡ w.own_busy
       → (w.own_busy ≡ false → (end : ℕ) (ks : List Kind) → IsInTransit w.rejecting w.vr end (messages (k p ∷ ks)) → IsInTransit now.rejecting now.vr end (messages ks))
       → Replies c (k p) s (i_frame_ns Whole ns p s)
-  unanswered p accepted now r relief few falls plain lacks same_vs same_busy idle =
+  unanswered p accepted now r no_poll relief few falls plain lacks same_vs same_busy idle =
       subst (λ (t : StepState). Replies c (k p) s t) (sym (as_received ns p s now accepted None r)) (record {
         frames = [];
         line = (unanswered_puts c s now accepted).line ∙ sym (append-nil (story c s).line);
@@ -267,6 +286,9 @@ module _ (c : Context) (ns nr : ℕ) (s : StepState) (none_pending : s.end.windo
         plain = plain;
         sending_same = both same_vs same_busy;
         first = omega arith;
+        calm = record { rc = refl; dropped = (unanswered_puts c s now accepted).dropped };
+        finals = omega (arith, no_poll);
+        no_final = refl;
         busy = λ is. (refl, lacks);
         idle = λ is end ks there. (refl, idle is end ks there, lacks);
       })
@@ -281,10 +303,10 @@ module _ (c : Context) (ns nr : ℕ) (s : StepState) (none_pending : s.end.windo
 
   taken : (p : Bool) → w.own_busy ≡ false → ns ≡ w.vr → w.vr < pvs → Replies c (k p) s (i_frame_ns Whole ns p s)
   unfolding after
-  taken true free is below = answered true true (record w { vr = w.vr + 1; rejecting = false; ack_pending = false }) (Rr (w.vr + 1) true) (Final (w.vr + 1)) (received_in_sequence Whole ns true w free is) refl refl refl refl
+  taken true free is below = answered true true (record w { vr = w.vr + 1; rejecting = false; ack_pending = false }) (Rr (w.vr + 1) true) (Final (w.vr + 1)) (received_in_sequence Whole ns true w free is) refl refl refl refl (omega arith)
       0 refl (accepted_falls w.rejecting 0 (omega arith) below) (omega arith) refl refl refl (λ on. (refl, omega (arith, below)))
       (λ off end ks there. (refl, whole_taken w.rejecting w.vr end (current c ns true) (messages ks) is there, omega (arith, below)))
-  taken false free is below = unanswered false true (record w { vr = w.vr + 1; rejecting = false; ack_pending = true }) (received_in_sequence Whole ns false w free is)
+  taken false free is below = unanswered false true (record w { vr = w.vr + 1; rejecting = false; ack_pending = true }) (received_in_sequence Whole ns false w free is) refl
       1 (omega arith) (accepted_falls w.rejecting 1 (omega arith) below) (omega arith) (omega (arith, below)) refl refl
       (λ off end ks there. whole_taken w.rejecting w.vr end (current c ns false) (messages ks) is there)
 
@@ -293,10 +315,10 @@ module _ (c : Context) (ns nr : ℕ) (s : StepState) (none_pending : s.end.windo
   rejected_falls false relief off le = omega (arith, le)
 
   rejected_row : (p : Bool) → w.own_busy ≡ false → (ns ≡ w.vr → ⊥) → w.rejecting ≡ false → Replies c (k p) s (i_frame_ns Whole ns p s)
-  rejected_row true free other not_yet = answered true false (record w { rejecting = true; ack_pending = false }) (Rej w.vr true) (Final w.vr) (received_out_of_sequence Whole ns true w free other not_yet) refl refl refl refl
+  rejected_row true free other not_yet = answered true false (record w { rejecting = true; ack_pending = false }) (Rej w.vr true) (Final w.vr) (received_out_of_sequence Whole ns true w free other not_yet) refl refl refl refl (omega arith)
       0 refl (rejected_falls w.rejecting 0 not_yet (omega arith)) (omega arith) refl refl refl (λ on. never w.own_busy on free)
       (λ off end ks there. let first : IsInTransit false w.vr end (messages (k true ∷ ks)) = subst (λ b. IsInTransit b w.vr end (messages (k true ∷ ks))) not_yet there in absurd (other first.0))
-  rejected_row false free other not_yet = answered false false (record w { rejecting = true; ack_pending = false }) (Rej w.vr false) (Rejection w.vr) (received_out_of_sequence Whole ns false w free other not_yet) refl refl refl refl
+  rejected_row false free other not_yet = answered false false (record w { rejecting = true; ack_pending = false }) (Rej w.vr false) (Rejection w.vr) (received_out_of_sequence Whole ns false w free other not_yet) refl refl refl refl (omega arith)
       1 refl (rejected_falls w.rejecting 1 not_yet (omega arith)) (omega arith) refl refl refl (λ on. never w.own_busy on free)
       (λ off end ks there. let first : IsInTransit false w.vr end (messages (k false ∷ ks)) = subst (λ b. IsInTransit b w.vr end (messages (k false ∷ ks))) not_yet there in absurd (other first.0))
 
@@ -304,9 +326,9 @@ module _ (c : Context) (ns nr : ℕ) (s : StepState) (none_pending : s.end.windo
       → (w.own_busy ≡ false → (end : ℕ) (ks : List Kind) → IsInTransit w.rejecting w.vr end (messages (k p ∷ ks)) → IsInTransit w.rejecting w.vr end (messages ks))
       → Replies c (k p) s (i_frame_ns Whole ns p s)
   unfolding poll_response
-  discarded true r idle = answered true false (record w { ack_pending = false }) (status_frame true w) (Final w.vr) r (final_kind w) refl refl refl
+  discarded true r idle = answered true false (record w { ack_pending = false }) (status_frame true w) (Final w.vr) r (final_kind w) refl refl refl (omega arith)
       0 refl (omega arith) (omega arith) refl refl refl (λ on. (refl, omega arith)) (λ off end ks there. (refl, idle off end ks there, omega arith))
-  discarded false r idle = unanswered false false (record w { ack_pending = w.ack_pending }) r
+  discarded false r idle = unanswered false false (record w { ack_pending = w.ack_pending }) r refl
       0 (let none : pending_in w.ack_pending ≡ 0 = ap pending_in none_pending in omega (arith, none)) (omega arith) (omega arith) (omega arith) refl refl idle
 
   pub replies_ns : (p : Bool) → (ns ≡ w.vr → w.vr < pvs) → Replies c (k p) s (i_frame_ns Whole ns p s)
@@ -324,30 +346,32 @@ module _ (c : Context) (ns nr : ℕ) (s : StepState) (none_pending : s.end.windo
 module _ (c : Context) (s : StepState) where
   acknowledge_keeps : (nr : ℕ) → Keeps c s (acknowledge Whole nr s)
   unfolding acknowledge with_va
-  acknowledge_keeps nr = record { line = (acknowledge_puts c s nr).line; sending_same = refl; receiving_same = refl; first = omega arith }
+  acknowledge_keeps nr = record { line = (acknowledge_puts c s nr).line; sending_same = refl; receiving_same = refl; first = omega arith; calm = record { rc = refl; dropped = (acknowledge_puts c s nr).dropped } }
 
   start_200_keeps : Keeps c s (start T200 s)
   unfolding start
-  start_200_keeps = record { line = (start_200_puts c s).line; sending_same = refl; receiving_same = refl; first = omega arith }
+  start_200_keeps = record { line = (start_200_puts c s).line; sending_same = refl; receiving_same = refl; first = omega arith; calm = record { rc = refl; dropped = (start_200_puts c s).dropped } }
 
   start_203_keeps : Keeps c s (start T203 s)
   unfolding start
-  start_203_keeps = record { line = (start_203_puts c s).line; sending_same = refl; receiving_same = refl; first = omega arith }
+  start_203_keeps = record { line = (start_203_puts c s).line; sending_same = refl; receiving_same = refl; first = omega arith; calm = record { rc = refl; dropped = (start_203_puts c s).dropped } }
 
   stop_200_keeps : Keeps c s (stop T200 s)
   unfolding stop
-  stop_200_keeps = record { line = (stop_200_puts c s).line; sending_same = refl; receiving_same = refl; first = omega arith }
+  stop_200_keeps = record { line = (stop_200_puts c s).line; sending_same = refl; receiving_same = refl; first = omega arith; calm = record { rc = refl; dropped = (stop_200_puts c s).dropped } }
 
   stop_203_keeps : Keeps c s (stop T203 s)
   unfolding stop story_after
-  stop_203_keeps = record { line = ap (λ u. u.line) (after_outputs_append _ s.outs (out_where (runs T203 s.end) (Stop T203)) _ ∙ after_stop (runs T203 s.end) T203 (occasion c s) (story c s)); sending_same = refl; receiving_same = refl; first = omega arith }
+  stop_203_keeps =
+      let same = after_outputs_append _ s.outs (out_where (runs T203 s.end) (Stop T203)) _ ∙ after_stop (runs T203 s.end) T203 (occasion c s) (story c s) in
+      record { line = ap (λ u. u.line) same; sending_same = refl; receiving_same = refl; first = omega arith; calm = record { rc = refl; dropped = ap (λ u. u.history.dropped) same } }
 
   peer_busy_keeps : (on : Bool) → Keeps c s (set_peer_busy on s)
   unfolding set_peer_busy with_peer_busy story_after
-  peer_busy_keeps on = record { line = refl; sending_same = refl; receiving_same = refl; first = omega arith }
+  peer_busy_keeps on = record { line = refl; sending_same = refl; receiving_same = refl; first = omega arith; calm = record { rc = refl; dropped = refl } }
 
   nothing_keeps : Keeps c s s
-  nothing_keeps = record { line = refl; sending_same = refl; receiving_same = refl; first = omega arith }
+  nothing_keeps = record { line = refl; sending_same = refl; receiving_same = refl; first = omega arith; calm = record { rc = refl; dropped = refl } }
 
 module _ (c : Context) (nr : ℕ) (ks : List Kind) (s : StepState) (m : HoldsMid c (Status nr ∷ ks) s) where
   when_valid : (x y : StepState) → Keeps c s x → Keeps c s (if is_valid_nr Whole nr s.end.window then x else y)
@@ -385,7 +409,7 @@ module _ (c : Context) (nr : ℕ) (ks : List Kind) (s : StepState) (m : HoldsMid
 
 response_replies : (c : Context) (nr : ℕ) (s : StepState) → Replies c (Enquiry nr) s (enquiry_response s)
 unfolding enquiry_response without_ack_pending
-response_replies c nr s = answers_by c (Enquiry nr) s (enquiry_response s) (status_frame true s.end.window) (Final s.end.window.vr) (final_kind s.end.window) refl refl refl 0 refl (omega arith) (omega arith) (response_puts c s) refl refl (omega arith) (λ on. (refl, omega arith)) (λ off end ks there. (refl, there, omega arith))
+response_replies c nr s = answers_by c (Enquiry nr) s (enquiry_response s) (status_frame true s.end.window) (Final s.end.window.vr) (final_kind s.end.window) refl refl refl (omega arith) refl refl 0 refl (omega arith) (omega arith) (response_puts c s) refl refl (omega arith) (λ on. (refl, omega arith)) (λ off end ks there. (refl, there, omega arith))
 
 -- ---- V(S) is set back.
 
@@ -397,10 +421,10 @@ record IsQueued (s : StepState) (nr : ℕ) : Type 0 where
   room : s.end.window.vs ≤ s.end.window.va + s.end.parameters.k
 
 -- the state before the end of the row, and what is known of the frames in transit
-back_row : (c : Context) (k : Kind) (ks : List Kind) (nr : ℕ) (s t : StepState) → message_of k ≡ [] → weight_of k ≡ 1 → rejections ks ≡ [] → (s.end.state ≡ MultipleFrameEstablished → rejections (k ∷ ks) ≡ [] → ⊥) → OnReception (Arrives nr) (receives c.peer (line c s)) → (story c t).line ≡ (story c s).line → t.end.state ≡ MultipleFrameEstablished
+back_row : (c : Context) (k : Kind) (ks : List Kind) (nr : ℕ) (s t : StepState) → message_of k ≡ [] → weight_of k ≡ 1 → poll_of k ≡ 0 → rejections ks ≡ [] → (s.end.state ≡ MultipleFrameEstablished → rejections (k ∷ ks) ≡ [] → ⊥) → OnReception (Arrives nr) (receives c.peer (line c s)) → (story c t).line ≡ (story c s).line → IsCalm c s t → t.end.state ≡ MultipleFrameEstablished
     → t.end.window.vs ≡ nr → t.end.next ≡ t.end.first → t.end.given ≡ s.end.given → t.end.window.own_busy ≡ s.end.window.own_busy → receiving t.end ≡ receiving s.end → t.end.first ≡ s.end.first + (nr - s.end.window.va)
     → t.end.window.va ≡ nr → t.end.parameters.k ≡ s.end.parameters.k → (s.end.state ≡ MultipleFrameEstablished → t.end.window.peer_busy ≡ false) → IsQueued s nr → (is_7_or_8 c.peer.state ≡ true → c.peer.takes.vr ≡ nr) → Backs c k ks s t
-back_row c k ks nr s t no_message light wanted unwanted arrives same in_7 vs next given own_busy receiving_same acked va same_k free q awaited =
+back_row c k ks nr s t no_message light no_poll wanted unwanted arrives same calm in_7 vs next given own_busy receiving_same acked va same_k free q awaited =
     let low = q.low in
     let high = q.high in
     let sent = q.sent in
@@ -416,6 +440,7 @@ back_row c k ks nr s t no_message light wanted unwanted arrives same in_7 vs nex
       own_busy = own_busy;
       receiving_same = receiving_same;
       first = omega (arith, acked);
+      calm = calm;
       resent = omega (arith, next, acked, len, low, high, sent, within);
       awaited = awaited;
       outstanding = omega (arith, low, high, sent, within);
@@ -424,6 +449,7 @@ back_row c k ks nr s t no_message light wanted unwanted arrives same in_7 vs nex
       free = free;
       no_message = no_message;
       light = light;
+      no_poll = no_poll;
       wanted = wanted;
       unwanted = unwanted;
       arrives = arrives;
@@ -452,8 +478,8 @@ module _ (c : Context) (nr : ℕ) (ks : List Kind) (s : StepState) (is : s.end.s
   rej_backs =
       let a = acknowledge Whole nr s in
       let b = invoke_retransmission nr a in
-      back_row c (Rejection nr) ks nr s (start T203 (stop T200 b)) refl refl (sent_back_in_7 (seen c s) c.peer (line c s) nr ks is m).1 (λ in_7 none. cc) rej_arrives
-      ((start_203_puts c (stop T200 b)).line ∙ (stop_200_puts c b).line ∙ (acknowledge_puts c s nr).line) is refl refl refl refl refl refl refl refl (λ in_7. peer_free) (queued c nr ks s status_of_rej) (λ opened. (rejected_so {x = seen c s} {y = c.peer} {out = line c s} nr ks is opened m).at)
+      back_row c (Rejection nr) ks nr s (start T203 (stop T200 b)) refl refl refl (sent_back_in_7 (seen c s) c.peer (line c s) nr ks is m).1 (λ in_7 none. cc) rej_arrives
+      ((start_203_puts c (stop T200 b)).line ∙ (stop_200_puts c b).line ∙ (acknowledge_puts c s nr).line) (record { rc = refl; dropped = (start_203_puts c (stop T200 b)).dropped ∙ (stop_200_puts c b).dropped ∙ (acknowledge_puts c s nr).dropped }) is refl refl refl refl refl refl refl refl (λ in_7. peer_free) (queued c nr ks s status_of_rej) (λ opened. (rejected_so {x = seen c s} {y = c.peer} {out = line c s} nr ks is opened m).at)
 
   rej_nr_backs : Backs c (Rejection nr) ks s (rej_nr Whole nr s)
   unfolding rej_nr
@@ -474,15 +500,15 @@ module _ (c : Context) (nr : ℕ) (ks : List Kind) (s : StepState) (is : s.end.s
   unfolding state_to start stop invoke_retransmission acknowledge with_va with_vs story_after acknowledged_count steps
   rr_final_backs =
       let b = invoke_retransmission nr (acknowledge Whole nr s) in
-      back_row c (Final nr) ks nr s (state_to MultipleFrameEstablished (start T203 (stop T200 b))) refl refl final_wanted (λ in_7 none. cc) final_arrives
-      ((start_203_puts c (stop T200 b)).line ∙ (stop_200_puts c b).line ∙ (acknowledge_puts c s nr).line) refl refl refl refl refl refl refl refl refl (λ in_7. cc) (queued c nr ks s status_of_final) (λ opened. (final_so {x = seen c s} {y = c.peer} {out = line c s} nr ks is opened m).at)
+      back_row c (Final nr) ks nr s (state_to MultipleFrameEstablished (start T203 (stop T200 b))) refl refl refl final_wanted (λ in_7 none. cc) final_arrives
+      ((start_203_puts c (stop T200 b)).line ∙ (stop_200_puts c b).line ∙ (acknowledge_puts c s nr).line) (record { rc = refl; dropped = (start_203_puts c (stop T200 b)).dropped ∙ (stop_200_puts c b).dropped ∙ (acknowledge_puts c s nr).dropped }) refl refl refl refl refl refl refl refl refl (λ in_7. cc) (queued c nr ks s status_of_final) (λ opened. (final_so {x = seen c s} {y = c.peer} {out = line c s} nr ks is opened m).at)
 
   rnr_final_backs : Backs c (Final nr) ks s (state_to MultipleFrameEstablished (start T200 (invoke_retransmission nr (acknowledge Whole nr s))))
   unfolding state_to start invoke_retransmission acknowledge with_va with_vs story_after acknowledged_count steps
   rnr_final_backs =
       let b = invoke_retransmission nr (acknowledge Whole nr s) in
-      back_row c (Final nr) ks nr s (state_to MultipleFrameEstablished (start T200 b)) refl refl final_wanted (λ in_7 none. cc) final_arrives
-      ((start_200_puts c b).line ∙ (acknowledge_puts c s nr).line) refl refl refl refl refl refl refl refl refl (λ in_7. cc) (queued c nr ks s status_of_final) (λ opened. (final_so {x = seen c s} {y = c.peer} {out = line c s} nr ks is opened m).at)
+      back_row c (Final nr) ks nr s (state_to MultipleFrameEstablished (start T200 b)) refl refl refl final_wanted (λ in_7 none. cc) final_arrives
+      ((start_200_puts c b).line ∙ (acknowledge_puts c s nr).line) (record { rc = refl; dropped = (start_200_puts c b).dropped ∙ (acknowledge_puts c s nr).dropped }) refl refl refl refl refl refl refl refl refl (λ in_7. cc) (queued c nr ks s status_of_final) (λ opened. (final_so {x = seen c s} {y = c.peer} {out = line c s} nr ks is opened m).at)
 
   rr_backs_in_8 : Backs c (Final nr) ks s (rr_nr_in_recovery Whole true nr s)
   unfolding rr_nr_in_recovery
@@ -504,6 +530,7 @@ keeps_backs {c = c} {s = s} {t = t} a b = record {
   own_busy = b.own_busy ∙ ap (λ (v : Sending). v.own_busy) a.sending_same;
   receiving_same = b.receiving_same ∙ a.receiving_same;
   first = let p = a.first in let q = b.first in omega (arith, p, q);
+  calm = then_calm a.calm b.calm;
   resent = let q = b.resent in let same = ap (λ (v : Sending). length v.given - v.next) a.sending_same in let vs = ap (λ (v : Sending). v.vs) a.sending_same in omega (arith, q, same, vs);
   awaited = b.awaited;
   outstanding =
@@ -518,6 +545,7 @@ keeps_backs {c = c} {s = s} {t = t} a b = record {
   free = λ in_7. b.free (ap (λ (v : Sending). v.state) a.sending_same ∙ in_7);
   no_message = b.no_message;
   light = b.light;
+  no_poll = b.no_poll;
   wanted = b.wanted;
   unwanted = λ in_7 none. b.unwanted (ap (λ (v : Sending). v.state) a.sending_same ∙ in_7) none;
   arrives = subst (λ l. OnReception (Arrives b.nr) (receives c.peer (kinds l))) a.line b.arrives;
@@ -550,14 +578,14 @@ module _ (c : Context) (ks : List Kind) (s : StepState) (none_pending : s.end.wi
   unfolding multiple_frame_established poll_or_final
   rr_in_7 Command nr true is m = inl (replies_keep (keeps_replies (peer_busy_keeps c s false) (response_replies c nr freed)) (rr_nr_keeps c nr ks (enquiry_response freed) (mid_response c freed nr ks (mid_peer_busy c false s (Enquiry nr ∷ ks) m))))
   rr_in_7 Answer nr true is m = absurd (no_final_in_7 c nr ks s is m)
-  rr_in_7 Answer nr false is m = inl (passes (Status nr) refl none_pending (omega arith) (then_keeps (peer_busy_keeps c s false) (rr_nr_keeps c nr ks freed (mid_peer_busy c false s (Status nr ∷ ks) m))))
+  rr_in_7 Answer nr false is m = inl (passes (Status nr) refl refl refl none_pending (omega arith) (then_keeps (peer_busy_keeps c s false) (rr_nr_keeps c nr ks freed (mid_peer_busy c false s (Status nr ∷ ks) m))))
   rr_in_7 Command nr false is m = absurd (no_foreign c ks s m)
 
   pub rnr_in_7 : (role : Role) (nr : ℕ) (pf : Bool) → s.end.state ≡ MultipleFrameEstablished → Arriving c role (Rnr nr pf) ks s → Row c role (Rnr nr pf) ks s (multiple_frame_established Whole (Heard (Rnr nr pf) role) s)
   unfolding multiple_frame_established poll_or_final
   rnr_in_7 Command nr true is m = inl (replies_keep (keeps_replies (peer_busy_keeps c s true) (response_replies c nr busied)) (rnr_nr_keeps c nr ks (enquiry_response busied) (mid_response c busied nr ks (mid_peer_busy c true s (Enquiry nr ∷ ks) m))))
   rnr_in_7 Answer nr true is m = absurd (no_final_in_7 c nr ks s is m)
-  rnr_in_7 Answer nr false is m = inl (passes (Status nr) refl none_pending (omega arith) (then_keeps (peer_busy_keeps c s true) (rnr_nr_keeps c nr ks busied (mid_peer_busy c true s (Status nr ∷ ks) m))))
+  rnr_in_7 Answer nr false is m = inl (passes (Status nr) refl refl refl none_pending (omega arith) (then_keeps (peer_busy_keeps c s true) (rnr_nr_keeps c nr ks busied (mid_peer_busy c true s (Status nr ∷ ks) m))))
   rnr_in_7 Command nr false is m = absurd (no_foreign c ks s m)
 
   freed_is : freed.end.window.peer_busy ≡ false
@@ -583,14 +611,14 @@ module _ (c : Context) (ks : List Kind) (s : StepState) (none_pending : s.end.wi
   unfolding timer_recovery poll
   rr_in_8 Command nr true is m = inl (replies_keep (keeps_replies (peer_busy_keeps c s false) (response_replies c nr freed)) (rr_nr_keeps_in_8 c nr ks (enquiry_response freed) (mid_response c freed nr ks (mid_peer_busy c false s (Enquiry nr ∷ ks) m))))
   rr_in_8 Answer nr true is m = inr (keeps_backs (peer_busy_keeps c s false) (rr_backs_in_8 c nr ks freed (in_8_still is false) (mid_peer_busy c false s (Final nr ∷ ks) m)))
-  rr_in_8 Answer nr false is m = inl (passes (Status nr) refl none_pending (omega arith) (then_keeps (peer_busy_keeps c s false) (rr_nr_keeps_in_8 c nr ks freed (mid_peer_busy c false s (Status nr ∷ ks) m))))
+  rr_in_8 Answer nr false is m = inl (passes (Status nr) refl refl refl none_pending (omega arith) (then_keeps (peer_busy_keeps c s false) (rr_nr_keeps_in_8 c nr ks freed (mid_peer_busy c false s (Status nr ∷ ks) m))))
   rr_in_8 Command nr false is m = absurd (no_foreign c ks s m)
 
   pub rnr_in_8 : (role : Role) (nr : ℕ) (pf : Bool) → s.end.state ≡ TimerRecovery → Arriving c role (Rnr nr pf) ks s → Row c role (Rnr nr pf) ks s (timer_recovery Whole (Heard (Rnr nr pf) role) s)
   unfolding timer_recovery poll
   rnr_in_8 Command nr true is m = inl (replies_keep (keeps_replies (peer_busy_keeps c s true) (response_replies c nr busied)) (rnr_nr_keeps_in_8 c nr ks (enquiry_response busied) (mid_response c busied nr ks (mid_peer_busy c true s (Enquiry nr ∷ ks) m))))
   rnr_in_8 Answer nr true is m = inr (keeps_backs (peer_busy_keeps c s true) (rnr_backs_in_8 c nr ks busied (in_8_still is true) (mid_peer_busy c true s (Final nr ∷ ks) m)))
-  rnr_in_8 Answer nr false is m = inl (passes (Status nr) refl none_pending (omega arith) (then_keeps (peer_busy_keeps c s true) (rnr_nr_keeps_in_8 c nr ks busied (mid_peer_busy c true s (Status nr ∷ ks) m))))
+  rnr_in_8 Answer nr false is m = inl (passes (Status nr) refl refl refl none_pending (omega arith) (then_keeps (peer_busy_keeps c s true) (rnr_nr_keeps_in_8 c nr ks busied (mid_peer_busy c true s (Status nr ∷ ks) m))))
   rnr_in_8 Command nr false is m = absurd (no_foreign c ks s m)
 
   -- a REJ with F=0 in state 8 acknowledges, and no more
@@ -600,5 +628,5 @@ module _ (c : Context) (ks : List Kind) (s : StepState) (none_pending : s.end.wi
   rej_in_8 Answer nr true is m = inr (keeps_backs (peer_busy_keeps c s false) (rr_backs_in_8 c nr ks freed (in_8_still is false) (mid_peer_busy c false s (Final nr ∷ ks) m)))
   rej_in_8 Answer nr false is m =
       let r = mid_peer_busy c false s (Rejection nr ∷ ks) m in
-      inl (passes (Rejection nr) refl none_pending (omega arith) (then_keeps (peer_busy_keeps c s false) (rr_nr_keeps_in_8 c nr ks freed (turned (seen c freed) c.peer (line c freed) (Status nr ∷ ks) (Rejection nr ∷ ks) (rejection_left nr ks) r))))
+      inl (passes (Rejection nr) refl refl refl none_pending (omega arith) (then_keeps (peer_busy_keeps c s false) (rr_nr_keeps_in_8 c nr ks freed (turned (seen c freed) c.peer (line c freed) (Status nr ∷ ks) (Rejection nr ∷ ks) (rejection_left nr ks) r))))
   rej_in_8 Command nr false is m = absurd (no_foreign c ks s m)

@@ -79,7 +79,7 @@ module _ (x y : Station) (frame : Flight) (rest outgoing : List Flight) (base it
 
   by_open : is_7_or_8 x.end.state ≡ true → Flowing x.end y.end (kinds outgoing) (kinds (frame ∷ rest)) n → Steps n x y after
   unfolding acts delivers receives step view_after
-  by_open opened f = steps_so after refl (open_delivered x y frame rest outgoing base its_base settled opened both) f
+  by_open opened f = steps_so after refl (open_delivered x y frame rest outgoing base its_base settled opened both).0 f
 
   by_closed : is_7_or_8 x.end.state ≡ false → Flowing x.end y.end (kinds outgoing) (kinds (frame ∷ rest)) n → Steps n x y after
   unfolding acts delivers receives step view_after

@@ -2,6 +2,7 @@ pub mod AfterOutage
 pub mod Agreed
 pub mod Deliveries
 pub mod EveryWorld
+pub mod FewLosses
 pub mod LoneLine
 pub mod Losses
 pub mod OpenLine

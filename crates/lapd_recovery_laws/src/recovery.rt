@@ -12,6 +12,7 @@ ghost use Rattle.lapd_recovery_laws.specs.AfterOutage.{IsAfterOutage, IsHeldUp, 
 ghost use Rattle.lapd_recovery_laws.specs.Agreed.{ComesBack};
 ghost use Rattle.lapd_recovery_laws.specs.EveryWorld.{IsFreeWorld, WorldComesBack};
 ghost use Rattle.lapd_recovery_laws.specs.Deliveries.{RunsEmpty};
+ghost use Rattle.lapd_recovery_laws.specs.FewLosses.{OutlastLosses, KeepsAll};
 ghost use Rattle.lapd_recovery_laws.specs.LoneLine.{IsLoneLine, ComesUpAnew};
 ghost use Rattle.lapd_recovery_laws.specs.Losses.{ComesBackDespite, AreOwnOrLosses};
 ghost use Rattle.lapd_recovery_laws.specs.OpenLine.{IsOpenLine, ComesUp};
@@ -177,4 +178,19 @@ pub fn every_world_comes_back_despite_losses()
         → user.k ≤ 127 → network.k ≤ 127 → 1 ≤ user.k → 1 ≤ network.k → (moves : List Move)
         → IsFreeWorld n200 (run r moves (new_world user network))
         → ComesBackDespite r n200 (run r moves (new_world user network)) }
+{}
+
+/// Few losses drop no message. Suppose that both ends are in state 7 or 8 and neither is own receiver
+/// busy, with frames in transit or not. Fewer frames are lost than each end retransmits at most, and
+/// in state 8 fewer than its retransmissions that are left. Then, after own moves and losses in any
+/// order, both ends are in state 7 or 8, and no message was dropped. When no own move is possible
+/// any more, both ends are in state 7 with equal numbers, and each message that was not dropped
+/// before was received and acknowledged. The moves are as few as in
+/// [`every_world_comes_back_despite_losses`]. The run starts in a new world, on whole numbers or on
+/// tags, with windows of 1 to 127 and either `Recovery`.
+pub fn few_losses_drop_nothing()
+    ensures { (r : Reading) (user network : Parameters)
+        → user.k ≤ 127 → network.k ≤ 127 → 1 ≤ user.k → 1 ≤ network.k → (moves : List Move)
+        → (lost : ℕ) → OutlastLosses lost (run r moves (new_world user network))
+        → KeepsAll r lost (run r moves (new_world user network)) }
 {}
