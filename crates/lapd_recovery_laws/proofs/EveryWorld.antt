@@ -1,6 +1,6 @@
 -- Every world comes back, from any world that a run leads to: first the line runs empty, and then it
 -- comes back as after an outage.
-use Rattle.std.proofs.Common.{◌≡◌, inl, inr, ℕ, ◌+◌, ◌-◌, ◌*◌, ◌≤◌, Bool, true, false, List, [], ◌∷◌, length, is_ok, refl, sym, ap, subst, arith}
+use Rattle.std.proofs.Common.{◌≡◌, inl, inr, ℕ, ◌+◌, ◌-◌, ◌*◌, ◌≤◌, nat_lt, ◌||◌, Bool, true, false, List, [], ◌∷◌, length, is_ok, refl, sym, ap, subst, arith}
 use Rattle.lapd_frame.specs.declared.Side.{Side}
 use Rattle.lapd_mod128.specs.Counting.{Reading, Whole, Tagged}
 use Rattle.lapd_link_definition.specs.declared.state.State.{State}
@@ -29,7 +29,7 @@ use Rattle.lapd_recovery_laws.specs.EveryWorld.{IsFreeWorld, WorldComesBack}
 use Rattle.lapd_recovery_laws.specs.Deliveries.{most_deliveries}
 use Rattle.lapd_recovery_laws.specs.Own.{is_due, AreOwn, Rests, IsFree}
 use Rattle.lapd_recovery_laws.proofs.AfterOutage.{facts_after, Returns, returns_from, alone_begins, closed_begins, free_by_tags}
-use Rattle.lapd_recovery_laws.proofs.AnyOrder.{rests_still}
+use Rattle.lapd_recovery_laws.proofs.AnyOrder.{Draining, rests_still}
 use Rattle.lapd_recovery_laws.proofs.Lost.{at}
 use Rattle.lapd_recovery_laws.proofs.OpenDelivers.{hears_in}
 use Rattle.lapd_recovery_laws.proofs.OpenLine.{in_7, in_transit_none, same_in_transit, draining_from}
@@ -129,8 +129,8 @@ module _ (N : ℕ) (some : 1 ≤ N) where
     returns : (m : ℕ) → Coming N false m w → Returns m w
     returns m c = returns_from N some m w c b.facts b.preserved
 
-    both_open : is_7_or_8 x.end.state ≡ true → is_7_or_8 y.end.state ≡ true → Coming N false (n + 8) w
-    both_open o p =
+    both_open : (last : Bool) → is_7_or_8 x.end.state ≡ true → is_7_or_8 y.end.state ≡ true → (x.end.state ≡ TimerRecovery → (last || nat_lt x.end.rc x.end.parameters.n200) ≡ true) → (y.end.state ≡ TimerRecovery → (last || nat_lt y.end.rc y.end.parameters.n200) ≡ true) → Draining last (n + 8) w
+    both_open last o p x_tries y_tries =
         let mine : Mid (party i.user_base x) (party i.network_base y) [] [] = enter (party i.user_base x) (party i.network_base y) [] [] o i.both in
         let its : Mid (party i.network_base y) (party i.user_base x) [] [] = enter (party i.network_base y) (party i.user_base x) [] [] p (record { mine = i.both.its; its = i.both.mine }) in
         let between : (x.end.window.va ≤ y.end.window.vr) × (y.end.window.vr ≤ x.end.window.vs) = between_open {x = party i.user_base x} {y = party i.network_base y} {out = []} {back = []} p mine in
@@ -138,10 +138,10 @@ module _ (N : ℕ) (some : 1 ≤ N) where
         let burden_x = share_burden x.end y.end f.a o p (b.network_free p) f.mine in
         let burden_y = share_burden y.end x.end f.b p o (b.user_free o) f.its in
         let most = f.most in
-        inl (draining_from x y i b.facts.settled true o p (b.user_free o) (b.network_free p) (λ _. refl) (λ _. refl) (f.a + 4) (f.b + 4) (n + 8)
+        draining_from x y i b.facts.settled last o p (b.user_free o) (b.network_free p) x_tries y_tries (f.a + 4) (f.b + 4) (n + 8)
         (λ is. stream_so (source x.end) (sink y.end) (f.a + 4) is between.0 between.1 (in_7 x.end is b.facts.settled.user.timed) burden_x)
         (λ is. stream_so (source y.end) (sink x.end) (f.b + 4) is between_its.0 between_its.1 (in_7 y.end is b.facts.settled.network.timed) burden_y)
-        burden_x burden_y (omega (arith, most)))
+        burden_x burden_y (omega (arith, most))
 
     abbrev alone_weight : ℕ
     alone_weight = 3 * (unsent x.end + unsent y.end) + 6 * N + 11
@@ -161,7 +161,7 @@ module _ (N : ℕ) (some : 1 ≤ N) where
         u = let a = unsent_x in let c = unsent_y in let most = f.most in omega (arith, a, c, most)
 
         by_open : (a c : Bool) → is_7_or_8 x.end.state ≡ a → is_7_or_8 y.end.state ≡ c → IsEmptied n w
-        by_open true true o p = record { m = n + 8; coming = both_open o p; most = omega (arith, some) }
+        by_open true true o p = record { m = n + 8; coming = inl (both_open true o p (λ _. refl) (λ _. refl)); most = omega (arith, some) }
         by_open true false o c = let le = u in record { m = alone_weight; coming = inr (inl (alone_begins N some x y (unsent x.end) (unsent y.end) (omega arith) (omega arith) b.facts.few_user b.facts.few_network false o c (λ no_up. cc))); most = omega (arith, le) }
         by_open false true c o = let le = u in record { m = alone_weight_too; coming = inr (inr (alone_begins N some y x (unsent y.end) (unsent x.end) (omega arith) (omega arith) b.facts.few_network b.facts.few_user false o c (λ no_up. cc))); most = omega (arith, le) }
         by_open false false c d = let le = u in record { m = alone_weight; coming = inr (inl (closed_begins N some x y (unsent x.end) (unsent y.end) (omega arith) (omega arith) b.facts.few_user b.facts.few_network c d)); most = omega (arith, le) }
@@ -176,6 +176,9 @@ module _ (N : ℕ) (some : 1 ≤ N) where
 
   pub emptied_at : (n : ℕ) (x y : Station) → Begins n (at x y [] []) → IsEmptied n (at x y [] [])
   emptied_at n x y b = emptied n x y b
+
+  pub drains_at : (n : ℕ) (x y : Station) → Begins n (at x y [] []) → is_7_or_8 x.end.state ≡ true → is_7_or_8 y.end.state ≡ true → (x.end.state ≡ TimerRecovery → nat_lt x.end.rc x.end.parameters.n200 ≡ true) → (y.end.state ≡ TimerRecovery → nat_lt y.end.rc y.end.parameters.n200 ≡ true) → Draining false (n + 8) (at x y [] [])
+  drains_at n x y b o p x_tries y_tries = both_open n x y b false o p x_tries y_tries
 
   from_empty : (n : ℕ) (x y : Station) (moves : List Move) → Begins n (at x y [] []) → AreOwn Whole moves (at x y [] []) → Comes N n (at x y [] []) moves
   from_empty n x y moves b own = let e = ends n x y b moves own in record { few = e.few; agreed = e.agreed }

@@ -1,6 +1,7 @@
 -- Few losses: both ends stay in states 7 and 8, and no message is dropped.
-use Rattle.std.proofs.Common.{◌≡◌, ◌⊎◌, inl, inr, ℕ, zero, suc, ◌+◌, ◌-◌, ◌≤◌, nat_lt, not, ◌||◌, ◌&&◌, Bool, true, false, List, [], ◌∷◌, length, is_ok, refl, sym, ap, subst, ◌∙◌, arith}
+use Rattle.std.proofs.Common.{◌≡◌, ◌⊎◌, inl, inr, ℕ, zero, suc, ◌+◌, ◌-◌, ◌≤◌, nat_lt, not, ◌||◌, ◌&&◌, Bool, true, false, List, [], ◌∷◌, length, is_ok, refl, sym, ap, subst, ◌∙◌, arith, ◌*◌}
 use Rattle.std.proofs.lemmas.Bool.Decides.{nat_tests}
+use Rattle.std.proofs.lemmas.Nat.{mul-le}
 use Rattle.lapd_frame.specs.declared.Side.{Side}
 use Rattle.lapd_frame.specs.declared.Side.TheVariants as side
 use Rattle.lapd_mod128.specs.Counting.{Reading, Whole, Tagged}
@@ -19,24 +20,28 @@ use Rattle.lapd_pair_laws.specs.Line.{Flight, without_lost}
 use Rattle.lapd_pair_laws.specs.Move.{PairEvent, Deliver, Lose, Expire200, Expire203, Move, Station, View, acts, delivers, receives, view_after}
 use Rattle.lapd_pair_laws.specs.Timed.{IsSettledEnd}
 use Rattle.lapd_pair_laws.specs.Tagged.{tag_world}
-use Rattle.lapd_pair_laws.specs.World.{World, new_world, swapped, view_of, with_view, happens, world_after, run}
+use Rattle.lapd_pair_laws.specs.World.{World, new_world, swapped, view_of, with_view, happens, run, left}
 use Rattle.lapd_pair_laws.proofs.Consistency.{run_consistent}
 use Rattle.lapd_pair_laws.proofs.MidSteps.{open_asks_none}
 use Rattle.lapd_pair_laws.proofs.Reached.{reached_tags}
 use Rattle.lapd_pair_laws.proofs.Stepping.{user_move}
 use Rattle.lapd_pair_laws.proofs.Swaps.{network_alike}
+use Rattle.lapd_pair_laws.proofs.TaggedMoves.{left_on_tags}
 use Rattle.lapd_pair_laws.proofs.Whole.{each_run_preserves}
 use Rattle.lapd_pair_laws.proofs.Worlds.{left_by, exchanged, safe_by_invariant}
 use Rattle.lapd_recovery_laws.specs.Agreed.{AreLevel, AreReleased}
-use Rattle.lapd_recovery_laws.specs.FewLosses.{Outlasts, OutlastLosses, StaysOpen, KeepsAll}
+use Rattle.lapd_recovery_laws.specs.FewLosses.{Outlasts, OutlastLosses, StaysOpen, most_open_moves, KeepsAll}
+use Rattle.lapd_recovery_laws.specs.Deliveries.{frames}
 use Rattle.lapd_recovery_laws.specs.Losses.{is_loss, IsOwnOrLoss, AreOwnOrLosses, one_if, losses}
 use Rattle.lapd_recovery_laws.specs.OpenLine.{IsUp}
-use Rattle.lapd_recovery_laws.specs.Own.{are_apart, is_line_empty, is_due, Rests}
+use Rattle.lapd_recovery_laws.specs.Own.{are_apart, is_line_empty, is_due, IsOwn, Rests}
 use Rattle.lapd_recovery_laws.specs.Timers.{HaveTimersOfStates}
 use Rattle.lapd_recovery_laws.proofs.AfterOutage.{same_parameters, facts_after, free_by_tags}
-use Rattle.lapd_recovery_laws.proofs.AnyOrder.{none_there, none_there_too}
+use Rattle.lapd_recovery_laws.proofs.AnyOrder.{Draining, none_there, none_there_too, own_moves_on}
 use Rattle.lapd_recovery_laws.proofs.Beside.{seeing}
+use Rattle.lapd_recovery_laws.proofs.CountedMoves.{after, Keeps, IsWeight, moves_counted}
 use Rattle.lapd_recovery_laws.proofs.DespiteLosses.{despite_losses, own_or_losses_by_tags}
+use Rattle.lapd_recovery_laws.proofs.EveryWorld.{drains_at}
 use Rattle.lapd_recovery_laws.proofs.LosesFrame.{user_loses}
 use Rattle.lapd_recovery_laws.proofs.Lone.{t200_runs, ok_of_side}
 use Rattle.lapd_recovery_laws.proofs.LoneSteps.{Polls, polls_by_t200, polls_again}
@@ -71,9 +76,6 @@ record Goes (b : ℕ) (w now : World) : Type 0 where
 
 goes_swapped : (b : ℕ) (w now : World) → Goes b (swapped w) now → Goes b w (swapped now)
 goes_swapped b w now g = record { lasts = lasts_swapped b now g.lasts; user_dropped = g.network_dropped; network_dropped = g.user_dropped }
-
-abbrev after : Side → PairEvent → World → World
-after s event w = world_after w (happens Whole (record { side = s; event = event }) w)
 
 by_swap : (b : ℕ) (event : PairEvent) (w : World) → Goes b (swapped w) (after side.User event (swapped w)) → Goes b w (after side.Network event w)
 by_swap b event w g = subst (λ u. Goes b w u) (sym (network_alike Whole event w)) (goes_swapped b w (after side.User event (swapped w)) g)
@@ -303,8 +305,38 @@ open_level : (x y : End) → is_7_or_8 x.state ≡ true → AreReleased x y ⊎ 
 open_level x y o (inl r) = absurd (let closed : is_7_or_8 x.state ≡ false = ap is_7_or_8 r.mine in cc)
 open_level x y o (inr l) = l
 
+-- the weight of an open line
+own_lasts : (b : ℕ) (s : Side) (event : PairEvent) (w : World) (N l : ℕ) → Keeps N l w → Lasts b w → IsOwn Whole (record { side = s; event = event }) w → Lasts b (after s event w)
+own_lasts b s Deliver w N l k held own = (deliver N b s w.user w.network w.to_user w.to_network k.facts held own.admitted).lasts
+own_lasts b s Expire200 w N l k held own = (expire b s w.user w.network w.to_user w.to_network held own.due own.admitted).lasts
+own_lasts b s Expire203 w N l k held own = absurd (never_203 b w held k.facts.have own.due)
+own_lasts b s event w N l k held own = let due = own.due in cc
+
+open_weight : (N : ℕ) → 1 ≤ N → (l : ℕ) → IsWeight N l 8 Lasts (λ n w. Draining false n w)
+open_weight N some l = record {
+  own_holds = λ b s event w k held own. own_lasts b s event w N l k held own;
+  loss_holds = λ b i s w held ok. (lose b i s w held ok).lasts;
+  begins = λ b n x y k held flow.
+      let u = held.user in
+      let v = held.network in
+      record {
+        m = n + 8;
+        weight = drains_at N some n x y (record { facts = k.facts; preserved = k.preserved; flow = flow; user_free = k.user_free; network_free = k.network_free }) u.open_state v.open_state
+            (λ is. let enough = u.tries is in less x.end.rc x.end.parameters.n200 (omega (arith, enough)))
+            (λ is. let enough = v.tries is in less y.end.rc y.end.parameters.n200 (omega (arith, enough)));
+        few = omega arith;
+      };
+  falls = λ n s event w weight k own. let m = own_moves_on false n (record { side = s; event = event }) w weight (λ is last. cc) k.facts.have own in record { some_left = m.some; weight = m.draining };
+}
+
 few_losses : (N lost : ℕ) → 1 ≤ N → (w : World) → Facts N w → IsConsistentWorld Whole w → OutlastLosses lost w → KeepsAll Whole lost w
 few_losses N lost some w f preserved o = record {
+  few = λ moves own le.
+      let all = runs.left_waits w preserved in
+      let k : Keeps N (left w) w = record { facts = f; preserved = preserved; user_free = o.user.free; network_free = o.network.free; few = omega (arith, all) } in
+      let few = (moves_counted N (left w) 8 Lasts (λ n v. Draining false n v) (open_weight N some (left w)) lost w k begins moves own le).few in
+      let more = mul-le (losses moves) (4 * left w + 15) lost (4 * left w + 15) le (omega arith) in
+      omega (arith, few, more);
   stays = λ moves own le. let t = through moves own le in record { user = t.user; network = t.network; user_dropped = t.user_dropped; network_dropped = t.network_dropped };
   up = λ moves own le rests.
       let now = run Whole moves w in
@@ -334,6 +366,10 @@ few_losses N lost some w f preserved o = record {
 
 on_tags : (lost : ℕ) (w : World) → IsInvariant w → IsConsistentWorld Whole w → KeepsAll Whole lost w → KeepsAll Tagged lost (tag_world w)
 on_tags lost w i preserved k = record {
+  few = λ moves own le.
+      let same : most_open_moves lost (tag_world w) ≡ most_open_moves lost w = let l = left_on_tags w in let f = runs.frames_on_tags w in ap (λ j. 2 * j + 3 * left (tag_world w) + 12 + lost * (4 * left (tag_world w) + 15)) f ∙ ap (λ j. 2 * frames w + 3 * j + 12 + lost * (4 * j + 15)) l in
+      let few = k.few moves (own_or_losses_by_tags moves w i preserved own) le in
+      omega (arith, same, few);
   stays = λ moves own le.
       let now = run Whole moves w in
       let same : run Tagged moves (tag_world w) ≡ tag_world now = ran_on_tags moves w i preserved in

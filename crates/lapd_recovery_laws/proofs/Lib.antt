@@ -4,6 +4,7 @@ pub mod Beside
 pub mod Cleared
 pub mod ClosedDelivers
 pub mod ClosedSteps
+pub mod CountedMoves
 pub mod DespiteLosses
 pub mod EndSends
 pub mod Establishes

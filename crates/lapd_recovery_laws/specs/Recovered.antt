@@ -8,6 +8,7 @@ use Rattle.lapd_pair_laws.specs.Schedule.{of_user, of_network, establishing}
 use Rattle.lapd_pair_laws.specs.World.{World, world_after, happens, run, left}
 use Rattle.lapd_recovery_laws.specs.Deliveries.{most_deliveries}
 use Rattle.lapd_recovery_laws.specs.EveryWorld.{most_moves_from}
+use Rattle.lapd_recovery_laws.specs.FewLosses.{most_open_moves}
 use Rattle.lapd_recovery_laws.specs.Losses.{losses, most_moves_despite}
 use Rattle.lapd_recovery_laws.specs.Own.{IsFree, first_own, most_own_moves, then_on, recovering, tried}
 
@@ -141,6 +142,17 @@ abbrev pub three_polls_lost : List Move
 three_polls_lost = of_user Expire200 ∷ of_network (Lose 0) ∷ of_user Expire200
     ∷ of_network (Lose 0) ∷ of_user Expire200 ∷ of_network (Lose 0) ∷ of_user Expire200
     ∷ of_network Deliver ∷ of_user Deliver ∷ []
+
+-- only two polls are lost: the third one is answered, and the message is sent again and received
+abbrev pub two_polls_lost : List Move
+two_polls_lost = of_user Expire200 ∷ of_network (Lose 0) ∷ of_user Expire200
+    ∷ of_network (Lose 0) ∷ of_user Expire200 ∷ of_network Deliver ∷ of_user Deliver
+    ∷ of_network Deliver ∷ of_user Deliver ∷ []
+
+-- the bound is that of a few losses
+abbrev pub outcome_of_few : Reading → List Move → World → RecoveryOutcome
+outcome_of_few r moves w =
+    looked_at r (length moves) (most_open_moves (losses moves) w) (run r moves w)
 
 abbrev pub outcome_despite : Reading → List Move → World → RecoveryOutcome
 outcome_despite r moves w =

@@ -9,7 +9,8 @@
 //!   `AfterOutage`, worlds with no frame in transit; `Deliveries`, by which the line runs empty;
 //!   `EveryWorld`, the worlds from which own moves lead to agreement; and `Losses`, own moves while
 //!   frames are still lost;
-//! - `OpenLine`, `LoneLine` and `ReleasedLine`, kinds of such worlds of which more is known;
+//! - `OpenLine`, `LoneLine` and `ReleasedLine`, kinds of such worlds of which more is known; and
+//!   `FewLosses`, losses that drop no message;
 //! - `Timers`, the timers between two moves; and `Recovered`, worlds that try the moves.
 #![tactic(auto)]
 

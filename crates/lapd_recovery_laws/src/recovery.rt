@@ -16,7 +16,7 @@ ghost use Rattle.lapd_recovery_laws.specs.FewLosses.{OutlastLosses, KeepsAll};
 ghost use Rattle.lapd_recovery_laws.specs.LoneLine.{IsLoneLine, ComesUpAnew};
 ghost use Rattle.lapd_recovery_laws.specs.Losses.{ComesBackDespite, AreOwnOrLosses};
 ghost use Rattle.lapd_recovery_laws.specs.OpenLine.{IsOpenLine, ComesUp};
-ghost use Rattle.lapd_recovery_laws.specs.Recovered.{outcome_of, outcome_of_deliveries, outcome_from, first_of_three_lost, poll_meets_sabme, both_sabmes_lost, network_restarts, restarts_with_one_sent, release_unheard, disc_meets_sabme, longest, both_in_7, both_in_4, held_up, IsBusy, message_lost, three_polls_lost, outcome_despite};
+ghost use Rattle.lapd_recovery_laws.specs.Recovered.{outcome_of, outcome_of_deliveries, outcome_from, first_of_three_lost, poll_meets_sabme, both_sabmes_lost, network_restarts, restarts_with_one_sent, release_unheard, disc_meets_sabme, longest, both_in_7, both_in_4, held_up, IsBusy, message_lost, three_polls_lost, two_polls_lost, outcome_despite, outcome_of_few};
 ghost use Rattle.lapd_recovery_laws.specs.ReleasedLine.{IsReleasedLine, ComesDown};
 ghost use Rattle.lapd_recovery_laws.specs.Timers.{HaveTimersOfStates};
 
@@ -26,8 +26,8 @@ ghost use Rattle.lapd_recovery_laws.specs.Timers.{HaveTimersOfStates};
 /// frames in transit: three messages, of which the first is lost, arrive by deliveries alone, the
 /// last two twice; and a poll and a SABME cross while a message waits.
 /// While frames are still lost: a message and the three polls for it, so that the link is established
-/// anew and the message dropped, in 9 moves.
-/// Without T203, a network that restarts leaves the ends apart. With a busy end the moves are not few.
+/// anew and the message dropped; and a message and only two polls, so that it is received. Without T203,
+/// a network that restarts leaves the ends apart. With a busy end the moves are not few.
 pub fn recovery_is_computed()
     ensures restart { (r : Reading) → outcome_of r (run r network_restarts (new_pair 1 Enquiry))
         ≡ both_in_7 11 0 0 }
@@ -63,14 +63,22 @@ pub fn recovery_is_computed()
         → outcome_from r (run r poll_meets_sabme (new_pair 1 Enquiry)) ≡ both_in_7 5 1 0 }
     ensures poll_meets_sabme_by_last { (r : Reading)
         → outcome_from r (run r poll_meets_sabme (new_pair 1 LastMessage)) ≡ both_in_7 5 1 0 }
-    ensures polls_lost { (r : Reading)
+    ensures three_polls_lost { (r : Reading)
         → AreOwnOrLosses r three_polls_lost (run r message_lost (new_pair 1 Enquiry))
         × (outcome_despite r three_polls_lost (run r message_lost (new_pair 1 Enquiry))
         ≡ both_in_7 9 0 1) }
-    ensures polls_lost_by_last { (r : Reading)
+    ensures three_polls_lost_by_last { (r : Reading)
         → AreOwnOrLosses r three_polls_lost (run r message_lost (new_pair 1 LastMessage))
         × (outcome_despite r three_polls_lost (run r message_lost (new_pair 1 LastMessage))
         ≡ both_in_7 9 0 1) }
+    ensures two_polls_lost { (r : Reading)
+        → AreOwnOrLosses r two_polls_lost (run r message_lost (new_pair 1 Enquiry))
+        × (outcome_of_few r two_polls_lost (run r message_lost (new_pair 1 Enquiry))
+        ≡ both_in_7 9 1 0) }
+    ensures two_polls_lost_by_last { (r : Reading)
+        → AreOwnOrLosses r two_polls_lost (run r message_lost (new_pair 1 LastMessage))
+        × (outcome_of_few r two_polls_lost (run r message_lost (new_pair 1 LastMessage))
+        ≡ both_in_7 9 1 0) }
     ensures apart_without_t203 { (r : Reading)
         → next_move r (run r network_restarts (new_pair 1 Enquiry)) ≡ None }
     ensures held_up { (r : Reading) → outcome_of r (run r busy (new_pair 1 Enquiry)) ≡ held_up }
@@ -185,9 +193,10 @@ pub fn every_world_comes_back_despite_losses()
 /// in state 8 fewer than its retransmissions that are left. Then, after own moves and losses in any
 /// order, both ends are in state 7 or 8, and no message was dropped. When no own move is possible
 /// any more, both ends are in state 7 with equal numbers, and each message that was not dropped
-/// before was received and acknowledged. The moves are as few as in
-/// [`every_world_comes_back_despite_losses`]. The run starts in a new world, on whole numbers or on
-/// tags, with windows of 1 to 127 and either `Recovery`.
+/// before was received and acknowledged. Own moves and losses are at most two per frame in transit,
+/// three per message left, and 12 more, and for each frame that may be lost, four per message left
+/// and 15 more, whatever N200 is. The run starts in a new world, on whole numbers or on tags, with
+/// windows of 1 to 127 and either `Recovery`.
 pub fn few_losses_drop_nothing()
     ensures { (r : Reading) (user network : Parameters)
         → user.k ≤ 127 → network.k ≤ 127 → 1 ≤ user.k → 1 ≤ network.k → (moves : List Move)
