@@ -22,7 +22,7 @@ use lapd_frame::{Control, Number, Role};
 use lapd_link_definition::State;
 use lapd_supervision::{Advance, Window};
 
-/// What an N(R) acknowledges, and its effect on the timers (Q.921 Figure B.7).
+/// The messages that an N(R) acknowledges, and its effect on the timers (Q.921 Figure B.7).
 #[derive(Clone, Copy)]
 pub enum NrEffect {
     /// This many messages, and none is outstanding: T200 is stopped if it runs, and T203 started.
