@@ -307,7 +307,7 @@ static void try_busy(void)
 	    ends[THEIRS].i_frames);
 	check(lapd_side_busy(&ours, 0, TEI, 0, now), "busy");
 	pass(20000);
-	observe("and then are busy no more", "%d of the 3 messages come", ends[OURS].received);
+	observe("and then are busy no more", "%d of the 3 messages arrive", ends[OURS].received);
 }
 
 int main(int count, char **words)

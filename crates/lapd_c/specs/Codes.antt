@@ -22,7 +22,7 @@ pending = 2
 abbrev pub out_of_range : ℕ
 out_of_range = 3
 
--- a TEI is checked while another check is in progress
+-- a check of a TEI is requested while another check is in progress
 abbrev pub check_runs : ℕ
 check_runs = 4
 

@@ -1,4 +1,4 @@
--- What a reader with known octets has left after octets were taken from it.
+-- The octets that a reader with known octets has left after some were taken from it.
 use Rattle.std.proofs.Common.{◌≡◌, ◌⊎◌, inl, inr, ℕ, ◌+◌, ◌-◌, ◌≤◌, ◌<◌, Bool, true, false, List, [], Option, Some, Ok, ap, ◌∙◌, subst, length, take, drop, length-drop, drop-drop, arith}
 use Rattle.lapd_capture.specs.declared.taking.Taken.{Taken}
 use Rattle.lapd_capture.specs.declared.taking.Taken.TheVariants.{All, Part, Nothing}

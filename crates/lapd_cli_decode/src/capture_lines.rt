@@ -47,7 +47,7 @@ pub struct CaptureStyle {
     pub keeps_going: bool,
 }
 
-/// What is known of the frames of a capture.
+/// Whether a capture has frames.
 #[derive(Clone, Copy, Debug, PartialEq, Eq)]
 pub struct Seen {
     /// Whether the capture has a frame.

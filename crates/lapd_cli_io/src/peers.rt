@@ -100,7 +100,7 @@ impl Peers {
         }
     }
 
-    /// Whether [`Peers::next_frame`] may return a frame or a loss that it has not returned before.
+    /// Whether [`Peers::next_frame`] may have a new frame or a lost connection to return.
     pub fn is_ready(&self) -> bool {
         (0..self.most).any(|place| self.is_ready_at(place))
     }
@@ -113,7 +113,8 @@ impl Peers {
     }
 
     /// Takes the next frame that has arrived whole, from each connection in turn, at a moment in
-    /// milliseconds. Returns `None` when nothing is left to read from the reported connections.
+    /// milliseconds. Returns `None` when the connections that the poll reported have nothing left
+    /// to read.
     ///
     /// # Errors
     ///
@@ -169,8 +170,8 @@ impl Peers {
         is_taken
     }
 
-    /// The first connection that has sent no whole frame for `limit` milliseconds and has no
-    /// reported octets left to read.
+    /// The first connection that has sent no whole frame for `limit` milliseconds, and has nothing
+    /// left to read of what the poll reported.
     pub fn idle_peer(&self, limit: u64, now: u64) -> Option<LostPeer> {
         let place = (0..self.most).find(|place| self.is_idle_at(*place, limit, now))?;
         Some(LostPeer {

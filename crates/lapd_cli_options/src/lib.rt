@@ -8,6 +8,7 @@ ghost use Rattle.std.specs.Prelude.{◌<◌, length, IsOkAnd};
 ghost use Rattle.lapd_cli_options.specs.CommandLine.{IsDefault};
 
 mod clock_options;
+pub mod command_help;
 mod command_option;
 mod command_options;
 pub mod help;

@@ -1,7 +1,7 @@
 //! The commands that execute a script: their names, their help and their options.
 
 use crate::command_option::CommandOption;
-use crate::{help, option_tables};
+use crate::{command_help, help, option_tables};
 
 /// A command that executes a script.
 #[derive(Clone, Copy, PartialEq, Eq)]
@@ -66,13 +66,13 @@ impl ScriptCommand {
     /// The text that ends the command's long help.
     pub(crate) fn after_long_help(self) -> &'static str {
         match self {
-            ScriptCommand::Answer => help::ANSWER,
-            ScriptCommand::Bus => help::BUS,
-            ScriptCommand::Pair => help::PAIR,
-            ScriptCommand::Loop => help::LOOP,
-            ScriptCommand::Net => help::NET,
-            ScriptCommand::User => help::USER,
-            ScriptCommand::Decode => help::DECODE,
+            ScriptCommand::Answer => command_help::ANSWER,
+            ScriptCommand::Bus => command_help::BUS,
+            ScriptCommand::Pair => command_help::PAIR,
+            ScriptCommand::Loop => command_help::LOOP,
+            ScriptCommand::Net => command_help::NET,
+            ScriptCommand::User => command_help::USER,
+            ScriptCommand::Decode => command_help::DECODE,
         }
     }
 

@@ -12,7 +12,7 @@
 //!   sends are written to the sink, in order and once each.
 //! - `Transcripts`: each line of a script with the lines that it printed. From it layer 3 reads the
 //!   primitives, and the messages of the `give` lines that were not refused. `Printed`: the lines
-//!   that a line of a script prints tell what its side events deliver and accept.
+//!   that a line of a script prints show what its side events deliver and accept.
 //! - `Joined`, for both programs: each source delivers the octets that the other program writes,
 //!   and each program reads only what was written. Their lines run in any order.
 //! - `JoinedRuns`, for a run of `net` and a run of `user`, as their contracts describe it: what

@@ -2,19 +2,19 @@
 
 use crate::scenarios::{Trial, words_pass};
 use lapd_cli_console::Script;
-use lapd_cli_options::help;
+use lapd_cli_options::command_help;
 use std::alloc::Global;
 
 /// A help text. The texts are long, so only this function names them.
 pub(crate) fn text_of(script: Script) -> &'static str {
     match script {
-        Script::Answer => help::ANSWER,
-        Script::Bus => help::BUS,
-        Script::Decode => help::DECODE,
-        Script::Loop => help::LOOP,
-        Script::Net | Script::LiveNet => help::NET,
-        Script::Pair => help::PAIR,
-        Script::User | Script::LiveUser => help::USER,
+        Script::Answer => command_help::ANSWER,
+        Script::Bus => command_help::BUS,
+        Script::Decode => command_help::DECODE,
+        Script::Loop => command_help::LOOP,
+        Script::Net | Script::LiveNet => command_help::NET,
+        Script::Pair => command_help::PAIR,
+        Script::User | Script::LiveUser => command_help::USER,
     }
 }
 

@@ -60,7 +60,8 @@ fn ended_of(
     ended
 }
 
-/// Whether nothing of the last answer was printed or, on a side, only whole lines.
+/// Whether nothing of the last answer was printed or, on a side, only whole lines. Four spaces mark
+/// a line of the scenario that the program prints.
 fn is_kept(scenario: &Scenario<'_>, text: &str, is_side: bool) -> bool {
     if scenario.mark() != b"    ".as_slice() {
         return true;

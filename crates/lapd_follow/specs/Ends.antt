@@ -1,4 +1,4 @@
--- What a listener on the line knows of one end of a data link, from the frames that it saw alone.
+-- The state of one end of a data link, as far as the frames seen on the line show it.
 use Rattle.std.specs.Prelude.{ℕ, ◌+◌, ◌-◌, ◌^◌, ◌==◌, min, nat_le, if◌then◌else◌, Bool, true, false, List, [], ◌∷◌, ◌++◌, length, drop, slice_get, Option, Some, None}
 use Rattle.lapd_mod128.specs.Counting.{Tagged, after, steps, lies_within}
 use Rattle.lapd_follow.specs.declared.packet.Packet.{Packet}

@@ -1,4 +1,4 @@
--- What is known of both ends after one more frame, seen from the end that sent it. The listener may
+-- A frame changes what is known of both ends: of its sender and of its receiver. The listener may
 -- be at either end or between them. So an end received only frames that the listener saw before.
 use Rattle.std.specs.Prelude.{ℕ, ◌==◌, ◌&&◌, not, if◌then◌else◌, Bool, true, false, List, is_some}
 use Rattle.lapd_frame.specs.declared.Side.{Side}

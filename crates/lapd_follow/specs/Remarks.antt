@@ -1,4 +1,4 @@
--- What is said of the next frame, by what was known before it, and the class of each remark.
+-- The remarks on the next frame, by what was known before it, and the class of each remark.
 use Rattle.std.specs.Prelude.{ℕ, ◌-◌, ◌==◌, ◌&&◌, ◌||◌, nat_lt, nat_le, if◌then◌else◌, Bool, true, false, List, Option, Some, None, is_some}
 use Rattle.std.specs.Str.{bytes_eq}
 use Rattle.lapd_mod128.specs.Counting.{Tagged, steps, lies_within}

@@ -20,7 +20,7 @@ pub enum Busy {
     Answered,
 }
 
-/// What is known of one end.
+/// The state of one end, as far as the frames so far show it.
 #[derive(Drop)]
 pub(crate) struct End {
     pub(crate) numbering: Option<Numbering>,

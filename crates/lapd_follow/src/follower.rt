@@ -44,8 +44,8 @@ impl Follower {
         })
     }
 
-    /// Takes the next frame on the line, and returns the remarks on it. Frames of each end come in
-    /// the order in which it sent them.
+    /// Takes the next frame on the line, and returns the remarks on it. Pass in the frames of each
+    /// end in the order in which it sent them.
     ///
     /// It fails if an allocation fails, and then nothing changes.
     pub fn frame(

@@ -4,8 +4,8 @@ ghost use Rattle.std.specs.Prelude.{◌≡◌, [], ◌∷◌, Some};
 ghost use Rattle.lapd_follow.specs.declared.remark.Remark.TheVariants.{Begins, UaWithoutCommand, NsExpected, Repeated, RepeatedOtherwise, WindowExceeded, SentToBusy, SentToKnownBusy, NrOutside, Answers, ResponseWithoutPoll};
 ghost use Rattle.lapd_follow.specs.Worked.{told, undisturbed, vr_not_reset, sent_again, without_cause, to_busy, four_messages, collision};
 
-/// What is said of each frame of worked dialogues: nothing but establishments and answers on an
-/// undisturbed link, recoveries after a loss, and violations where an end has an error.
+/// The remarks on each frame of worked dialogues: only establishments and answers on an undisturbed
+/// link, recoveries after a loss, and violations if an end has an error.
 pub fn remarks_are_computed()
     ensures undisturbed { told undisturbed ≡ [] ∷ (Begins 1 ∷ Answers 1 (Some 1000) ∷ []) ∷ []
         ∷ [] ∷ [] ∷ [] ∷ [] ∷ (Answers 7 (Some 1000) ∷ []) ∷ [] }

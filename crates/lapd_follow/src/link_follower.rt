@@ -46,8 +46,8 @@ impl LinkFollower {
         })
     }
 
-    /// Takes the next frame of the link, and returns the remarks on it. Frames of each end come in
-    /// the order in which it sent them.
+    /// Takes the next frame of the link, and returns the remarks on it. Pass in the frames of each
+    /// end in the order in which it sent them.
     ///
     /// It keeps the octets of an I frame, and fails if they can't be allocated.
     pub fn frame(

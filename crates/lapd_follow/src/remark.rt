@@ -5,7 +5,7 @@ ghost use Rattle.lapd_follow.specs.Texts.{remark_text};
 use lapd_mod128::Seq;
 use std::fmt;
 
-/// What a remark means.
+/// The class of a remark: whether Q.921 allows what it reports.
 #[derive(Clone, Copy, Debug, PartialEq, Eq)]
 pub enum Class {
     /// An undisturbed data link does it.
@@ -69,7 +69,7 @@ pub enum Remark {
 }
 
 impl Remark {
-    /// What the remark means.
+    /// The class of the remark.
     pub fn class(&self) -> Class
         ensures { result ≡ class_of self.now }
     {

@@ -33,7 +33,7 @@ pub struct Times {
     pub total: u64,
 }
 
-/// What one end of a link sent.
+/// The counts of what one end of a link sent.
 #[derive(Clone, Copy, Debug, Default, PartialEq, Eq)]
 pub struct Tally {
     /// The frames by kind.

@@ -5,7 +5,7 @@
 //! Frames have SAPI 0 and TEI 64: `0081` begins commands of the user and responses of the network,
 //! `0281` the others. `7f` is SABME, `73` UA, `53` DISC, `1f` DM; `01`, `05` and `09` with N(R) * 2
 //! + P/F are RR, RNR and REJ; an I frame is N(S) * 2, N(R) * 2 + P and its message. Each packet
-//! comes 40 ms after the one before.
+//! is 40 ms after the one before.
 
 use lapd_follow::{Class, LinkFollower, Packet, Remark, Remarks};
 use lapd_frame::{Side, read};

@@ -11,10 +11,12 @@ use lapd_link_definition::Out;
 
 impl Link {
     /// The frame that an output of the last step sends, or `None` for an output that is not sent.
-    /// Write it by [`lapd_frame::write`] as this side sends it. `input_octets` are the octets of the unit
-    /// data of the step (empty for any other event). The frame borrows its information.
+    /// To spell it, call [`lapd_frame::write`] with the side of this link as the sender.
+    /// `input_octets` are the octets of the unit data of the step (empty for any other event). The
+    /// frame borrows its information.
     ///
-    /// Each output of the last step that is sent has its frame, if `input_octets` has at most 260 octets.
+    /// For each output of the last step that is sent, the result is `Some` if `input_octets` has at
+    /// most 260 octets.
     ///
     /// - `Send`: with this role and control field, without information.
     /// - `SendMessage`: the I command with the message at this place of the queue (Q.921 5.6.1).

@@ -1,5 +1,5 @@
 -- A usual step: nothing is unsent, so its end sends at most the pending acknowledgement.
-use Rattle.std.proofs.Common.{◌≡◌, ◌-◌, ◌≤◌, ◌+◌, ◌++◌, ℕ, nat_lt, Bool, true, false, ◌&&◌, List, [], length, Option, Some, None, IfSome, IfNone, refl, sym, ap, ◌∙◌, append_assoc, append-nil, arith}
+use Rattle.std.proofs.Common.{◌≡◌, ◌-◌, ◌≤◌, ◌+◌, ◌++◌, ℕ, nat_lt, Bool, true, false, ◌&&◌, if◌then◌else◌, List, [], length, Option, Some, None, IfSome, IfNone, refl, sym, ap, ◌∙◌, append_assoc, append-nil, arith}
 use Rattle.std.proofs.lemmas.Bool.Decides.{nat_tests}
 use Rattle.lapd_frame.specs.declared.Role.{Role}
 use Rattle.lapd_frame.specs.declared.Control.{Control}
@@ -75,6 +75,15 @@ same_outs m o p s same h = rw (sym same) h
 
 pub none_behind : (outs : List Out) → outs ≡ outs ++ []
 none_behind outs = sym (append-nil outs)
+
+-- the end of a step whose row has a test
+pub then_ends : (m : Machine) (outs : List Out) (test : Bool) (x y : StepState) → test ≡ true → Represents m outs (end_step Tagged x) → Represents m outs (end_step Tagged (if test then x else y))
+then_ends m outs true x y q h = h
+then_ends m outs false x y q h = cc
+
+pub else_ends : (m : Machine) (outs : List Out) (test : Bool) (x y : StepState) → test ≡ false → Represents m outs (end_step Tagged y) → Represents m outs (end_step Tagged (if test then x else y))
+else_ends m outs true x y q h = cc
+else_ends m outs false x y q h = h
 
 pub if_some : {X : Type 0} (o : Option X) (P Q : X → Type 0) → ((x : X) → P x → Q x) → IfSome o P → IfSome o Q
 if_some None P Q f h = h

@@ -5,6 +5,7 @@ pub mod Lines
 pub mod Numbered
 pub mod Pairs
 pub mod Recovering
+pub mod Repeated
 pub mod Reported
 pub mod Restarted
 pub mod Runs

@@ -10,7 +10,6 @@ use Rattle.lapd_frame.specs.Frame.{spelling}
 use Rattle.lapd_frame.specs.declared.Side.{Side}
 use Rattle.lapd_frame.specs.declared.Side.TheVariants as side
 use Rattle.lapd_mod128.specs.Counting.{Reading, Tagged}
-use Rattle.lapd_link_definition.specs.declared.out.Out.{Out}
 use Rattle.lapd_link_definition.specs.End.{End, begin}
 use Rattle.lapd_link_definition.specs.EndOfStep.{is_7_or_8}
 use Rattle.lapd_link_definition.specs.Table.{step}
@@ -34,14 +33,11 @@ use Rattle.lapd_pair.specs.Line.{IsOn, octets_on, fields_of}
 use Rattle.lapd_pair.specs.Moves.{IsRefusedAs}
 use Rattle.lapd_pair.specs.Pair.{IsReached}
 use Rattle.lapd_pair.specs.Recovers.{greater, most_retries, recovery_bound, recovered, HasRecovered, Recovers, HasStoppedRecovering, HaveComeBack}
-use Rattle.lapd_pair.specs.Runs.{PairRepresents, HasHappened}
-use Rattle.lapd_pair.proofs.Pairs.{run_more, after_did}
+use Rattle.lapd_pair.specs.Runs.{PairRepresents}
+use Rattle.lapd_pair.proofs.Repeated.{AreMade, HasMadeAll, no_move}
 use Rattle.lapd_pair.proofs.Settling.{bound_is, no_frames, left_again, refused_for_memory}
 
 -- ---- The next own move, by the frames in transit, the timers and the states.
-
-abbrev no_move : Option Move
-no_move = None
 
 abbrev at : Station → Station → List Flight → List Flight → World
 at user network to_user to_network = record { user = user; network = network; to_user = to_user; to_network = to_network }
@@ -161,7 +157,7 @@ module _ (r : Reading) where
   behind : (n : ℕ) (w : World) (first : Move) (o : Option Move) → first_own r tried w ≡ Some first → first_own r tried (run r (recovering r (suc n) w) w) ≡ o → first_own r tried (run r (recovering r n (then_ first w)) (then_ first w)) ≡ o
   behind n w first o some is = ap (λ l. first_own r tried (run r l w)) (sym (first_is n w first some)) ∙ is
 
-  one_more : (n : ℕ) (w : World) (move : Move) → length (recovering r n w) ≡ n → first_own r tried (run r (recovering r n w) w) ≡ Some move → recovering r (suc n) w ≡ recovering r n w ++ move ∷ []
+  pub one_more : (n : ℕ) (w : World) (move : Move) → length (recovering r n w) ≡ n → first_own r tried (run r (recovering r n w) w) ≡ Some move → recovering r (suc n) w ≡ recovering r n w ++ move ∷ []
   one_more zero w move all is = first_is zero w move is
   one_more (suc n) w move all is = elim (none_or_some (first_own r tried w)) [
     | inl none ↦ absurd (let len = ap length (stops (suc n) w none) in omega (arith, len, all))
@@ -172,7 +168,7 @@ module _ (r : Reading) where
         ∙ ap (λ l. l ++ move ∷ []) (sym (first_is n w some.move some.is))
   ]
 
-  no_more : (n m : ℕ) (w : World) → n ≤ m → first_own r tried (run r (recovering r n w) w) ≡ None → recovering r m w ≡ recovering r n w
+  pub no_more : (n m : ℕ) (w : World) → n ≤ m → first_own r tried (run r (recovering r n w) w) ≡ None → recovering r m w ≡ recovering r n w
   no_more zero m w le none = stops m w none
   no_more (suc n) zero w le none = absurd (omega (arith, le))
   no_more (suc n) (suc m) w le is = elim (none_or_some (first_own r tried w)) [
@@ -255,61 +251,14 @@ module _ (r : Reading) where
 
 -- ---- The moves made.
 
-pub record HaveRecovered (before : Pair) (n : ℕ) (now : Pair) : Type 0 where
-  pub representation : (w : World) → PairRepresents before w → PairRepresents now (run Tagged (recovering Tagged n w) w)
-  pub counted : (w : World) → PairRepresents before w → length (recovering Tagged n w) ≡ n
+pub none_recovered : (p : Pair) → AreMade (recovering Tagged) p 0 p
+none_recovered p = record { representation = λ w s. s; counted = λ w s. refl }
 
-pub no_own_made : (p : Pair) → HaveRecovered p 0 p
-no_own_made p = record { representation = λ w s. s; counted = λ w s. refl }
-
-pub one_own_made : (before now after : Pair) (n : ℕ) (m : Move) (outs : List Out) → HaveRecovered before n now → ((w : World) → PairRepresents now w → Some m ≡ first_own Tagged tried w)
-    → ((w : World) → PairRepresents now w → HasHappened after (happens Tagged m w) outs) → HaveRecovered before (n + 1) after
-one_own_made before now after n m outs made next happened =
-    let same : suc n ≡ n + 1 = omega arith in
-    subst (λ k. HaveRecovered before k after) same (record {
-      representation = λ w s.
-          let u = run Tagged (recovering Tagged n w) w in
-          let su = made.representation w s in
-          let more = one_more Tagged n w m (made.counted w s) (sym (next u su)) in
-          let h = happened u su in
-          subst (PairRepresents after) (after_did u (happens Tagged m u) h.happened h.is ∙ sym (run_more (recovering Tagged n w) m w) ∙ ap (λ l. run Tagged l w) (sym more)) h.representation;
-      counted = λ w s.
-          let u = run Tagged (recovering Tagged n w) w in
-          let more = one_more Tagged n w m (made.counted w s) (sym (next u (made.representation w s))) in
-          let count = made.counted w s in
-          ap length more ∙ one_longer (recovering Tagged n w) m ∙ ap suc count;
-    })
-  where
-    one_longer : (l : List Move) (m : Move) → length (l ++ m ∷ []) ≡ suc (length l)
-    one_longer [] m = omega arith
-    one_longer (x ∷ l) m = let rest = one_longer l m in omega (arith, rest)
-
--- no further move is possible
-pub no_own_move_is_left : (before now : Pair) (n : ℕ) → HaveRecovered before n now → ((w : World) → PairRepresents now w → no_move ≡ first_own Tagged tried w) → (w : World) → PairRepresents before w → n ≤ recovery_bound w → HasRecovered now (record { moves = n; rest = true }) w
-no_own_move_is_left before now n made none w s few =
-    let u = run Tagged (recovering Tagged n w) w in
-    let su = made.representation w s in
-    let all = no_more Tagged n (recovery_bound w) w few (sym (none u su)) in
-    let there : recovered w ≡ u = ap (λ l. run Tagged l w) all in
-    record {
-      representation = subst (PairRepresents now) (sym there) su;
-      moves = sym (ap length all ∙ made.counted w s);
-      rest = sym (ap (λ v. is_none (first_own Tagged tried v)) there ∙ ap is_none (sym (none u su)));
-    }
-
--- all moves within the bound are made
-pub all_own_made : (before now : Pair) (n : ℕ) (rest : Bool) → HaveRecovered before n now → ((w : World) → PairRepresents now w → rest ≡ is_none (first_own Tagged tried w)) → (w : World) → PairRepresents before w → n ≡ recovery_bound w → HasRecovered now (record { moves = n; rest = rest }) w
-all_own_made before now n rest made reporting w s all =
-    let u = run Tagged (recovering Tagged n w) w in
-    let there : u ≡ recovered w = ap (λ k. run Tagged (recovering Tagged k w) w) all in
-    record {
-      representation = subst (PairRepresents now) there (made.representation w s);
-      moves = sym (made.counted w s) ∙ ap (λ k. length (recovering Tagged k w)) all;
-      rest = reporting u (made.representation w s) ∙ ap (λ v. is_none (first_own Tagged tried v)) there;
-    }
+pub as_recovered : (now : Pair) (done : Settled) (w : World) → HasMadeAll (first_own Tagged tried) (recovering Tagged) (recovery_bound w) now done w → HasRecovered now done w
+as_recovered now done w all = record { representation = all.representation; moves = all.moves; rest = all.rest }
 
 -- an allocation fails
-pub own_stopped_at : (before now after : Pair) (n : ℕ) (m : Move) (why : PairFault) → HaveRecovered before n now → ((w : World) → PairRepresents now w → Some m ≡ first_own Tagged tried w) → ((w : World) → PairRepresents now w → IsRefusedAs why (happens Tagged m w))
+pub own_stopped_at : (before now after : Pair) (n : ℕ) (m : Move) (why : PairFault) → AreMade (recovering Tagged) before n now → ((w : World) → PairRepresents now w → Some m ≡ first_own Tagged tried w) → ((w : World) → PairRepresents now w → IsRefusedAs why (happens Tagged m w))
     → ((w : World) → PairRepresents now w → PairRepresents after w) → (w : World) → PairRepresents before w → n < recovery_bound w → HasStoppedRecovering why after w
 own_stopped_at before now after n m why made next refuses same w s few =
     let u = run Tagged (recovering Tagged n w) w in

@@ -1,5 +1,5 @@
 -- A pair settles by the moves of the worlds that it represents.
-use Rattle.std.proofs.Common.{◌≡◌, ℕ, suc, ◌+◌, ◌-◌, ◌*◌, ◌<◌, ◌≤◌, not, Bool, true, false, if◌then◌else◌, List, [], ◌∷◌, ◌++◌, map, length, is_some, is_none, is_ok, option_map, Option, Some, None, IfSome, IfNone, Result, refl, sym, ap, subst, ◌∙◌, arith}
+use Rattle.std.proofs.Common.{◌≡◌, ℕ, ◌+◌, ◌-◌, ◌*◌, ◌<◌, Bool, true, false, if◌then◌else◌, List, [], ◌∷◌, map, length, is_some, is_none, is_ok, Option, Some, None, IfSome, IfNone, Result, refl, sym, ap, subst, ◌∙◌, arith}
 use Rattle.std.proofs.Math.Bool.{Bool-set}
 use Rattle.std.proofs.Math.Bridge.{le_prop}
 use Rattle.std.proofs.Math.Logic.{∥∥₁_map, ∥∥₁_elim}
@@ -8,7 +8,6 @@ use Rattle.lapd_frame.specs.Frame.{spelling}
 use Rattle.lapd_frame.specs.declared.Side.{Side}
 use Rattle.lapd_frame.specs.declared.Side.TheVariants.{User, Network}
 use Rattle.lapd_mod128.specs.Counting.{Tagged}
-use Rattle.lapd_link_definition.specs.declared.out.Out.{Out}
 use Rattle.lapd_link_definition.specs.End.{begin}
 use Rattle.lapd_pair_laws.specs.Line.{Flight}
 use Rattle.lapd_pair_laws.specs.Move.{Deliver, Expire200, Move, Refusal}
@@ -16,7 +15,7 @@ use Rattle.lapd_pair_laws.specs.World.{World, Happened, new_world, happens, run,
 use Rattle.lapd_pair_laws.proofs.Settled.{left_settled}
 use Rattle.lapd_pair_laws.specs.Settle.{IsQuiet, first_admitted, tried, next_move, settling, bound}
 use Rattle.lapd_pair_laws.proofs.DrainsAfterRuns.{every_quiet_line_drains}
-use Rattle.lapd_pair_laws.proofs.Stepping.{one_more, no_more, next_to_network, next_to_user, next_of_user, next_of_network, next_none}
+use Rattle.lapd_pair_laws.proofs.Stepping.{next_to_network, next_to_user, next_of_user, next_of_network, next_none}
 use Rattle.lapd_pair.specs.declared.line.Line.{Line}
 use Rattle.lapd_pair.specs.declared.pair.Pair.{Pair}
 use Rattle.lapd_pair.specs.declared.pair_fault.PairFault.{PairFault}
@@ -25,9 +24,9 @@ use Rattle.lapd_pair.specs.declared.settled.Settled.{Settled}
 use Rattle.lapd_pair.specs.Line.{IsOn, IsFirst, fields_of}
 use Rattle.lapd_pair.specs.Moves.{IsRefusedAs}
 use Rattle.lapd_pair.specs.Pair.{IsReached}
-use Rattle.lapd_pair.specs.Runs.{PairRepresents, HasHappened}
+use Rattle.lapd_pair.specs.Runs.{PairRepresents}
 use Rattle.lapd_pair.specs.Settles.{settled, HasSettled, Settles, HasStoppedSettling, IsEmptied, IsDrainedPair}
-use Rattle.lapd_pair.proofs.Pairs.{run_more, after_did}
+use Rattle.lapd_pair.proofs.Repeated.{AreMade, HasMadeAll, no_move}
 
 -- ---- The first frame of a line.
 
@@ -70,9 +69,6 @@ t200_of_user w n u on = sym (lines_are (λ v. next_move Tagged v ≡ Some (recor
 pub t200_of_network : (w : World) → w.to_network ≡ [] → w.to_user ≡ [] → w.user.end.t200 ≡ false → w.network.end.t200 ≡ true → Some (record { side = Network; event = Expire200 }) ≡ next_move Tagged w
 t200_of_network w n u off on = sym (lines_are (λ v. next_move Tagged v ≡ Some (record { side = Network; event = Expire200 })) w [] [] u n (next_of_network Tagged w.user w.network off on))
 
-abbrev no_move : Option Move
-no_move = None
-
 pub nothing_next : (w : World) → w.to_network ≡ [] → w.to_user ≡ [] → w.user.end.t200 ≡ false → w.network.end.t200 ≡ false → no_move ≡ next_move Tagged w
 nothing_next w n u off none = sym (lines_are (λ v. next_move Tagged v ≡ no_move) w [] [] u n (next_none Tagged w.user w.network off none))
 
@@ -90,68 +86,11 @@ bound_is p w user network s user_waits network_waits =
 
 -- ---- The moves made.
 
-pub none_mapped : {A B : Type 0} (f : A → B) (o : Option A) → is_none (option_map f o) ≡ is_none o
-none_mapped f None = refl
-none_mapped f (Some a) = refl
-
-pub none_is_not_some : {A : Type 0} (o : Option A) (b : Bool) → is_some o ≡ not b → b ≡ is_none o
-none_is_not_some None true reported = refl
-none_is_not_some None false reported = cc
-none_is_not_some (Some a) true reported = cc
-none_is_not_some (Some a) false reported = refl
-
-pub record AreMade (before : Pair) (n : ℕ) (now : Pair) : Type 0 where
-  pub representation : (w : World) → PairRepresents before w → PairRepresents now (run Tagged (settling Tagged n w) w)
-  pub counted : (w : World) → PairRepresents before w → length (settling Tagged n w) ≡ n
-
-pub none_made : (p : Pair) → AreMade p 0 p
+pub none_made : (p : Pair) → AreMade (settling Tagged) p 0 p
 none_made p = record { representation = λ w s. s; counted = λ w s. refl }
 
-pub one_made : (before now after : Pair) (n : ℕ) (m : Move) (outs : List Out) → AreMade before n now → ((w : World) → PairRepresents now w → Some m ≡ next_move Tagged w)
-    → ((w : World) → PairRepresents now w → HasHappened after (happens Tagged m w) outs) → AreMade before (n + 1) after
-one_made before now after n m outs made next happened =
-    let same : suc n ≡ n + 1 = omega arith in
-    subst (λ k. AreMade before k after) same (record {
-      representation = λ w s.
-          let u = run Tagged (settling Tagged n w) w in
-          let su = made.representation w s in
-          let more = one_more Tagged n w m (made.counted w s) (sym (next u su)) in
-          let h = happened u su in
-          subst (PairRepresents after) (after_did u (happens Tagged m u) h.happened h.is ∙ sym (run_more (settling Tagged n w) m w) ∙ ap (λ l. run Tagged l w) (sym more)) h.representation;
-      counted = λ w s.
-          let u = run Tagged (settling Tagged n w) w in
-          let more = one_more Tagged n w m (made.counted w s) (sym (next u (made.representation w s))) in
-          let count = made.counted w s in
-          ap length more ∙ one_longer (settling Tagged n w) m ∙ ap suc count;
-    })
-  where
-    one_longer : (l : List Move) (m : Move) → length (l ++ m ∷ []) ≡ suc (length l)
-    one_longer [] m = omega arith
-    one_longer (x ∷ l) m = let rest = one_longer l m in omega (arith, rest)
-
--- no further move is possible
-pub no_move_is_left : (before now : Pair) (n : ℕ) → AreMade before n now → ((w : World) → PairRepresents now w → no_move ≡ next_move Tagged w) → (w : World) → PairRepresents before w → n ≤ bound w → HasSettled now (record { moves = n; rest = true }) w
-no_move_is_left before now n made none w s few =
-    let u = run Tagged (settling Tagged n w) w in
-    let su = made.representation w s in
-    let all = no_more Tagged n (bound w) w few (sym (none u su)) in
-    let there : settled w ≡ u = ap (λ l. run Tagged l w) all in
-    record {
-      representation = subst (PairRepresents now) (sym there) su;
-      moves = sym (ap length all ∙ made.counted w s);
-      rest = sym (ap (λ v. is_none (next_move Tagged v)) there ∙ ap is_none (sym (none u su)));
-    }
-
--- all moves within the bound are made
-pub all_made : (before now : Pair) (n : ℕ) (rest : Bool) → AreMade before n now → ((w : World) → PairRepresents now w → rest ≡ is_none (next_move Tagged w)) → (w : World) → PairRepresents before w → n ≡ bound w → HasSettled now (record { moves = n; rest = rest }) w
-all_made before now n rest made reporting w s all =
-    let u = run Tagged (settling Tagged n w) w in
-    let there : u ≡ settled w = ap (λ k. run Tagged (settling Tagged k w) w) all in
-    record {
-      representation = subst (PairRepresents now) there (made.representation w s);
-      moves = sym (made.counted w s) ∙ ap (λ k. length (settling Tagged k w)) all;
-      rest = reporting u (made.representation w s) ∙ ap (λ v. is_none (next_move Tagged v)) there;
-    }
+pub as_settled : (now : Pair) (done : Settled) (w : World) → HasMadeAll (next_move Tagged) (settling Tagged) (bound w) now done w → HasSettled now done w
+as_settled now done w all = record { representation = all.representation; moves = all.moves; rest = all.rest }
 
 -- ---- An allocation fails.
 
@@ -174,7 +113,7 @@ refused_for_memory fault.NotRunning outcome is ok = cc
 refused_for_memory (fault.NotYet side at) outcome is ok = cc
 refused_for_memory (fault.Refused why) outcome is ok = cc
 
-pub stopped_at : (before now after : Pair) (n : ℕ) (m : Move) (why : PairFault) → AreMade before n now → ((w : World) → PairRepresents now w → Some m ≡ next_move Tagged w) → ((w : World) → PairRepresents now w → IsRefusedAs why (happens Tagged m w))
+pub stopped_at : (before now after : Pair) (n : ℕ) (m : Move) (why : PairFault) → AreMade (settling Tagged) before n now → ((w : World) → PairRepresents now w → Some m ≡ next_move Tagged w) → ((w : World) → PairRepresents now w → IsRefusedAs why (happens Tagged m w))
     → ((w : World) → PairRepresents now w → PairRepresents after w) → (w : World) → PairRepresents before w → n < bound w → HasStoppedSettling why after w
 stopped_at before now after n m why made next refuses same w s few =
     let u = run Tagged (settling Tagged n w) w in

@@ -1,3 +1,5 @@
+//! A port: it reads frames from a source, and writes frames to a sink.
+
 ghost use Rattle.std.specs.Prelude.{◌≡◌, ℕ, List, Some, [], ◌∷◌, ◌++◌, Err, length, drop, IfOk, IfErr, OnOk, IsTrue, ◌↔◌, false};
 ghost use Rattle.lapd_port.specs.Port.{CountsAsDevice, MakesTurns, ReadsNext, ReadsFirst, WritesText, IsApartFromInput, is_failure as makes_fail};
 ghost use Rattle.lapd_port.specs.SocketText.{IsFrameLength, frame_text, socket_text};
@@ -81,8 +83,8 @@ impl<R: Source, W: Sink> Port<R, W> {
     ///
     /// # Errors
     ///
-    /// S4 to S6. The port has failed then. A front of the frame's length and octets was written,
-    /// but not all of them.
+    /// S4 to S6. Then the port has failed, and the frame's length and octets were not written, or
+    /// only a first part of them.
     pub fn write_frame(&mut self, frame: &[u8]) -> Result<(), PortFault>
         requires { IsFrameLength (length frame.now) }
         ensures text { WritesText (W.written self.old.sink) (W.written self.new.sink) result

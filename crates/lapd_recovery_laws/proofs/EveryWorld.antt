@@ -1,5 +1,5 @@
--- Every world comes back, from any world that a run leads to: first the line runs empty, and then it
--- comes back as after an outage.
+-- Every world that a run leads to recovers: first the line runs empty, and then it recovers as
+-- after an outage.
 use Rattle.std.proofs.Common.{◌≡◌, inl, inr, ℕ, ◌+◌, ◌-◌, ◌*◌, ◌≤◌, nat_lt, ◌||◌, Bool, true, false, List, [], ◌∷◌, length, is_ok, refl, sym, ap, subst, arith}
 use Rattle.lapd_frame.specs.declared.Side.{Side}
 use Rattle.lapd_mod128.specs.Counting.{Reading, Whole, Tagged}
@@ -203,7 +203,7 @@ module _ (N : ℕ) (some : 1 ≤ N) where
       let few = rest.few in
       record { few = omega (arith, one, few); agreed = rest.agreed }
 
-  -- the others come too
+  -- the other moves
   abbrev Rest : List Move → Type 0
   Rest moves = (n : ℕ) (w : World) → Begins n w → AreOwn Whole moves w → Comes N n w moves
 

@@ -1,4 +1,4 @@
--- An open line comes up after every run from a new world, on whole numbers and on tags.
+-- An open line recovers after every run from a new world, on whole numbers and on tags.
 use Rattle.std.proofs.Common.{◌≡◌, ◌+◌, ◌*◌, ◌≤◌, List, [], ◌∷◌, map, refl, sym, ap, subst, arith}
 use Rattle.lapd_mod128.specs.Counting.{Reading, Whole, Tagged}
 use Rattle.lapd_supervision.specs.Tags.{tag_variables}

@@ -1,4 +1,4 @@
--- Worked worlds come back as expected, computed in both readings.
+-- Worked worlds recover as expected, computed in both readings.
 use Rattle.std.proofs.Common.{◌≡◌, refl, None}
 use Rattle.lapd_link_definition.specs.declared.recovery.Recovery.TheVariants.{Enquiry, LastMessage}
 use Rattle.lapd_mod128.specs.Counting.{Reading, Whole, Tagged, after, steps, lies_within}

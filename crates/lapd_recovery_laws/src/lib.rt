@@ -1,4 +1,4 @@
-//! Laws of a data link that comes back, after ITU-T Q.921 (09/97), on the definitions of
+//! Laws of a data link that recovers by itself, after ITU-T Q.921 (09/97), on the definitions of
 //! `lapd_pair_laws`. Nothing here runs.
 //!
 //! Whatever happened before, the line's own moves lead to a world in which both ends agree. Begin

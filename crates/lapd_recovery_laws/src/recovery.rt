@@ -1,4 +1,4 @@
-//! Laws of a link that comes back. They are proofs; their functions do nothing.
+//! Laws of a link that recovers by itself. They are proofs; their functions do nothing.
 
 ghost use Rattle.std.specs.Prelude.{◌≡◌, ℕ, ◌≤◌, List, None};
 ghost use Rattle.lapd_mod128.specs.Counting.{Reading};
@@ -20,7 +20,7 @@ ghost use Rattle.lapd_recovery_laws.specs.Recovered.{outcome_of, outcome_of_deli
 ghost use Rattle.lapd_recovery_laws.specs.ReleasedLine.{IsReleasedLine, ComesDown};
 ghost use Rattle.lapd_recovery_laws.specs.Timers.{HaveTimersOfStates};
 
-/// Worked worlds come back as expected, on whole numbers and on tags, with either `Recovery`: the
+/// Worked worlds recover as expected, on whole numbers and on tags, with either `Recovery`: the
 /// network restarts, without and with a message in transit; both SABMEs are lost; each DISC of a
 /// release is lost, which undoes it; a DISC and a SABME cross; and a world that takes 31 moves. With
 /// frames in transit: three messages, of which the first is lost, arrive by deliveries alone, the
@@ -92,7 +92,7 @@ pub fn timers_of_states_run()
         → (moves : List Move) → HaveTimersOfStates (run r moves (new_world user network)) }
 {}
 
-/// A line with both ends in states 7 and 8 and no frame in transit comes up by itself, if no end is
+/// A line with both ends in states 7 and 8 and no frame in transit recovers by itself, if no end is
 /// own receiver busy or at its last try. Its own moves, in any order, are at most three per message
 /// left, and eight more. When none is possible any more, both ends are in state 7 with equal
 /// numbers, no message was dropped, and each was received and acknowledged. The run starts in a new
@@ -114,7 +114,7 @@ pub fn every_released_line_comes_down()
         → ComesDown r (run r moves (new_world user network)) }
 {}
 
-/// A line with one end in state 7 or 8 and the other in state 4, as after a restart, comes up by
+/// A line with one end in state 7 or 8 and the other in state 4, as after a restart, recovers by
 /// itself, if no frame is in transit. Its own moves, in any order, are at most three per message
 /// left, two per retransmission that N200 allows, and five more. When none is possible any more,
 /// both ends are in state 7 with equal numbers, and no message is left: each was received and
@@ -127,7 +127,7 @@ pub fn every_lone_line_comes_up()
         → ComesUpAnew r n200 (run r moves (new_world user network)) }
 {}
 
-/// After an outage every link comes back by itself. Whatever happened before, if no frame is in
+/// After an outage every link recovers by itself. Whatever happened before, if no frame is in
 /// transit and no end in state 7 or 8 is own receiver busy, then the line's own moves, in any order,
 /// are at most three per message left, six per retransmission that N200 allows, and eleven more.
 /// When none is possible any more, both ends agree: both in state 4, or both in state 7 with equal
@@ -161,7 +161,7 @@ pub fn every_line_runs_empty()
         → RunsEmpty r (run r moves (new_world user network)) }
 {}
 
-/// Every world comes back by itself. Whatever happened before, with frames in transit or not, if no
+/// Every world recovers by itself. Whatever happened before, with frames in transit or not, if no
 /// end in state 7 or 8 is own receiver busy, then the line's own moves, in any order, are at most
 /// two per frame in transit, three per message left, six per retransmission that N200 allows, and 15
 /// more. When none is possible any more, both ends agree: both in state 4, or both in state 7 with

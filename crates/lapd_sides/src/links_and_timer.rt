@@ -44,7 +44,7 @@ pub enum Expired {
     Nothing,
     /// A timer of a link, which has processed the expiry.
     Link,
-    /// The timer of TEI management. It is already stopped; the side must still process the expiry.
+    /// The timer of TEI management, already stopped. The side must still process the expiry.
     Management,
 }
 

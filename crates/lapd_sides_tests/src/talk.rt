@@ -154,8 +154,8 @@ impl Talk {
         Ok(Talk { alloc, side, acts })
     }
 
-    /// Runs a step of the side: a call, a query of the side or of a link, a check that the next
-    /// moment is exact, or requests for all TEIs.
+    /// Runs a step of the side: a call, a query of the side or of a link, a check that its next
+    /// deadline is exact, or requests for all TEIs.
     pub(crate) fn step(&mut self, words: &str, text: &mut Text) {
         let (word, behind) = split(words, " ");
         match word {
@@ -209,8 +209,8 @@ impl Talk {
         }
     }
 
-    /// Whether nothing is due a millisecond before the next moment, and something is due at it. If
-    /// there is no next moment, nothing must ever be due.
+    /// Whether no timer is due a millisecond before the side's next deadline, and one is due at it.
+    /// A side without a deadline must never have a timer that is due.
     fn is_exact(&mut self) -> bool {
         let acts = &mut self.acts;
         match self.side.next_deadline() {

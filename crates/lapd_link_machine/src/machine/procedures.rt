@@ -1,12 +1,15 @@
 //! The actions of the state table, and the procedures of Q.921 Figure B.9. Each is a method with
 //! the effect of the action on an end.
 
-ghost use Rattle.std.specs.Prelude.{◌≡◌, ◌≤◌, ◌<◌, ◌+◌, ◌==◌, length, if◌then◌else◌, true, OnOk, OnErr, IfErr, is_err};
+ghost use Rattle.std.specs.Prelude.{◌≡◌, ◌≤◌, ◌<◌, ◌+◌, ◌==◌, ◌++◌, List, length, if◌then◌else◌, true, OnOk, OnErr, IfErr, is_err};
 ghost use Rattle.arrayvec.specs.ArrayVec.{array_vec_len};
 ghost use Rattle.lapd_mod128.specs.Counting.{Tagged};
 ghost use Rattle.lapd_supervision.specs.StateVariables.{without_exceptions, with_zero_counters, status_frame, acknowledgement, without_ack_pending, is_accepted, after_i_frame, i_frame_response, with_va, acknowledged_count, is_valid_nr, with_vs, next_i_frame, last_i_frame, after_sending, with_own_busy, with_peer_busy};
 ghost use Rattle.lapd_queue.specs.Waiting.{with_message, one_more_sent, without_first, all_unsent, emptied};
-ghost use Rattle.lapd_link_definition.specs.Procedures.{put, state_to, rc_to, increment_rc, layer3_initiated_to, release_pending_to, start, stop, expired, clear_exception_conditions, zero_state_variables, set_peer_busy, set_own_busy, enquiry_response, transmit_enquiry, queue_up, discard_i_queue, acknowledge, invoke_retransmission, i_frame_ns, discard_unacknowledged, transmit_i_frame, retransmit_last_i_frame, ensure_t200, transmit_rr, establish_data_link, reestablish_data_link, nr_error_recovery};
+ghost use Rattle.lapd_link_definition.specs.End.{StepState};
+ghost use Rattle.lapd_link_definition.specs.declared.out.Out.{Out};
+ghost use Rattle.lapd_link_definition.specs.declared.out.Out.TheVariants.{Acknowledged};
+ghost use Rattle.lapd_link_definition.specs.Procedures.{counted, put, state_to, rc_to, increment_rc, layer3_initiated_to, release_pending_to, start, stop, expired, clear_exception_conditions, zero_state_variables, set_peer_busy, set_own_busy, enquiry_response, transmit_enquiry, queue_up, discard_i_queue, acknowledge, invoke_retransmission, i_frame_ns, discard_unacknowledged, transmit_i_frame, retransmit_last_i_frame, ensure_t200, transmit_rr, establish_data_link, reestablish_data_link, nr_error_recovery};
 
 use crate::machine::{Machine, push};
 use crate::{MOST_OUTPUTS, Outs};
@@ -253,7 +256,8 @@ impl Machine {
 impl Machine {
     ghost use Rattle.lapd_link_machine.specs.Sent.{SentAreOutstanding, IsTaken};
     ghost use Rattle.lapd_link_machine.specs.Bounds.{primitive_count};
-    ghost use Rattle.lapd_link_machine.specs.Represents.{MachineDoes, DoesQuietly, HasOutputRoom, Grows};
+    ghost use Rattle.lapd_link_machine.specs.Represents.{Represents, MachineDoes, DoesQuietly, HasOutputRoom, Grows};
+    ghost use Rattle.lapd_link_machine.specs.Usual.{IsIdle};
 
     /// Queues a message, or returns it if the queue is full.
     #[tactic(auto, using(crate::proofs::Tails::tails), unfolding(lapd_link_definition::specs::Procedures::queue_up))]
@@ -282,7 +286,25 @@ impl Machine {
     }
 
     /// V(A) = N(R): the messages before a valid N(R) are acknowledged and removed from the queue.
+    /// Returns how many.
     #[tactic(auto, using(crate::proofs::Tails::tails), unfolding(lapd_link_definition::specs::Procedures::acknowledge))]
+    #[inline(always)]
+    pub(crate) fn acknowledge_quietly(&mut self, nr: Number, taken: (Window, Advance)) -> u16
+        requires taken { IsTaken nr self.old.window taken }
+        requires counted { SentAreOutstanding self.old }
+        ensures step { (s : StepState) (outs : List Out) → Represents self.old outs s
+            → Represents self.new (outs ++ counted result Acknowledged)
+            (acknowledge Tagged nr s) }
+        ensures idle { IsIdle self.old → IsIdle self.new }
+    {
+        let count = u16::from(taken.1.count);
+        self.window = taken.0;
+        self.queue.acknowledge(count);
+        count
+    }
+
+    /// V(A) = N(R), with the number of messages as an output.
+    #[tactic(auto)]
     #[inline(always)]
     pub(crate) fn acknowledge(&mut self, nr: Number, taken: (Window, Advance), outs: &mut Outs)
         requires room { HasOutputRoom 1 outs.old }
@@ -291,9 +313,7 @@ impl Machine {
         ensures step { MachineDoes self.old outs.old self.new outs.new (acknowledge Tagged nr) }
         ensures len { Grows 1 outs.old outs.new }
     {
-        let count = u16::from(taken.1.count);
-        self.window = taken.0;
-        self.queue.acknowledge(count);
+        let count = self.acknowledge_quietly(nr, taken);
         if count > 0 {
             push(outs, Out::Acknowledged(count));
         }

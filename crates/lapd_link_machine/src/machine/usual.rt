@@ -1,19 +1,19 @@
 //! The frames that are usual in state 7: an I frame in sequence, an RR, and a poll. Their outputs
 //! are returned as values, which costs less than a list.
 
-ghost use Rattle.std.specs.Prelude.{◌≡◌, ◌++◌, ◌∷◌, [], List, None, true, false, IfNone, IfSome};
+ghost use Rattle.std.specs.Prelude.{◌≡◌, ◌++◌, ◌∷◌, [], List, true, false, IfNone, IfSome};
 ghost use Rattle.lapd_frame.specs.declared.Role.TheVariants.{Command, Answer};
 ghost use Rattle.lapd_frame.specs.declared.Control.TheVariants.{I, Rr};
 ghost use Rattle.lapd_timers.specs.declared.timer.Timer.TheVariants.{T200, T203};
 ghost use Rattle.lapd_mod128.specs.Counting.{Tagged};
-ghost use Rattle.lapd_supervision.specs.StateVariables.{AreTags};
+ghost use Rattle.lapd_supervision.specs.StateVariables.{AreTags, is_valid_nr, outstanding};
 ghost use Rattle.lapd_link_definition.specs.EndOfStep.{end_step};
 ghost use Rattle.lapd_link_definition.specs.End.{End, StepState, begin};
 ghost use Rattle.lapd_link_definition.specs.Input.{Heard};
 ghost use Rattle.lapd_link_definition.specs.Table.{row};
 ghost use Rattle.lapd_link_definition.specs.declared.out.Out.{Out};
-ghost use Rattle.lapd_link_definition.specs.declared.out.Out.TheVariants.{Acknowledged, Start, Stop};
-ghost use Rattle.lapd_link_definition.specs.Procedures.{acknowledge, stop, start, out_where, counted, response_of};
+ghost use Rattle.lapd_link_definition.specs.declared.out.Out.TheVariants.{Up, Start, Stop};
+ghost use Rattle.lapd_link_definition.specs.Procedures.{stop, start, out_where, response_of};
 ghost use Rattle.lapd_link_definition.specs.Established.{acknowledge_with_timers, multiple_frame_established};
 ghost use Rattle.lapd_link_machine.specs.Usual.{nr_outs, usual_outs, IsIdle};
 
@@ -22,7 +22,7 @@ use lapd_frame::{Control, Number, Role};
 use lapd_link_definition::State;
 use lapd_supervision::{Advance, Window};
 
-/// What an N(R) acknowledges, and its effect on the timers (Q.921 Figure B.7).
+/// The messages that an N(R) acknowledges, and its effect on the timers (Q.921 Figure B.7).
 #[derive(Clone, Copy)]
 pub enum NrEffect {
     /// This many messages, and none is outstanding: T200 is stopped if it runs, and T203 started.
@@ -47,9 +47,8 @@ pub struct UsualOuts {
 }
 
 /// Actions that return their output.
-#[tactic(auto, using(crate::proofs::Tails::tail_acknowledged), unfolding(lapd_link_definition::specs::Procedures::stop, lapd_link_definition::specs::Procedures::start, lapd_link_definition::specs::Procedures::acknowledge))]
+#[tactic(auto, unfolding(lapd_link_definition::specs::Procedures::stop, lapd_link_definition::specs::Procedures::start))]
 impl Machine {
-    ghost use Rattle.lapd_link_machine.specs.Sent.{SentAreOutstanding, IsTaken};
     ghost use Rattle.lapd_link_machine.specs.Represents.{Represents};
 
     /// STOP T200. Returns whether it ran.
@@ -82,22 +81,6 @@ impl Machine {
         ensures idle { IsIdle self.old → IsIdle self.new }
     {
         self.t200 = true;
-    }
-
-    /// V(A) = N(R). Returns how many messages are acknowledged.
-    #[inline(always)]
-    fn acknowledge_quietly(&mut self, nr: Number, taken: (Window, Advance)) -> u16
-        requires taken { IsTaken nr self.old.window taken }
-        requires counted { SentAreOutstanding self.old }
-        ensures step { (s : StepState) (outs : List Out) → Represents self.old outs s
-            → Represents self.new (outs ++ counted result Acknowledged)
-            (acknowledge Tagged nr s) }
-        ensures idle { IsIdle self.old → IsIdle self.new }
-    {
-        let count = u16::from(taken.1.count);
-        self.window = taken.0;
-        self.queue.acknowledge(count);
-        count
     }
 }
 
@@ -147,6 +130,40 @@ impl Machine {
         }
     }
 
+    /// Ends a step that has these variables and outputs before its N(R): processes the N(R), if it
+    /// is valid, and sends the pending acknowledgement.
+    #[inline(always)]
+    fn acknowledge_and_end(
+        &mut self,
+        window: Window,
+        nr: Number,
+        response: Option<Control>,
+        is_up: bool,
+    ) -> Option<UsualOuts>
+        requires idle { IsIdle self.old }
+        requires counted { self.old.queue.sent ≡ outstanding Tagged window }
+        ensures step { IfSome result (λ outs. (is_valid_nr Tagged nr window ≡ true)
+            × ((s : StepState) → Represents (record (self.old) { window = window })
+            (response_of response ++ out_where is_up Up) s → Represents self.new (usual_outs outs)
+            (end_step Tagged (acknowledge_with_timers Tagged nr s)))) }
+        ensures unchanged { IfNone result (self.new ≡ self.old) }
+    {
+        match window.take_nr(nr) {
+            Some(taken) => {
+                self.window = window;
+                let nr = self.take_nr_quietly(nr, taken);
+                let acknowledgement = self.end_quietly();
+                Some(UsualOuts {
+                    response,
+                    is_up,
+                    nr,
+                    acknowledgement,
+                })
+            }
+            None => None,
+        }
+    }
+
     /// Receives an I command with P=0 that is in sequence, while both ends are ready.
     #[inline(always)]
     fn usual_i_frame(&mut self, ns: Number, nr: Number) -> Option<UsualOuts>
@@ -164,20 +181,7 @@ impl Machine {
         if !receipt.accepted || receipt.answer.is_some() {
             return None;
         }
-        match window.take_nr(nr) {
-            Some(taken) => {
-                self.window = window;
-                let nr = self.take_nr_quietly(nr, taken);
-                let acknowledgement = self.end_quietly();
-                Some(UsualOuts {
-                    response: None,
-                    is_up: true,
-                    nr,
-                    acknowledgement,
-                })
-            }
-            None => None,
-        }
+        self.acknowledge_and_end(window, nr, None, true)
     }
 
     /// Receives an RR response with F=0.
@@ -191,20 +195,7 @@ impl Machine {
         ensures unchanged { IfNone result (self.new ≡ self.old) }
     {
         let window = self.window.peer(false);
-        match window.take_nr(nr) {
-            Some(taken) => {
-                self.window = window;
-                let nr = self.take_nr_quietly(nr, taken);
-                let acknowledgement = self.end_quietly();
-                Some(UsualOuts {
-                    response: None,
-                    is_up: false,
-                    nr,
-                    acknowledgement,
-                })
-            }
-            None => None,
-        }
+        self.acknowledge_and_end(window, nr, None, false)
     }
 
     /// Receives an RR command with P=1, which is answered first.
@@ -218,20 +209,7 @@ impl Machine {
         ensures unchanged { IfNone result (self.new ≡ self.old) }
     {
         let (window, response) = self.window.peer(false).answer_poll();
-        match window.take_nr(nr) {
-            Some(taken) => {
-                self.window = window;
-                let nr = self.take_nr_quietly(nr, taken);
-                let acknowledgement = self.end_quietly();
-                Some(UsualOuts {
-                    response: Some(response),
-                    is_up: false,
-                    nr,
-                    acknowledgement,
-                })
-            }
-            None => None,
-        }
+        self.acknowledge_and_end(window, nr, Some(response), false)
     }
 
     /// Makes the step of a received frame, if it is usual: in state 7 with no message unsent, an I

@@ -1,54 +1,16 @@
-use Rattle.std.proofs.Common.{◌≡◌, ◌≤◌, sym, ap, ◌∙◌, append-nil, arith}
-use Rattle.lapd_mod128.specs.Counting.{Tagged}
-use Rattle.lapd_supervision.proofs.Outstanding.{acknowledged_count_at_most}
-use Rattle.lapd_supervision.specs.StateVariables.{with_va, acknowledged_count}
+use Rattle.std.proofs.Common.{sym, ap, ◌∙◌, List, ◌++◌, append-nil}
+use Rattle.lapd_link_definition.specs.declared.out.Out.{Out}
 use Rattle.lapd_link_definition.specs.declared.out.Out.TheVariants.{Acknowledged}
-use Rattle.lapd_link_definition.specs.Procedures.{acknowledge}
-use Rattle.lapd_link_machine.proofs.Tails.{tail_acknowledged, counted_above, counted_none}
+use Rattle.lapd_link_machine.proofs.Tails.{counted_above, counted_none}
+use Rattle.lapd_link_machine.proofs.Usual.{same_outs}
 use Rattle.lapd_link_machine.proofs.machine.Machine.acknowledge.Goals as goal
-use Rattle.lapd_queue.specs.Waiting.{without_first}
 
 pub returns-then-count-gt0-clause-step : goal.returns-then-count-gt0-clause-step
-unfolding acknowledge without_first
-returns-then-count-gt0-clause-step c = λ s h.
-    let reported : c.from-count.result ≡ acknowledged_count Tagged c.args.nr c.args.self.now.window = c.from-count.ensures ∙ c.requires.taken.count in
-    let count : acknowledged_count Tagged c.args.nr s.end.window ≡ c.from-count.result = ap (acknowledged_count Tagged c.args.nr) h.window ∙ sym reported in
-    let few : c.from-count.result ≤ c.args.self.now.queue.sent = omega (arith, reported, c.requires.counted, acknowledged_count_at_most Tagged c.args.nr c.args.self.now.window c.requires.taken.valid) in
-    record {
-      parameters = h.parameters;
-      state = h.state;
-      rc = h.rc;
-      window = ap (with_va c.args.nr) h.window ∙ sym c.requires.taken.window;
-      layer3_initiated = h.layer3_initiated;
-      release_pending = h.release_pending;
-      t200 = h.t200;
-      t203 = h.t203;
-      queue = rw (count, c.acknowledge.ensures.left) (tail_acknowledged _ _ _ c.from-count.result _ h.queue few c.acknowledge.ensures.were_there);
-      room = rw c.acknowledge.ensures.left h.room;
-      put = rw (h.put, count, counted_above c.from-count.result Acknowledged c.if-count-gt0.true) (sym c.push.ensures.items);
-    }
+returns-then-count-gt0-clause-step c = λ s h. same_outs _ _ _ _
+    (ap (λ (l : List Out). c.args.outs.now.items ++ l) (counted_above c.acknowledge_quietly-count.result Acknowledged c.if-count-gt0.true) ∙ sym c.push.ensures.items)
+    (c.acknowledge_quietly-count.ensures.step s _ h)
 
 pub returns-else-count-gt0-clause-step : goal.returns-else-count-gt0-clause-step
-unfolding acknowledge without_first
-returns-else-count-gt0-clause-step c = λ s h.
-    let reported : c.from-count.result ≡ acknowledged_count Tagged c.args.nr c.args.self.now.window = c.from-count.ensures ∙ c.requires.taken.count in
-    let count : acknowledged_count Tagged c.args.nr s.end.window ≡ c.from-count.result = ap (acknowledged_count Tagged c.args.nr) h.window ∙ sym reported in
-    let few : c.from-count.result ≤ c.args.self.now.queue.sent = omega (arith, reported, c.requires.counted, acknowledged_count_at_most Tagged c.args.nr c.args.self.now.window c.requires.taken.valid) in
-    record {
-      parameters = h.parameters;
-      state = h.state;
-      rc = h.rc;
-      window = ap (with_va c.args.nr) h.window ∙ sym c.requires.taken.window;
-      layer3_initiated = h.layer3_initiated;
-      release_pending = h.release_pending;
-      t200 = h.t200;
-      t203 = h.t203;
-      queue = rw (count, c.acknowledge.ensures.left) (tail_acknowledged _ _ _ c.from-count.result _ h.queue few c.acknowledge.ensures.were_there);
-      room = rw c.acknowledge.ensures.left h.room;
-      put = rw (h.put, count, counted_none c.from-count.result Acknowledged c.if-count-gt0.false) (append-nil _);
-    }
-
-pub acknowledge-requires : goal.acknowledge-requires
-acknowledge-requires c =
-    let reported : c.from-count.result ≡ acknowledged_count Tagged c.args.nr c.args.self.now.window = c.from-count.ensures ∙ c.requires.taken.count in
-    omega (arith, reported, c.requires.counted, acknowledged_count_at_most Tagged c.args.nr c.args.self.now.window c.requires.taken.valid)
+returns-else-count-gt0-clause-step c = λ s h. same_outs _ _ _ _
+    (ap (λ (l : List Out). c.args.outs.now.items ++ l) (counted_none c.acknowledge_quietly-count.result Acknowledged c.if-count-gt0.false) ∙ append-nil _)
+    (c.acknowledge_quietly-count.ensures.step s _ h)

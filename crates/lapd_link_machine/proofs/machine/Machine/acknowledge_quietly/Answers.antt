@@ -10,15 +10,15 @@ use Rattle.lapd_queue.specs.Waiting.{without_first}
 
 pub acknowledge-requires : goal.acknowledge-requires
 acknowledge-requires c =
-    let told : c.from-count.result ≡ acknowledged_count Tagged c.args.nr c.args.self.now.window = c.from-count.ensures ∙ c.requires.taken.count in
-    omega (arith, told, c.requires.counted, acknowledged_count_at_most Tagged c.args.nr c.args.self.now.window c.requires.taken.valid)
+    let reported : c.from-count.result ≡ acknowledged_count Tagged c.args.nr c.args.self.now.window = c.from-count.ensures ∙ c.requires.taken.count in
+    omega (arith, reported, c.requires.counted, acknowledged_count_at_most Tagged c.args.nr c.args.self.now.window c.requires.taken.valid)
 
 pub returns-clause-step : goal.returns-clause-step
 unfolding acknowledge without_first
 returns-clause-step c = λ s outs h.
-    let told : c.from-count.result ≡ acknowledged_count Tagged c.args.nr c.args.self.now.window = c.from-count.ensures ∙ c.requires.taken.count in
-    let count : acknowledged_count Tagged c.args.nr s.end.window ≡ c.from-count.result = ap (acknowledged_count Tagged c.args.nr) h.window ∙ sym told in
-    let few : c.from-count.result ≤ c.args.self.now.queue.sent = omega (arith, told, c.requires.counted, acknowledged_count_at_most Tagged c.args.nr c.args.self.now.window c.requires.taken.valid) in
+    let reported : c.from-count.result ≡ acknowledged_count Tagged c.args.nr c.args.self.now.window = c.from-count.ensures ∙ c.requires.taken.count in
+    let count : acknowledged_count Tagged c.args.nr s.end.window ≡ c.from-count.result = ap (acknowledged_count Tagged c.args.nr) h.window ∙ sym reported in
+    let few : c.from-count.result ≤ c.args.self.now.queue.sent = omega (arith, reported, c.requires.counted, acknowledged_count_at_most Tagged c.args.nr c.args.self.now.window c.requires.taken.valid) in
     record {
       parameters = h.parameters;
       state = h.state;

@@ -1,21 +1,21 @@
-use Rattle.std.proofs.Common.{◌≡◌, true, false, [], sym, ap, ◌∙◌}
+use Rattle.std.proofs.Common.{◌≡◌, true, false, sym, ap, ◌∙◌}
 use Rattle.lapd_mod128.specs.Counting.{Tagged}
 use Rattle.lapd_supervision.specs.StateVariables.{with_peer_busy, is_valid_nr, outstanding}
 use Rattle.lapd_supervision.proofs.Outstanding.{outstanding_with_peer_busy}
 use Rattle.lapd_link_definition.specs.Procedures.{set_peer_busy}
 use Rattle.lapd_link_definition.specs.Established.{multiple_frame_established, rr_nr, poll_or_final}
-use Rattle.lapd_link_machine.proofs.Rows.{then_row}
+use Rattle.lapd_link_machine.proofs.Usual.{then_ends, if_some}
 use Rattle.lapd_link_machine.proofs.machine.Machine.usual_response.Goals as goal
 
-pub take_nr_quietly-nr-requires-clause-counted : goal.take_nr_quietly-nr-requires-clause-counted
-take_nr_quietly-nr-requires-clause-counted c = c.requires.counted ∙ sym (ap (outstanding Tagged) c.peer-window.ensures ∙ outstanding_with_peer_busy Tagged false c.args.self.now.window)
+pub acknowledge_and_end-requires-clause-counted : goal.acknowledge_and_end-requires-clause-counted
+acknowledge_and_end-requires-clause-counted c = c.requires.counted ∙ sym (ap (outstanding Tagged) c.peer-window.ensures ∙ outstanding_with_peer_busy Tagged false c.args.self.now.window)
 
-pub returns-in-Some-clause-step : goal.returns-in-Some-clause-step
+pub returns-clause-step : goal.returns-clause-step
 unfolding multiple_frame_established rr_nr poll_or_final set_peer_busy
-returns-in-Some-clause-step c = λ s h.
+returns-clause-step c = if_some c.acknowledge_and_end.result _ _ (λ outs step s h.
     let window : with_peer_busy false s.end.window ≡ c.peer-window.result = ap (with_peer_busy false) h.window ∙ sym c.peer-window.ensures in
-    let valid : is_valid_nr Tagged c.args.nr (with_peer_busy false s.end.window) ≡ true = ap (is_valid_nr Tagged c.args.nr) window ∙ sym c.in-Some.ensures.valid in
-    c.end_quietly-acknowledgement.ensures.step _ _ (then_row _ _ _ _ _ valid (c.take_nr_quietly-nr.ensures.step _ [] (record {
+    let valid : is_valid_nr Tagged c.args.nr (with_peer_busy false s.end.window) ≡ true = ap (is_valid_nr Tagged c.args.nr) window ∙ step.0 in
+    then_ends _ _ _ _ _ valid (step.1 _ (record {
       parameters = h.parameters;
       state = h.state;
       rc = h.rc;
@@ -27,4 +27,4 @@ returns-in-Some-clause-step c = λ s h.
       queue = h.queue;
       room = h.room;
       put = h.put;
-    })))
+    }))) c.acknowledge_and_end.ensures.step

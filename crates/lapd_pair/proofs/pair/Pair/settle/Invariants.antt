@@ -1,5 +1,7 @@
-use Rattle.lapd_pair.proofs.Settling.{AreMade}
+use Rattle.lapd_mod128.specs.Counting.{Tagged}
+use Rattle.lapd_pair_laws.specs.Settle.{settling}
+use Rattle.lapd_pair.proofs.Repeated.{AreMade}
 use Rattle.lapd_pair.proofs.pair.Pair.settle.Given as goal
 
 abbrev pub invariant-loop-moves : goal.invariant-loop-moves
-invariant-loop-moves l = AreMade l.initial.self l.moves l.self
+invariant-loop-moves l = AreMade (settling Tagged) l.initial.self l.moves l.self
