@@ -67,6 +67,14 @@ def options_of(text):
     return parser.parse_args()
 
 
+def chosen(names, known):
+    """The names, which must be known, or all that are known if there are none."""
+    for it in names:
+        if it not in known:
+            raise Failed(f"unknown name {it}; these are known: {' '.join(known)}")
+    return names or list(known)
+
+
 def say(text):
     print(text, file=sys.stderr, flush=True)
 
@@ -106,6 +114,12 @@ def rows_below(name):
 
     add(name)
     return found
+
+
+def rt(crate, *words, **how):
+    """Starts rt in the crate's folder, without input. Its output and its errors are one text."""
+    how |= {"stdin": subprocess.DEVNULL, "stdout": subprocess.PIPE, "stderr": subprocess.STDOUT}
+    return subprocess.Popen(["rt", *words], cwd=f"{TOP}/crates/{crate}", text=True, **how)
 
 
 def prove(*words):

@@ -56,6 +56,17 @@ static void message(void)
 	carry(&user, &network);
 }
 
+/* The same as `message`, but the first frame is fetched after seven messages. */
+static void window_message(void)
+{
+	static const uint8_t octets[20] = { 0x08, 0x01, 0x01, 0x05 };
+	static long given;
+
+	DONE(lapd_side_give(&user, 0, 0, octets, sizeof octets, 0));
+	if (++given % 7 == 0)
+		carry(&user, &network);
+}
+
 /* Fetches all that waits by lapd_side_next, and passes the frames to the other side, until none is
  * sent. */
 static void carry_next(lapd_side *from, lapd_side *to)
@@ -128,6 +139,7 @@ static void call(const char *what)
 
 	switch (what[0]) {
 	case 'm': message(); break;
+	case 'w': window_message(); break;
 	case 'n': next_message(); break;
 	case 'p': poll(); break;
 	case 't': DONE(lapd_side_tick(&network, 1, &expired)); break;
@@ -141,7 +153,9 @@ int main(int count, char **words)
 	const uint8_t tei = 64;
 	long times = count == 3 ? atol(words[2]) : 0, at;
 
-	WANT(times > 0 && strchr("mnptd", words[1][0]) != NULL);
+	WANT(times > 0 && strchr("mwnptd", words[1][0]) != NULL);
+	if (words[1][0] == 'w')
+		settings = (lapd_settings)LAPD_PRIMARY;
 	DONE(lapd_side_network(&network, &settings, &tei, 1));
 	DONE(lapd_side_user(&user, &settings, tei));
 	DONE(lapd_side_establish(&user, 0, 0, 0));
@@ -151,7 +165,7 @@ int main(int count, char **words)
 		establish_all(settings);
 	for (at = 0; at < times; at++)
 		call(words[1]);
-	WANT(arrived == acknowledged && (strchr("mn", words[1][0]) == NULL || (arrived == times && frames == 2 * times)));
+	WANT(arrived == acknowledged && (strchr("mwn", words[1][0]) == NULL || (arrived == times && frames == 2 * times)));
 	lapd_side_free(&user);
 	lapd_side_free(&network);
 	return 0;

@@ -1,12 +1,18 @@
 #!/bin/sh
-# count.sh COUNT: prints the instructions of each action of the program COUNT. It subtracts two runs,
-# so that the program's start does not count.
+# count.sh COUNT [LIBPRI]: prints the instructions of each action of the program COUNT, and of those
+# that the program LIBPRI has. It subtracts two runs, so that a program's start does not count.
 set -u
 counted() {
-	valgrind --tool=callgrind --callgrind-out-file="$(dirname "$1")/callgrind.$2" "$1" "$2" "$3" 2>&1 | awk '/Collected/ { print $4 }'
+	valgrind --tool=callgrind --callgrind-out-file=/dev/null "$@" 2>&1 | awk '/Collected/ { print $4 }'
 }
-for what in message next_message poll tick deadline deadline_of_254; do
-	less=$(counted "$1" $what 2000)
-	more=$(counted "$1" $what 4000)
-	echo "$what: $(((more - less) / 2000)) instructions"
+each() {
+	few=$(counted "$@" 2100)
+	many=$(counted "$@" 4200)
+	echo $(((many - few) / 2100))
+}
+printf "%-16s %8s %8s\n" instructions liblapd libpri
+for what in message window_message next_message poll tick deadline deadline_of_254; do
+	theirs=-
+	case $what in message | window_message | poll) [ $# -lt 2 ] || theirs=$(each "$2" $what) ;; esac
+	printf '%-16s %8s %8s\n' $what "$(each "$1" $what)" "$theirs"
 done
