@@ -1,4 +1,4 @@
--- Every world comes back although frames are lost, if only so many are.
+-- Every world recovers although frames are lost, if only so many are.
 use Rattle.std.proofs.Common.{◌≡◌, ℕ, ◌+◌, ◌*◌, ◌≤◌, ◌||◌, false, List, [], ◌∷◌, sym, ap, subst, ◌∙◌, arith}
 use Rattle.std.proofs.lemmas.Nat.{mul-le}
 use Rattle.lapd_mod128.specs.Counting.{Reading, Whole, Tagged}

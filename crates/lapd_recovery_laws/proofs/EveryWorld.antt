@@ -103,7 +103,7 @@ module _ (N : ℕ) (some : 1 ≤ N) where
     pub user_free : IsFree w.user.end
     pub network_free : IsFree w.network.end
 
-  -- a world that comes back as after an outage; m bounds its own moves
+  -- a world that recovers as after an outage; m bounds its own moves
   pub record IsEmptied (n : ℕ) (w : World) : Type 0 where
     pub m : ℕ
     pub coming : Coming N false m w

@@ -175,7 +175,7 @@ pub fn every_world_comes_back()
         → WorldComesBack r n200 (run r moves (new_world user network)) }
 {}
 
-/// Every world comes back by itself although frames are lost meanwhile, if only so many are. The
+/// Every world recovers by itself although frames are lost meanwhile, if only so many are. The
 /// premises are those of [`every_world_comes_back`], but any frame in transit may be lost at any
 /// moment. Own moves and losses, in any order, are at most the moves of that law and, for each frame
 /// that may be lost, four per message left at the start, six per retransmission that N200 allows,
