@@ -1,4 +1,3 @@
-pub mod Filling
 pub mod Heads
 pub mod Steps
 pub mod Taken

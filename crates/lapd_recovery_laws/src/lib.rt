@@ -2,8 +2,8 @@
 //! `lapd_pair_laws`. Nothing here runs.
 //!
 //! Whatever happened before, the line's own moves lead to a world in which both ends agree. Begin
-//! with [`every_world_comes_back`], [`every_line_comes_back`] and [`every_held_line_stays_up`]. Read
-//! specs/ in this order:
+//! with [`every_world_comes_back`], [`every_line_comes_back`] and [`every_held_line_stays_up`].
+//! Read specs/ in this order:
 //!
 //! - `Own`, the moves that the line makes by itself; `Agreed`, the world that they lead to;
 //!   `AfterOutage`, worlds with no frame in transit; `Deliveries`, by which the line runs empty;

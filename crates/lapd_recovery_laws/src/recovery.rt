@@ -22,12 +22,12 @@ ghost use Rattle.lapd_recovery_laws.specs.Timers.{HaveTimersOfStates};
 
 /// Worked worlds recover as expected, on whole numbers and on tags, with either `Recovery`: the
 /// network restarts, without and with a message in transit; both SABMEs are lost; each DISC of a
-/// release is lost, which undoes it; a DISC and a SABME cross; and a world that takes 31 moves. With
-/// frames in transit: three messages, of which the first is lost, arrive by deliveries alone, the
-/// last two twice; and a poll and a SABME cross while a message waits.
-/// While frames are still lost: a message and the three polls for it, so that the link is established
-/// anew and the message dropped; and a message and only two polls, so that it is received. Without T203,
-/// a network that restarts leaves the ends apart. With a busy end the moves are not few.
+/// release is lost, which undoes it; a DISC and a SABME cross; and a world that takes 31 moves.
+/// With frames in transit: three messages, of which the first is lost, arrive by deliveries alone,
+/// the last two twice; and a poll and a SABME cross while a message waits. While frames are still
+/// lost: a message and the three polls for it, so that the link is established anew and the message
+/// dropped; and a message and only two polls, so that it is received. Without T203, a network that
+/// restarts leaves the ends apart. With a busy end the moves are not few.
 pub fn recovery_is_computed()
     ensures restart { (r : Reading) → outcome_of r (run r network_restarts (new_pair 1 Enquiry))
         ≡ both_in_7 11 0 0 }
@@ -85,8 +85,9 @@ pub fn recovery_is_computed()
     ensures busy { (r : Reading) → IsBusy (run r busy (new_pair 1 Enquiry)) }
 {}
 
-/// After every run, on whole numbers and on tags, the timers that run are those of each end's state:
-/// T200 alone in states 5, 6 and 8, and T203 in state 7 if T200 does not run (Q.921 5.10.3.1).
+/// After every run, on whole numbers and on tags, the timers that run are those of each end's
+/// state: T200 alone in states 5, 6 and 8, and T203 in state 7 if T200 does not run (Q.921
+/// 5.10.3.1).
 pub fn timers_of_states_run()
     ensures { (r : Reading) (user network : Parameters) → user.k ≤ 127 → network.k ≤ 127
         → (moves : List Move) → HaveTimersOfStates (run r moves (new_world user network)) }
@@ -128,11 +129,12 @@ pub fn every_lone_line_comes_up()
 {}
 
 /// After an outage every link recovers by itself. Whatever happened before, if no frame is in
-/// transit and no end in state 7 or 8 is own receiver busy, then the line's own moves, in any order,
-/// are at most three per message left, six per retransmission that N200 allows, and eleven more.
-/// When none is possible any more, both ends agree: both in state 4, or both in state 7 with equal
-/// numbers, and no message is left. The run starts in a new world, on whole numbers or on tags, with
-/// windows of 1 to 127 and either `Recovery`. The argument is at least N200 of both ends, and 1.
+/// transit and no end in state 7 or 8 is own receiver busy, then the line's own moves, in any
+/// order, are at most three per message left, six per retransmission that N200 allows, and eleven
+/// more. When none is possible any more, both ends agree: both in state 4, or both in state 7 with
+/// equal numbers, and no message is left. The run starts in a new world, on whole numbers or on
+/// tags, with windows of 1 to 127 and either `Recovery`. `n200` is at least 1, and at least
+/// N200 of each end.
 pub fn every_line_comes_back()
     ensures { (r : Reading) (n200 : ℕ) → 1 ≤ n200 → (user network : Parameters)
         → user.k ≤ 127 → network.k ≤ 127 → 1 ≤ user.k → 1 ≤ network.k → (moves : List Move)
@@ -152,9 +154,9 @@ pub fn every_held_line_stays_up()
 {}
 
 /// The line runs empty: deliveries alone, in any order of the two directions, are at most two per
-/// frame in transit, three per message left, and four more. When none is possible any more, no frame
-/// is in transit. An end may be own receiver busy. The run starts in a new world, on whole numbers
-/// or on tags, with windows of 1 to 127 and either `Recovery`.
+/// frame in transit, three per message left, and four more. When none is possible any more, no
+/// frame is in transit. An end may be own receiver busy. The run starts in a new world, on whole
+/// numbers or on tags, with windows of 1 to 127 and either `Recovery`.
 pub fn every_line_runs_empty()
     ensures { (r : Reading) (user network : Parameters)
         → user.k ≤ 127 → network.k ≤ 127 → 1 ≤ user.k → 1 ≤ network.k → (moves : List Move)
@@ -163,11 +165,11 @@ pub fn every_line_runs_empty()
 
 /// Every world recovers by itself. Whatever happened before, with frames in transit or not, if no
 /// end in state 7 or 8 is own receiver busy, then the line's own moves, in any order, are at most
-/// two per frame in transit, three per message left, six per retransmission that N200 allows, and 15
-/// more. When none is possible any more, both ends agree: both in state 4, or both in state 7 with
-/// equal numbers, and no message is left. The run starts in a new world, on whole numbers or on
-/// tags, with windows of 1 to 127 and either `Recovery`. The argument is at least N200 of both ends,
-/// and 1.
+/// two per frame in transit, three per message left, six per retransmission that N200 allows, and
+/// 15 more. When none is possible any more, both ends agree: both in state 4, or both in state 7
+/// with equal numbers, and no message is left. The run starts in a new world, on whole numbers or
+/// on tags, with windows of 1 to 127 and either `Recovery`. `n200` is at least 1, and at least
+/// N200 of each end.
 pub fn every_world_comes_back()
     ensures { (r : Reading) (n200 : ℕ) → 1 ≤ n200 → (user network : Parameters)
         → user.k ≤ 127 → network.k ≤ 127 → 1 ≤ user.k → 1 ≤ network.k → (moves : List Move)

@@ -1,7 +1,7 @@
 use Rattle.std.proofs.Common.{rules, ◌-◌, length, subst, sym}
 use Rattle.std.specs.Io.KnownBytes.{Consumes}
 use Rattle.std.proofs.KnownBytes.{Consumes-trans, Consumes-kept}
-use Rattle.lapd_capture.proofs.Filling.{take-filled, take-filled_more}
+use Rattle.lapd_port.proofs.Filling.{take-filled, take-filled_more}
 use Rattle.lapd_capture.proofs.taking.fill.Goals as goal
 use Rattle.lapd_capture.proofs.taking.fill.Goals.{in-Ok, in-Err+else-ne}
 
