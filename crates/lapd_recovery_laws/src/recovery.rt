@@ -72,11 +72,13 @@ pub fn recovery_is_computed()
         × (outcome_despite r three_polls_lost (run r message_lost (new_pair 1 LastMessage))
         ≡ both_in_7 9 0 1) }
     ensures two_polls_lost { (r : Reading)
-        → AreOwnOrLosses r two_polls_lost (run r message_lost (new_pair 1 Enquiry))
+        → OutlastLosses 2 (run r message_lost (new_pair 1 Enquiry))
+        × AreOwnOrLosses r two_polls_lost (run r message_lost (new_pair 1 Enquiry))
         × (outcome_of_few r two_polls_lost (run r message_lost (new_pair 1 Enquiry))
         ≡ both_in_7 9 1 0) }
     ensures two_polls_lost_by_last { (r : Reading)
-        → AreOwnOrLosses r two_polls_lost (run r message_lost (new_pair 1 LastMessage))
+        → OutlastLosses 2 (run r message_lost (new_pair 1 LastMessage))
+        × AreOwnOrLosses r two_polls_lost (run r message_lost (new_pair 1 LastMessage))
         × (outcome_of_few r two_polls_lost (run r message_lost (new_pair 1 LastMessage))
         ≡ both_in_7 9 1 0) }
     ensures apart_without_t203 { (r : Reading)
