@@ -228,6 +228,11 @@ uint32_t lapd_side_ask_tei(lapd_side *side, uint64_t now);
  * LAPD_TEI_FREE, LAPD_TEI_IN_USE or LAPD_TEI_DOUBLED. */
 uint32_t lapd_side_check_tei(lapd_side *side, uint8_t tei, uint64_t now);
 
+/* Sets T200 to T203 in milliseconds, each 1 to 3600000, for timers that are started from then on,
+ * also those of links that are added later. A running timer keeps its deadline. Never returns
+ * LAPD_PENDING. LAPD_OUT_OF_RANGE: nothing is changed. */
+uint32_t lapd_side_set_timers(lapd_side *side, uint32_t t200, uint32_t t201, uint32_t t202, uint32_t t203);
+
 /* Expires the first timer that is due at `now`. *expired is 1 if one was due, else 0; call it until
  * it is 0. Before you expire timers for a moment, pass in every frame that had arrived by then.
  * Otherwise T200 may expire although its response has arrived, and the peer receives a second

@@ -67,6 +67,8 @@ static void no_side(lapd_side *side)
 	memset(&delivered, 1, sizeof delivered);
 	WANT_CODE(lapd_side_next(side, &delivered, buffer, sizeof buffer, &left), LAPD_NO_SIDE);
 	WANT(delivered.kind == LAPD_NOTHING && delivered.octets == 0 && left == 0);
+	WANT_CODE(lapd_side_set_timers(side, 1000, 1000, 2000, 10000), LAPD_NO_SIDE);
+	WANT_CODE(lapd_side_set_timers(side, 1000, 1000, 0, 10000), LAPD_OUT_OF_RANGE);
 	WANT_CODE(lapd_side_tei(side, &phase, &tei), LAPD_NO_SIDE);
 	WANT(phase == 0 && tei == LAPD_NO_TEI);
 }
@@ -277,6 +279,43 @@ static void a_check(lapd_side *side)
 	DONE(lapd_side_check_tei(side, 64, 0));
 }
 
+/* A running timer keeps its deadline, and timers that are started from then on run as long as was
+ * set, also those of a link that is added later. */
+static void durations(lapd_side *side)
+{
+	const lapd_settings basic = LAPD_BASIC;
+	const uint8_t tei = 64;
+	uint64_t moment = 0;
+	uint8_t expired = 0;
+
+	DONE(lapd_side_network(side, &basic, &tei, 1));
+	DONE(lapd_side_establish(side, 0, 64, 0));
+	WANT_CODE(lapd_side_set_timers(side, 0, 1000, 2000, 10000), LAPD_OUT_OF_RANGE);
+	WANT_CODE(lapd_side_set_timers(side, 1000, 3600001, 2000, 10000), LAPD_OUT_OF_RANGE);
+	DONE(lapd_side_set_timers(side, 300, 400, 500, 600));
+	DONE(lapd_side_deadline(side, &moment));
+	WANT(moment == 1000);
+	DONE(lapd_side_tick(side, 1000, &expired));
+	WANT(expired == 1);
+	DONE(lapd_side_deadline(side, &moment));
+	WANT(moment == 1300);
+	DONE(lapd_side_take(side, (const uint8_t *)"\x02\x81\x73", 3, 1100));
+	DONE(lapd_side_deadline(side, &moment));
+	WANT(moment == 1700);
+	DONE(lapd_side_check_tei(side, 3, 1100));
+	DONE(lapd_side_deadline(side, &moment));
+	WANT(moment == 1500);
+	DONE(lapd_side_take(side, (const uint8_t *)"\xfc\xff\x03\x0f\x12\x34\x01\xff", 8, 1100));
+	DONE(lapd_side_establish(side, 0, 65, 1100));
+	DONE(lapd_side_deadline(side, &moment));
+	WANT(moment == 1400);
+	DONE(lapd_side_user(side, &basic, LAPD_NO_TEI));
+	DONE(lapd_side_set_timers(side, 300, 400, 500, 600));
+	DONE(lapd_side_ask_tei(side, 0));
+	DONE(lapd_side_deadline(side, &moment));
+	WANT(moment == 500);
+}
+
 static void a_terminal(lapd_side *side, unsigned wanted, unsigned wanted_tei)
 {
 	uint8_t state = 9, tei = 9;
@@ -379,6 +418,7 @@ int main(void)
 	a_pile(&side, 2000);
 	next_items(&side);
 	a_check(&side);
+	durations(&side);
 	terminals(&side);
 	lapd_side_free(&side);
 	lapd_side_free(&side);
@@ -387,6 +427,6 @@ int main(void)
 	a_text("\x02\x81\x01\x01", 4, 1, "N>U SAPI 0 TEI 64 C RR N(R)=0 P=1");
 	a_text("\x00\x81\x02\x04\x08\x02", 6, 0, "U>N SAPI 0 TEI 64 C I N(S)=1 N(R)=2 P=0 info=0802");
 	a_text("\x04\x81\x7f", 3, 0, "U>N F3 SapiNotServed 04817f");
-	printf("codes: of handles, buffers, settings, links, checks, terminals, names and text\n");
+	printf("codes: of handles, buffers, settings, links, checks, durations, terminals, names and text\n");
 	return 0;
 }

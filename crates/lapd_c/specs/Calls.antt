@@ -1,6 +1,7 @@
 -- The effect of a call on a held side: that of the side's own call, and the results that are
 -- fetched.
 use Rattle.std.specs.Prelude.{◌≡◌, ◌≤◌, ◌⊎◌, ℕ, ◌+◌, ◌-◌, ◌^◌, min, ◌++◌, ◌||◌, ◌&&◌, nat_eq, nat_lt, nat_le, Bool, true, false, List, length, drop, set, slice_get, Option, Some, None, Result, ⊤}
+use Rattle.lapd_timers.specs.Durations.{Lengths}
 use Rattle.lapd_link.specs.Link.{LinkRepresents}
 use Rattle.lapd_link.specs.declared.link.Link.{Link}
 use Rattle.lapd_link_definition.specs.End.{End}
@@ -12,7 +13,7 @@ use Rattle.lapd_sides_links.specs.declared.side_fault.SideFault.{SideFault}
 use Rattle.lapd_sides_links.specs.Effects.{Effects, and_then, no_effects}
 use Rattle.lapd_sides.specs.declared.either_side.EitherSide.{EitherSide}
 use Rattle.lapd_sides.specs.declared.request.Request.TheVariants as request
-use Rattle.lapd_sides.specs.Either.{Answers, Expires, StaysIdle, HasNextDeadline, HasDiscarded, HasTable}
+use Rattle.lapd_sides.specs.Either.{Answers, Expires, StaysIdle, SetsDurations, HasNextDeadline, HasDiscarded, HasTable}
 use Rattle.lapd_tei.specs.declared.phase.Phase.{Phase}
 use Rattle.lapd_c.specs.declared.flat_primitive.FlatPrimitive.{FlatPrimitive}
 use Rattle.lapd_c.specs.declared.held_side.HeldSide.{HeldSide}
@@ -99,6 +100,15 @@ pub record Ticks (now expired : ℕ) (old new : HeldSide) (code : ℕ) : Type 0 
   pub refused : is_full old ≡ true → (code ≡ pending) × HasNotTicked expired old new
   pub ticked : is_full old ≡ false → ((expired ≡ 0) × HasNoMemory old new code)
       ⊎ HasTicked now expired old new code
+
+-- ---- Durations of timers.
+
+-- the durations are set, and nothing is sent or reported
+pub record HasSetTimers (durations : Lengths) (old new : HeldSide) (code : ℕ) : Type 0 where
+  pub done : code ≡ done
+  pub set : SetsDurations durations old.side new.side
+  pub waits : waiting new ≡ waiting old
+  pub most : new.most_waiting ≡ old.most_waiting
 
 -- ---- Queries.
 

@@ -1,13 +1,14 @@
 -- The effect of a call through a handle, which may own no side.
 use Rattle.std.specs.Prelude.{◌≡◌, ◌⊎◌, ℕ, List, Option, Some, None, Vec}
 use Rattle.std.specs.declared.alloc.Global.{Global}
+use Rattle.lapd_timers.specs.Durations.{Lengths}
 use Rattle.lapd_table.specs.declared.link_id.LinkId.{LinkId}
 use Rattle.lapd_sides_links.specs.declared.config.Config.{Config}
 use Rattle.lapd_sides.specs.declared.either_side.EitherSide.{EitherSide}
 use Rattle.lapd_c.specs.declared.held_side.HeldSide.{HeldSide}
 use Rattle.lapd_c.specs.declared.link_state.LinkState.{LinkState}
 use Rattle.lapd_c.specs.LinkStates.{no_state}
-use Rattle.lapd_c.specs.Calls.{Call, Asks, Checks, ReturnsState}
+use Rattle.lapd_c.specs.Calls.{Call, Asks, Checks, HasSetTimers, ReturnsState}
 use Rattle.lapd_c.specs.Codes.{done, no_side, out_of_range, memory}
 use Rattle.lapd_c.specs.Owned.{Held}
 use Rattle.lapd_c.specs.Settings.{IsNew}
@@ -43,6 +44,12 @@ abbrev pub AsksCheck : ℕ → ℕ → Held → Held → Option ℕ → Type 0
 AsksCheck now code old new None = (code ≡ out_of_range) × (new ≡ old)
 AsksCheck now code old new (Some tei) =
     Through (λ o n. Checks tei now o n code) (code ≡ no_side) old new
+
+-- the durations of timers are set, if each is in its range
+abbrev pub SetsTimers : ℕ → Held → Held → Option Lengths → Type 0
+SetsTimers code old new None = (code ≡ out_of_range) × (new ≡ old)
+SetsTimers code old new (Some durations) =
+    Through (λ o n. HasSetTimers durations o n code) (code ≡ no_side) old new
 
 -- the octets of a request
 abbrev pub Message : Type 0

@@ -3,7 +3,7 @@
 ghost use Rattle.std.specs.Prelude.{◌≡◌, ◌<◌, ◌≤◌, length, slice_get, option_copied, IfOk, OnOk, OnErr, false};
 ghost use Rattle.lapd_sides_links.specs.Effects.{no_effects};
 ghost use Rattle.lapd_sides.specs.Either.{Takes, Answers};
-ghost use Rattle.lapd_c.specs.Calls.{or_never, waiting, items_waiting, gives_nothing, is_full, without_first_frame, without_first_primitive, Asks, Checks, Ticks, ReturnsDeadline, ReturnsDiscarded, ReturnsState, ReturnsTerminal, FetchesFrame, FetchesItem, FetchesNext, FetchesPrimitive, overwritten};
+ghost use Rattle.lapd_c.specs.Calls.{or_never, waiting, items_waiting, gives_nothing, is_full, without_first_frame, without_first_primitive, Asks, Checks, HasSetTimers, Ticks, ReturnsDeadline, ReturnsDiscarded, ReturnsState, ReturnsTerminal, FetchesFrame, FetchesItem, FetchesNext, FetchesPrimitive, overwritten};
 ghost use Rattle.lapd_c.specs.SideQueries.{HasCheck, HasTerminal, link_meant, meant, or_no_tei, state_of_terminal, tei_of_terminal, with_own_tei};
 
 use crate::backlog::Backlog;
@@ -11,7 +11,9 @@ use crate::codes::{CHECK_RUNS, DONE, MEMORY, NO_LINK, OUT_OF_RANGE, PENDING, cod
 use crate::flat_primitive::{FlatPrimitive, octets_of};
 use crate::link_state::LinkState;
 use lapd_link::Link;
-use lapd_sides::{Acts, EitherSide, LinkId, LinkTable, Primitive, Request, Tei, Terminal};
+use lapd_sides::{
+    Acts, Durations, EitherSide, LinkId, LinkTable, Primitive, Request, Tei, Terminal,
+};
 use std::alloc::{AllocError, Global};
 
 /// A side, and the results of its calls that C has not fetched: the last in `acts`, the earlier
@@ -147,6 +149,14 @@ impl HeldSide {
             }
             Err(_) => MEMORY,
         }
+    }
+
+    /// Sets how long timers run when they are started from then on.
+    pub(crate) fn set_timers(&mut self, durations: Durations) -> u32
+        ensures { HasSetTimers durations self.old self.new result }
+    {
+        self.side.set_durations(durations);
+        DONE
     }
 
     /// Sets `moment` to the next moment at which something is due, in milliseconds, or to the

@@ -11,8 +11,9 @@
 
 ghost use Rattle.std.specs.Prelude.{◌≡◌, ◌==◌, Some, None, not};
 ghost use Rattle.lapd_sides.specs.Either.{Takes, Answers};
-ghost use Rattle.lapd_c.specs.ThroughHandle.{AsksSide, AsksCheck, AsksLink, AsksLinkWith, Makes, ReturnsStateOf, Through};
-ghost use Rattle.lapd_c.specs.Calls.{or_never, Checks, Ticks, ReturnsDeadline, ReturnsDiscarded, ReturnsTerminal, FetchesFrame, FetchesNext, FetchesPrimitive, ReturnsText, ReturnsTextOrNothing};
+ghost use Rattle.lapd_c.specs.ThroughHandle.{AsksSide, AsksCheck, AsksLink, AsksLinkWith, Makes, ReturnsStateOf, SetsTimers, Through};
+ghost use Rattle.lapd_c.specs.Calls.{or_never, Checks, HasSetTimers, Ticks, ReturnsDeadline, ReturnsDiscarded, ReturnsTerminal, FetchesFrame, FetchesNext, FetchesPrimitive, ReturnsText, ReturnsTextOrNothing};
+ghost use Rattle.lapd_timers.specs.Durations.{lengths_of};
 ghost use Rattle.lapd_trace.specs.Trace.{trace_line};
 ghost use Rattle.lapd_c.specs.FlatPrimitives.{link_of, nothing, sender};
 ghost use Rattle.lapd_c.specs.Names.{code_name, kind_name};
@@ -35,7 +36,7 @@ use codes::{DONE, MEMORY, NO_SIDE, OUT_OF_RANGE};
 use flat_primitive::{FlatPrimitive, link_of};
 use handle::{Handle, opened, shut};
 use held_side::HeldSide;
-use lapd_sides::{Request, Side, Tei};
+use lapd_sides::{Durations, Request, Side, Tei};
 use lapd_trace::line;
 pub use laws::codes_are_in_order;
 use link_state::LinkState;
@@ -267,6 +268,38 @@ fn check(handle: &mut Handle, tei: Tei, now: u64, alloc: Global) -> u32
         return NO_SIDE;
     };
     let code = side.check(tei, now);
+    shut(handle, side);
+    code
+}
+
+/// Sets T200 to T203, each 1 to 3,600,000 ms, for timers that are started from then on, also those
+/// of links that are added later. A running timer keeps its deadline.
+#[unsafe(no_mangle)]
+pub extern "C" fn lapd_side_set_timers(
+    handle: &mut Handle,
+    t200: u32,
+    t201: u32,
+    t202: u32,
+    t203: u32,
+    alloc: Global,
+) -> u32
+    ensures { SetsTimers result handle.old.held handle.new.held (lengths_of t200 t201 t202 t203) }
+{
+    match Durations::new(t200, t201, t202, t203) {
+        Some(durations) => set_timers(handle, durations, alloc),
+        None => OUT_OF_RANGE,
+    }
+}
+
+/// Sets the durations of timers.
+fn set_timers(handle: &mut Handle, durations: Durations, alloc: Global) -> u32
+    ensures { Through (λ old new. HasSetTimers durations old new result) (result ≡ 1)
+        handle.old.held handle.new.held }
+{
+    let Some(mut side) = opened(handle, alloc) else {
+        return NO_SIDE;
+    };
+    let code = side.set_timers(durations);
     shut(handle, side);
     code
 }

@@ -4,6 +4,7 @@
 use Rattle.std.specs.Prelude.{◌≡◌, ℕ, List, Option, Some, None, Result, Ok, Err, IsSome, Vec, ⊤}
 use Rattle.std.specs.declared.alloc.Global.{Global}
 use Rattle.lapd_timers.specs.declared.timer.Timer.{Timer}
+use Rattle.lapd_timers.specs.Durations.{Lengths}
 use Rattle.lapd_frame.specs.declared.Side.{Side}
 use Rattle.lapd_frame.specs.declared.FrameFault.{FrameFault}
 use Rattle.lapd_frame.specs.Frame.{Fields}
@@ -66,6 +67,13 @@ EachShown {C} {S} Show code IsSo = (config : Config) (s : S) → Show code confi
 abbrev pub ShowsSideAsBefore : {C S : Type 0} → (C → Config → S → Type 0) → C → C → Type 0
 ShowsSideAsBefore {C} {S} Show old new =
     (config : Config) (s : S) → Show old config s → Show new config s
+
+-- The call sets the durations of the side, for timers that are started from then on.
+abbrev pub SetsDurations : {C S : Type 0} → (C → Config → S → Type 0) → (Lengths → S → S)
+    → C → C → Lengths → Type 0
+SetsDurations {C} {S} Show with_durations old new durations =
+    (config : Config) (s : S) → Show old config s
+    → Show new (record config { durations = durations }) (with_durations durations s)
 
 -- the call takes this step
 abbrev pub SideDoes : {C S : Type 0} → (C → Config → S → Type 0) → C → C → Effects → Step S → Type 0

@@ -1,6 +1,7 @@
 -- A side of either kind. Its calls do the same as those of a network side or a user side.
 use Rattle.std.specs.Prelude.{◌≡◌, ℕ, List, Option, Result, ⊤}
 use Rattle.lapd_timers.specs.Due.{Timers}
+use Rattle.lapd_timers.specs.Durations.{Lengths}
 use Rattle.lapd_frame.specs.declared.Side.{Side}
 use Rattle.lapd_frame.specs.declared.Side.TheVariants as side
 use Rattle.lapd_table.specs.declared.link_id.LinkId.{LinkId}
@@ -53,6 +54,13 @@ abbrev pub StaysIdle : ℕ → EitherSide → EitherSide → Type 0
 StaysIdle now (either.Network old) (either.Network new) = network.NetworkStaysIdle old new now
 StaysIdle now (either.User old) (either.User new) = user.UserStaysIdle old new now
 StaysIdle now old new = ⊥
+
+-- sets the durations, for timers that are started from then on
+abbrev pub SetsDurations : Lengths → EitherSide → EitherSide → Type 0
+SetsDurations durations (either.Network old) (either.Network new) =
+    network.SetsDurations old new durations
+SetsDurations durations (either.User old) (either.User new) = user.SetsDurations old new durations
+SetsDurations durations old new = ⊥
 
 -- ---- Queries.
 

@@ -1,12 +1,13 @@
 -- How a network side in code represents that of the definition, and how its calls are specified.
 use Rattle.std.specs.Prelude.{◌≡◌, ℕ, Option, Result, Vec, ⊤}
 use Rattle.std.specs.declared.alloc.Global.{Global}
+use Rattle.lapd_timers.specs.Durations.{Lengths}
 use Rattle.lapd_frame.specs.declared.Side.TheVariants as side
 use Rattle.lapd_sides_links.specs.declared.config.Config.{Config}
 use Rattle.lapd_sides_links.specs.declared.side_fault.SideFault.{SideFault}
 use Rattle.lapd_sides_links.specs.declared.side_fault.SideKind.{SideKind}
 use Rattle.lapd_sides_links.specs.Effects.{Effects}
-use Rattle.lapd_sides_links.specs.Links.{Reaction, Served}
+use Rattle.lapd_sides_links.specs.Links.{Reaction, Served, served_with_durations}
 use Rattle.lapd_sides.specs.declared.net_side.NetSide.{NetSide}
 use Rattle.lapd_sides.specs.Calls as calls
 use Rattle.lapd_sides.specs.Network.{Network, network_expires}
@@ -41,6 +42,12 @@ EachShown = calls.EachShown ShowNetwork
 
 abbrev pub ShowsNetworkAsBefore : NetSide → NetSide → Type 0
 ShowsNetworkAsBefore = calls.ShowsSideAsBefore ShowNetwork
+
+abbrev pub with_durations : Lengths → Network → Network
+with_durations durations s = record s { served = served_with_durations durations s.served }
+
+abbrev pub SetsDurations : NetSide → NetSide → Lengths → Type 0
+SetsDurations = calls.SetsDurations ShowNetwork with_durations
 
 abbrev pub NetworkDoes : NetSide → NetSide → Effects → Step Network → Type 0
 NetworkDoes = calls.SideDoes ShowNetwork

@@ -3,6 +3,7 @@ use Rattle.std.specs.Prelude.{◌≡◌, ℕ, List, Option, Result, Vec, ⊤}
 use Rattle.std.specs.declared.alloc.Global.{Global}
 use Rattle.rand_pcg.specs.Lcg.{Lcg}
 use Rattle.rand_pcg.specs.Pcg.{pcg32}
+use Rattle.lapd_timers.specs.Durations.{Lengths}
 use Rattle.lapd_frame.specs.declared.Side.TheVariants as side
 use Rattle.lapd_tei.specs.declared.out.TeiOut.{TeiOut}
 use Rattle.lapd_tei.specs.Out.{tei_given}
@@ -13,7 +14,7 @@ use Rattle.lapd_sides.specs.declared.user_side.UserSide.{UserSide}
 use Rattle.lapd_sides_links.specs.declared.side_fault.SideFault.{SideFault}
 use Rattle.lapd_sides_links.specs.declared.side_fault.SideKind.{SideKind}
 use Rattle.lapd_sides_links.specs.Effects.{Effects}
-use Rattle.lapd_sides_links.specs.Links.{Reaction, Served}
+use Rattle.lapd_sides_links.specs.Links.{Reaction, Served, served_with_durations}
 use Rattle.lapd_sides.specs.Calls as calls
 use Rattle.lapd_sides.specs.Management.{links_with}
 use Rattle.lapd_sides.specs.User.{User, next_reference, advanced, assigned, user_expires}
@@ -59,6 +60,12 @@ EachShown = calls.EachShown ShowUser
 
 abbrev pub ShowsUserAsBefore : UserSide → UserSide → Type 0
 ShowsUserAsBefore = calls.ShowsSideAsBefore ShowUser
+
+abbrev pub with_durations : Lengths → User → User
+with_durations durations s = record s { served = served_with_durations durations s.served }
+
+abbrev pub SetsDurations : UserSide → UserSide → Lengths → Type 0
+SetsDurations = calls.SetsDurations ShowUser with_durations
 
 abbrev pub UserDoes : UserSide → UserSide → Effects → Step User → Type 0
 UserDoes = calls.SideDoes ShowUser

@@ -7,7 +7,7 @@ ghost use Rattle.lapd_sides_links.specs.Effects.{no_effects};
 ghost use Rattle.lapd_sides.specs.Calls.{WasRead};
 ghost use Rattle.lapd_sides.specs.Requests.{without_message};
 
-use crate::{Acts, NetSide, Request, SideFault, SideKind, UserSide};
+use crate::{Acts, Durations, NetSide, Request, SideFault, SideKind, UserSide};
 use lapd_frame::{Frame, FrameFault, Side};
 use lapd_table::{LinkId, LinkTable};
 use lapd_timers::TimerSet;
@@ -23,7 +23,7 @@ pub enum EitherSide {
 }
 
 impl EitherSide {
-    ghost use Rattle.lapd_sides.specs.Either.{side_of, Takes, Answers, Expires, StaysIdle, HasNextDeadline, HasTable, HasTimers, HasDiscarded};
+    ghost use Rattle.lapd_sides.specs.Either.{side_of, Takes, Answers, Expires, StaysIdle, SetsDurations, HasNextDeadline, HasTable, HasTimers, HasDiscarded};
 
     /// Whether this is the network side or the user side.
     pub fn side(&self) -> Side
@@ -117,6 +117,18 @@ impl EitherSide {
         match self {
             EitherSide::Network(side) => side.next_deadline(),
             EitherSide::User(side) => side.next_deadline(),
+        }
+    }
+
+    /// Sets how long timers run when they are started from then on, also those of links that are
+    /// added later. A running timer keeps its deadline.
+    pub fn set_durations(&mut self, durations: Durations)
+        ensures side { side_of self.new ≡ side_of self.old }
+        ensures set { SetsDurations durations self.old self.new }
+    {
+        match self {
+            EitherSide::Network(side) => side.set_durations(durations),
+            EitherSide::User(side) => side.set_durations(durations),
         }
     }
 

@@ -9,7 +9,7 @@ ghost use Rattle.lapd_table.specs.LinkTable.{IsFor};
 ghost use Rattle.lapd_tei.specs.Out.{IsInRange, tei_given, tei_freed};
 ghost use Rattle.lapd_sides_links.specs.declared.acts.TheConstants.{MOST_FRAMES, MOST_PRIMITIVES};
 ghost use Rattle.lapd_sides_links.specs.Effects.{managed, message_sent, outcome_of};
-ghost use Rattle.lapd_sides_links.specs.Links.{IsOfLink, in_links, link_acts, link_expires, no_links};
+ghost use Rattle.lapd_sides_links.specs.Links.{IsOfLink, in_links, link_acts, link_expires, no_links, served_with_durations};
 ghost use Rattle.lapd_sides_links.specs.Rooms.{IsEmpty};
 ghost use Rattle.lapd_sides.specs.Management.{carries_message, is_unit_to_group, one_more};
 ghost use Rattle.lapd_sides.specs.Requests.{without_message};
@@ -107,6 +107,16 @@ impl LinksAndTimer {
         if let Some(tei) = freed(outs) {
             self.links.remove_tei(tei, acts);
         }
+    }
+
+    /// Sets how long the timers run when they are started from then on. Running timers keep their
+    /// deadlines.
+    pub fn set_durations(&mut self, durations: Durations)
+        ensures set { Become self.old self.new (served_with_durations durations) }
+        ensures discarded { self.new.discarded ≡ self.old.discarded }
+    {
+        self.links.set_durations(durations);
+        self.timers.set_durations(durations);
     }
 
     /// Passes a frame to the link that it is addressed to. A frame for no link is discarded and

@@ -16,7 +16,7 @@ ghost use Rattle.lapd_sides.specs.Shows.{ShowEnds};
 ghost use Rattle.lapd_sides.specs.Network.{Network, new_network, network_takes, network_requested, assigner_acts, link_of_network, frame_received, unit_requested, unit_to_group, given_for, given_for_frame, given_for_message};
 
 use crate::links_and_timer::{Expired, LinksAndTimer, carries_message, without_message};
-use crate::{Acts, Config, Request, SideFault, SideKind};
+use crate::{Acts, Config, Durations, Request, SideFault, SideKind};
 use lapd_frame::{Address, Control, Frame, FrameFault, N201, Role, Sapi, Side, Tei, read};
 use lapd_link::{Event, LinkFault};
 use lapd_sides_links::{next_deadline, refused};
@@ -237,7 +237,7 @@ impl NetSide {
 }
 
 impl NetSide {
-    ghost use Rattle.lapd_sides.specs.ShowsNetwork.{EachShown, ShowsNetworkAsBefore, Grants, NetworkRefusesAs, Answers};
+    ghost use Rattle.lapd_sides.specs.ShowsNetwork.{EachShown, SetsDurations, ShowsNetworkAsBefore, Grants, NetworkRefusesAs, Answers};
 
     /// Passes an event to the link with this id.
     fn act(&mut self, id: LinkId, event: Event, now: u64, acts: &mut Acts) -> Result<(), SideFault>
@@ -306,6 +306,15 @@ impl NetSide {
             (λ _. link_of_network now id (Give message.items) []) }
     {
         self.served.links.give(&id, message, now, acts)
+    }
+
+    /// Sets how long timers run when they are started from then on, also those of links that are
+    /// added later. A running timer keeps its deadline.
+    pub fn set_durations(&mut self, durations: Durations)
+        ensures { SetsDurations self.old self.new durations }
+    {
+        self.config.durations = durations;
+        self.served.set_durations(durations);
     }
 
     /// The links of the side.

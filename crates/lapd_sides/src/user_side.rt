@@ -25,7 +25,7 @@ use crate::links_and_timer::{
 };
 use crate::pending_establishments::PendingEstablishments;
 use crate::references::References;
-use crate::{Acts, Config, Octets, Primitive, Request, SideFault, SideKind, What};
+use crate::{Acts, Config, Durations, Octets, Primitive, Request, SideFault, SideKind, What};
 use lapd_frame::{Frame, FrameFault, N201, Sapi, Side, Tei, read};
 use lapd_link::{Event, LinkFault};
 use lapd_sides_links::{next_deadline, refused};
@@ -50,7 +50,7 @@ pub struct UserSide {
 }
 
 impl UserSide {
-    ghost use Rattle.lapd_sides.specs.ShowsUser.{ShowUser, EachShown, UserDoes, UserReceives, Answers, Expires, UserStaysIdle};
+    ghost use Rattle.lapd_sides.specs.ShowsUser.{ShowUser, EachShown, SetsDurations, UserDoes, UserReceives, Answers, Expires, UserStaysIdle};
 
     /// Creates a user side. With a fixed TEI, 0 to 126, its links exist, in state 4; without one it
     /// has no links yet.
@@ -255,6 +255,15 @@ impl UserSide {
             Request::Give(id, message) => self.give(id.sapi, message, now, acts),
             Request::AskTei | Request::Check(_) => Ok(()),
         }
+    }
+
+    /// Sets how long timers run when they are started from then on, also those of links that are
+    /// added later. A running timer keeps its deadline.
+    pub fn set_durations(&mut self, durations: Durations)
+        ensures { SetsDurations self.old self.new durations }
+    {
+        self.config.durations = durations;
+        self.served.set_durations(durations);
     }
 
     /// The links of the side.

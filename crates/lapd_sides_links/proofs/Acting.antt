@@ -4,7 +4,8 @@ use Rattle.std.specs.Prelude.{IsSomeAnd, IfSome, if◌then◌else◌}
 use Rattle.std.proofs.lemmas.List.Elements.{All-head, All-tail}
 use Rattle.std.specs.List.{All, cons_option, filter_map}
 use Rattle.lapd_timers.specs.declared.timer.Timer.{Timer}
-use Rattle.lapd_timers.specs.Due.{Timers, deadline_of}
+use Rattle.lapd_timers.specs.Due.{Timers, deadline_of, with_durations}
+use Rattle.lapd_timers.specs.Durations.{Lengths}
 use Rattle.lapd_frame.specs.declared.Side.{Side}
 use Rattle.lapd_mod128.specs.Counting.{Tagged}
 use Rattle.lapd_frame.specs.Frame.{Fields, n201, spelling}
@@ -29,12 +30,12 @@ use Rattle.lapd_sides_links.specs.declared.primitive.Primitive.TheVariants.{Of}
 use Rattle.lapd_sides_links.specs.declared.primitive.Primitive.{Primitive}
 use Rattle.lapd_sides_links.specs.declared.side_fault.SideKind.TheVariants as kind
 use Rattle.lapd_sides_links.specs.Effects.{Effects, effects_of_link, sent_by, what_of, timed, stopped}
-use Rattle.lapd_sides_links.specs.Links.{Links, Linked, Reaction, acted, link_acts, link_expires, in_place, where_there, in_links, with_link}
+use Rattle.lapd_sides_links.specs.Links.{Links, Linked, Reaction, acted, link_acts, link_expires, in_place, where_there, in_links, with_link, linked_with_durations, links_with_durations}
 use Rattle.lapd_sides_links.specs.Expiries.{IsFirst, IsPast, Runs, of_links}
 use Rattle.lapd_sides_links.specs.Places.{AreStopped}
 use Rattle.lapd_sides_links.specs.TimersAtPlaces.{of_places}
 use Rattle.lapd_sides_links.specs.Shown.{timers_at, made_by, IsLinked, ShowLinks, HaveActed}
-use Rattle.lapd_sides_links.proofs.Dues.{same_past, same_runs}
+use Rattle.lapd_sides_links.proofs.Dues.{deadline_stays, same_past, same_runs}
 
 -- ---- The link does not exist.
 
@@ -291,3 +292,23 @@ timers_there side s links id link is shown = there_timed (link_at s.table id) li
 
 pub no_timers : (side : Side) (s : LinkSet) (links : Links) (id : LinkId) → link_at s.table id ≡ None → ShowLinks side s links → None ≡ of_links links (Some id)
 no_timers side s links id absent shown = ap (λ (l : Option Linked). option_map (λ (x : Linked). x.timers) l) (sym (nothing_linked (link_at s.table id) (timers_at s.link_timers id) (links id) absent (shown.each id)))
+
+-- ---- The timers get other durations.
+
+with_durations_linked : (durations : Lengths) (link : Option Link) (t : Option Timers) (l : Option Linked) → IsLinked link t l → IsLinked link (option_map (with_durations durations) t) (option_map (linked_with_durations durations) l)
+with_durations_linked durations None None None h = tt
+with_durations_linked durations None (Some timers) None h = λ timer. deadline_stays durations timer timers ∙ h timer
+with_durations_linked durations None None (Some l) h = absurd h
+with_durations_linked durations None (Some timers) (Some l) h = absurd h
+with_durations_linked durations (Some link) None None h = absurd h
+with_durations_linked durations (Some link) None (Some l) h = absurd h
+with_durations_linked durations (Some link) (Some timers) None h = absurd h
+with_durations_linked durations (Some link) (Some timers) (Some l) h = (h.0, ap (with_durations durations) h.1)
+
+pub shown_with_durations : (durations : Lengths) (side : Side) (old new : LinkSet) (links : Links) → new.table ≡ old.table
+    → ((id : LinkId) → timers_at new.link_timers id ≡ option_map (with_durations durations) (timers_at old.link_timers id))
+    → ShowLinks side old links → ShowLinks side new (links_with_durations durations links)
+shown_with_durations durations side old new links table have shown = record {
+  of_side = ap side_of table ∙ shown.of_side;
+  each = λ id. rw (table, have id) (with_durations_linked durations (link_at old.table id) (timers_at old.link_timers id) (links id) (shown.each id));
+}

@@ -1,13 +1,13 @@
 -- The running timers of links, their entries in the tournament, and the timer that is due.
-use Rattle.std.proofs.Common.{◌≡◌, ◌≢◌, ℕ, ◌+◌, ◌<◌, ◌≤◌, List, replicate, Option, Some, None, option_map, inl, inr, refl, sym, ap, subst, ◌∙◌, arith, ◌⊎◌}
+use Rattle.std.proofs.Common.{◌≡◌, ◌≢◌, ℕ, ◌+◌, ◌<◌, ◌≤◌, List, map, replicate, Option, Some, None, option_map, inl, inr, refl, sym, ap, subst, ◌∙◌, arith, ◌⊎◌}
 use Rattle.std.specs.Prelude.{slice_get, IfSome, All}
 use Rattle.std.proofs.lemmas.Bool.{cases_lt, cases_eq}
 use Rattle.std.proofs.lemmas.List.Elements.{All-get_or, All-replicate}
-use Rattle.std.proofs.lemmas.Option.{slice_get_within, get_or_from_slice_get, same_Some}
+use Rattle.std.proofs.lemmas.Option.{slice_get-map, slice_get_within, get_or_from_slice_get, same_Some}
 use Rattle.lapd_timers.specs.declared.timer.Timer.{Timer}
 use Rattle.lapd_timers.specs.declared.timer.Timer.TheVariants.{T200, T201, T202, T203}
 use Rattle.lapd_timers.specs.Durations.{Lengths}
-use Rattle.lapd_timers.specs.Due.{Timers, deadline_of, all_stopped}
+use Rattle.lapd_timers.specs.Due.{Timers, deadline_of, all_stopped, with_durations}
 use Rattle.lapd_timers.specs.Due as due
 use Rattle.lapd_timers.specs.Moments.{earlier}
 use Rattle.lapd_frame.specs.declared.Sapi.{Sapi}
@@ -18,7 +18,7 @@ use Rattle.lapd_sides_links.specs.declared.timer_places.TimerPlaces.{TimerPlaces
 use Rattle.lapd_sides_links.specs.Links.{Served, IsOfLink, of_sapi}
 use Rattle.lapd_sides_links.specs.Expiries.{IsTimerOf, Runs, IsPast, IsNoLaterLink, IsNoLater, IsFirst, IsDue, IsNextDeadline, of_management, of_links, of_served}
 use Rattle.lapd_sides_links.specs.Places.{AreStopped, RunsFor, IsSooner, expiry_at, own_expiry_at}
-use Rattle.lapd_sides_links.specs.TimersAtPlaces.{placed, of_places, entry_place, RunsAt, AreEntered, RunsForPlaced}
+use Rattle.lapd_sides_links.specs.TimersAtPlaces.{placed, timers_among, of_places, entry_place, RunsAt, AreEntered, RunsForPlaced}
 use Rattle.lapd_sides_links.specs.Tournament.{entry, IsEntered}
 use Rattle.lapd_sides_links.proofs.Order.{link_no_later_self, no_later_chained, earlier_deadline, joined, same_first, sooner_of, deadline, sooner_deadline}
 use Rattle.lapd_sides_links.proofs.Tournaments.{IsBehind}
@@ -199,6 +199,59 @@ entered_anew old new before after id found is tei own others places h = λ at. e
       (λ e x. runs_over_places new old at e x (sym (places x.id (elsewhere new id at e x other))))
       (subst (IsFirst (RunsAt old at)) (sym (others at other)) (h at))
 ]
+
+-- ---- The timers get other durations: the deadlines stay.
+
+pub deadline_stays : (durations : Lengths) (timer : Timer) (s : Timers) → deadline_of timer (with_durations durations s) ≡ deadline_of timer s
+deadline_stays durations T200 s = refl
+deadline_stays durations T201 s = refl
+deadline_stays durations T202 s = refl
+deadline_stays durations T203 s = refl
+
+abbrev HaveDurations : Lengths → TimerPlaces → TimerPlaces → Type 0
+HaveDurations durations old new = (id : LinkId) → placed new id ≡ option_map (with_durations durations) (placed old id)
+
+runs_with_durations : (durations : Lengths) (old new : TimerPlaces) (at : ℕ) (e : RunningTimer) → HaveDurations durations old new → RunsAt old at e → RunsAt new at e
+runs_with_durations durations old new at e have x = record {
+  id = x.id;
+  is_of = x.is_of;
+  represented = x.represented;
+  runs = record {
+    its = with_durations durations x.runs.its;
+    there = ap (of_places new) x.is_of ∙ (have x.id ∙ ap (option_map (with_durations durations)) (placed_there old at e x));
+    own = x.runs.own;
+    until = deadline_stays durations e.timer x.runs.its ∙ x.runs.until;
+  };
+}
+
+-- the timers before they got these durations
+record HadBefore (durations : Lengths) (found : Option Timers) (its : Timers) : Type 0 where
+  before : Timers
+  found_is : found ≡ Some before
+  its_is : with_durations durations before ≡ its
+
+had_before : (durations : Lengths) (found : Option Timers) (its : Timers) → option_map (with_durations durations) found ≡ Some its → HadBefore durations found its
+had_before durations None its h = absurd (cc)
+had_before durations (Some timers) its h = record { before = timers; found_is = refl; its_is = cc }
+
+ran_with_durations : (durations : Lengths) (old new : TimerPlaces) (at : ℕ) (e : RunningTimer) → HaveDurations durations old new → RunsAt new at e → RunsAt old at e
+ran_with_durations durations old new at e have x =
+    let had = had_before durations (placed old x.id) x.runs.its (sym (have x.id) ∙ placed_there new at e x) in
+    record {
+      id = x.id;
+      is_of = x.is_of;
+      represented = x.represented;
+      runs = record {
+        its = had.before;
+        there = ap (of_places old) x.is_of ∙ had.found_is;
+        own = x.runs.own;
+        until = sym (deadline_stays durations e.timer had.before) ∙ (ap (deadline_of e.timer) had.its_is ∙ x.runs.until);
+      };
+    }
+
+pub entered_with_durations : (durations : Lengths) (old new : TimerPlaces) (entries : List (Option RunningTimer)) → ((id : LinkId) → placed new id ≡ option_map (with_durations durations) (placed old id)) → AreEntered old entries → AreEntered new entries
+entered_with_durations durations old new entries have h = λ at. same_first (RunsAt old at) (RunsAt new at) (entry entries at)
+    (λ e x. runs_with_durations durations old new at e have x) (λ e x. ran_with_durations durations old new at e have x) (h at)
 
 resting : (found : Option Timers) (its : Timers) (timer : Timer) (deadline : ℕ) → IfSome found AreStopped → found ≡ Some its → deadline_of timer its ≡ Some deadline → ⊥
 resting None its timer deadline h is runs = absurd (cc)
@@ -423,3 +476,11 @@ due_of_management now timers timer deadline h runs = (elim (h.least) as (λ o. S
             (k.1 (record { deadline = other.deadline; timer = other.timer }) (record { runs = expired_at now timers other.of other refl x; is_past = x.is_past })))),
       )
 ]) h.is_its h.is_least
+
+-- ---- All slots get other durations.
+
+pub among_with_durations : (durations : Lengths) (call packet new_call new_packet : List Timers) (sapi : Sapi) (tei : ℕ) → new_call ≡ map (with_durations durations) call → new_packet ≡ map (with_durations durations) packet
+    → timers_among new_call new_packet sapi tei ≡ option_map (with_durations durations) (timers_among call packet sapi tei)
+among_with_durations durations call packet new_call new_packet Call tei is_call is_packet = ap (λ (slots : List Timers). slice_get slots tei) is_call ∙ slice_get-map (with_durations durations) call tei
+among_with_durations durations call packet new_call new_packet Packet tei is_call is_packet = ap (λ (slots : List Timers). slice_get slots tei) is_packet ∙ slice_get-map (with_durations durations) packet tei
+among_with_durations durations call packet new_call new_packet Management tei is_call is_packet = refl

@@ -1,9 +1,9 @@
 -- The links of a side, each with its timers, and the effect of one step of a link. The step itself
 -- is that of the state table.
-use Rattle.std.specs.Prelude.{ℕ, ◌==◌, ◌&&◌, nat_lt, if◌then◌else◌, Bool, true, false, List, [], ◌∷◌, ◌++◌, Option, Some, None, Result, Ok, Err, ⊤}
+use Rattle.std.specs.Prelude.{ℕ, ◌==◌, ◌&&◌, nat_lt, if◌then◌else◌, Bool, true, false, List, [], ◌∷◌, ◌++◌, Option, Some, None, option_map, Result, Ok, Err, ⊤}
 use Rattle.lapd_timers.specs.declared.timer.Timer.{Timer}
 use Rattle.lapd_timers.specs.declared.timer.Timer.TheVariants.{T200, T201, T202, T203}
-use Rattle.lapd_timers.specs.Due.{Timers, all_stopped}
+use Rattle.lapd_timers.specs.Due.{Timers, all_stopped, with_durations}
 use Rattle.lapd_timers.specs.Durations.{Lengths}
 use Rattle.lapd_frame.specs.declared.Sapi.{Sapi}
 use Rattle.lapd_frame.specs.declared.Sapi.TheVariants.{Call, Packet, Management}
@@ -119,6 +119,22 @@ where_there id links (Some l) does = in_place id links (does l)
 unfoldable pub in_links : LinkId → (Linked → Result (Reaction Linked) LinkFault) → Links
     → Result (Reaction Links) SideKind
 in_links id does links = where_there id links (links id) does
+
+-- ---- Durations.
+
+-- the timers of the links run this long when they are started from then on
+abbrev pub linked_with_durations : Lengths → Linked → Linked
+linked_with_durations durations l = record l { timers = with_durations durations l.timers }
+
+abbrev pub links_with_durations : Lengths → Links → Links
+links_with_durations durations links = λ id. option_map (linked_with_durations durations) (links id)
+
+-- and that of TEI management
+abbrev pub served_with_durations : Lengths → Served → Served
+served_with_durations durations s = record {
+  links = links_with_durations durations s.links;
+  timers = with_durations durations s.timers;
+}
 
 -- ---- Links are added and removed with their TEI (Q.921 5.3).
 

@@ -17,7 +17,7 @@ ghost use Rattle.lapd_sides_links.specs.declared.acts.TheConstants.{MOST_FRAMES,
 ghost use Rattle.lapd_sides_links.specs.declared.primitive.Primitive.TheVariants.{Of};
 ghost use Rattle.lapd_sides_links.specs.Effects.{timed, what_of};
 ghost use Rattle.lapd_sides_links.specs.Expiries.{IsFirst, IsPast, IsTimerOf, Runs, of_links};
-ghost use Rattle.lapd_sides_links.specs.Links.{Links, IsOfLink, no_links, of_sapi, with_link, with_tei, without_tei, release_at_removal, primitives_of, primitives_at_removal, primitive_of_tei, links_of_held, in_links, link_acts, link_expires};
+ghost use Rattle.lapd_sides_links.specs.Links.{Links, IsOfLink, no_links, of_sapi, with_link, with_tei, without_tei, release_at_removal, primitives_of, primitives_at_removal, primitive_of_tei, links_of_held, links_with_durations, in_links, link_acts, link_expires};
 ghost use Rattle.lapd_sides_links.specs.Rooms.{HasRoomFor, AddsAtMost};
 
 use crate::delivery::{deliver_all, put_frames};
@@ -188,6 +188,14 @@ impl LinkSet {
     {
         let _link = self.table.remove(*id);
         self.link_timers.stop_all(id);
+    }
+
+    /// Sets how long the timers of all links run when they are started from then on. Running timers
+    /// keep their deadlines.
+    pub fn set_durations(&mut self, durations: Durations)
+        ensures { Becomes self.old self.new (links_with_durations durations) }
+    {
+        self.link_timers.set_durations(durations);
     }
 
     /// The timers of the link with this id; `None` if the link does not exist.

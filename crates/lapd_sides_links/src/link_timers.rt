@@ -1,7 +1,7 @@
 //! The timers of the links of a side.
 
 ghost use Rattle.std.specs.Prelude.{◌≡◌, ◌≢◌, ℕ, ◌<◌, ◌≤◌, Some, option_map, option_copied, IfOk, IfSome};
-ghost use Rattle.lapd_timers.specs.Due.{all_stopped, deadline_of};
+ghost use Rattle.lapd_timers.specs.Due.{all_stopped, deadline_of, with_durations};
 ghost use Rattle.lapd_link_machine.specs.Usual.{nr_outs};
 ghost use Rattle.lapd_table.specs.declared.link_id.LinkId.{LinkId};
 ghost use Rattle.lapd_sides_links.specs.declared.tournament.TheConstants.{PLACES};
@@ -77,6 +77,15 @@ impl LinkTimers {
     {
         self.places.stop_all(id);
         enter(&mut self.expiries, id, self.places.get(id));
+    }
+
+    /// Sets the durations of all timers. Running timers keep their deadlines, so each link's
+    /// earliest one stays.
+    pub fn set_durations(&mut self, durations: Durations)
+        ensures { (id : LinkId) → placed self.new id
+            ≡ option_map (with_durations durations) (placed self.old id) }
+    {
+        self.places.set_durations(durations);
     }
 
     /// The timers of the link with this id; `None` if it cannot have any.

@@ -1,7 +1,7 @@
 //! Storage for the timers of the links of a side.
 
-ghost use Rattle.std.specs.Prelude.{◌≡◌, ◌≢◌, ◌<◌, Some, option_map, option_copied, IfOk, IfSome};
-ghost use Rattle.lapd_timers.specs.Due.{all_stopped};
+ghost use Rattle.std.specs.Prelude.{◌≡◌, ◌≢◌, ◌<◌, Some, map, option_map, option_copied, IfOk, IfSome};
+ghost use Rattle.lapd_timers.specs.Due.{all_stopped, with_durations};
 ghost use Rattle.lapd_table.specs.declared.link_id.LinkId.{LinkId};
 ghost use Rattle.lapd_sides_links.specs.Effects.{timed, stopped};
 ghost use Rattle.lapd_sides_links.specs.Places.{HasPlaces, AreStopped};
@@ -73,6 +73,15 @@ impl TimerPlaces {
         }
     }
 
+    /// Sets the durations of all timers. Running timers keep their deadlines.
+    pub fn set_durations(&mut self, durations: Durations)
+        ensures { (id : LinkId) → placed self.new id
+            ≡ option_map (with_durations durations) (placed self.old id) }
+    {
+        set_each(self.call.as_mut_slice(), durations);
+        set_each(self.packet.as_mut_slice(), durations);
+    }
+
     /// The timers of the link with this id; `None` if it cannot have any.
     pub fn get(&self, id: &LinkId) -> Option<&TimerSet>
         ensures { option_copied result ≡ placed self.now id.now }
@@ -124,6 +133,15 @@ fn reset(timers: &mut TimerSet, durations: Durations)
     ensures { timers.new ≡ all_stopped durations }
 {
     *timers = TimerSet::new(durations);
+}
+
+/// Sets the durations of each of these.
+fn set_each(all: &mut [TimerSet], durations: Durations)
+    ensures { all.new ≡ map (with_durations durations) all.old }
+{
+    for timers in all.iter_mut() {
+        timers.set_durations(durations);
+    }
 }
 
 /// Stops all timers.

@@ -37,6 +37,10 @@ with_deadline T201 deadline s = record s { t201 = deadline }
 with_deadline T202 deadline s = record s { t202 = deadline }
 with_deadline T203 deadline s = record s { t203 = deadline }
 
+-- the same timers, with other durations of those that are started from then on
+abbrev pub with_durations : Lengths → Timers → Timers
+with_durations durations s = record s { durations = durations }
+
 -- the greatest moment, and the deadline of a timer that is started now
 abbrev pub last_moment : ℕ
 last_moment = 18446744073709551615

@@ -1,6 +1,6 @@
 ghost use Rattle.std.specs.Prelude.{◌≡◌, is_some, None, Some};
 ghost use Rattle.lapd_timers.specs.Durations.{length_of};
-ghost use Rattle.lapd_timers.specs.Due.{all_stopped, deadline_of, with_deadline, deadline_from, sooner, timer_of, IsDue};
+ghost use Rattle.lapd_timers.specs.Due.{all_stopped, deadline_of, with_deadline, with_durations, deadline_from, sooner, timer_of, IsDue};
 
 use crate::{Durations, Timer};
 use std::marker::Model;
@@ -64,6 +64,14 @@ impl TimerSet {
         ensures { result ≡ self.now.durations }
     {
         self.durations
+    }
+
+    /// Sets how long each timer runs when it is started from then on. A running timer keeps its
+    /// deadline.
+    pub fn set_durations(&mut self, durations: Durations)
+        ensures { self.new ≡ with_durations durations self.old }
+    {
+        self.durations = durations;
     }
 
     /// Starts or restarts the timer at the moment `now`. Its deadline is `now` plus its duration,
