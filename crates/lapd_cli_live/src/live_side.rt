@@ -1,6 +1,6 @@
 //! A side that runs on the real clock.
 
-ghost use Rattle.std.specs.Prelude.{◌≡◌, map, true, false, IfOk, OnErr, OnOk};
+ghost use Rattle.std.specs.Prelude.{◌≡◌, map, IfOk, OnErr, OnOk};
 ghost use Rattle.std.specs.List.{All};
 ghost use Rattle.lapd_sides_links.specs.Effects.{HasLeastOctets};
 ghost use Rattle.lapd_frame.specs.declared.Side.{Side as SideValue};
@@ -8,13 +8,13 @@ ghost use Rattle.lapd_cli_outside.specs.IoEvents.{SendsFront};
 ghost use Rattle.lapd_cli_live.specs.Entries.{Delivered};
 ghost use Rattle.std.specs.Io.KnownBytes.{Keeps};
 ghost use Rattle.lapd_cli_live.specs.Printers.{PrintsOn, SendsAll, shown};
-ghost use Rattle.lapd_cli_live.specs.Steps.{end_by_wait as end_of_wait, ended_by as ends_by, IsReached};
+ghost use Rattle.lapd_cli_live.specs.Steps.{end_by_wait as end_of_wait, ended_by as ends_by};
 
 use crate::fault::LiveFault;
 use crate::printer::Printer;
 use crate::service::{EndReason, Service, Until};
 use arrayvec::ArrayVec;
-use lapd_cli_outside::{Lines, Outside, Woken};
+use lapd_cli_outside::{Lines, Outside, Woken, is_reached};
 use lapd_cli_script::LineFault;
 use lapd_frame::{Side, read};
 use lapd_port::{MOST_OCTETS, PortFault};
@@ -335,16 +335,5 @@ fn end_by_wait(lines: Lines, woken: Woken) -> Option<EndReason>
         (Woken::Closed, _) => Some(EndReason::Closed),
         (Woken::Line, Lines::Awaited) => Some(EndReason::Line),
         (Woken::Line, Lines::Ignored) | (Woken::Arrival | Woken::Due, _) => None,
-    }
-}
-
-/// Whether there is an end and it is reached.
-fn is_reached(end: Option<u64>, now: u64) -> bool
-    ensures reached { result ≡ true → IsReached end now }
-    ensures not { result ≡ false → ¬ IsReached end now }
-{
-    match end {
-        Some(end) => end <= now,
-        None => false,
     }
 }
