@@ -16,7 +16,7 @@ use crate::service::{EndReason, Service, Until};
 use arrayvec::ArrayVec;
 use lapd_cli_outside::{Lines, Outside, Woken, is_reached};
 use lapd_cli_script::LineFault;
-use lapd_frame::{Side, read};
+use lapd_frame::{Frame, FrameFault, Side, read};
 use lapd_port::{MOST_OCTETS, PortFault};
 use lapd_sides::{Acts, EitherSide, LinkId, Primitive, Request};
 use lapd_timers::earlier;
@@ -105,19 +105,21 @@ impl<O: Outside, W: Write> LiveSide<O, W> {
     }
 
     /// Processes a frame at the moment `now`, and sends and prints the output. `now` was read just
-    /// before the frame was received.
-    fn take(&mut self, frame: &[u8], now: u64) -> Result<(), LiveFault>
+    /// before the frame was received. The octets are read once, for the printer and for the side.
+    fn take(&mut self, octets: &[u8], now: u64) -> Result<(), LiveFault>
         ensures { OnOk result (Between O.io_events W.contents self.old self.new
-            (TakesAt frame.now now)) }
+            (TakesAt octets.now now)) }
     {
         let own = self.side.side();
-        self.printer.put_received(own, frame)?;
+        let from = own.other();
+        let frame = read(octets, from);
+        self.printer.put_received(own, octets, &frame)?;
         let discarded = self.side.discarded();
-        let Ok(()) = self.side.take(frame, now, &mut self.acts) else {
+        let Ok(()) = self.side.take_frame(&frame, now, &mut self.acts) else {
             return Err(LiveFault::Line(LineFault::Memory));
         };
         let is_discarded = discarded < self.side.discarded();
-        report_discarded(is_discarded, own, frame, &mut self.outside);
+        report_discarded(is_discarded, &frame, &mut self.outside);
         self.carry_out()
     }
 
@@ -265,10 +267,14 @@ impl<O: Outside, W: Write> LiveSide<O, W> {
 }
 
 /// Reports that a frame of the other side was discarded, if it was and it names a link.
-fn report_discarded<O: Outside>(is_discarded: bool, own: Side, frame: &[u8], outside: &mut O)
+fn report_discarded<O: Outside>(
+    is_discarded: bool,
+    frame: &Result<Frame<'_>, FrameFault>,
+    outside: &mut O,
+)
     ensures { O.io_events outside.new ≡ O.io_events outside.old }
 {
-    match read(frame, own.other()) {
+    match frame {
         Ok(frame) if is_discarded => {
             let address = frame.address();
             outside.discarded(LinkId {
