@@ -13,7 +13,7 @@ use crate::input::Input;
 use crate::lost::words_of;
 use crate::notes::Notes;
 use crate::peers::{LostPeer, Peers};
-use lapd_cli_outside::{Impairment, Lines, Outside, Sending, Woken};
+use lapd_cli_outside::{Impairment, Lines, Outside, Sending, Woken, is_reached};
 use lapd_port::{MOST_OCTETS, PortFault};
 use lapd_table::LinkId;
 use lapd_timers::earlier;
@@ -292,14 +292,6 @@ impl<'a> Connections<'a> {
             }
         }
         Err(io::Error::from(ErrorKind::TimedOut))
-    }
-}
-
-/// Whether a moment is set and has passed.
-fn is_reached(until: Option<u64>, now: u64) -> bool {
-    match until {
-        Some(until) => until <= now,
-        None => false,
     }
 }
 

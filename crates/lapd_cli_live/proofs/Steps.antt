@@ -25,7 +25,7 @@ use Rattle.lapd_cli_live.specs.Steps.{CatchesUp, DoesDue, EndsByFrame, Continues
 use Rattle.lapd_cli_outside.proofs.IoEvents.{adds_none, adds_same}
 use Rattle.lapd_cli_live.proofs.Log.{chain_more, happen_both, happen_none, live, prints_none}
 
-true_is_not_false : true ≡ false → ⊥
+pub true_is_not_false : true ≡ false → ⊥
 true_is_not_false is = cc
 
 -- ---- One event.

@@ -16,7 +16,7 @@ use Rattle.lapd_cli_live.specs.declared.service.Until.{Until}
 use Rattle.lapd_cli_live.specs.declared.service.Until.TheVariants as until
 use Rattle.lapd_cli_live.specs.declared.service.EndReason.{EndReason}
 use Rattle.lapd_cli_live.specs.declared.service.EndReason.TheVariants as end_reason
-use Rattle.lapd_cli_outside.specs.IoEvents.{Arrives, FindsNone, Waits}
+use Rattle.lapd_cli_outside.specs.IoEvents.{Arrives, FindsNone, Waits, is_reached}
 use Rattle.lapd_cli_live.specs.Entries.{Received, refused}
 use Rattle.lapd_cli_live.specs.Log.{Around, CarriesOut, CarriesOutAll, Chain, Happen, HappenBeside, LiveEvent, LiveState, ReadsClock, Shows, is_matched, moment_of, read_at}
 
@@ -40,8 +40,7 @@ end_by_wait Ignored woken.Line = None
 
 -- there is an end, and it is reached
 abbrev pub IsReached : Option ℕ → ℕ → Type 0
-IsReached None now = ⊥
-IsReached (Some end) now = end ≤ now
+IsReached end now = is_reached end now ≡ true
 
 -- ---- Receiving.
 

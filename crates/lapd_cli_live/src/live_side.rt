@@ -1,6 +1,6 @@
 //! A side that runs on the real clock.
 
-ghost use Rattle.std.specs.Prelude.{◌≡◌, map, true, false, IfOk, OnErr, OnOk};
+ghost use Rattle.std.specs.Prelude.{◌≡◌, map, IfOk, OnErr, OnOk};
 ghost use Rattle.std.specs.List.{All};
 ghost use Rattle.lapd_sides_links.specs.Effects.{HasLeastOctets};
 ghost use Rattle.lapd_frame.specs.declared.Side.{Side as SideValue};
@@ -8,15 +8,15 @@ ghost use Rattle.lapd_cli_outside.specs.IoEvents.{SendsFront};
 ghost use Rattle.lapd_cli_live.specs.Entries.{Delivered};
 ghost use Rattle.std.specs.Io.KnownBytes.{Keeps};
 ghost use Rattle.lapd_cli_live.specs.Printers.{PrintsOn, SendsAll, shown};
-ghost use Rattle.lapd_cli_live.specs.Steps.{end_by_wait as end_of_wait, ended_by as ends_by, IsReached};
+ghost use Rattle.lapd_cli_live.specs.Steps.{end_by_wait as end_of_wait, ended_by as ends_by};
 
 use crate::fault::LiveFault;
 use crate::printer::Printer;
 use crate::service::{EndReason, Service, Until};
 use arrayvec::ArrayVec;
-use lapd_cli_outside::{Lines, Outside, Woken};
+use lapd_cli_outside::{Lines, Outside, Woken, is_reached};
 use lapd_cli_script::LineFault;
-use lapd_frame::{Side, read};
+use lapd_frame::{Frame, FrameFault, Side, read};
 use lapd_port::{MOST_OCTETS, PortFault};
 use lapd_sides::{Acts, EitherSide, LinkId, Primitive, Request};
 use lapd_timers::earlier;
@@ -105,19 +105,21 @@ impl<O: Outside, W: Write> LiveSide<O, W> {
     }
 
     /// Processes a frame at the moment `now`, and sends and prints the output. `now` was read just
-    /// before the frame was received.
-    fn take(&mut self, frame: &[u8], now: u64) -> Result<(), LiveFault>
+    /// before the frame was received. The octets are read once, for the printer and for the side.
+    fn take(&mut self, octets: &[u8], now: u64) -> Result<(), LiveFault>
         ensures { OnOk result (Between O.io_events W.contents self.old self.new
-            (TakesAt frame.now now)) }
+            (TakesAt octets.now now)) }
     {
         let own = self.side.side();
-        self.printer.put_received(own, frame)?;
+        let from = own.other();
+        let frame = read(octets, from);
+        self.printer.put_received(own, octets, &frame)?;
         let discarded = self.side.discarded();
-        let Ok(()) = self.side.take(frame, now, &mut self.acts) else {
+        let Ok(()) = self.side.take_frame(&frame, now, &mut self.acts) else {
             return Err(LiveFault::Line(LineFault::Memory));
         };
         let is_discarded = discarded < self.side.discarded();
-        report_discarded(is_discarded, own, frame, &mut self.outside);
+        report_discarded(is_discarded, &frame, &mut self.outside);
         self.carry_out()
     }
 
@@ -265,10 +267,14 @@ impl<O: Outside, W: Write> LiveSide<O, W> {
 }
 
 /// Reports that a frame of the other side was discarded, if it was and it names a link.
-fn report_discarded<O: Outside>(is_discarded: bool, own: Side, frame: &[u8], outside: &mut O)
+fn report_discarded<O: Outside>(
+    is_discarded: bool,
+    frame: &Result<Frame<'_>, FrameFault>,
+    outside: &mut O,
+)
     ensures { O.io_events outside.new ≡ O.io_events outside.old }
 {
-    match read(frame, own.other()) {
+    match frame {
         Ok(frame) if is_discarded => {
             let address = frame.address();
             outside.discarded(LinkId {
@@ -335,16 +341,5 @@ fn end_by_wait(lines: Lines, woken: Woken) -> Option<EndReason>
         (Woken::Closed, _) => Some(EndReason::Closed),
         (Woken::Line, Lines::Awaited) => Some(EndReason::Line),
         (Woken::Line, Lines::Ignored) | (Woken::Arrival | Woken::Due, _) => None,
-    }
-}
-
-/// Whether there is an end and it is reached.
-fn is_reached(end: Option<u64>, now: u64) -> bool
-    ensures reached { result ≡ true → IsReached end now }
-    ensures not { result ≡ false → ¬ IsReached end now }
-{
-    match end {
-        Some(end) => end <= now,
-        None => false,
     }
 }

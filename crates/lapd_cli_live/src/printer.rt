@@ -7,6 +7,8 @@ ghost use Rattle.lapd_trace.specs.Trace.{trace_line};
 ghost use Rattle.lapd_cli_live_text.specs.Stats.{received_words, reports_words, sent_words};
 ghost use Rattle.lapd_cli_live.specs.Entries.{Dated, Lost, Named, Received, Sent, Delivered, Worded, begins_so as begins, moment_text, refused, sent_entry, stats_entries, timed_object, unless_quiet, with_moment};
 ghost use Rattle.lapd_frame.specs.declared.Side.{Side as SideValue};
+ghost use Rattle.lapd_frame.specs.Address.{other_side};
+ghost use Rattle.lapd_frame.specs.Reading.{frame_at};
 ghost use Rattle.lapd_cli_script.specs.Line.{text_line};
 ghost use Rattle.lapd_cli_side_lines.specs.SideTexts.{frame_text_line};
 
@@ -16,8 +18,8 @@ use crate::unseen::Unseen;
 use lapd_cli_live_text::{Stats, words_object};
 use lapd_cli_outside::Sending;
 use lapd_cli_script::LineFault;
-use lapd_cli_side_lines::{LineStyle, push_primitive, push_trace};
-use lapd_frame::Side;
+use lapd_cli_side_lines::{LineStyle, push_primitive, push_trace_of};
+use lapd_frame::{Frame, FrameFault, Side, read};
 use lapd_sides::{Primitive, SideKind};
 use std::alloc::{AllocError, Global};
 use std::io::Write;
@@ -159,16 +161,24 @@ impl<W: Write> Printer<W> {
         self.is_matched
     }
 
-    /// Counts a frame that the other side sent, and prints its line. `own` is this side.
+    /// Counts a frame that the other side sent, and prints its line. `own` is this side, and
+    /// `frame` is what [`lapd_frame::read`] returned for the octets.
     ///
     /// # Errors
     ///
     /// `Memory`.
-    pub(crate) fn put_received(&mut self, own: Side, frame: &[u8]) -> Result<(), LiveFault>
-        ensures { OnOk result (PrintsOn W.contents own (Received frame.now ∷ []) self.old self.new) }
+    pub(crate) fn put_received(
+        &mut self,
+        own: Side,
+        octets: &[u8],
+        frame: &Result<Frame<'_>, FrameFault>,
+    ) -> Result<(), LiveFault>
+        requires was_read { frame.now ≡ frame_at (other_side own) octets.now }
+        ensures { OnOk result (PrintsOn W.contents own (Received octets.now ∷ [])
+            self.old self.new) }
     {
-        self.stats.count_received(own.other(), frame);
-        self.put_frame(own.other(), frame)
+        self.stats.count_received(octets, frame);
+        self.put_frame(own.other(), octets, frame)
     }
 
     /// Counts a frame that this side sent, and prints its line, or that it was lost on purpose.
@@ -179,50 +189,58 @@ impl<W: Write> Printer<W> {
     pub(crate) fn put_sent(
         &mut self,
         own: Side,
-        frame: &[u8],
+        octets: &[u8],
         sending: Sending,
     ) -> Result<(), LiveFault>
-        ensures { OnOk result (PrintsOn W.contents own (sent_entry frame.now sending ∷ [])
+        ensures { OnOk result (PrintsOn W.contents own (sent_entry octets.now sending ∷ [])
             self.old self.new) }
     {
-        self.stats.count_sent(own, frame);
+        let frame = read(octets, own);
+        self.stats.count_sent(octets, &frame);
         match sending {
-            Sending::Sent => self.put_frame(own, frame),
-            Sending::Lost => self.put_lost(own, frame),
+            Sending::Sent => self.put_frame(own, octets, &frame),
+            Sending::Lost => self.put_lost(own, octets),
         }
     }
 
-    /// Prints the line of a frame from this sender, unless the style omits lines of frames.
-    fn put_frame(&mut self, from: Side, frame: &[u8]) -> Result<(), LiveFault>
+    /// Prints the line of a frame from this sender, unless the style omits lines of frames. `frame`
+    /// is what [`lapd_frame::read`] returned for the octets.
+    fn put_frame(
+        &mut self,
+        from: Side,
+        octets: &[u8],
+        frame: &Result<Frame<'_>, FrameFault>,
+    ) -> Result<(), LiveFault>
+        requires was_read { frame.now ≡ frame_at from octets.now }
         ensures { OnOk result (PutsLine (unless_quiet self.old.style
-            (frame_text_line LineStyle.Text from frame.now))
-            (object_text (frame_members from frame.now)) self.old self.new) }
+            (frame_text_line LineStyle.Text from octets.now))
+            (object_text (frame_members from octets.now)) self.old self.new) }
     {
         if self.style.quiet {
             return Ok(());
         }
         self.line.clear();
-        push_trace(self.alloc, &mut self.line, from, frame)?;
+        push_trace_of(self.alloc, &mut self.line, from, octets, frame)?;
         match self.style.lines {
             LineStyle::Text => self.put_words_line(),
             LineStyle::Json => {
-                let object = lapd_cli_render::line(self.alloc, from, frame)?;
+                let object = lapd_cli_render::line_of(self.alloc, from, octets, frame)?;
                 self.put_object_line(object.as_str())
             }
         }
     }
 
     /// Prints that a frame was lost on purpose, unless the style omits lines of frames.
-    fn put_lost(&mut self, from: Side, frame: &[u8]) -> Result<(), LiveFault>
+    fn put_lost(&mut self, from: Side, octets: &[u8]) -> Result<(), LiveFault>
         ensures { OnOk result (PutsLine (unless_quiet self.old.style
-            (text_line (codes "lost" ++ 32 ∷ trace_line from frame.now)))
-            (object_text (text_members (codes "lost") (trace_line from frame.now)))
+            (text_line (codes "lost" ++ 32 ∷ trace_line from octets.now)))
+            (object_text (text_members (codes "lost") (trace_line from octets.now)))
             self.old self.new) }
     {
         if self.style.quiet {
             return Ok(());
         }
-        let line = lapd_trace::line(self.alloc, from, frame)?;
+        let line = lapd_trace::line(self.alloc, from, octets)?;
         self.put_text("lost", line.as_str())
     }
 

@@ -2,12 +2,14 @@
 
 ghost use Rattle.std.specs.Prelude.{◌≡◌, ◌<◌, ◌++◌, OnOk, flat_map};
 ghost use Rattle.std.specs.String.{string_bytes};
+ghost use Rattle.lapd_frame.specs.declared.Side.{Side};
+ghost use Rattle.lapd_frame.specs.Reading.{frame_at};
 ghost use Rattle.lapd_cli_live_text.specs.Stats.{after_received_control, after_sent_control, letter_place, letter_text, letters_text, link_place, nothing_counted, numbered, received_counted, received_words, reports_words, restarted, sent_counted, sent_words, primitive_counted};
 
 use crate::frame_kind::FrameKind;
 use crate::link_text::push_number;
 use crate::traffic::{Traffic, push_count};
-use lapd_frame::{Address, Control, Sapi, Side, read};
+use lapd_frame::{Address, Control, Frame, FrameFault, Sapi};
 use lapd_link::Letter;
 use lapd_sides_links::{Primitive, What};
 use std::alloc::AllocError;
@@ -66,13 +68,15 @@ impl Stats {
         }
     }
 
-    /// Counts a frame that this side, `from`, sent. An I frame was sent again unless its N(S) is
-    /// the next new one of its link. A UA restarts its link's numbers at 0.
+    /// Counts a frame that this side sent. `frame` is what [`lapd_frame::read`] returned for its
+    /// octets. An I frame was sent again unless its N(S) is the next new one of its link. A UA
+    /// restarts its link's numbers at 0.
     #[tactic(auto, unfolding(crate::specs::Stats::sent_counted))]
-    pub fn count_sent(&mut self, from: Side, octets: &[u8])
-        ensures { self.new ≡ sent_counted self.old from octets.now }
+    pub fn count_sent(&mut self, octets: &[u8], frame: &Result<Frame<'_>, FrameFault>)
+        ensures { (from : Side) → frame.now ≡ frame_at from octets.now
+            → self.new ≡ sent_counted self.old from octets.now }
     {
-        match read(octets, from) {
+        match frame {
             Ok(frame) => {
                 let control = frame.control();
                 self.sent.count(FrameKind::of(&control), octets.len());
@@ -82,13 +86,14 @@ impl Stats {
         }
     }
 
-    /// Counts a frame that this side received from the other side, `from`. A UA restarts its link's
-    /// numbers at 0.
+    /// Counts a frame that this side received. `frame` is what [`lapd_frame::read`] returned for
+    /// its octets. A UA restarts its link's numbers at 0.
     #[tactic(auto, unfolding(crate::specs::Stats::received_counted))]
-    pub fn count_received(&mut self, from: Side, octets: &[u8])
-        ensures { self.new ≡ received_counted self.old from octets.now }
+    pub fn count_received(&mut self, octets: &[u8], frame: &Result<Frame<'_>, FrameFault>)
+        ensures { (from : Side) → frame.now ≡ frame_at from octets.now
+            → self.new ≡ received_counted self.old from octets.now }
     {
-        match read(octets, from) {
+        match frame {
             Ok(frame) => {
                 let control = frame.control();
                 self.received.count(FrameKind::of(&control), octets.len());

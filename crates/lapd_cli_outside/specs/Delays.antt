@@ -1,5 +1,5 @@
 -- A line that loses and delays the frames of one side on purpose.
-use Rattle.std.specs.Prelude.{◌≡◌, ◌⊎◌, ◌&&◌, ℕ, ◌<◌, ◌≤◌, ◌+◌, ◌%◌, nat_eq, nat_le, nat_lt, max, min, List, [], ◌∷◌, ◌++◌, length, map, flat_map, Bool, true, false, Option, None, Some, ⊤}
+use Rattle.std.specs.Prelude.{◌≡◌, ◌⊎◌, ◌&&◌, ℕ, ◌<◌, ◌≤◌, ◌+◌, ◌%◌, nat_eq, nat_lt, max, min, List, [], ◌∷◌, ◌++◌, length, map, flat_map, Bool, true, false, Option, None, Some, ⊤}
 use Rattle.lapd_timers.specs.Moments.{earlier}
 use Rattle.std.specs.List.{All}
 use Rattle.rand_pcg.specs.Lcg.{Lcg}
@@ -10,7 +10,7 @@ use Rattle.lapd_cli_outside.specs.declared.outside.Sending.{Sending}
 use Rattle.lapd_cli_outside.specs.declared.outside.Sending.TheVariants.{Sent, Lost}
 use Rattle.lapd_cli_outside.specs.declared.outside.Woken.{Woken}
 use Rattle.lapd_cli_outside.specs.declared.outside.Woken.TheVariants.{Due}
-use Rattle.lapd_cli_outside.specs.IoEvents.{Adds, IoEvent, Reads, Sends, Waits, received}
+use Rattle.lapd_cli_outside.specs.IoEvents.{Adds, IoEvent, Reads, Sends, Waits, is_reached, received}
 
 -- some calls are made for which this holds
 abbrev pub AddsSome : Option (List IoEvent) → Option (List IoEvent) → (List IoEvent → Type 0)
@@ -144,10 +144,6 @@ pub record Receives (room : List ℕ) (count : Option ℕ) (old new : Delays) (i
   pub all : io_events ≡ first ++ received room count
 
 -- ---- A wait.
-
-abbrev pub is_reached : Option ℕ → ℕ → Bool
-is_reached None now = false
-is_reached (Some until) now = nat_le until now
 
 -- A wait that something ended is over, unless that was the moment of a delayed frame alone.
 abbrev pub IsOver : Option ℕ → Woken → Bool → List IoEvent → Type 0

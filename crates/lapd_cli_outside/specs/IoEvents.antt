@@ -1,5 +1,5 @@
 -- The calls of a side to its line and its clock.
-use Rattle.std.specs.Prelude.{◌≡◌, ℕ, ◌≤◌, List, [], ◌∷◌, ◌++◌, map, take, Option, None, Some, ⊤}
+use Rattle.std.specs.Prelude.{◌≡◌, ℕ, ◌≤◌, nat_le, Bool, false, List, [], ◌∷◌, ◌++◌, map, take, Option, None, Some, ⊤}
 use Rattle.lapd_cli_outside.specs.declared.outside.Woken.{Woken}
 use Rattle.lapd_cli_outside.specs.declared.outside.Sending.{Sending}
 
@@ -18,6 +18,11 @@ Adds None None io_events = ⊤
 Adds None (Some after) io_events = ⊥
 Adds (Some before) None io_events = ⊥
 Adds (Some before) (Some after) io_events = after ≡ before ++ io_events
+
+-- there is such a moment, and it is reached
+abbrev pub is_reached : Option ℕ → ℕ → Bool
+is_reached None now = false
+is_reached (Some moment) now = nat_le moment now
 
 -- the frame that a call received is at the beginning of the buffer; or none had arrived
 abbrev pub received : List ℕ → Option ℕ → List IoEvent

@@ -2,11 +2,10 @@
 
 ghost use Rattle.std.specs.Prelude.{◌≡◌, ◌≤◌, length, IfOk, IfSome, OnOk};
 ghost use Rattle.lapd_port.specs.SocketText.{IsFrameLength};
-ghost use Rattle.lapd_cli_outside.specs.Delays.{is_reached as is_past};
 
 use crate::delays::Delays;
 use crate::impairment::Impairment;
-use crate::outside::{Lines, Outside, Sending, Woken};
+use crate::outside::{Lines, Outside, Sending, Woken, is_reached};
 use lapd_port::{MOST_OCTETS, PortFault};
 use lapd_table::LinkId;
 use lapd_timers::earlier;
@@ -172,15 +171,5 @@ impl<O: Outside> Outside for Impaired<O> {
             ≡ record (self.old.delays) { impairment = impairment } }
     {
         self.delays.impairment = impairment;
-    }
-}
-
-/// Whether an optional moment is reached.
-fn is_reached(until: Option<u64>, now: u64) -> bool
-    ensures { result ≡ is_past until now }
-{
-    match until {
-        Some(until) => until <= now,
-        None => false,
     }
 }

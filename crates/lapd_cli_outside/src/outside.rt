@@ -2,7 +2,7 @@
 
 ghost use Rattle.std.specs.Prelude.{◌≡◌, ◌≤◌, List, Option, None, length, IfOk, IfSome, OnErr, OnOk, ◌∷◌, []};
 ghost use Rattle.lapd_port.specs.SocketText.{IsFrameLength};
-ghost use Rattle.lapd_cli_outside.specs.IoEvents.{Adds, IoEvent, Reads, Sends, Waits, received};
+ghost use Rattle.lapd_cli_outside.specs.IoEvents.{Adds, IoEvent, Reads, Sends, Waits, is_reached as is_past, received};
 
 use crate::impairment::Impairment;
 use lapd_port::{MOST_OCTETS, PortFault};
@@ -100,4 +100,14 @@ pub trait Outside {
     /// Loses this share of the sent frames from now on, and delays the others.
     fn impair(&mut self, impairment: Impairment)
         ensures { io_events self.new ≡ io_events self.old };
+}
+
+/// Whether there is such a moment and it is reached at the time `now`.
+pub fn is_reached(moment: Option<u64>, now: u64) -> bool
+    ensures { result ≡ is_past moment now }
+{
+    match moment {
+        Some(moment) => moment <= now,
+        None => false,
+    }
 }

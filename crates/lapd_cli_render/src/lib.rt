@@ -2,8 +2,8 @@
 //! after a trace line, or as JSON objects for `jq` and scripts.
 //!
 //! **JSON.** Begin with [`line`]: it takes any octets and the side that sent them, and returns the frame's fields by the names
-//! that they have in a trace line, or the first fault if the octets do not form a valid frame. [`named_line`] also says which
-//! message the frame carries. [`packet_line`] and [`named_packet_line`] do the same for octets in a [`Packet`] of a capture.
+//! that they have in a trace line, or the first fault if the octets do not form a valid frame. [`line_of`] does so for octets
+//! that were already read. [`named_line`] also says which message the frame carries. [`packet_line`] and [`named_packet_line`] do the same for octets in a [`Packet`] of a capture.
 //! [`primitive_line`] shows a primitive.
 //!
 //! **Words.** [`push_names`] names a message of TEI management (ITU-T Q.921 5.3.6) with its numbers, and a message of Q.931
@@ -20,7 +20,7 @@ mod primitives;
 pub use call_message::{CallMessage, CallReference};
 pub use lapd_frame::Side;
 pub use lapd_sides_links::Primitive;
-pub use lines::{line, named_line};
+pub use lines::{line, line_of, named_line};
 pub use names::push_names;
 pub use packet::{Packet, named_packet_line, packet_line};
 pub use primitives::{primitive_line, text_line};

@@ -6,7 +6,7 @@ ghost use Rattle.lapd_cli_render.specs.Names.{names_text};
 ghost use Rattle.lapd_cli_render.specs.Json.{bit, direction_text, frame_members, named_members, object_text, poll_key, role_text, with_address, with_control, with_frame, with_message, with_numbered, with_octets, with_poll, with_reading, with_text, with_unnumbered};
 
 use crate::members::Members;
-use lapd_frame::{Address, Control, Frame, Number, Role, Side};
+use lapd_frame::{Address, Control, Frame, FrameFault, Number, Role, Side};
 use std::alloc::{AllocError, Global};
 
 /// Returns the JSON object for octets that `from` sent, in one line without spaces and line feeds.
@@ -26,8 +26,28 @@ pub fn line(alloc: Global, from: Side, octets: &[u8]) -> Result<String, AllocErr
     ensures { IfOk result (λ text.
         string_bytes text ≡ object_text (frame_members from octets.now)) }
 {
+    let frame = lapd_frame::read(octets, from);
+    line_of(alloc, from, octets, &frame)
+}
+
+/// Returns the JSON object for octets that `from` sent, as [`line`] does, but does not read them
+/// again: `frame` is what [`lapd_frame::read`] returned for them.
+///
+/// # Errors
+///
+/// `AllocError` if an allocation fails.
+pub fn line_of(
+    alloc: Global,
+    from: Side,
+    octets: &[u8],
+    frame: &Result<Frame<'_>, FrameFault>,
+) -> Result<String, AllocError>
+    requires was_read { frame.now ≡ frame_at from octets.now }
+    ensures { IfOk result (λ text.
+        string_bytes text ≡ object_text (frame_members from octets.now)) }
+{
     let mut members = Members::new(alloc);
-    put_reading(alloc, &mut members, from, octets)?;
+    put_read(alloc, &mut members, from, octets, frame)?;
     members.into_text()
 }
 
@@ -58,9 +78,25 @@ pub(crate) fn put_reading(
         ≡ with_reading octets.now (frame_at from octets.now) (with_text (codes "direction")
         (direction_text from) (members_view members.old.map.entries))) }
 {
+    let frame = lapd_frame::read(octets, from);
+    put_read(alloc, members, from, octets, &frame)
+}
+
+/// Adds the sender of octets, and the frame or fault that they were read as.
+fn put_read(
+    alloc: Global,
+    members: &mut Members,
+    from: Side,
+    octets: &[u8],
+    frame: &Result<Frame<'_>, FrameFault>,
+) -> Result<(), AllocError>
+    ensures { OnOk result (members_view members.new.map.entries
+        ≡ with_reading octets.now frame.now (with_text (codes "direction")
+        (direction_text from) (members_view members.old.map.entries))) }
+{
     members.put_text("direction", direction_name(from))?;
-    match lapd_frame::read(octets, from) {
-        Ok(frame) => put_frame(alloc, members, &frame),
+    match frame {
+        Ok(frame) => put_frame(alloc, members, frame),
         Err(fault) => {
             members.put_text("fault", fault.kind.name())?;
             put_octets(alloc, members, "octets", octets)

@@ -8,7 +8,10 @@ ghost use Rattle.lapd_cli_side_commands.specs.Served.{HasServed, devices, reques
 
 use crate::line_output::LineOutput;
 use lapd_cli_script::{Command, LineFault, ScriptFault, walk};
-use lapd_cli_side_lines::{LineStyle, SideLine, push_frame, put_refusal, put_refused, read_line};
+use lapd_cli_side_lines::{
+    LineStyle, SideLine, push_frame_of, put_refusal, put_refused, read_line,
+};
+use lapd_frame::read;
 use lapd_port::{MOST_OCTETS, Port, PortFault, Sink, Source};
 use lapd_sides::{Acts, EitherSide, Request, SideKind};
 use std::alloc::Global;
@@ -203,27 +206,30 @@ impl<W: Write, S: Source, K: Sink> SideRunner<W, S, K> {
         }
     }
 
-    /// Prints a received frame, and passes it to the side.
-    fn receive(&mut self, frame: &[u8]) -> Result<(), LineFault>
+    /// Prints a received frame, and passes it to the side. The octets are read once, for both.
+    fn receive(&mut self, octets: &[u8]) -> Result<(), LineFault>
         ensures side { side_of self.new.side ≡ side_of self.old.side }
         ensures clock { self.new.now ≡ self.old.now }
         ensures good { IsGood result }
         ensures takes { OnOk result (Between S.rest K.written W.contents self.old self.new
-            (λ a b. TakesNow frame.now a.now a.side b.side a.around b.around)) }
+            (λ a b. TakesNow octets.now a.now a.side b.side a.around b.around)) }
         ensures source { self.new.port.source ≡ self.old.port.source }
     {
         let side = self.side.side();
+        let from = side.other();
+        let frame = read(octets, from);
         self.received.clear();
-        let Ok(()) = push_frame(
+        let Ok(()) = push_frame_of(
             self.alloc,
             &mut self.received,
             self.style,
-            side.other(),
-            frame,
+            from,
+            octets,
+            &frame,
         ) else {
             return Err(LineFault::Memory);
         };
-        let Ok(()) = self.side.take(frame, self.now, &mut self.acts) else {
+        let Ok(()) = self.side.take_frame(&frame, self.now, &mut self.acts) else {
             return Err(LineFault::Memory);
         };
         self.output.clear();

@@ -1,6 +1,6 @@
 use Rattle.std.proofs.Common.{ℕ, false, ap, subst, sym, ◌∙◌}
 use Rattle.lapd_cli_live.specs.Steps.{IsReached, ended_by}
-use Rattle.lapd_cli_live.proofs.Steps.{caught_up, if_ok, then_matched, then_over, then_waits}
+use Rattle.lapd_cli_live.proofs.Steps.{caught_up, if_ok, then_matched, then_over, then_waits, true_is_not_false}
 use Rattle.lapd_cli_live.proofs.live_side.LiveSide.step.Goals as goal
 
 pub returns-then-is_some-2 : goal.returns-then-is_some-2
@@ -14,7 +14,7 @@ returns-then-is_reached g c =
     then_over c.args.service _ _ c.ended_by-end_reason.result
     (caught_up _ _ _ _ _ c.in_ok-end_reason.ensures (sym c.is_some.ensures ∙ c.if-is_some.false) c.in_ok-do_due.ensures)
     (c.ended_by-end_reason.ensures ∙ ap (ended_by c.args.service.until false) c.is_matched.ensures) (sym c.is_some-2.ensures ∙ c.if-is_some-2.false)
-    (subst (IsReached c.args.service.end) c.moment.ensures (c.is_reached.ensures.reached c.if-is_reached.true))
+    (subst (IsReached c.args.service.end) c.moment.ensures (sym c.is_reached.ensures ∙ c.if-is_reached.true))
 
 pub returns : goal.returns
 returns g c =
@@ -22,5 +22,5 @@ returns g c =
     (λ end_reason waits. then_waits c.args.service _ _ _ c.ended_by-end_reason.result end_reason
     (caught_up _ _ _ _ _ c.in_ok-end_reason.ensures (sym c.is_some.ensures ∙ c.if-is_some.false) c.in_ok-do_due.ensures)
     (c.ended_by-end_reason.ensures ∙ ap (ended_by c.args.service.until false) c.is_matched.ensures) (sym c.is_some-2.ensures ∙ c.if-is_some-2.false)
-    (subst (λ (now : ℕ). ¬ IsReached c.args.service.end now) c.moment.ensures (c.is_reached.ensures.not c.if-is_reached.false)) waits)
+    (subst (λ (now : ℕ). ¬ IsReached c.args.service.end now) c.moment.ensures (λ is. true_is_not_false (sym is ∙ sym c.is_reached.ensures ∙ c.if-is_reached.false))) waits)
     c.wait.ensures
