@@ -1,6 +1,7 @@
 /* The work of `message`, `window_message` and `poll` of count.c by the layer 2 of libpri, to compare:
- * `count_libpri WHAT N`. Two ends of a primary rate interface exchange frames in memory. The functions of layer 3
- * and the clock that libpri calls are replaced by those below, so that they do not count. */
+ * `count_libpri WHAT N`. Two ends of a primary rate interface exchange frames in memory. The
+ * functions of layer 3 and the clock that libpri calls are replaced by those below, so that they do
+ * not count. */
 #include "test.h"
 
 #include <libpri.h>
