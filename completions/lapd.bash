@@ -30,7 +30,7 @@ _lapd() {
                     offered+=" --pri --tei --sapi16 --k --n200 --room --recovery --t200 --t201 --t202 --t203 --seed"
                     offered+=" --json --clock --time --quiet --serve --keep --pcap --gsmtap"
                     ;;
-                decode) offered+=" --loose --sender --names --json --keep-going --pcap" ;;
+                decode) offered+=" --loose --sender --names --json --keep-going --pcap --follow --k" ;;
                 help) offered=$commands ;;
                 *) return ;;
             esac

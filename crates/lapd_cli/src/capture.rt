@@ -1,11 +1,14 @@
 //! The command `decode` for a capture.
 
-use crate::ending::print_memory;
+use crate::ending::{print_memory, print_violation};
 use crate::job::style_of;
 use lapd_cli_console::Watched;
-use lapd_cli_decode::{CaptureReader, CaptureStop, CaptureStyle, ReadFault, Seen, decode_capture};
+use lapd_cli_decode::{
+    CaptureReader, CaptureStop, CaptureStyle, HeardCapture, ReadFault, Seen, decode_capture,
+    follow_capture,
+};
 use lapd_cli_io::{KindReason, Reason};
-use lapd_cli_options::DecodeOptions;
+use lapd_cli_options::{DecodeOptions, FollowOptions};
 use lapd_cli_script::ScriptFault;
 use std::fmt::Display;
 use std::fs::File;
@@ -19,12 +22,12 @@ const UNREADABLE: u8 = 1;
 const STANDARD_INPUT: &str = "-";
 
 /// Prints the frames of the capture in this file, or of standard input, and reports how that ended.
-pub fn do_capture(rt: &HostRuntime, file: &str, options: DecodeOptions) -> ExitCode {
+pub fn do_capture(rt: &HostRuntime, file: &str, options: DecodeOptions, strict: bool) -> ExitCode {
     if file == STANDARD_INPUT {
-        return read_capture(rt, "standard input", rt.stdin(), options);
+        return read_capture(rt, "standard input", rt.stdin(), options, strict);
     }
     match File::open(rt, file) {
-        Ok(source) => read_capture(rt, file, source, options),
+        Ok(source) => read_capture(rt, file, source, options, strict),
         Err(error) => print_no_file(rt, file, &Reason(&error)),
     }
 }
@@ -35,9 +38,10 @@ fn read_capture<R: Read + Drop>(
     file: &str,
     source: R,
     options: DecodeOptions,
+    strict: bool,
 ) -> ExitCode {
     match CaptureReader::new(rt.alloc(), source) {
-        Ok(mut capture) => print_capture(rt, file, &mut capture, options),
+        Ok(mut capture) => print_capture(rt, file, &mut capture, options, strict),
         Err(ReadFault::Capture(fault)) => {
             print_stop(rt, file, CaptureStop::Capture(fault, 0), None)
         }
@@ -52,6 +56,7 @@ fn print_capture<R: Read>(
     file: &str,
     capture: &mut CaptureReader<R>,
     options: DecodeOptions,
+    strict: bool,
 ) -> ExitCode {
     let how = CaptureStyle {
         style: style_of(options),
@@ -61,23 +66,45 @@ fn print_capture<R: Read>(
     let Ok(mut out) = BufWriter::new(rt.alloc(), Watched::new(rt.stdout())) else {
         return print_memory(rt);
     };
-    let ended = decode_capture(rt.alloc(), capture, &mut out, &mut rt.stderr(), how);
+    let ended = print_frames(rt, capture, &mut out, how, options.follow);
     let is_written = out.flush().is_ok();
     // Text that a failed writer did not accept is dropped.
     let (watched, _left) = out.into_parts();
     match ended {
-        Ok(seen) if is_written => {
-            print_none(rt, seen, capture.packets());
-            ExitCode::SUCCESS
+        Ok(heard) if is_written => {
+            print_none(rt, heard, capture.packets());
+            if strict && heard.is_violated {
+                print_violation(rt)
+            } else {
+                ExitCode::SUCCESS
+            }
         }
         Ok(_) => print_stop(rt, file, CaptureStop::Device, watched.fault()),
         Err(stop) => print_stop(rt, file, stop, watched.fault()),
     }
 }
 
+// Prints the frames of a capture, and follows the links if that is requested.
+fn print_frames<R: Read, W: Write>(
+    rt: &HostRuntime,
+    capture: &mut CaptureReader<R>,
+    out: &mut W,
+    how: CaptureStyle,
+    follow: Option<FollowOptions>,
+) -> Result<HeardCapture, CaptureStop> {
+    if let Some(options) = follow {
+        return follow_capture(rt.alloc(), capture, out, &mut rt.stderr(), how, options.k);
+    }
+    let Seen { any } = decode_capture(rt.alloc(), capture, out, &mut rt.stderr(), how)?;
+    Ok(HeardCapture {
+        any,
+        is_violated: false,
+    })
+}
+
 // Reports that a capture had no frame.
-fn print_none(rt: &HostRuntime, seen: Seen, packets: u64) {
-    if !seen.any {
+fn print_none(rt: &HostRuntime, heard: HeardCapture, packets: u64) {
+    if !heard.any {
         let _ = eprintln!(rt; "0 of {packets} packets are LAPD");
     }
 }

@@ -14,8 +14,8 @@ use std::process::ExitCode;
 /// The exit status after a fault in the command line.
 const COMMAND_LINE: u8 = 2;
 
-/// The exit status after a script with a refused line, under `--strict`, and after `expect` has
-/// failed.
+/// The exit status after a script with a refused line, or with a frame that violates Q.921, under
+/// `--strict`, and after `expect` has failed.
 const REFUSED: u8 = 5;
 
 /// Why a script did not run to its end.
@@ -27,6 +27,8 @@ pub enum Stop {
     Script(ScriptFault),
     /// An expected line was not printed in time.
     Unmet,
+    /// A frame that was followed violates Q.921, under `--strict`.
+    Violated,
     /// The capture or the GSMTAP socket could not be opened.
     NoTaps(NoTaps),
 }
@@ -76,6 +78,7 @@ pub fn print_ending(rt: &HostRuntime, ending: &Ending<'_>, ended: &Result<(), St
             let _ = eprintln!(rt; "an expected line was not printed in time");
             return ExitCode::from(REFUSED);
         }
+        Err(Stop::Violated) => return print_violation(rt),
     };
     ExitCode::from(status_of(fault, ending.strict, !ending.refusal.is_empty()))
 }
@@ -91,6 +94,12 @@ fn status_of(fault: Option<ScriptFault>, strict: bool, is_refused: bool) -> u8
         None if strict && is_refused => REFUSED,
         None => 0,
     }
+}
+
+/// Reports that a frame violates Q.921, under `--strict`.
+pub fn print_violation(rt: &HostRuntime) -> ExitCode {
+    let _ = eprintln!(rt; "a frame violates Q.921");
+    ExitCode::from(REFUSED)
 }
 
 // Reports which line was refused first, under `--strict`.

@@ -3,7 +3,7 @@
 use crate::ending::Stop;
 use crate::live::do_live;
 use lapd_cli_console::Script;
-use lapd_cli_decode::{LineForm, Style, decode_good_lines, decode_lines};
+use lapd_cli_decode::{Following, LineForm, Style, decode_good_lines, decode_lines, follow_lines};
 use lapd_cli_io::{Notes, connection};
 use lapd_cli_link_commands::{answer, bus, loop_over, pair};
 use lapd_cli_options::{Clock, DecodeOptions, Interface, Invocation, Job, LinkEnd, Params, Side};
@@ -62,7 +62,9 @@ pub fn do_job<R: Read, W: Write>(
             return do_side(rt, Side::Network, interface, chosen, script, out);
         }
         Job::User(interface) => return do_side(rt, Side::User, interface, chosen, script, out),
-        Job::Decode(options) => do_decode(rt, script, out, *options),
+        Job::Decode(options) => {
+            return do_decode(rt, script, out, *options, chosen.strict);
+        }
     };
     ended.map_err(Stop::Script)
 }
@@ -119,12 +121,39 @@ fn do_decode<R: Read, W: Write>(
     script: &mut R,
     out: &mut W,
     options: DecodeOptions,
-) -> Result<(), ScriptFault> {
+    strict: bool,
+) -> Result<(), Stop> {
     let (form, style) = (form_of(options), style_of(options));
-    if options.keep_going {
-        return decode_good_lines(rt.alloc(), script, out, form, style, rt.stderr());
+    if let Some(follow) = options.follow {
+        let how = Following {
+            form,
+            style,
+            keeps_going: options.keep_going,
+            k: follow.k,
+        };
+        return do_follow(rt, script, out, how, strict);
     }
-    decode_lines(rt.alloc(), script, out, form, style)
+    let ended = if options.keep_going {
+        decode_good_lines(rt.alloc(), script, out, form, style, rt.stderr())
+    } else {
+        decode_lines(rt.alloc(), script, out, form, style)
+    };
+    ended.map_err(Stop::Script)
+}
+
+// Executes a script of lines with octets, and follows the links.
+fn do_follow<R: Read, W: Write>(
+    rt: &HostRuntime,
+    script: &mut R,
+    out: &mut W,
+    how: Following,
+    strict: bool,
+) -> Result<(), Stop> {
+    match follow_lines(rt.alloc(), script, out, how, rt.stderr()) {
+        Ok(is_violated) if strict && is_violated => Err(Stop::Violated),
+        Ok(_) => Ok(()),
+        Err(fault) => Err(Stop::Script(fault)),
+    }
 }
 
 // The form of the lines that `decode` reads.

@@ -43,7 +43,7 @@ fn main(rt: HostRuntime) -> ExitCode {
 // Runs the chosen job.
 fn do_chosen(rt: &HostRuntime, chosen: &Invocation<'_>) -> ExitCode {
     match (&chosen.job, chosen.pcap) {
-        (Job::Decode(options), Some(file)) => do_capture(rt, file, *options),
+        (Job::Decode(options), Some(file)) => do_capture(rt, file, *options, chosen.strict),
         _ => do_lines(rt, chosen),
     }
 }

@@ -1,1 +1,3 @@
+pub mod Closed
+pub mod Heard
 pub mod Printed

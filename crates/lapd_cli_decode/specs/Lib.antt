@@ -1,4 +1,9 @@
 pub mod Captured
 pub mod Decoder
+pub mod Followed
+pub mod FollowedCapture
+pub mod FollowedLines
 pub mod Lines
+pub mod Remarked
 pub mod Style
+pub mod Tables

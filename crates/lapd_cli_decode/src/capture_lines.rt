@@ -101,7 +101,7 @@ fn print_next<R: Read, W: Write, E: Write>(
 }
 
 /// Flushes the writer, unless what the capture has next is already in memory.
-fn flush_before<R: Read, W: Write>(
+pub(crate) fn flush_before<R: Read, W: Write>(
     capture: &CaptureReader<R>,
     out: &mut W,
 ) -> Result<(), CaptureStop>

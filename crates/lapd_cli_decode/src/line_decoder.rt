@@ -143,7 +143,7 @@ impl<E: Write> Command for GoodLines<E> {
 }
 
 /// Reports a bad line: its first 32 octets at most, in one write. A failure is ignored.
-fn report<E: Write>(alloc: Global, line: &[u8], errors: &mut E) {
+pub(crate) fn report<E: Write>(alloc: Global, line: &[u8], errors: &mut E) {
     let front = &line[..line.len().min(MOST_SHOWN)];
     let end = if front.len() < line.len() { ".." } else { "" };
     if let Ok(text) = format!(in alloc; "skipped: {}{end}\n", front.escape_ascii()) {

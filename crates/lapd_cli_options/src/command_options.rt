@@ -3,14 +3,15 @@
 ghost use Rattle.std.specs.Prelude.{◌<◌, ◌≢◌, IfOk};
 ghost use Rattle.lapd_frame.specs.declared.Sapi.TheVariants.{Management};
 
-use crate::invocation::{DecodeOptions, Job};
+use crate::invocation::{DecodeOptions, FollowOptions, Job};
 use crate::no_invocation::NoInvocation;
 use crate::script_command::ScriptCommand;
 use clap::ArgMatches;
 use lapd_cli_values::{
-    AddressOption, CONNECT, Interface, InterfaceOptions, K, KNOWN_TEI, LINK_TEI, LINKS_K, LISTEN,
-    LinkEnd, N200, NumberOption, OutOfRange, Params, ROOM, Recovery, SEED, Sapi, Side, T200, T201,
-    T202, T203, TERMINALS, Tei, interface_written, params_written, tei_written, terminals_written,
+    AddressOption, CONNECT, FOLLOWED_K, Interface, InterfaceOptions, K, KNOWN_TEI, LINK_TEI,
+    LINKS_K, LISTEN, LinkEnd, N200, NumberOption, OutOfRange, Params, ROOM, Recovery, SEED, Sapi,
+    Side, T200, T201, T202, T203, TERMINALS, Tei, interface_written, params_written, tei_written,
+    terminals_written, window_written,
 };
 use std::alloc::Global;
 
@@ -27,7 +28,7 @@ pub(crate) fn job_of<'a>(
         ScriptCommand::Loop => loop_of(given),
         ScriptCommand::Net => Ok(Job::Net(interface_of(alloc, given)?)),
         ScriptCommand::User => Ok(Job::User(interface_of(alloc, given)?)),
-        ScriptCommand::Decode => Ok(Job::Decode(decode_of(given))),
+        ScriptCommand::Decode => Ok(Job::Decode(decode_of(given)?)),
     }
 }
 
@@ -58,13 +59,35 @@ fn loop_of<'a>(given: &ArgMatches<'a>) -> Result<Job, NoInvocation<'a>> {
     Ok(Job::Loop { user, network })
 }
 
-fn decode_of(given: &ArgMatches<'_>) -> DecodeOptions {
-    DecodeOptions {
+fn decode_of<'a>(given: &ArgMatches<'a>) -> Result<DecodeOptions, NoInvocation<'a>> {
+    let follow = follow_of(given)?;
+    Ok(DecodeOptions {
         loose: given.get_flag("loose"),
         sender: side_named(given, "sender"),
         names: given.get_flag("names"),
         json: given.get_flag("json"),
         keep_going: given.get_flag("keep-going"),
+        follow,
+    })
+}
+
+// How the links are followed. An option of `--follow` is refused without it.
+fn follow_of<'a>(given: &ArgMatches<'a>) -> Result<Option<FollowOptions>, NoInvocation<'a>> {
+    let k = window_of(given)?;
+    if given.get_flag("follow") {
+        return Ok(Some(FollowOptions { k }));
+    }
+    match k {
+        Some(_) => Err(NoInvocation::NotFollowed(FOLLOWED_K.name)),
+        None => Ok(None),
+    }
+}
+
+// The window of links that are followed, if it is present.
+fn window_of<'a>(given: &ArgMatches<'a>) -> Result<Option<u8>, NoInvocation<'a>> {
+    match given.get_str(FOLLOWED_K.name) {
+        Some(written) => Ok(Some(window_written(written)?)),
+        None => Ok(None),
     }
 }
 

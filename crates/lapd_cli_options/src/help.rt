@@ -68,6 +68,10 @@ pub const KEEP_GOING: &str = "Reports a bad line or packet on standard error, an
 pub const PCAP: &str =
     "Prints the frames of this pcap or pcapng file as they arrive, - for standard input; no script is read";
 
+pub const FOLLOW: &str = "\
+Adds remarks on what each frame means for its link, and prints a table of each link at the end; with \
+--strict also ends with exit status 5 if a frame violates Q.921";
+
 /// The help of `--json`, of `net` and `user`.
 pub const SIDE_JSON: &str = "Prints each line as a JSON object";
 

@@ -85,6 +85,15 @@ pub struct DecodeOptions {
     pub json: bool,
     /// Whether bad lines and packets are reported and skipped.
     pub keep_going: bool,
+    /// How the links are followed; `None` if they are not.
+    pub follow: Option<FollowOptions>,
+}
+
+/// The options of `decode --follow`.
+#[derive(Clone, Copy)]
+pub struct FollowOptions {
+    /// The window k of all links, 1 to 127; `None` if no window is checked.
+    pub k: Option<u8>,
 }
 
 impl Invocation<'_> {

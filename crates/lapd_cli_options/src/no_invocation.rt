@@ -11,7 +11,8 @@ pub enum NoInvocation<'a> {
     /// 0.
     Shown(String),
     /// The parser refuses them, for the reason in this text. The text is for standard error, and
-    /// the exit status is 2, as for `OutOfRange`, `NoAddress`, `NotReal` and `OneTerminal`.
+    /// the exit status is 2, as for `OutOfRange`, `NoAddress`, `NotReal`, `NotFollowed` and
+    /// `OneTerminal`.
     Refused(String),
     /// A number that is not in the range of its option.
     OutOfRange(OutOfRange<'a>),
@@ -20,6 +21,8 @@ pub enum NoInvocation<'a> {
     /// The option with this name, without the hyphens, requires the real clock, which was not
     /// requested.
     NotReal(&'static str),
+    /// The option with this name, without the hyphens, requires `--follow`, which is absent.
+    NotFollowed(&'static str),
     /// `--idle-limit` is present, but the side accepts only one connection.
     OneTerminal,
     /// An allocation failed.
@@ -35,6 +38,9 @@ impl fmt::Display for NoInvocation<'_> {
             NoInvocation::NoAddress(fault) => writeln!(f, "{fault}"),
             NoInvocation::NotReal(option) => {
                 writeln!(f, "error: --{option} requires --clock real")
+            }
+            NoInvocation::NotFollowed(option) => {
+                writeln!(f, "error: --{option} requires --follow")
             }
             NoInvocation::OneTerminal => {
                 f.write_str("error: --idle-limit requires --terminals above 1\n")

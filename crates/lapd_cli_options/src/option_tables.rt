@@ -4,8 +4,8 @@
 use crate::command_option::{CommandOption, WordOption};
 use crate::help;
 use lapd_cli_values::{
-    CONNECT, CONNECTED_TERMINALS, FIXED_TEI, GSMTAP, IDLE_LIMIT, K, KNOWN_TEI, LINK_TEI, LINKS_K,
-    LISTEN, N200, ROOM, SEED, T200, T201, T202, T203, TERMINALS,
+    CONNECT, CONNECTED_TERMINALS, FIXED_TEI, FOLLOWED_K, GSMTAP, IDLE_LIMIT, K, KNOWN_TEI,
+    LINK_TEI, LINKS_K, LISTEN, N200, ROOM, SEED, T200, T201, T202, T203, TERMINALS,
 };
 
 /// The options of `answer`.
@@ -71,6 +71,8 @@ pub(crate) const DECODE: &[&[CommandOption]] = &[
         CommandOption::Flag("json", help::JSON),
         CommandOption::Flag("keep-going", help::KEEP_GOING),
         CommandOption::File("pcap", help::PCAP),
+        CommandOption::Flag("follow", help::FOLLOW),
+        CommandOption::BareNumber(FOLLOWED_K),
     ],
 ];
 

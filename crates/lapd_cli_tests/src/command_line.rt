@@ -4,8 +4,8 @@ mod words;
 
 use crate::scenarios::words_of;
 use lapd_cli_options::{
-    Clock, Durations, Interface, Invocation, Job, NoInvocation, Params, Recovery, Side, help,
-    parse_words,
+    Clock, Durations, FollowOptions, Interface, Invocation, Job, NoInvocation, Params, Recovery,
+    Side, help, parse_words,
 };
 use lapd_cli_script::{PortFault, ScriptFault};
 use lapd_timers::Timer;
@@ -58,6 +58,9 @@ lapd net --listen=a:1 => net 1 3 512 enquiry 3 3 512 enquiry 1000 1000 2000 1000
 lapd net --listen=a:1 --json => net 1 3 512 enquiry 3 3 512 enquiry 1000 1000 2000 10000 with-16 - at a:1 json
 lapd user --json --connect=a:1 --clock=real => user 1 3 512 enquiry 3 3 512 enquiry 1000 1000 2000 10000 with-16 - at a:1 real 1 - - json
 lapd decode --json => decode
+lapd decode --follow => decode follow
+lapd decode --follow --strict => decode follow strict
+lapd decode --k 127 --follow => decode follow 127
 lapd net --listen 127.0.0.1:4000 => net 1 3 512 enquiry 3 3 512 enquiry 1000 1000 2000 10000 with-16 - at 127.0.0.1:4000
 lapd user --connect 127.0.0.1:4000 => user 1 3 512 enquiry 3 3 512 enquiry 1000 1000 2000 10000 with-16 - at 127.0.0.1:4000
 lapd net --listen 127.0.0.1:4000 --pri => net 7 3 512 enquiry 7 3 512 enquiry 1000 1000 2000 10000 without-16 - 0 at 127.0.0.1:4000
@@ -111,7 +114,7 @@ lapd answer --serve => refused
 lapd net --listen a:1 --clock other => refused
 lapd answer --clock real => refused
 lapd decode --side user => refused
-lapd decode --k 3 => refused
+lapd decode --follow --follow => refused
 lapd decode more => refused
 lapd --terminals 3 => refused
 lapd bus more => refused
@@ -161,6 +164,8 @@ lapd answer --room 18446744073709551617 => error: invalid value '184467440737095
 lapd loop --n200 101 => error: invalid value '101' for '--n200 <TIMES>': not a number from 1 to 100 in decimal digits~
 lapd bus --terminals 0 => error: invalid value '0' for '--terminals <TERMINALS>': not a number from 1 to 127 in decimal digits~
 lapd bus --terminals 128 => error: invalid value '128' for '--terminals <TERMINALS>': not a number from 1 to 127 in decimal digits~
+lapd decode --k 3 => error: --k requires --follow~
+lapd decode --follow --k 128 => error: invalid value '128' for '--k <FRAMES>': not a number from 1 to 127 in decimal digits~
 lapd user --connect=a:1 --time => error: --time requires --clock real~
 lapd net --listen=a:1 --clock=script --quiet => error: --quiet requires --clock real~
 lapd net --listen=a:1 --terminals 1 => error: --terminals requires --clock real~
@@ -270,8 +275,18 @@ fn show_job(text: &mut String, job: &Job) {
         Job::Loop { user, network } => show_ends(text, "loop", user, network),
         Job::Net(interface) => show_interface(text, "net", interface),
         Job::User(interface) => show_interface(text, "user", interface),
-        Job::Decode(_) => {
+        Job::Decode(options) => {
             let _ = text.push_str("decode");
+            show_follow(text, options.follow);
+        }
+    }
+}
+
+fn show_follow(text: &mut String, follow: Option<FollowOptions>) {
+    if let Some(options) = follow {
+        let _ = text.push_str(" follow");
+        if let Some(k) = options.k {
+            let _ = write!(text, " {k}");
         }
     }
 }

@@ -4,8 +4,8 @@
 use crate::run::run;
 use crate::scenario::{Console, Line, Scenario, mark_of};
 use lapd_cli_options::{
-    Clock, DecodeOptions, Durations, Interface, Invocation, Job, LinkEnd, Params, Recovery, Sapi,
-    Side, Tei,
+    Clock, DecodeOptions, Durations, FollowOptions, Interface, Invocation, Job, LinkEnd, Params,
+    Recovery, Sapi, Side, Tei,
 };
 use lapd_cli_script::ScriptFault;
 use lapd_cli_side_commands::{FromRead, FromWrite, Port};
@@ -160,9 +160,38 @@ fn decodes_while_there_is_memory(rt: HostRuntime) -> Result<(), Fail> {
         names: false,
         json: false,
         keep_going: false,
+        follow: None,
     };
     preserves(&rt, Job::Decode(options), OCTETS)
 }
+
+#[test]
+fn follows_while_there_is_memory(rt: HostRuntime) -> Result<(), Fail> {
+    let options = DecodeOptions {
+        loose: false,
+        sender: Side::User,
+        names: false,
+        json: false,
+        keep_going: false,
+        follow: Some(FollowOptions { k: Some(1) }),
+    };
+    preserves(&rt, Job::Decode(options), FOLLOWED)
+}
+
+const FOLLOWED: &str = "\
+user
+    U>N F1 TooShort
+net 02817f
+    N>U SAPI 0 TEI 64 C SABME P=1
+user 028173
+    U>N SAPI 0 TEI 64 R UA F=1; begins establishment 1; answers packet 2
+.
+    SAPI 0 TEI 64: establishments 1
+      U>N I 0, RR 0, RNR 0, REJ 0, SABME 0, DISC 0, UA 1, DM 0, UI 0, FRMR 0, XID 0
+      U>N messages 0, octets 0, repeated 0, polls 0
+      N>U I 0, RR 0, RNR 0, REJ 0, SABME 1, DISC 0, UA 0, DM 0, UI 0, FRMR 0, XID 0
+      N>U messages 0, octets 0, repeated 0, polls 1
+";
 
 const OCTETS: &str = "\
 user

@@ -1,13 +1,13 @@
 //! Running a command over any reader, writer and port.
 
-use lapd_cli_decode::{LineForm, Style, decode_lines};
+use lapd_cli_decode::{Following, LineForm, Style, decode_lines, follow_lines};
 use lapd_cli_link_commands::{answer, bus, loop_over, pair};
-use lapd_cli_options::{Interface, Invocation, Job, LinkEnd};
+use lapd_cli_options::{DecodeOptions, Interface, Invocation, Job, LinkEnd};
 use lapd_cli_script::ScriptFault;
 use lapd_cli_side_commands::{Config, Port, SideRun, Sink, Source, net, user};
 use lapd_cli_side_lines::LineStyle;
 use std::alloc::Global;
-use std::io::{Read, Write};
+use std::io::{self, Read, Write};
 
 /// The result of a command, and its port.
 pub(crate) type Run<S, K> = (Result<(), ScriptFault>, Port<S, K>);
@@ -28,10 +28,7 @@ pub(crate) fn run<R: Read, W: Write, S: Source, K: Sink>(
     match &chosen.job {
         Job::Answer(end) => (do_answer(alloc, script, out, *end), port),
         Job::Bus { terminals } => (bus(alloc, script, out, *terminals), port),
-        Job::Decode(_) => (
-            decode_lines(alloc, script, out, LineForm::Strict, Style::Plain),
-            port,
-        ),
+        Job::Decode(options) => (do_decode(alloc, script, out, *options), port),
         Job::Loop { user, network } => loop_over(alloc, script, out, *user, *network, port),
         Job::Net(interface) => do_net(alloc, (interface, style), script, out, port),
         Job::Pair { user, network } => (pair(alloc, script, out, *user, *network), port),
@@ -52,6 +49,31 @@ fn do_answer<R: Read, W: Write>(
         params,
     } = end;
     answer(alloc, script, out, side, sapi, tei, params)
+}
+
+fn do_decode<R: Read, W: Write>(
+    alloc: Global,
+    script: &mut R,
+    out: &mut W,
+    options: DecodeOptions,
+) -> Result<(), ScriptFault> {
+    let form = LineForm::Strict;
+    let style = if options.json {
+        Style::Json
+    } else {
+        Style::Plain
+    };
+    let Some(follow) = options.follow else {
+        return decode_lines(alloc, script, out, form, style);
+    };
+    let how = Following {
+        form,
+        style,
+        keeps_going: false,
+        k: follow.k,
+    };
+    let _is_violated = follow_lines(alloc, script, out, how, io::sink())?;
+    Ok(())
 }
 
 fn do_net<R: Read, W: Write, S: Source, K: Sink>(

@@ -6,6 +6,7 @@
 pub(crate) mod answers;
 pub(crate) mod buses;
 pub(crate) mod decodes;
+pub(crate) mod follows;
 pub(crate) mod pairs;
 pub(crate) mod ports;
 pub(crate) mod sides;
@@ -37,6 +38,7 @@ const TABLES: &[&str] = &[
     answers::LONG,
     buses::SCENARIOS,
     decodes::SCENARIOS,
+    follows::SCENARIOS,
     pairs::PAIRS,
     pairs::LOOPS,
     sides::SCENARIOS,

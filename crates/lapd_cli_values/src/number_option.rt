@@ -124,6 +124,17 @@ pub const LINKS_K: NumberOption = NumberOption {
     most: 127,
 };
 
+/// The window of all links that `decode --follow` reads (Q.921 5.9.5). By default no window is
+/// checked.
+pub const FOLLOWED_K: NumberOption = NumberOption {
+    name: "k",
+    value_name: "FRAMES",
+    help: "With --follow, the window k of all links, 1 to 127; if absent, no window is checked",
+    default: "",
+    least: 1,
+    most: 127,
+};
+
 /// The duration of T200 (Q.921 5.9.1).
 pub const T200: NumberOption = NumberOption {
     name: "t200",

@@ -5,7 +5,7 @@ ghost use Rattle.std.specs.Str.Parse.{digits_value};
 ghost use Rattle.lapd_cli_values.specs.Options.{IsNumberFrom, IsRangeOf};
 ghost use Rattle.lapd_cli_values.specs.Numerals.{parameters_written, AreWritten};
 
-use crate::number_option::{K, N200, NumberOption, ROOM, TERMINALS};
+use crate::number_option::{FOLLOWED_K, K, N200, NumberOption, ROOM, TERMINALS};
 use crate::numbers::{number_of, params_of};
 use lapd_link_definition::Params;
 use thiserror::Error;
@@ -94,6 +94,23 @@ pub fn terminals_written(written: &str) -> Result<u8, OutOfRange<'_>>
 {
     match number_written(TERMINALS, written) {
         Ok(terminals) => Ok(terminals as u8),
+        Err(fault) => Err(fault),
+    }
+}
+
+/// The window of links that are followed, 1 to 127, from a text in decimal digits.
+///
+/// # Errors
+///
+/// `OutOfRange` if the text is not such a number.
+pub fn window_written(written: &str) -> Result<u8, OutOfRange<'_>>
+    ensures { MatchResult result
+        (λ window. IsNumberFrom 1 127 written.now × (window ≡ digits_value 10 written.now))
+        (λ fault. (fault.option.most ≡ 127) × (fault.written ≡ written.entry)
+        × (¬ IsNumberFrom 1 127 written.now)) }
+{
+    match number_written(FOLLOWED_K, written) {
+        Ok(window) => Ok(window as u8),
         Err(fault) => Err(fault),
     }
 }

@@ -2,6 +2,7 @@ pub mod Ends
 pub mod Exchange
 pub mod Follower
 pub mod Link
+pub mod Listening
 pub mod Remarks
 pub mod Tallies
 pub mod Texts

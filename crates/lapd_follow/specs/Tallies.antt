@@ -1,5 +1,7 @@
 -- How many frames of each kind one end of a link sent, and the time that it took to answer polls.
 use Rattle.std.specs.Prelude.{ℕ, ◌+◌, ◌-◌, ◌^◌, min, max, Bool, true, false, if◌then◌else◌, length, Option, Some, None}
+use Rattle.lapd_frame.specs.declared.Role.{Role}
+use Rattle.lapd_frame.specs.declared.Role.TheVariants.{Command, Answer}
 use Rattle.lapd_frame.specs.declared.Control.{Control}
 use Rattle.lapd_frame.specs.declared.Control.TheVariants.{I, Rr, Rnr, Rej, Sabme, Dm, Ui, Disc, Ua, Frmr, Xid}
 use Rattle.lapd_frame.specs.Frame.{Fields}
@@ -10,6 +12,34 @@ use Rattle.lapd_follow.specs.declared.tally.Kinds.{Kinds}
 use Rattle.lapd_follow.specs.declared.tally.Times.{Times}
 use Rattle.lapd_follow.specs.declared.tally.Tally.{Tally}
 use Rattle.lapd_follow.specs.Ends.{one_more}
+
+-- nothing was counted
+abbrev pub no_kinds : Kinds
+no_kinds = record {
+  i = 0;
+  rr = 0;
+  rnr = 0;
+  rej = 0;
+  sabme = 0;
+  dm = 0;
+  ui = 0;
+  disc = 0;
+  ua = 0;
+  frmr = 0;
+  xid = 0;
+}
+
+abbrev pub no_times : Times
+no_times = record { count = 0; least = None; greatest = None; total = 0 }
+
+abbrev pub no_tally : Tally
+no_tally = record {
+  kinds = no_kinds;
+  octets = 0;
+  repeated = 0;
+  polls = 0;
+  times = no_times;
+}
 
 -- a sum, up to the greatest number of 64 bits
 abbrev pub sum_of : ℕ → ℕ → ℕ
@@ -59,11 +89,27 @@ with_time (Some n) t = record {
   total = sum_of t.total n;
 }
 
+-- the P bit of a command that polls, or the bit in its place (Q.921 3.5.1)
+abbrev pub poll_bit : Control → Bool
+poll_bit (I ns nr p) = p
+poll_bit (Rr nr pf) = pf
+poll_bit (Rnr nr pf) = pf
+poll_bit (Rej nr pf) = pf
+poll_bit (Sabme p) = p
+poll_bit (Disc p) = p
+poll_bit control = false
+
+-- a command with P=1
+abbrev pub is_poll : Role → Control → Bool
+is_poll Command control = poll_bit control
+is_poll Answer control = false
+
 -- one more frame, with the remarks on it
 abbrev pub tallied : Fields → Remarks → Tally → Tally
 tallied f said t = record {
   kinds = counted f.control t.kinds;
   octets = sum_of t.octets (length f.info);
   repeated = if is_repeat said.ns then one_more t.repeated else t.repeated;
+  polls = if is_poll f.address.role f.control then one_more t.polls else t.polls;
   times = with_time (answer_time said.answer) t.times;
 }

@@ -8,6 +8,29 @@ use Rattle.lapd_follow.specs.declared.remark.Remark.TheVariants.{Begins, LateUa,
 use Rattle.lapd_follow.specs.declared.remarks.Remarks.{Remarks}
 use Rattle.lapd_follow.specs.Remarks.{class_of}
 
+abbrev pub class_name : Class → List ℕ
+class_name Normal = codes "normal"
+class_name Recovery = codes "recovery"
+class_name Violation = codes "violation"
+
+-- the clause of Q.921 on which a remark depends
+abbrev pub clause_of : Remark → List ℕ
+clause_of (Begins n) = codes "5.5.1.2"
+clause_of LateUa = codes "5.5.1.3"
+clause_of UaWithoutCommand = codes "3.6.8"
+clause_of (FirstNs ns) = codes "5.5.1.2"
+clause_of (NsExpected ns expected) = codes "5.6.2"
+clause_of Repeated = codes "5.6.4"
+clause_of RepeatedOtherwise = codes "5.6.1"
+clause_of (WindowExceeded k) = codes "5.9.5"
+clause_of SentToBusy = codes "5.6.5"
+clause_of SentToKnownBusy = codes "5.6.5"
+clause_of (NrOutside nr first last) = codes "3.5.2.3"
+clause_of (Answers packet after) = codes "3.5.1"
+clause_of LateResponse = codes "5.6.7"
+clause_of ResponseWithoutPoll = codes "5.6.2.1"
+clause_of (NotAnswered packet) = codes "5.6.7"
+
 -- so many microseconds, in seconds with three digits after the point
 abbrev pub after_text : Option ℕ → List ℕ
 after_text None = []
@@ -34,11 +57,11 @@ remark_text LateResponse = codes "answers an earlier poll"
 remark_text ResponseWithoutPoll = codes "response without a poll"
 remark_text (NotAnswered packet) = codes "packet " ++ (decimal packet ++ codes " is not answered")
 
--- a remark behind the line of its frame, in brackets; a violation is marked
+-- a remark behind the line of its frame, after a semicolon; a violation is marked
 abbrev pub marked_text : Class → List ℕ → List ℕ
-marked_text Normal words = codes " [" ++ (words ++ codes "]")
-marked_text Recovery words = codes " [" ++ (words ++ codes "]")
-marked_text Violation words = codes " [violation: " ++ (words ++ codes "]")
+marked_text Normal words = codes "; " ++ words
+marked_text Recovery words = codes "; " ++ words
+marked_text Violation words = codes "; violation: " ++ words
 
 abbrev pub noted_text : Option Remark → List ℕ
 noted_text None = []

@@ -8,7 +8,7 @@ use std::alloc::{AllocError, Global};
 use std::marker::Model;
 
 /// How many links there may be: 128 TEIs for each of three SAPIs.
-const LINKS: usize = 384;
+pub(crate) const LINKS: usize = 384;
 
 /// Follows all data links of a line by its frames alone.
 ///
@@ -105,7 +105,7 @@ fn no_links(alloc: Global) -> Result<Vec<Option<LinkFollower>>, AllocError>
 }
 
 /// The place of the link with this address.
-fn place_of(address: &Address) -> usize
+pub(crate) fn place_of(address: &Address) -> usize
     ensures value { result ≡ place_of address.now }
     ensures in_range { result < 384 }
 {

@@ -6,6 +6,7 @@
 //! N(R) out of range, the poll that a response answers. Each [`Remark`] has a [`Class`]. A violation
 //! is a frame that no two ends send which follow the standard, whatever frames are lost, if T200
 //! exceeds the time until an answer (Q.921 5.9.1). [`Tally`] counts the frames of one end.
+//! [`Listener`] follows all links of a line and counts their frames.
 #![tactic(auto)]
 
 mod dialogue;
@@ -13,6 +14,8 @@ mod end;
 mod follower;
 mod laws;
 mod link_follower;
+mod link_tally;
+mod listener;
 mod noted;
 mod numbering;
 mod packet;
@@ -26,6 +29,8 @@ pub use end::Busy;
 pub use follower::Follower;
 pub use laws::remarks_are_computed;
 pub use link_follower::LinkFollower;
+pub use link_tally::LinkTally;
+pub use listener::Listener;
 pub use numbering::Numbering;
 pub use packet::Packet;
 pub use polls::Polls;

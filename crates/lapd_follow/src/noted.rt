@@ -17,8 +17,8 @@ impl fmt::Display for Noted {
         match self.remark {
             None => write!(f, ""),
             Some(remark) => match remark.class() {
-                Class::Normal | Class::Recovery => write!(f, " [{remark}]"),
-                Class::Violation => write!(f, " [violation: {remark}]"),
+                Class::Normal | Class::Recovery => write!(f, "; {remark}"),
+                Class::Violation => write!(f, "; violation: {remark}"),
             },
         }
     }

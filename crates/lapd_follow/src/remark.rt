@@ -1,6 +1,6 @@
 ghost use Rattle.std.specs.Prelude.{◌≡◌, Some};
 ghost use Rattle.lapd_follow.specs.Remarks.{class_of};
-ghost use Rattle.lapd_follow.specs.Texts.{remark_text};
+ghost use Rattle.lapd_follow.specs.Texts.{class_name, clause_of, remark_text};
 
 use lapd_mod128::Seq;
 use std::fmt;
@@ -14,6 +14,19 @@ pub enum Class {
     Recovery,
     /// No two ends that follow Q.921 do it.
     Violation,
+}
+
+impl Class {
+    /// Its name.
+    pub fn name(self) -> &'static str
+        ensures { result.now ≡ class_name self }
+    {
+        match self {
+            Class::Normal => "normal",
+            Class::Recovery => "recovery",
+            Class::Violation => "violation",
+        }
+    }
 }
 
 /// A remark on a frame.
@@ -88,6 +101,29 @@ impl Remark {
             | Remark::SentToKnownBusy
             | Remark::NrOutside { .. }
             | Remark::ResponseWithoutPoll => Class::Violation,
+        }
+    }
+
+    /// The clause of Q.921 on which the remark depends.
+    pub fn clause(&self) -> &'static str
+        ensures { result.now ≡ clause_of self.now }
+    {
+        match *self {
+            Remark::Begins(_) => "5.5.1.2",
+            Remark::LateUa => "5.5.1.3",
+            Remark::UaWithoutCommand => "3.6.8",
+            Remark::FirstNs(_) => "5.5.1.2",
+            Remark::NsExpected { .. } => "5.6.2",
+            Remark::Repeated => "5.6.4",
+            Remark::RepeatedOtherwise => "5.6.1",
+            Remark::WindowExceeded(_) => "5.9.5",
+            Remark::SentToBusy => "5.6.5",
+            Remark::SentToKnownBusy => "5.6.5",
+            Remark::NrOutside { .. } => "3.5.2.3",
+            Remark::Answers { .. } => "3.5.1",
+            Remark::LateResponse => "5.6.7",
+            Remark::ResponseWithoutPoll => "5.6.2.1",
+            Remark::NotAnswered(_) => "5.6.7",
         }
     }
 }

@@ -1,8 +1,8 @@
 ghost use Rattle.std.specs.Prelude.{◌≡◌};
-ghost use Rattle.lapd_follow.specs.Tallies.{counted, is_repeat, answer_time, least_with, greatest_with, with_time, tallied};
+ghost use Rattle.lapd_follow.specs.Tallies.{answer_time, counted, greatest_with, is_poll, is_repeat, least_with, no_kinds, no_tally, no_times, poll_bit, tallied, with_time};
 
 use crate::{Remark, Remarks};
-use lapd_frame::{Control, Frame};
+use lapd_frame::{Control, Frame, Role};
 
 /// How many frames of each kind were sent. Each count stops at 2^64 - 1.
 #[derive(Clone, Copy, Debug, Default, PartialEq, Eq)]
@@ -42,11 +42,26 @@ pub struct Tally {
     pub octets: u64,
     /// The I frames that were sent again before they were acknowledged.
     pub repeated: u64,
+    /// The commands with P=1 that it sent: I, RR, RNR, REJ, SABME and DISC.
+    pub polls: u64,
     /// How soon it answered polls.
     pub times: Times,
 }
 
 impl Tally {
+    /// Nothing is counted yet.
+    pub fn new() -> Tally
+        ensures { result ≡ no_tally }
+    {
+        Tally {
+            kinds: no_kinds(),
+            octets: 0,
+            repeated: 0,
+            polls: 0,
+            times: no_times(),
+        }
+    }
+
     /// Counts one more frame, with the remarks on it.
     pub fn add(&mut self, frame: &Frame<'_>, said: &Remarks)
         ensures { self.new ≡ tallied frame.now said.now self.old }
@@ -59,8 +74,69 @@ impl Tally {
             } else {
                 self.repeated
             },
+            polls: if is_poll(frame.address().role, &frame.control()) {
+                self.polls.saturating_add(1)
+            } else {
+                self.polls
+            },
             times: with_time(answer_time(&said.answer), self.times),
         };
+    }
+}
+
+/// No frame of any kind.
+fn no_kinds() -> Kinds
+    ensures { result ≡ no_kinds }
+{
+    Kinds {
+        i: 0,
+        rr: 0,
+        rnr: 0,
+        rej: 0,
+        sabme: 0,
+        dm: 0,
+        ui: 0,
+        disc: 0,
+        ua: 0,
+        frmr: 0,
+        xid: 0,
+    }
+}
+
+/// No time.
+fn no_times() -> Times
+    ensures { result ≡ no_times }
+{
+    Times {
+        count: 0,
+        least: None,
+        greatest: None,
+        total: 0,
+    }
+}
+
+/// Whether the frame is a command with P=1.
+fn is_poll(role: Role, control: &Control) -> bool
+    ensures { result ≡ is_poll role control.now }
+{
+    match role {
+        Role::Command => poll_bit(control),
+        Role::Answer => false,
+    }
+}
+
+/// The P bit of a command that polls, or the bit in its place.
+fn poll_bit(control: &Control) -> bool
+    ensures { result ≡ poll_bit control.now }
+{
+    match *control {
+        Control::I { p, .. } | Control::Sabme { p } | Control::Disc { p } => p,
+        Control::Rr { pf, .. } | Control::Rnr { pf, .. } | Control::Rej { pf, .. } => pf,
+        Control::Dm { .. }
+        | Control::Ui { .. }
+        | Control::Ua { .. }
+        | Control::Frmr { .. }
+        | Control::Xid { .. } => false,
     }
 }
 

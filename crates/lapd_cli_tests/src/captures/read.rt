@@ -126,7 +126,7 @@ fn prints(alloc: Global, octets: &[u8], how: CaptureStyle, fault: &str, lines: &
 }
 
 /// A reader of these octets that returns at most `most` per read.
-fn parts_of(octets: &[u8], most: usize) -> Parts<'_> {
+pub(crate) fn parts_of(octets: &[u8], most: usize) -> Parts<'_> {
     Parts {
         octets,
         most,
@@ -170,8 +170,8 @@ fn ends_by(alloc: Global, ended: Result<Seen, CaptureStop>, fault: &str) -> bool
     }
 }
 
-// Whether these lines were printed, here separated by slashes.
-fn are_lines(printed: &[u8], lines: &str) -> bool {
+/// Whether these lines were printed, here separated by slashes.
+pub(crate) fn are_lines(printed: &[u8], lines: &str) -> bool {
     let mut rest = printed;
     if lines.is_empty() {
         return rest.is_empty();

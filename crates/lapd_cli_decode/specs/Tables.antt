@@ -1,0 +1,147 @@
+-- The table of each link, after the last frame.
+use Rattle.std.specs.Prelude.{ℕ, ◌-◌, ◌/◌, ◌%◌, max, List, [], ◌++◌, codes, Option, Some, None, Result, Ok, Err, ⊤}
+use Rattle.std.specs.List.{flat_map}
+use Rattle.std.specs.Fmt.{decimal}
+use Rattle.std.specs.Io.KnownBytes.{Appends, Keeps}
+use Rattle.lapd_frame.specs.Address.{sapi_value}
+use Rattle.lapd_follow.specs.declared.link_tally.LinkTally.{LinkTally}
+use Rattle.lapd_follow.specs.declared.tally.Kinds.{Kinds}
+use Rattle.lapd_follow.specs.declared.tally.Tally.{Tally}
+use Rattle.lapd_follow.specs.declared.tally.Times.{Times}
+use Rattle.lapd_cli_script.specs.declared.script.ScriptFault.{ScriptFault}
+use Rattle.lapd_cli_script.specs.declared.script.ScriptFault.TheVariants.{BadLine, Device, Memory, Port}
+use Rattle.lapd_cli_decode.specs.declared.style.Style.{Style}
+use Rattle.lapd_cli_decode.specs.declared.style.Style.TheVariants.{Plain, Named, Json, NamedJson}
+
+-- the I frames that were not repetitions
+abbrev pub messages_of : Tally → ℕ
+messages_of t = t.kinds.i - t.repeated
+
+-- the mean of the times, rounded down
+abbrev pub mean_of : Times → ℕ
+mean_of t = t.total / max t.count 1
+
+-- ---- Lines.
+
+-- microseconds as seconds with three digits after the point
+abbrev pub thousandths : ℕ → List ℕ
+thousandths n = decimal (n / 1000000) ++ (codes "." ++ (decimal (n / 100000 % 10)
+    ++ (decimal (n / 10000 % 10) ++ decimal (n / 1000 % 10))))
+
+-- the frames that an end sent, by kind
+abbrev pub kinds_line : List ℕ → Kinds → List ℕ
+kinds_line direction k = codes "  " ++ (direction ++ (codes " I " ++ (decimal k.i
+    ++ (codes ", RR " ++ (decimal k.rr ++ (codes ", RNR " ++ (decimal k.rnr
+    ++ (codes ", REJ " ++ (decimal k.rej ++ (codes ", SABME " ++ (decimal k.sabme
+    ++ (codes ", DISC " ++ (decimal k.disc ++ (codes ", UA " ++ (decimal k.ua
+    ++ (codes ", DM " ++ (decimal k.dm ++ (codes ", UI " ++ (decimal k.ui
+    ++ (codes ", FRMR " ++ (decimal k.frmr ++ (codes ", XID " ++ (decimal k.xid
+    ++ codes "\n")))))))))))))))))))))))
+
+-- the answers to polls whose times are known: the least time, the greatest, and the mean
+abbrev pub range_text : Times → Option ℕ → Option ℕ → List ℕ
+range_text t None greatest = []
+range_text t (Some least) None = []
+range_text t (Some least) (Some greatest) = codes ", answers " ++ (decimal t.count
+    ++ (codes " after " ++ (thousandths least ++ (codes " to " ++ (thousandths greatest
+    ++ (codes " s, mean " ++ (thousandths (mean_of t) ++ codes " s")))))))
+
+abbrev pub times_text : Times → List ℕ
+times_text t = range_text t t.least t.greatest
+
+-- the counts of an end
+abbrev pub counts_text : List ℕ → Tally → List ℕ
+counts_text direction t = codes "  " ++ (direction ++ (codes " messages "
+    ++ (decimal (messages_of t) ++ (codes ", octets " ++ (decimal t.octets
+    ++ (codes ", repeated " ++ (decimal t.repeated ++ (codes ", polls "
+    ++ decimal t.polls))))))))
+
+abbrev pub counts_line : List ℕ → Tally → List ℕ
+counts_line direction t = counts_text direction t ++ (times_text t.times ++ codes "\n")
+
+abbrev pub end_lines : List ℕ → Tally → List ℕ
+end_lines direction t = kinds_line direction t.kinds ++ counts_line direction t
+
+-- the first line of a link
+abbrev pub head_line : LinkTally → List ℕ
+head_line t = codes "SAPI " ++ (decimal (sapi_value t.sapi) ++ (codes " TEI " ++ (decimal t.tei
+    ++ (codes ": establishments " ++ (decimal t.establishments ++ codes "\n")))))
+
+-- the lines of a link
+abbrev pub link_lines : LinkTally → List ℕ
+link_lines t = head_line t
+    ++ (end_lines (codes "U>N") t.user ++ end_lines (codes "N>U") t.network)
+
+-- ---- JSON objects. Times are in microseconds.
+
+abbrev pub answers_member : ℕ → ℕ → ℕ → ℕ → List ℕ
+answers_member count greatest least mean = codes "\"answers\":{\"count\":" ++ (decimal count
+    ++ (codes ",\"greatest\":" ++ (decimal greatest ++ (codes ",\"least\":" ++ (decimal least
+    ++ (codes ",\"mean\":" ++ (decimal mean ++ codes "},")))))))
+
+abbrev pub range_member : Times → Option ℕ → Option ℕ → List ℕ
+range_member t None greatest = []
+range_member t (Some least) None = []
+range_member t (Some least) (Some greatest) = answers_member t.count greatest least (mean_of t)
+
+abbrev pub times_member : Times → List ℕ
+times_member t = range_member t t.least t.greatest
+
+abbrev pub first_members : Tally → List ℕ
+first_members t = codes "\"disc\":" ++ (decimal t.kinds.disc ++ (codes ",\"dm\":"
+    ++ (decimal t.kinds.dm ++ (codes ",\"frmr\":" ++ (decimal t.kinds.frmr ++ (codes ",\"i\":"
+    ++ (decimal t.kinds.i ++ (codes ",\"messages\":" ++ (decimal (messages_of t)
+    ++ (codes ",\"octets\":" ++ (decimal t.octets ++ (codes ",\"polls\":"
+    ++ decimal t.polls))))))))))))
+
+abbrev pub last_members : Tally → List ℕ
+last_members t = codes ",\"rej\":" ++ (decimal t.kinds.rej ++ (codes ",\"repeated\":"
+    ++ (decimal t.repeated ++ (codes ",\"rnr\":" ++ (decimal t.kinds.rnr ++ (codes ",\"rr\":"
+    ++ (decimal t.kinds.rr ++ (codes ",\"sabme\":" ++ (decimal t.kinds.sabme
+    ++ (codes ",\"ua\":" ++ (decimal t.kinds.ua ++ (codes ",\"ui\":" ++ (decimal t.kinds.ui
+    ++ (codes ",\"xid\":" ++ (decimal t.kinds.xid ++ codes "}")))))))))))))))
+
+abbrev pub end_object : Tally → List ℕ
+end_object t = codes "{" ++ (times_member t.times ++ (first_members t ++ last_members t))
+
+abbrev pub object_head : LinkTally → List ℕ
+object_head t = codes "{\"establishments\":" ++ (decimal t.establishments
+    ++ codes ",\"network\":")
+
+abbrev pub address_members : LinkTally → List ℕ
+address_members t = codes ",\"sapi\":" ++ (decimal (sapi_value t.sapi) ++ (codes ",\"tei\":"
+    ++ (decimal t.tei ++ codes ",\"user\":")))
+
+abbrev pub object_front : LinkTally → List ℕ
+object_front t = object_head t ++ end_object t.network
+
+abbrev pub object_rest : LinkTally → List ℕ
+object_rest t = address_members t ++ (end_object t.user ++ codes "}\n")
+
+abbrev pub link_object : LinkTally → List ℕ
+link_object t = object_front t ++ object_rest t
+
+-- ---- Both.
+
+abbrev pub link_text : Style → LinkTally → List ℕ
+link_text Plain t = link_lines t
+link_text Named t = link_lines t
+link_text Json t = link_object t
+link_text NamedJson t = link_object t
+
+-- a link of which no frame was seen has no table
+abbrev pub place_text : Style → Option LinkTally → List ℕ
+place_text style None = []
+place_text style (Some t) = link_text style t
+
+-- the tables of all links, by SAPI and then by TEI
+abbrev pub tables_text : Style → List (Option LinkTally) → List ℕ
+tables_text style links = flat_map (place_text style) links
+
+-- how printing them ends
+abbrev pub TablesEnd : List ℕ → Result ⊤ ScriptFault → Option (List ℕ) → Option (List ℕ) → Type 0
+TablesEnd text (Ok done) old new = Appends old new text
+TablesEnd text (Err Memory) old new = Keeps old new
+TablesEnd text (Err Device) old new = ⊤
+TablesEnd text (Err (BadLine number)) old new = ⊥
+TablesEnd text (Err (Port fault)) old new = ⊥

@@ -1,0 +1,119 @@
+//! The line of a frame with the remarks of a listener.
+
+ghost use Rattle.std.specs.Prelude.{◌≡◌, ◌++◌, Some, IfOk, OnOk};
+ghost use Rattle.std.specs.Io.KnownBytes.{Appends, Keeps};
+ghost use Rattle.std.specs.String.{string_bytes};
+ghost use Rattle.lapd_cli_script.specs.Line.{text_line};
+ghost use Rattle.lapd_cli_decode.specs.Remarked.{front_of, listed, object_or_none, remark_objects, remarks_member, said_behind, with_remarks, RemarkedEnds};
+ghost use Rattle.lapd_follow.specs.Texts.{remarks_text};
+
+use crate::style::Style;
+use lapd_cli_script::{LineFault, put_line};
+use lapd_follow::{Remark, Remarks};
+use std::alloc::{AllocError, Global};
+use std::fmt;
+use std::io::Write;
+
+/// A remark as a JSON object, after a comma; nothing if there is none.
+#[derive(Clone, Copy)]
+struct RemarkObject {
+    remark: Option<Remark>,
+}
+
+impl fmt::Display for RemarkObject {
+    ghost output = { λ object. Some (object_or_none object.remark) };
+
+    fn fmt<W: fmt::Write>(&self, f: &mut fmt::Formatter<W>) -> fmt::Result {
+        match self.remark {
+            None => write!(f, ""),
+            Some(remark) => {
+                let class = remark.class().name();
+                let clause = remark.clause();
+                write!(
+                    f,
+                    ",{{\"class\":\"{class}\",\"clause\":\"{clause}\",\"text\":\"{remark}\"}}"
+                )
+            }
+        }
+    }
+}
+
+/// Prints the text of a frame with the remarks on it, as one line.
+///
+/// # Errors
+///
+/// `Memory` if an allocation fails, before anything is printed; `Device` if the writer fails.
+pub(crate) fn put_remarked<W: Write>(
+    alloc: Global,
+    style: Style,
+    text: &[u8],
+    said: &Remarks,
+    out: &mut W,
+) -> Result<(), LineFault>
+    ensures { RemarkedEnds (text_line (with_remarks style said.now text.now)) result
+        (W.contents out.old) (W.contents out.new) }
+{
+    let Ok(behind) = said_behind(alloc, style, said) else {
+        return Err(LineFault::Memory);
+    };
+    put_line(front_of(style, text), behind.as_bytes(), out)
+}
+
+/// The line of a frame up to the remarks: an object lacks its last brace.
+fn front_of(style: Style, text: &[u8]) -> &[u8]
+    ensures { result.now ≡ front_of style text.now }
+{
+    match style {
+        Style::Plain | Style::Named => text,
+        Style::Json | Style::NamedJson => &text[..text.len().saturating_sub(1)],
+    }
+}
+
+/// The rest of the line.
+fn said_behind(alloc: Global, style: Style, said: &Remarks) -> Result<String, AllocError>
+    ensures { IfOk result (λ text. string_bytes text ≡ said_behind style said.now) }
+{
+    match style {
+        Style::Plain | Style::Named => format!(in alloc; "{said}"),
+        Style::Json | Style::NamedJson => remarks_member(alloc, said),
+    }
+}
+
+/// The last member of an object, and its end.
+fn remarks_member(alloc: Global, said: &Remarks) -> Result<String, AllocError>
+    ensures { IfOk result (λ text. string_bytes text ≡ remarks_member said.now) }
+{
+    let objects = remark_objects(alloc, said)?;
+    let list = listed(objects.as_str());
+    format!(in alloc; ",\"remarks\":[{list}]}}")
+}
+
+/// The remarks as objects, each after a comma.
+fn remark_objects(alloc: Global, said: &Remarks) -> Result<String, AllocError>
+    ensures { IfOk result (λ text. string_bytes text ≡ remark_objects said.now) }
+{
+    let establishment = object_of(said.establishment);
+    let ns = object_of(said.ns);
+    let window = object_of(said.window);
+    let busy = object_of(said.busy);
+    let nr = object_of(said.nr);
+    let answer = object_of(said.answer);
+    format!(in alloc; "{establishment}{ns}{window}{busy}{nr}{answer}")
+}
+
+/// A remark as an object.
+fn object_of(remark: Option<Remark>) -> RemarkObject
+    ensures { result.remark ≡ remark }
+{
+    RemarkObject { remark }
+}
+
+/// The objects without the first comma.
+fn listed(objects: &str) -> &str
+    ensures { result.now ≡ listed objects.now }
+{
+    match objects.strip_prefix(",") {
+        Some(list) => list,
+        None => "",
+    }
+}

@@ -1,0 +1,340 @@
+//! The tables of the links, after the last frame.
+
+ghost use Rattle.std.specs.Prelude.{◌≡◌, ◌++◌, Some, IfOk, OnOk};
+ghost use Rattle.std.specs.Io.KnownBytes.{Appends, Keeps};
+ghost use Rattle.std.specs.String.{string_bytes};
+ghost use Rattle.lapd_cli_decode.specs.Tables.{TablesEnd, address_members, answers_member, counts_line, counts_text, end_lines, end_object, first_members, head_line, kinds_line, last_members, link_lines, link_object, link_text, mean_of, messages_of, object_front, object_head, object_rest, place_text, range_text, tables_text, thousandths, times_member, times_text};
+
+use crate::style::Style;
+use lapd_cli_script::ScriptFault;
+use lapd_follow::{Kinds, LinkTally, Tally, Times};
+use std::alloc::{AllocError, Global};
+use std::fmt;
+use std::io::Write;
+
+/// Prints the table of each link of which a frame was seen.
+///
+/// # Errors
+///
+/// `Memory` if an allocation fails, before anything is printed; `Device` if the writer fails.
+pub(crate) fn put_tables<W: Write>(
+    alloc: Global,
+    style: Style,
+    links: &[Option<LinkTally>],
+    out: &mut W,
+) -> Result<(), ScriptFault>
+    ensures { TablesEnd (tables_text style links.now) result (W.contents out.old)
+        (W.contents out.new) }
+{
+    let Ok(text) = tables_text(alloc, style, links) else {
+        return Err(ScriptFault::Memory);
+    };
+    let Ok(()) = out.write_all(text.as_bytes()) else {
+        return Err(ScriptFault::Device);
+    };
+    match out.flush() {
+        Ok(()) => Ok(()),
+        Err(_) => Err(ScriptFault::Device),
+    }
+}
+
+/// The tables of all links.
+fn tables_text(
+    alloc: Global,
+    style: Style,
+    links: &[Option<LinkTally>],
+) -> Result<String, AllocError>
+    ensures { IfOk result (λ text. string_bytes text ≡ tables_text style links.now) }
+{
+    let mut text = String::new(alloc);
+    for link in links {
+        push_place(&mut text, style, link)?;
+    }
+    Ok(text)
+}
+
+/// Appends the table of a link, if a frame of it was seen.
+fn push_place(text: &mut String, style: Style, link: &Option<LinkTally>) -> Result<(), AllocError>
+    ensures { OnOk result (string_bytes text.new
+        ≡ string_bytes text.old ++ place_text style link.now) }
+{
+    match link {
+        None => Ok(()),
+        Some(link) => push_link(text, style, link),
+    }
+}
+
+/// Appends the table of a link.
+fn push_link(text: &mut String, style: Style, link: &LinkTally) -> Result<(), AllocError>
+    ensures { OnOk result (string_bytes text.new
+        ≡ string_bytes text.old ++ link_text style link.now) }
+{
+    match style {
+        Style::Plain | Style::Named => push_link_lines(text, link),
+        Style::Json | Style::NamedJson => push_link_object(text, link),
+    }
+}
+
+/// Appends the lines of a link.
+fn push_link_lines(text: &mut String, link: &LinkTally) -> Result<(), AllocError>
+    ensures { OnOk result (string_bytes text.new ≡ string_bytes text.old ++ link_lines link.now) }
+{
+    push_head_line(text, link)?;
+    push_end_lines(text, "U>N", &link.user)?;
+    push_end_lines(text, "N>U", &link.network)
+}
+
+/// Appends the first line of a link.
+fn push_head_line(text: &mut String, link: &LinkTally) -> Result<(), AllocError>
+    ensures { OnOk result (string_bytes text.new ≡ string_bytes text.old ++ head_line link.now) }
+{
+    let sapi = link.sapi.value();
+    let tei = link.tei.value();
+    let establishments = link.establishments;
+    write!(
+        text,
+        "SAPI {sapi} TEI {tei}: establishments {establishments}\n"
+    )
+}
+
+/// Appends the lines of what an end sent.
+fn push_end_lines(text: &mut String, direction: &str, tally: &Tally) -> Result<(), AllocError>
+    ensures { OnOk result (string_bytes text.new
+        ≡ string_bytes text.old ++ end_lines direction.now tally.now) }
+{
+    push_kinds_line(text, direction, &tally.kinds)?;
+    push_counts_line(text, direction, tally)
+}
+
+/// Appends the frames that an end sent, by kind.
+fn push_kinds_line(text: &mut String, direction: &str, kinds: &Kinds) -> Result<(), AllocError>
+    ensures { OnOk result (string_bytes text.new
+        ≡ string_bytes text.old ++ kinds_line direction.now kinds.now) }
+{
+    let Kinds {
+        i,
+        rr,
+        rnr,
+        rej,
+        sabme,
+        dm,
+        ui,
+        disc,
+        ua,
+        frmr,
+        xid,
+    } = *kinds;
+    write!(
+        text,
+        "  {direction} I {i}, RR {rr}, RNR {rnr}, REJ {rej}, SABME {sabme}, DISC {disc}, UA {ua}, DM {dm}, UI {ui}, FRMR {frmr}, XID {xid}\n"
+    )
+}
+
+/// Appends the line with the counts of an end.
+fn push_counts_line(text: &mut String, direction: &str, tally: &Tally) -> Result<(), AllocError>
+    ensures { OnOk result (string_bytes text.new
+        ≡ string_bytes text.old ++ counts_line direction.now tally.now) }
+{
+    push_counts(text, direction, tally)?;
+    push_times(text, &tally.times)?;
+    text.push_str("\n")
+}
+
+/// Appends the counts of an end.
+fn push_counts(text: &mut String, direction: &str, tally: &Tally) -> Result<(), AllocError>
+    ensures { OnOk result (string_bytes text.new
+        ≡ string_bytes text.old ++ counts_text direction.now tally.now) }
+{
+    let messages = messages_of(tally);
+    let octets = tally.octets;
+    let repeated = tally.repeated;
+    let polls = tally.polls;
+    write!(
+        text,
+        "  {direction} messages {messages}, octets {octets}, repeated {repeated}, polls {polls}"
+    )
+}
+
+/// Appends the times of the answers, if there are any.
+fn push_times(text: &mut String, times: &Times) -> Result<(), AllocError>
+    ensures { OnOk result (string_bytes text.new ≡ string_bytes text.old ++ times_text times.now) }
+{
+    match (times.least, times.greatest) {
+        (Some(least), Some(greatest)) => push_range(text, times, least, greatest),
+        _ => Ok(()),
+    }
+}
+
+/// Appends the number of answers, the least time, the greatest and the mean.
+fn push_range(text: &mut String, times: &Times, least: u64, greatest: u64) -> Result<(), AllocError>
+    ensures { OnOk result (string_bytes text.new
+        ≡ string_bytes text.old ++ range_text times.now (Some least) (Some greatest)) }
+{
+    let count = times.count;
+    let first = Thousandths { time: least };
+    let last = Thousandths { time: greatest };
+    let mean = Thousandths {
+        time: mean_of(times),
+    };
+    write!(
+        text,
+        ", answers {count} after {first} to {last} s, mean {mean} s"
+    )
+}
+
+/// Appends the object of a link.
+fn push_link_object(text: &mut String, link: &LinkTally) -> Result<(), AllocError>
+    ensures { OnOk result (string_bytes text.new ≡ string_bytes text.old ++ link_object link.now) }
+{
+    push_object_front(text, link)?;
+    push_object_rest(text, link)
+}
+
+/// Appends the members up to `network`.
+fn push_object_front(text: &mut String, link: &LinkTally) -> Result<(), AllocError>
+    ensures { OnOk result (string_bytes text.new ≡ string_bytes text.old ++ object_front link.now) }
+{
+    push_object_head(text, link)?;
+    push_end_object(text, &link.network)
+}
+
+/// Appends the number of establishments, and the name of the member `network`.
+fn push_object_head(text: &mut String, link: &LinkTally) -> Result<(), AllocError>
+    ensures { OnOk result (string_bytes text.new ≡ string_bytes text.old ++ object_head link.now) }
+{
+    let establishments = link.establishments;
+    write!(text, "{{\"establishments\":{establishments},\"network\":")
+}
+
+/// Appends the members after `network`, and the end of the object.
+fn push_object_rest(text: &mut String, link: &LinkTally) -> Result<(), AllocError>
+    ensures { OnOk result (string_bytes text.new ≡ string_bytes text.old ++ object_rest link.now) }
+{
+    push_address_members(text, link)?;
+    push_end_object(text, &link.user)?;
+    text.push_str("}\n")
+}
+
+/// Appends the address, and the name of the member `user`.
+fn push_address_members(text: &mut String, link: &LinkTally) -> Result<(), AllocError>
+    ensures { OnOk result (string_bytes text.new
+        ≡ string_bytes text.old ++ address_members link.now) }
+{
+    let sapi = link.sapi.value();
+    let tei = link.tei.value();
+    write!(text, ",\"sapi\":{sapi},\"tei\":{tei},\"user\":")
+}
+
+/// Appends the object of what an end sent.
+fn push_end_object(text: &mut String, tally: &Tally) -> Result<(), AllocError>
+    ensures { OnOk result (string_bytes text.new ≡ string_bytes text.old ++ end_object tally.now) }
+{
+    text.push_str("{")?;
+    push_times_member(text, &tally.times)?;
+    push_first_members(text, tally)?;
+    push_last_members(text, tally)
+}
+
+/// Appends the member of the times of the answers, if there are any.
+fn push_times_member(text: &mut String, times: &Times) -> Result<(), AllocError>
+    ensures { OnOk result (string_bytes text.new
+        ≡ string_bytes text.old ++ times_member times.now) }
+{
+    match (times.least, times.greatest) {
+        (Some(least), Some(greatest)) => {
+            push_answers_member(text, times.count, greatest, least, mean_of(times))
+        }
+        _ => Ok(()),
+    }
+}
+
+fn push_answers_member(
+    text: &mut String,
+    count: u64,
+    greatest: u64,
+    least: u64,
+    mean: u64,
+) -> Result<(), AllocError>
+    ensures { OnOk result (string_bytes text.new
+        ≡ string_bytes text.old ++ answers_member count greatest least mean) }
+{
+    write!(
+        text,
+        "\"answers\":{{\"count\":{count},\"greatest\":{greatest},\"least\":{least},\"mean\":{mean}}},"
+    )
+}
+
+/// Appends the members from `disc` to `polls`.
+fn push_first_members(text: &mut String, tally: &Tally) -> Result<(), AllocError>
+    ensures { OnOk result (string_bytes text.new
+        ≡ string_bytes text.old ++ first_members tally.now) }
+{
+    let messages = messages_of(tally);
+    let octets = tally.octets;
+    let polls = tally.polls;
+    let Kinds {
+        i,
+        disc,
+        dm,
+        frmr,
+        ..
+    } = tally.kinds;
+    write!(
+        text,
+        "\"disc\":{disc},\"dm\":{dm},\"frmr\":{frmr},\"i\":{i},\"messages\":{messages},\"octets\":{octets},\"polls\":{polls}"
+    )
+}
+
+/// Appends the members from `rej` to `xid`, and the end of the object.
+fn push_last_members(text: &mut String, tally: &Tally) -> Result<(), AllocError>
+    ensures { OnOk result (string_bytes text.new
+        ≡ string_bytes text.old ++ last_members tally.now) }
+{
+    let repeated = tally.repeated;
+    let Kinds {
+        rr,
+        rnr,
+        rej,
+        sabme,
+        ui,
+        ua,
+        xid,
+        ..
+    } = tally.kinds;
+    write!(
+        text,
+        ",\"rej\":{rej},\"repeated\":{repeated},\"rnr\":{rnr},\"rr\":{rr},\"sabme\":{sabme},\"ua\":{ua},\"ui\":{ui},\"xid\":{xid}}}"
+    )
+}
+
+/// The I frames that were not repetitions.
+fn messages_of(tally: &Tally) -> u64
+    ensures { result ≡ messages_of tally.now }
+{
+    tally.kinds.i.saturating_sub(tally.repeated)
+}
+
+/// The mean of the times, rounded down.
+fn mean_of(times: &Times) -> u64
+    ensures { result ≡ mean_of times.now }
+{
+    times.total / times.count.max(1)
+}
+
+/// Microseconds, shown as seconds with three digits after the point.
+#[derive(Clone, Copy)]
+struct Thousandths {
+    time: u64,
+}
+
+impl fmt::Display for Thousandths {
+    ghost output = { λ shown. Some (thousandths shown.time) };
+
+    fn fmt<W: fmt::Write>(&self, f: &mut fmt::Formatter<W>) -> fmt::Result {
+        let seconds = self.time / 1_000_000;
+        let tenths = self.time / 100_000 % 10;
+        let hundredths = self.time / 10_000 % 10;
+        let thousandths = self.time / 1_000 % 10;
+        write!(f, "{seconds}.{tenths}{hundredths}{thousandths}")
+    }
+}

@@ -1,0 +1,132 @@
+//! Captures and lines whose links are followed.
+
+use crate::captures::read::{are_lines, parts_of};
+use crate::wants::{all_hold, wants};
+use lapd_cli_decode::{
+    CaptureReader, CaptureStop, CaptureStyle, Following, HeardCapture, LineForm, ReadFault, Side,
+    Style, follow_capture, follow_lines,
+};
+use lapd_cli_script::ScriptFault;
+use std::alloc::Global;
+use std::test::Fail;
+
+// A SABME and, 23 ms later, its UA.
+const CAPTURE: &str = "\
+d4c3b2a102000400000000000000000000000400b1000000\
+01000000d00700001300000013000000000420fd00010000000000000000003000817f\
+01000000a86100001300000013000000000020fd000100000000000000000030008173";
+
+const LINES: &str = "\
+U>N SAPI 0 TEI 64 C SABME P=1/N>U SAPI 0 TEI 64 R UA F=1; begins establishment 1; answers packet 1 after 0.023 s\
+/SAPI 0 TEI 64: establishments 1\
+/  U>N I 0, RR 0, RNR 0, REJ 0, SABME 1, DISC 0, UA 0, DM 0, UI 0, FRMR 0, XID 0\
+/  U>N messages 0, octets 0, repeated 0, polls 1\
+/  N>U I 0, RR 0, RNR 0, REJ 0, SABME 0, DISC 0, UA 1, DM 0, UI 0, FRMR 0, XID 0\
+/  N>U messages 0, octets 0, repeated 0, polls 0, answers 1 after 0.023 to 0.023 s, mean 0.023 s";
+
+const OBJECTS: &str =
+    r#"{"direction":"U>N","frame":"SABME","p":1,"packet":1,"role":"command","sapi":0,"tei":64,"time":"1.002000","remarks":[]}/{"direction":"N>U","f":1,"frame":"UA","packet":2,"role":"response","sapi":0,"tei":64,"time":"1.025000","remarks":[{"class":"normal","clause":"5.5.1.2","text":"begins establishment 1"},{"class":"normal","clause":"3.5.1","text":"answers packet 1 after 0.023 s"}]}/{"establishments":1,"network":{"answers":{"count":1,"greatest":23000,"least":23000,"mean":23000},"disc":0,"dm":0,"frmr":0,"i":0,"messages":0,"octets":0,"polls":0,"rej":0,"repeated":0,"rnr":0,"rr":0,"sabme":0,"ua":1,"ui":0,"xid":0},"sapi":0,"tei":64,"user":{"disc":0,"dm":0,"frmr":0,"i":0,"messages":0,"octets":0,"polls":1,"rej":0,"repeated":0,"rnr":0,"rr":0,"sabme":1,"ua":0,"ui":0,"xid":0}}"#;
+
+#[test]
+fn captures_are_followed(rt: HostRuntime) -> Result<(), Fail> {
+    wants(
+        prints(rt.alloc(), Style::Plain, LINES),
+        LINES,
+        "its end, or its lines",
+    )?;
+    wants(
+        prints(rt.alloc(), Style::Json, OBJECTS),
+        OBJECTS,
+        "its end, or its lines",
+    )
+}
+
+// Whether the capture is printed so in this style.
+fn prints(alloc: Global, style: Style, lines: &str) -> bool {
+    match hex::decode(alloc, CAPTURE.as_bytes()) {
+        Ok(octets) => {
+            let mut printed = Vec::new(alloc);
+            let ended = print_capture(alloc, octets.as_slice(), &mut printed, style);
+            is_heard(&ended) && are_lines(printed.as_slice(), lines)
+        }
+        Err(_) => false,
+    }
+}
+
+// Whether a capture ended, with frames and with no violation.
+fn is_heard(ended: &Result<HeardCapture, CaptureStop>) -> bool {
+    match ended {
+        Ok(heard) => heard.any && !heard.is_violated,
+        Err(_) => false,
+    }
+}
+
+fn print_capture(
+    alloc: Global,
+    octets: &[u8],
+    printed: &mut Vec<u8>,
+    style: Style,
+) -> Result<HeardCapture, CaptureStop> {
+    let how = CaptureStyle {
+        style,
+        sender: Side::User,
+        keeps_going: false,
+    };
+    let mut reported = Vec::new(alloc);
+    match CaptureReader::new(alloc, parts_of(octets, 7)) {
+        Ok(mut capture) => {
+            follow_capture(alloc, &mut capture, printed, &mut reported, how, Some(7))
+        }
+        Err(ReadFault::Capture(fault)) => Err(CaptureStop::Capture(fault, 0)),
+        Err(ReadFault::Device(kind)) => Err(CaptureStop::Input(kind)),
+        Err(ReadFault::Memory) => Err(CaptureStop::Memory),
+    }
+}
+
+// A UA for which there is no cause, and a bad line before it.
+const LOOSE: &str = "\
+> [ 00 81 7f ]
+< [ 00 81 73 ]
+hello
+< [ 00 81 73 ]
+";
+
+const FOLLOWED: &str = "\
+U>N SAPI 0 TEI 64 C SABME P=1/N>U SAPI 0 TEI 64 R UA F=1; begins establishment 1; answers packet 1\
+/N>U SAPI 0 TEI 64 R UA F=1; violation: UA without SABME or DISC\
+/SAPI 0 TEI 64: establishments 1\
+/  U>N I 0, RR 0, RNR 0, REJ 0, SABME 1, DISC 0, UA 0, DM 0, UI 0, FRMR 0, XID 0\
+/  U>N messages 0, octets 0, repeated 0, polls 1\
+/  N>U I 0, RR 0, RNR 0, REJ 0, SABME 0, DISC 0, UA 2, DM 0, UI 0, FRMR 0, XID 0\
+/  N>U messages 0, octets 0, repeated 0, polls 0";
+
+#[test]
+fn loose_lines_are_followed(rt: HostRuntime) -> Result<(), Fail> {
+    let mut printed = Vec::new(rt.alloc());
+    let mut reported = Vec::new(rt.alloc());
+    let ended = follow_loose(rt.alloc(), &mut printed, &mut reported);
+    all_hold(&[
+        (ended == Ok(true), LOOSE, "its end"),
+        (are_lines(printed.as_slice(), FOLLOWED), LOOSE, "its lines"),
+        (
+            reported.as_slice() == b"skipped: hello\n".as_slice(),
+            LOOSE,
+            "what is reported",
+        ),
+    ])
+}
+
+fn follow_loose(
+    alloc: Global,
+    printed: &mut Vec<u8>,
+    reported: &mut Vec<u8>,
+) -> Result<bool, ScriptFault> {
+    let how = Following {
+        form: LineForm::Loose(Side::User),
+        style: Style::Plain,
+        keeps_going: true,
+        k: None,
+    };
+    let mut script = LOOSE.as_bytes();
+    follow_lines(alloc, &mut script, printed, how, &mut *reported)
+}

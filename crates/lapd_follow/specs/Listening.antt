@@ -1,0 +1,112 @@
+-- A listener on the line: what it knows of both ends of each link, and how many frames they sent.
+use Rattle.std.specs.Prelude.{ℕ, ◌||◌, Bool, false, List, set, replicate, slice_get, Option, Some, None, Result, Ok, Err}
+use Rattle.lapd_frame.specs.declared.Side.{Side}
+use Rattle.lapd_frame.specs.declared.Side.TheVariants.{Network, User}
+use Rattle.lapd_frame.specs.declared.Address.{Address}
+use Rattle.lapd_frame.specs.declared.FrameFault.{FrameFault}
+use Rattle.lapd_frame.specs.Frame.{Fields}
+use Rattle.lapd_frame.specs.Reading.{frame_at}
+use Rattle.lapd_follow.specs.declared.packet.Packet.{Packet}
+use Rattle.lapd_follow.specs.declared.remark.Remark.{Remark}
+use Rattle.lapd_follow.specs.declared.remark.Remark.TheVariants.{Begins}
+use Rattle.lapd_follow.specs.declared.remarks.Remarks.{Remarks}
+use Rattle.lapd_follow.specs.declared.link_tally.LinkTally.{LinkTally}
+use Rattle.lapd_follow.specs.Follower.{LineKnown, line_after, new_line, place_of, said_on_line}
+use Rattle.lapd_follow.specs.Link.{Sighting}
+use Rattle.lapd_follow.specs.Remarks.{has_violation}
+use Rattle.lapd_follow.specs.Tallies.{no_tally, tallied}
+
+-- ---- The frames of one link.
+
+-- no frame was seen of the link with this address
+abbrev pub new_tally : Address → LinkTally
+new_tally a = record {
+  sapi = a.sapi;
+  tei = a.tei;
+  establishments = 0;
+  user = no_tally;
+  network = no_tally;
+}
+
+-- how many establishments began, after a frame with this remark on establishment
+abbrev pub establishments_after : Option Remark → ℕ → ℕ
+establishments_after (Some (Begins number)) before = number
+establishments_after remark before = before
+
+-- one more frame of this sender, with the remarks on it
+abbrev pub link_tallied : Side → Fields → Remarks → LinkTally → LinkTally
+link_tallied User f said t = record t {
+  establishments = establishments_after said.establishment t.establishments;
+  user = tallied f said t.user;
+}
+link_tallied Network f said t = record t {
+  establishments = establishments_after said.establishment t.establishments;
+  network = tallied f said t.network;
+}
+
+-- ---- All links, each at its place.
+
+-- a link of which no frame was seen is new
+abbrev pub tally_or_new : Address → Option (Option LinkTally) → LinkTally
+tally_or_new a (Some (Some t)) = t
+tally_or_new a (Some None) = new_tally a
+tally_or_new a None = new_tally a
+
+-- one more frame; no other link changes
+abbrev pub tallied_on_line : Side → Fields → Remarks → List (Option LinkTally)
+    → List (Option LinkTally)
+tallied_on_line sender f said all = set all (place_of f.address)
+    (Some (link_tallied sender f said
+    (tally_or_new f.address (slice_get all (place_of f.address)))))
+
+-- what is known of each link, its frames, and whether a remark was a violation
+pub record Listening : Type 0 where
+  pub line : LineKnown
+  pub tallies : List (Option LinkTally)
+  pub is_violated : Bool
+
+-- nothing was seen
+abbrev pub new_listening : Option ℕ → Listening
+new_listening k = record {
+  line = new_line k;
+  tallies = replicate 384 None;
+  is_violated = false;
+}
+
+-- one more frame
+abbrev pub with_frame : Sighting → Listening → Listening
+with_frame s l = record {
+  line = line_after s l.line;
+  tallies = tallied_on_line s.sender s.frame (said_on_line s l.line) l.tallies;
+  is_violated = l.is_violated || has_violation (said_on_line s l.line);
+}
+
+-- ---- Octets. If they do not form a valid frame, they are not followed.
+
+abbrev pub no_remarks : Remarks
+no_remarks = record {
+  establishment = None;
+  ns = None;
+  window = None;
+  busy = None;
+  nr = None;
+  answer = None;
+}
+
+abbrev pub said_of_reading : Packet → Side → Result Fields FrameFault → Listening → Remarks
+said_of_reading packet sender (Ok f) l =
+    said_on_line (record { packet = packet; sender = sender; frame = f }) l.line
+said_of_reading packet sender (Err fault) l = no_remarks
+
+abbrev pub after_reading : Packet → Side → Result Fields FrameFault → Listening → Listening
+after_reading packet sender (Ok f) l =
+    with_frame (record { packet = packet; sender = sender; frame = f }) l
+after_reading packet sender (Err fault) l = l
+
+-- what is said of the octets that a side sent next
+abbrev pub said_of_octets : Packet → Side → List ℕ → Listening → Remarks
+said_of_octets packet sender octets l = said_of_reading packet sender (frame_at sender octets) l
+
+-- what is known after them
+abbrev pub listening_after : Packet → Side → List ℕ → Listening → Listening
+listening_after packet sender octets l = after_reading packet sender (frame_at sender octets) l

@@ -1,0 +1,175 @@
+ghost use Rattle.std.specs.Prelude.{◌≡◌, replicate, None, IfOk, OnOk, OnErr};
+ghost use Rattle.lapd_follow.specs.Follower.{said_on_line};
+ghost use Rattle.lapd_follow.specs.Listening.{listening_after, new_listening, no_remarks, said_of_octets, tallied_on_line, with_frame};
+
+use crate::follower::{LINKS, place_of};
+use crate::{Follower, LinkTally, Packet, Remarks};
+use lapd_frame::{Frame, Side, read};
+use std::alloc::{AllocError, Global};
+use std::marker::Model;
+
+/// The frames that the ends of each link sent.
+#[derive(Drop)]
+struct Tallies {
+    links: Vec<Option<LinkTally>>,
+}
+
+impl Model for Tallies {
+    ghost use Rattle.std.specs.Prelude.{◌≡◌, List, Option, length};
+    ghost use Rattle.lapd_follow.specs.declared.link_tally.LinkTally.{LinkTally};
+
+    ghost Value = { List (Option LinkTally) };
+
+    ghost view = { λ t. t.links.items };
+
+    ghost invariant = { λ t. length t.links.items ≡ 384 };
+}
+
+impl Tallies {
+    /// No link, at each place.
+    fn new(alloc: Global) -> Result<Tallies, AllocError>
+        ensures { IfOk result (λ t. t ≡ replicate 384 None) }
+    {
+        Ok(Tallies {
+            links: no_tallies(alloc)?,
+        })
+    }
+
+    /// Counts a frame of its link.
+    fn add(&mut self, sender: Side, frame: &Frame<'_>, said: &Remarks)
+        ensures { self.new ≡ tallied_on_line sender frame.now said.now self.old }
+    {
+        let address = frame.address();
+        let Some(slot) = self.links.get_mut(place_of(&address)) else {
+            unreachable!()
+        };
+        match slot {
+            Some(link) => link.add(sender, frame, said),
+            None => {
+                let mut link = LinkTally::new(&address);
+                link.add(sender, frame, said);
+                *slot = Some(link);
+            }
+        }
+    }
+}
+
+/// Follows all data links of a line by its frames, and counts the frames of each.
+#[derive(Drop)]
+pub struct Listener {
+    follower: Follower,
+    tallies: Tallies,
+    is_violated: bool,
+}
+
+impl Model for Listener {
+    ghost use Rattle.lapd_follow.specs.Listening.{Listening};
+
+    ghost Value = { Listening };
+
+    ghost view = { λ l. record {
+      line = l.follower;
+      tallies = l.tallies;
+      is_violated = l.is_violated;
+    } };
+}
+
+impl Listener {
+    /// A line of which nothing was seen. `k` is the window of all links, 1 to 127, if it is known.
+    pub fn new(alloc: Global, k: Option<u8>) -> Result<Listener, AllocError>
+        ensures { IfOk result (λ l. l ≡ new_listening k) }
+    {
+        Ok(Listener {
+            follower: Follower::new(alloc, k)?,
+            tallies: Tallies::new(alloc)?,
+            is_violated: false,
+        })
+    }
+
+    /// Takes the octets that a side sent next, and returns the remarks on their frame. Octets that
+    /// do not form a valid frame change nothing, and there are no remarks on them.
+    ///
+    /// It fails if an allocation fails, and then nothing changes.
+    pub fn octets(
+        &mut self,
+        packet: Packet,
+        sender: Side,
+        octets: &[u8],
+    ) -> Result<Remarks, AllocError>
+        ensures remarks { IfOk result (λ said.
+            said ≡ said_of_octets packet sender octets.now self.old) }
+        ensures after { OnOk result
+            (self.new ≡ listening_after packet sender octets.now self.old) }
+        ensures unchanged { OnErr result (self.new ≡ self.old) }
+    {
+        match read(octets, sender) {
+            Ok(frame) => self.frame(packet, sender, &frame),
+            Err(_) => Ok(no_remarks()),
+        }
+    }
+
+    /// Takes the next frame.
+    fn frame(
+        &mut self,
+        packet: Packet,
+        sender: Side,
+        frame: &Frame<'_>,
+    ) -> Result<Remarks, AllocError>
+        ensures remarks { IfOk result (λ said. said ≡ said_on_line (record {
+          packet = packet;
+          sender = sender;
+          frame = frame.now;
+        }) self.old.line) }
+        ensures after { OnOk result (self.new ≡ with_frame (record {
+          packet = packet;
+          sender = sender;
+          frame = frame.now;
+        }) self.old) }
+        ensures unchanged { OnErr result (self.new ≡ self.old) }
+    {
+        let said = self.follower.frame(packet, sender, frame)?;
+        self.tallies.add(sender, frame, &said);
+        self.is_violated = self.is_violated || said.has_violation();
+        Ok(said)
+    }
+
+    /// Whether one of the remarks so far is a violation.
+    pub fn has_violation(&self) -> bool
+        ensures { result ≡ self.now.is_violated }
+    {
+        self.is_violated
+    }
+
+    /// The frames of each link, by SAPI and then by TEI; `None` of a link of which no frame was
+    /// seen.
+    pub fn links(&self) -> &[Option<LinkTally>]
+        ensures { result.now ≡ self.now.tallies }
+    {
+        self.tallies.links.as_slice()
+    }
+}
+
+/// No link, at each place.
+fn no_tallies(alloc: Global) -> Result<Vec<Option<LinkTally>>, AllocError>
+    ensures { IfOk result (λ links. links.items ≡ replicate 384 None) }
+{
+    let mut links = Vec::with_capacity(alloc, LINKS)?;
+    for _ in 0..LINKS {
+        links.push(None)?;
+    }
+    Ok(links)
+}
+
+/// The remarks on octets that do not form a valid frame: none.
+fn no_remarks() -> Remarks
+    ensures { result ≡ no_remarks }
+{
+    Remarks {
+        establishment: None,
+        ns: None,
+        window: None,
+        busy: None,
+        nr: None,
+        answer: None,
+    }
+}
