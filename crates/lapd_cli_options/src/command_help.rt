@@ -631,6 +631,10 @@ HEX. With --names a message of TEI management or of Q.931 follows, in words:
   identity request Ri=6199 Ai=127   its type, reference number and action indicator
   SETUP cr=1 from origin            its name and call reference, and whether it is from or to the
                                     side at which the call began; cr=dummy if it has no reference
+With --follow the remarks on a frame are last, each after `; `. A frame that is simply the next one
+of its link has none. `violation: ` marks what no two ends do that follow Q.921. At the end of the
+input a table of each link has its establishments and, of each direction, the frames by kind, the
+messages, their octets, the repeated I frames, the polls and the times of answers.
 
 With --json a line is an object with these members, in the order of their names:
   direction        \"U>N\" or \"N>U\"
@@ -644,6 +648,7 @@ With --json a line is an object with these members, in the order of their names:
   fault, octets    instead of all members but direction: \"F1 TooShort\" and \"HEX\"
   packet           with --pcap, the number of the packet, from 1
   time             with --pcap, if known: \"SECONDS\" since 1970, with six digits after a point
+  remarks          with --follow, the last one: a list of objects with class, clause and text
 For example: {\"direction\":\"U>N\",\"frame\":\"SABME\",\"p\":1,\"role\":\"command\",\"sapi\":0,\"tei\":64}
 
 Example. A line after < is a line of the script, and a line after > is printed.
