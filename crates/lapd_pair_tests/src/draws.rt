@@ -62,7 +62,7 @@ impl MoveDraws {
     }
 
     /// Draws a move of either side. `None` if its allocation fails.
-    fn draw(&mut self) -> Option<Move> {
+    pub(crate) fn draw(&mut self) -> Option<Move> {
         let side = if self.below(2) == 0 {
             Side::User
         } else {

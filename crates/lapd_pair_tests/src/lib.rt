@@ -1,6 +1,6 @@
 //! Tests of two ends on a lossy line: moves of a `Pair` with the octets that they put on the line,
 //! refused moves, failed allocations, 10,000 random moves for each recovery at each side, how a line
-//! settles, and how both ends agree again.
+//! settles, and how both ends agree again; and what a listener on the line says of the frames.
 //!
 //! A crate of their own keeps its check and that of the other tests short.
 #![tactic(auto)]
@@ -9,6 +9,8 @@
 mod drawn;
 #[cfg(test)]
 mod draws;
+#[cfg(test)]
+mod followed;
 #[cfg(test)]
 mod losses;
 #[cfg(test)]

@@ -1,0 +1,253 @@
+//! Drawn runs of two ends, followed by listeners on the line: one that sees each frame as it is
+//! sent, one as it is delivered, one at the user's end and one at the network's. Both ends follow
+//! Q.921, so no frame is a violation, whatever frames are lost. The runs must be varied: every
+//! remark that a lossy line can bring is made.
+
+use crate::draws::MoveDraws;
+use crate::made::new_pair;
+use lapd_follow::{LinkFollower, Packet, Remark, Remarks};
+use lapd_frame::{Side, read};
+use lapd_link::Recovery;
+use lapd_link::Recovery::{Enquiry, LastMessage};
+use lapd_pair::{FrameOctets, Move, Pair};
+use lapd_testing::Text;
+use std::alloc::Global;
+use std::test::Fail;
+
+/// The number of runs with a listener at each place, and of moves in each.
+const RUNS: u32 = 64;
+
+const MOVES: u32 = 500;
+
+/// How often each remark was made.
+#[derive(Clone, Copy, Debug, Default)]
+struct Counts {
+    begins: u32,
+    first: u32,
+    expected: u32,
+    repeated: u32,
+    busy: u32,
+    answers: u32,
+    unanswered: u32,
+}
+
+impl Counts {
+    fn count(&mut self, remark: &Option<Remark>) {
+        let counter = match remark {
+            Some(Remark::Begins(_)) => &mut self.begins,
+            Some(Remark::FirstNs(_)) => &mut self.first,
+            Some(Remark::NsExpected { .. }) => &mut self.expected,
+            Some(Remark::Repeated) => &mut self.repeated,
+            Some(Remark::SentToBusy) => &mut self.busy,
+            Some(Remark::Answers { .. }) => &mut self.answers,
+            Some(Remark::NotAnswered(_)) => &mut self.unanswered,
+            _ => return,
+        };
+        *counter = counter.wrapping_add(1);
+    }
+
+    fn are_varied(&self) -> bool {
+        self.begins > 50
+            && self.first > 5
+            && self.expected > 50
+            && self.repeated > 50
+            && self.busy > 20
+            && self.answers > 100
+            && self.unanswered > 20
+    }
+}
+
+/// A listener on the line.
+#[derive(Drop)]
+struct Listener {
+    link: LinkFollower,
+    /// Whether it sees frames to the user as they are sent, and those to the network; otherwise as
+    /// they are delivered.
+    sees_sent_to_user: bool,
+    sees_sent_to_network: bool,
+    packets: u64,
+    counts: Counts,
+    /// The first remarks with a violation, on the last packet.
+    wrong: Option<Remarks>,
+}
+
+impl Listener {
+    /// Takes a frame to this side if it sees it now.
+    fn take(&mut self, to: Side, is_sent: bool, octets: &[u8]) {
+        let sees_sent = match to {
+            Side::User => self.sees_sent_to_user,
+            Side::Network => self.sees_sent_to_network,
+        };
+        if sees_sent == is_sent && self.wrong.is_none() {
+            self.follow(to.other(), octets);
+        }
+    }
+
+    fn follow(&mut self, sender: Side, octets: &[u8]) {
+        let Ok(frame) = read(octets, sender) else {
+            return;
+        };
+        self.packets = self.packets.wrapping_add(1);
+        let packet = Packet {
+            number: self.packets,
+            moment: None,
+        };
+        if let Ok(said) = self.link.frame(packet, sender, &frame) {
+            self.note(&said);
+        }
+    }
+
+    fn note(&mut self, said: &Remarks) {
+        self.counts.count(&said.establishment);
+        self.counts.count(&said.ns);
+        self.counts.count(&said.busy);
+        self.counts.count(&said.answer);
+        if said.has_violation() {
+            self.wrong = Some(*said);
+        }
+    }
+}
+
+/// A listener that knows the window 7. `None` if an allocation fails.
+fn listener_at(alloc: Global, to_user: bool, to_network: bool) -> Option<Listener> {
+    match LinkFollower::new(alloc, Some(7)) {
+        Ok(link) => Some(Listener {
+            link,
+            sees_sent_to_user: to_user,
+            sees_sent_to_network: to_network,
+            packets: 0,
+            counts: Counts::default(),
+            wrong: None,
+        }),
+        Err(_) => None,
+    }
+}
+
+/// Makes one drawn move, and shows its frames to the listener. Returns whether its allocation
+/// succeeded.
+fn makes_one(draws: &mut MoveDraws, pair: &mut Pair, listener: &mut Listener) -> bool {
+    match draws.draw() {
+        Some(mv) => {
+            make(pair, &mv, listener);
+            true
+        }
+        None => false,
+    }
+}
+
+/// Makes a move. A frame is delivered before the frames that answer it are sent.
+fn make(pair: &mut Pair, mv: &Move, listener: &mut Listener) {
+    let to = mv.side().other();
+    if let Move::Deliver(side) = mv {
+        show(pair.line(*side).get(..1), *side, false, listener);
+    }
+    let before = pair.line(to).len();
+    if pair.apply(mv).is_ok() {
+        show(pair.line(to).get(before..), to, true, listener);
+    }
+}
+
+/// Shows frames to this side to the listener.
+fn show(frames: Option<&[FrameOctets]>, to: Side, is_sent: bool, listener: &mut Listener) {
+    for frame in frames.unwrap_or(&[]) {
+        listener.take(to, is_sent, frame.as_slice());
+    }
+}
+
+/// Makes a run with this pair.
+fn run(draws: &mut MoveDraws, pair: Option<Pair>, listener: &mut Listener) -> bool {
+    let Some(mut pair) = pair else {
+        return false;
+    };
+    let mut holds = true;
+    for _ in 0..MOVES {
+        holds = holds && makes_one(draws, &mut pair, listener);
+    }
+    holds
+}
+
+/// Makes runs with a listener at this place, and returns whether no frame is a violation.
+fn is_right(
+    alloc: Global,
+    recoveries: (Recovery, Recovery),
+    place: (bool, bool),
+    counts: &mut Counts,
+    text: &mut Text,
+) -> bool {
+    let mut draws = MoveDraws::new(alloc);
+    for number in 0..RUNS {
+        let pair = new_pair(alloc, (7, 64, recoveries.0, recoveries.1));
+        let listener = listener_at(alloc, place.0, place.1);
+        if !is_right_run(&mut draws, pair, listener, counts, text) {
+            text.shown(" in run ", &number);
+            return false;
+        }
+    }
+    true
+}
+
+/// Makes a run, and returns whether no frame is a violation.
+fn is_right_run(
+    draws: &mut MoveDraws,
+    pair: Option<Pair>,
+    listener: Option<Listener>,
+    counts: &mut Counts,
+    text: &mut Text,
+) -> bool {
+    let Some(mut listener) = listener else {
+        return false;
+    };
+    listener.counts = *counts;
+    let is_made = run(draws, pair, &mut listener);
+    *counts = listener.counts;
+    is_made && is_sound(&listener, text)
+}
+
+/// Whether no frame was a violation. The first one that was is written down.
+fn is_sound(listener: &Listener, text: &mut Text) -> bool {
+    match &listener.wrong {
+        Some(said) => {
+            text.shown("packet ", &listener.packets);
+            text.shown("", said);
+            false
+        }
+        None => true,
+    }
+}
+
+fn right_with(alloc: Global, user: Recovery, network: Recovery) -> Result<(), Fail> {
+    let mut text = Text::new();
+    let mut counts = Counts::default();
+    let both = (user, network);
+    let all_hold = is_right(alloc, both, (true, true), &mut counts, &mut text)
+        && is_right(alloc, both, (false, false), &mut counts, &mut text)
+        && is_right(alloc, both, (true, false), &mut counts, &mut text)
+        && is_right(alloc, both, (false, true), &mut counts, &mut text);
+    if all_hold && counts.are_varied() {
+        Ok(())
+    } else {
+        text.made(" with ", counts);
+        let printed = text.as_str();
+        Err(Fail::new(format_args!("{printed}")))
+    }
+}
+
+#[test]
+fn followed_runs_where_both_enquire(rt: HostRuntime) -> Result<(), Fail> {
+    right_with(rt.alloc(), Enquiry, Enquiry)
+}
+
+#[test]
+fn followed_runs_where_the_user_sends_its_last_message(rt: HostRuntime) -> Result<(), Fail> {
+    right_with(rt.alloc(), LastMessage, Enquiry)
+}
+
+#[test]
+fn followed_runs_where_the_network_sends_its_last_message(rt: HostRuntime) -> Result<(), Fail> {
+    right_with(rt.alloc(), Enquiry, LastMessage)
+}
+
+#[test]
+fn followed_runs_where_both_send_their_last_message(rt: HostRuntime) -> Result<(), Fail> {
+    right_with(rt.alloc(), LastMessage, LastMessage)
+}
