@@ -8,7 +8,7 @@ use Rattle.lapd_cli_render.specs.declared.channel.Channel.TheVariants.{NoChannel
 
 -- ---- The list of elements (4.5.1).
 
--- the length octet of an element, and the contents that it counts
+-- the length octet of an element, even if it is missing, and the contents that it counts
 abbrev pub counted : List ℕ → ℕ
 counted [] = 1
 counted (count ∷ contents) = 1 + count
@@ -46,7 +46,7 @@ capability_name coded = if coded == 0 then Some (codes "speech") else (
     if coded == 17 then Some (codes "tones") else (
     if coded == 24 then Some (codes "video") else None)))))
 
--- a name, or the number of what has none
+-- a name, or a number if there is none
 abbrev pub name_or_digits : ℕ → Option (List ℕ) → List ℕ
 name_or_digits number None = decimal number
 name_or_digits number (Some name) = name
@@ -134,7 +134,8 @@ channel_text (Some channel) = codes " channel=" ++ channel_name channel
 
 -- ---- The text.
 
--- by the identifier
+-- by the identifier: bearer capability, cause, channel identification, calling and called party
+-- number
 abbrev pub contents_text : ℕ → List ℕ → List ℕ
 contents_text identifier contents = if identifier == 0x04 then bearer_text contents else (
     if identifier == 0x08 then cause_text (behind_octet_3 contents) else (
