@@ -631,6 +631,8 @@ HEX. With --names a message of TEI management or of Q.931 follows, in words:
   identity request Ri=6199 Ai=127   its type, reference number and action indicator
   SETUP cr=1 from origin            its name and call reference, and whether it is from or to the
                                     side at which the call began; cr=dummy if it has no reference
+  bearer=speech channel=B2 cause=16 calling=5551234 called=200
+                                    then these information elements, in the order of the message
 With --follow the remarks on a frame are last, each after `; `. A frame that is simply the next one
 of its link has none. `violation: ` marks what no two ends do that follow Q.921. At the end of the
 input a table of each link has its establishments and, of each direction, the frames by kind, the

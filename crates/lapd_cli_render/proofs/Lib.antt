@@ -1,1 +1,2 @@
+pub mod ElementList
 pub mod NoFloats

@@ -1,8 +1,9 @@
--- The header of a Q.931 message: its call reference (4.3) and its message type (4.4).
-use Rattle.std.specs.Prelude.{ℕ, ◌+◌, ◌*◌, ◌/◌, ◌%◌, ◌==◌, if◌then◌else◌, Bool, List, [], ◌∷◌, ◌++◌, codes, Option, Some, None}
+-- A Q.931 message: its call reference (4.3), its message type (4.4) and what is printed of it.
+use Rattle.std.specs.Prelude.{ℕ, ◌+◌, ◌*◌, ◌/◌, ◌%◌, ◌==◌, if◌then◌else◌, Bool, List, [], ◌∷◌, ◌++◌, codes, drop, Option, Some, None}
 use Rattle.std.specs.Fmt.{decimal}
 use Rattle.lapd_cli_render.specs.declared.call_message.CallMessage.{CallMessage}
 use Rattle.lapd_cli_render.specs.declared.call_message.CallReference.{CallReference}
+use Rattle.lapd_cli_render.specs.Elements.{elements_text}
 
 -- a call reference; its flag, bit 8 of the first octet, is 1 in a message to the side that
 -- originated the call (4.3)
@@ -45,6 +46,16 @@ abbrev pub message_at : List ℕ → Option CallMessage
 message_at [] = None
 message_at (discriminator ∷ octets) = if discriminator == 0x08 then behind_discriminator octets
     else None
+
+-- the octets after the length of the call reference, the reference and the message type, which are
+-- the information elements (4.5)
+abbrev pub behind_length : List ℕ → List ℕ
+behind_length [] = []
+behind_length (count ∷ octets) = drop (count + 1) octets
+
+abbrev pub elements_of : List ℕ → List ℕ
+elements_of [] = []
+elements_of (discriminator ∷ octets) = behind_length octets
 
 -- the names of Table 4-2 of Q.931 (4.4): call establishment, call information, call clearing, and
 -- miscellaneous
@@ -102,7 +113,11 @@ reference_text None = codes " cr=dummy"
 reference_text (Some r) = codes " cr=" ++ (decimal r.value ++ way_text r.to_origin)
 
 -- a space, the name and the call reference
-abbrev pub call_text : Option CallMessage → List ℕ
-call_text None = []
-call_text (Some m) = codes " "
+abbrev pub header_text : CallMessage → List ℕ
+header_text m = codes " "
     ++ (name_or_number m.kind (kind_name m.kind) ++ reference_text m.reference)
+
+-- the message that these octets begin with, if any, and the printed elements among them
+abbrev pub call_text : Option CallMessage → List ℕ → List ℕ
+call_text None octets = []
+call_text (Some m) octets = header_text m ++ elements_text (elements_of octets)

@@ -40,12 +40,12 @@ tei_text (Ok m) = kind_text m.kind
 -- the information of an I or UI frame of this service access point: 0 carries Q.931, 63 in UI
 -- frames TEI management
 abbrev pub information_text : Sapi → List ℕ → List ℕ
-information_text Call info = call_text (message_at info)
+information_text Call info = call_text (message_at info) info
 information_text Packet info = []
 information_text Management info = []
 
 abbrev pub unit_data_text : Sapi → List ℕ → List ℕ
-unit_data_text Call info = call_text (message_at info)
+unit_data_text Call info = call_text (message_at info) info
 unit_data_text Packet info = []
 unit_data_text Management info = tei_text (tei_message_at info)
 

@@ -1,5 +1,5 @@
-ghost use Rattle.std.specs.Prelude.{◌≡◌, option_map};
-ghost use Rattle.lapd_cli_render.specs.CallMessage.{message_at, reference_of, kind_name, establishment_name, information_name, clearing_name, miscellaneous_name};
+ghost use Rattle.std.specs.Prelude.{◌≡◌, drop, option_map};
+ghost use Rattle.lapd_cli_render.specs.CallMessage.{elements_of, message_at, reference_of, kind_name, establishment_name, information_name, clearing_name, miscellaneous_name};
 
 /// The header of a call control message (ITU-T Q.931 4.1).
 #[derive(Clone, Copy, Debug, PartialEq, Eq)]
@@ -46,6 +46,17 @@ impl CallMessage {
         }
     }
 
+    /// The octets after the header that [`CallMessage::read`] reads: the information elements
+    /// (Q.931 4.5).
+    pub(crate) fn elements(octets: &[u8]) -> &[u8]
+        ensures { result.now ≡ elements_of octets.now }
+    {
+        match octets {
+            [_, count, rest @ ..] => after(usize::from(*count) + 1, rest),
+            _ => &[],
+        }
+    }
+
     /// The name of the message type in Table 4-2 of Q.931, if it has one.
     pub fn name(&self) -> Option<&'static str>
         ensures { option_map (λ name. name.now) result ≡ kind_name self.now.kind }
@@ -57,6 +68,17 @@ impl CallMessage {
             3 => miscellaneous_name(self.kind),
             _ => None,
         }
+    }
+}
+
+/// The octets after the first `count`; none if there are no more.
+fn after(count: usize, octets: &[u8]) -> &[u8]
+    ensures { result.now ≡ drop count octets.now }
+{
+    if count < octets.len() {
+        &octets[count..]
+    } else {
+        &[]
     }
 }
 

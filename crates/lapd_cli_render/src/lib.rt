@@ -6,11 +6,14 @@
 //! that were already read. [`named_line`] also says which message the frame carries. [`packet_line`] and [`named_packet_line`] do the same for octets in a [`Packet`] of a capture.
 //! [`primitive_line`] shows a primitive.
 //!
-//! **Words.** [`push_names`] names a message of TEI management (ITU-T Q.921 5.3.6) with its numbers, and a message of Q.931
-//! (ITU-T Q.931 4.4, Table 4-2) with its call reference (Q.931 4.3). [`CallMessage`] is the head of the latter.
+//! **Words.** [`push_names`] names a message of TEI management (ITU-T Q.921 5.3.6) with its numbers,
+//! and a message of Q.931 (ITU-T Q.931 4.4, Table 4-2) with its call reference (4.3) and some of its
+//! information elements (4.5). [`CallMessage`] is the head of the latter.
 #![tactic(auto)]
 
 mod call_message;
+mod channel;
+mod elements;
 mod lines;
 mod members;
 mod names;

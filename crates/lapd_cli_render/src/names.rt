@@ -1,20 +1,22 @@
 ghost use Rattle.std.specs.Prelude.{◌≡◌, ◌++◌, OnOk, option_map};
 ghost use Rattle.std.specs.String.{string_bytes};
-ghost use Rattle.lapd_cli_render.specs.CallMessage.{call_text, message_at, name_or_number, reference_text, way_text};
+ghost use Rattle.lapd_cli_render.specs.CallMessage.{call_text, header_text, message_at, name_or_number, reference_text, way_text};
 ghost use Rattle.lapd_cli_render.specs.Names.{names_text, information_text, unit_data_text, control_text, kind_text, reference_number_text, tei_text};
 ghost use Rattle.lapd_tei.specs.Message.{message_at as tei_message_at};
 
 use crate::call_message::{CallMessage, CallReference};
+use crate::elements::push_elements;
 use lapd_frame::{Control, Frame, Sapi, Side};
 use lapd_tei::{TeiKind, TeiMessage};
 use std::alloc::AllocError;
 
-/// Appends a space and the name of the message in these octets, which `from` sent. Appends nothing
-/// if they are not a frame with a message of TEI management or of Q.931.
+/// Appends a space and the name of the message in these octets, which `from` sent, with its numbers
+/// or its information elements. Appends nothing if they are not a frame with a message of TEI
+/// management or of Q.931.
 ///
 /// ```text
 ///  identity request Ri=6199 Ai=127
-///  SETUP cr=1 from origin
+///  SETUP cr=1 from origin bearer=speech channel=B2 called=200
 /// ```
 ///
 /// # Errors
@@ -110,14 +112,23 @@ fn kind_name(kind: TeiKind) -> &'static str
     }
 }
 
-/// Appends the name and call reference of a Q.931 message, if the octets form one.
+/// Appends a Q.931 message, if the octets form one.
 fn push_call(text: &mut String, info: &[u8]) -> Result<(), AllocError>
     ensures { OnOk result (string_bytes text.new
-        ≡ string_bytes text.old ++ call_text (message_at info.now)) }
+        ≡ string_bytes text.old ++ call_text (message_at info.now) info.now) }
 {
     let Some(message) = CallMessage::read(info) else {
         return Ok(());
     };
+    push_header(text, &message)?;
+    push_elements(text, CallMessage::elements(info))
+}
+
+/// Appends the name and the call reference of a Q.931 message.
+fn push_header(text: &mut String, message: &CallMessage) -> Result<(), AllocError>
+    ensures { OnOk result (string_bytes text.new ≡ string_bytes text.old
+        ++ header_text message.now) }
+{
     text.push_str(" ")?;
     push_name(text, message.kind, message.name())?;
     push_reference(text, message.reference)

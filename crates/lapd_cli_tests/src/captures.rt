@@ -3,6 +3,7 @@
 
 mod followed;
 mod lines;
+mod names;
 mod objects;
 mod read;
 mod written;

@@ -26,6 +26,7 @@ const NAMED: &str =
 user fcff030f619901ff|{"direction":"U>N","frame":"UI","info":"0f619901ff","message":"identity request Ri=6199 Ai=127","p":0,"role":"command","sapi":63,"tei":127}
 net fefb030f00070281|{"direction":"N>U","frame":"UI","info":"0f00070281","message":"identity assigned Ri=0007 Ai=64","p":0,"role":"command","sapi":63,"tei":125}
 net 02810000080101050403|{"direction":"N>U","frame":"I","info":"080101050403","message":"SETUP cr=1 from origin","nr":0,"ns":0,"p":0,"role":"command","sapi":0,"tei":64}
+user 008100000801010504038090a3700581315c2232|{"direction":"U>N","frame":"I","info":"0801010504038090a3700581315c2232","message":"SETUP cr=1 from origin bearer=speech called=1??2","nr":0,"ns":0,"p":0,"role":"command","sapi":0,"tei":64}
 net 04817f|{"direction":"N>U","fault":"F3 SapiNotServed","octets":"04817f"}"#;
 
 #[test]
