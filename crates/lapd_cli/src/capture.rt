@@ -4,7 +4,7 @@ use crate::ending::{print_memory, print_violation};
 use crate::job::style_of;
 use lapd_cli_console::Watched;
 use lapd_cli_decode::{
-    CaptureReader, CaptureStop, CaptureStyle, HeardCapture, ReadFault, Seen, decode_capture,
+    CaptureReader, CaptureStop, CaptureStyle, Follow, ReadFault, Seen, decode_capture,
     follow_capture,
 };
 use lapd_cli_io::{KindReason, Reason};
@@ -71,9 +71,9 @@ fn print_capture<R: Read>(
     // Text that a failed writer did not accept is dropped.
     let (watched, _left) = out.into_parts();
     match ended {
-        Ok(heard) if is_written => {
-            print_none(rt, heard, capture.packets());
-            if strict && heard.is_violated {
+        Ok(seen) if is_written => {
+            print_none(rt, seen, capture.packets());
+            if strict && seen.is_violated {
                 print_violation(rt)
             } else {
                 ExitCode::SUCCESS
@@ -91,20 +91,19 @@ fn print_frames<R: Read, W: Write>(
     out: &mut W,
     how: CaptureStyle,
     follow: Option<FollowOptions>,
-) -> Result<HeardCapture, CaptureStop> {
-    if let Some(options) = follow {
-        return follow_capture(rt.alloc(), capture, out, &mut rt.stderr(), how, options.k);
+) -> Result<Seen, CaptureStop> {
+    match follow {
+        None => decode_capture(rt.alloc(), capture, out, &mut rt.stderr(), how),
+        Some(FollowOptions { k }) => {
+            let follow = Follow { k };
+            follow_capture(rt.alloc(), capture, out, &mut rt.stderr(), how, follow)
+        }
     }
-    let Seen { any } = decode_capture(rt.alloc(), capture, out, &mut rt.stderr(), how)?;
-    Ok(HeardCapture {
-        any,
-        is_violated: false,
-    })
 }
 
 // Reports that a capture had no frame.
-fn print_none(rt: &HostRuntime, heard: HeardCapture, packets: u64) {
-    if !heard.any {
+fn print_none(rt: &HostRuntime, seen: Seen, packets: u64) {
+    if !seen.any {
         let _ = eprintln!(rt; "0 of {packets} packets are LAPD");
     }
 }

@@ -3,7 +3,7 @@
 use crate::ending::Stop;
 use crate::live::do_live;
 use lapd_cli_console::Script;
-use lapd_cli_decode::{Following, LineForm, Style, decode_good_lines, decode_lines, follow_lines};
+use lapd_cli_decode::{Follow, Following, LineForm, Style, decode_good_lines, decode_lines, follow_lines};
 use lapd_cli_io::{Notes, connection};
 use lapd_cli_link_commands::{answer, bus, loop_over, pair};
 use lapd_cli_options::{Clock, DecodeOptions, Interface, Invocation, Job, LinkEnd, Params, Side};
@@ -129,7 +129,7 @@ fn do_decode<R: Read, W: Write>(
             form,
             style,
             keeps_going: options.keep_going,
-            k: follow.k,
+            follow: Follow { k: follow.k },
         };
         return do_follow(rt, script, out, how, strict);
     }

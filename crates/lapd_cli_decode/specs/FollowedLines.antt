@@ -4,9 +4,7 @@ use Rattle.lapd_cli_decode.specs.Followed.{Followed}
 
 abbrev pub followed_of : {E : Type 0} → FollowedLines E → Followed
 followed_of lines = record {
-  form = lines.how.form;
-  style = lines.how.style;
-  keeps_going = lines.how.keeps_going;
-  printed = lines.printed;
-  listening = lines.listener;
+  form = lines.form;
+  keeps_going = lines.keeps_going;
+  printing = lines.printer;
 }

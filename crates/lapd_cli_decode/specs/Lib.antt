@@ -1,8 +1,8 @@
 pub mod Captured
 pub mod Decoder
 pub mod Followed
-pub mod FollowedCapture
 pub mod FollowedLines
+pub mod Frames
 pub mod Lines
 pub mod Remarked
 pub mod Style

@@ -8,17 +8,17 @@
 #![tactic(auto)]
 
 mod capture_lines;
-mod followed_capture;
 mod followed_lines;
+mod frame_printer;
 mod line_decoder;
 mod line_form;
 mod remarked;
 mod style;
 mod tables;
 
-pub use capture_lines::{CaptureStop, CaptureStyle, Seen, decode_capture};
-pub use followed_capture::{HeardCapture, follow_capture};
+pub use capture_lines::{CaptureStop, CaptureStyle, Seen, decode_capture, follow_capture};
 pub use followed_lines::{Following, follow_lines};
+pub use frame_printer::Follow;
 pub use lapd_capture::{CaptureFault, CaptureReader, PacketFault, ReadFault};
 pub use lapd_frame::Side;
 pub use line_decoder::{decode_good_lines, decode_lines};

@@ -1,6 +1,6 @@
 //! Running a command over any reader, writer and port.
 
-use lapd_cli_decode::{Following, LineForm, Style, decode_lines, follow_lines};
+use lapd_cli_decode::{Follow, Following, LineForm, Style, decode_lines, follow_lines};
 use lapd_cli_link_commands::{answer, bus, loop_over, pair};
 use lapd_cli_options::{DecodeOptions, Interface, Invocation, Job, LinkEnd};
 use lapd_cli_script::ScriptFault;
@@ -70,7 +70,7 @@ fn do_decode<R: Read, W: Write>(
         form,
         style,
         keeps_going: false,
-        k: follow.k,
+        follow: Follow { k: follow.k },
     };
     let _is_violated = follow_lines(alloc, script, out, how, io::sink())?;
     Ok(())

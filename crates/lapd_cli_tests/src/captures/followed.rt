@@ -3,7 +3,7 @@
 use crate::captures::read::{are_lines, parts_of};
 use crate::wants::{all_hold, wants};
 use lapd_cli_decode::{
-    CaptureReader, CaptureStop, CaptureStyle, Following, HeardCapture, LineForm, ReadFault, Side,
+    CaptureReader, CaptureStop, CaptureStyle, Follow, Following, LineForm, ReadFault, Seen, Side,
     Style, follow_capture, follow_lines,
 };
 use lapd_cli_script::ScriptFault;
@@ -54,9 +54,9 @@ fn prints(alloc: Global, style: Style, lines: &str) -> bool {
 }
 
 // Whether a capture ended, with frames and with no violation.
-fn is_heard(ended: &Result<HeardCapture, CaptureStop>) -> bool {
+fn is_heard(ended: &Result<Seen, CaptureStop>) -> bool {
     match ended {
-        Ok(heard) => heard.any && !heard.is_violated,
+        Ok(seen) => seen.any && !seen.is_violated,
         Err(_) => false,
     }
 }
@@ -66,7 +66,7 @@ fn print_capture(
     octets: &[u8],
     printed: &mut Vec<u8>,
     style: Style,
-) -> Result<HeardCapture, CaptureStop> {
+) -> Result<Seen, CaptureStop> {
     let how = CaptureStyle {
         style,
         sender: Side::User,
@@ -75,7 +75,8 @@ fn print_capture(
     let mut reported = Vec::new(alloc);
     match CaptureReader::new(alloc, parts_of(octets, 7)) {
         Ok(mut capture) => {
-            follow_capture(alloc, &mut capture, printed, &mut reported, how, Some(7))
+            let follow = Follow { k: Some(7) };
+            follow_capture(alloc, &mut capture, printed, &mut reported, how, follow)
         }
         Err(ReadFault::Capture(fault)) => Err(CaptureStop::Capture(fault, 0)),
         Err(ReadFault::Device(kind)) => Err(CaptureStop::Input(kind)),
@@ -125,7 +126,7 @@ fn follow_loose(
         form: LineForm::Loose(Side::User),
         style: Style::Plain,
         keeps_going: true,
-        k: None,
+        follow: Follow { k: None },
     };
     let mut script = LOOSE.as_bytes();
     follow_lines(alloc, &mut script, printed, how, &mut *reported)

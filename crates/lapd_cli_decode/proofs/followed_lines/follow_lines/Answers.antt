@@ -1,12 +1,12 @@
 use Rattle.std.proofs.Common.{IfSome, subst}
-use Rattle.lapd_follow.specs.Listening.{Listening}
 use Rattle.lapd_cli_script.specs.Script.{lines_of}
 use Rattle.lapd_cli_decode.specs.Followed.{FollowEnds, Followed}
+use Rattle.lapd_cli_decode.specs.Frames.{Printing}
 use Rattle.lapd_cli_decode.proofs.followed_lines.follow_lines.Goals as goal
 
 pub returns-in-Ok : goal.returns-in-Ok
 returns-in-Ok g c =
-    let begun : Listening → Followed = λ l. record { form = c.args.how.form; style = c.args.how.style; keeps_going = c.args.how.keeps_going; printed = 0; listening = l } in
-    subst (λ (l : Listening). IfSome (g.R.Read.remaining c.args.script.now) (λ octets. FollowEnds (begun l) c.follow_to_end.result (lines_of octets) (g.W.Write.contents c.args.out.now) (g.W.Write.contents c.follow_to_end.new.out)))
+    let begun : Printing → Followed = λ p. record { form = c.args.how.form; keeps_going = c.args.how.keeps_going; printing = p } in
+    subst (λ (p : Printing). IfSome (g.R.Read.remaining c.args.script.now) (λ octets. FollowEnds (begun p) c.follow_to_end.result (lines_of octets) (g.W.Write.contents c.args.out.now) (g.W.Write.contents c.follow_to_end.new.out)))
     c.in-Ok.ensures
     c.follow_to_end.ensures
