@@ -1,5 +1,5 @@
 -- The text printed up to a place, followed by the text of the next step.
-use Rattle.std.proofs.Common.{◌≡◌, ℕ, Bool, Result, List, [], ◌++◌, suc, Option, None, Some, Ok, Err, true, false, IsErrAnd, refl, sym, ap, ◌∙◌, subst, append-nil}
+use Rattle.std.proofs.Common.{◌≡◌, inl, inr, ℕ, Bool, Result, List, [], ◌++◌, suc, Option, None, Some, Ok, Err, true, false, IsErrAnd, refl, sym, ap, ◌∙◌, subst, append-nil}
 use Rattle.std.specs.Prelude.{⊤}
 use Rattle.std.proofs.KnownBytes.{Appends-trans, Appends-nil}
 use Rattle.std.specs.Io.KnownBytes.{Appends, Keeps}
@@ -16,7 +16,7 @@ use Rattle.lapd_cli_decode.specs.declared.capture_lines.CaptureStyle.{CaptureSty
 use Rattle.lapd_cli_decode.specs.declared.capture_lines.CaptureStop.{CaptureStop}
 use Rattle.lapd_cli_decode.specs.declared.capture_lines.CaptureStop.TheVariants.{Capture, Packet, Input, Device, Memory}
 use Rattle.lapd_cli_decode.specs.Captured.{ItemsEnd, Place, PrintsTo, StepsFrom, TakesStep, after_item, item_text, packet_fault, place_of}
-use Rattle.lapd_cli_decode.specs.Frames.{Printing}
+use Rattle.lapd_cli_decode.specs.Frames.{Printing, is_complete}
 
 -- bytes that are kept and then grow
 pub Appends-after : (a b c : Option (List ℕ)) (bs : List ℕ) → Keeps a b → Appends b c bs → Appends a c bs
@@ -39,12 +39,12 @@ StepsFrom-flushed remaining how (Err Memory) old reader printing a b c k s = tt
 
 pub PrintsTo-more : (how : CaptureStyle) (start mid new : Place) (item : CaptureItem) (a b d : Option (List ℕ))
     → PrintsTo how start a b mid → next_step mid.reading ≡ Ok (record { item = item; reading = new.reading })
-    → packet_fault how.keeps_going item ≡ None → new.printing ≡ after_item how new.reading item mid.printing
+    → is_complete mid.printing ≡ false → packet_fault how.keeps_going item ≡ None → new.printing ≡ after_item how new.reading item mid.printing
     → Appends b d (item_text how new.reading item mid.printing) → PrintsTo how start a d new
-PrintsTo-more how start mid new item a b d p step preserved printing grew = (
+PrintsTo-more how start mid new item a b d p step goes_on preserved printing grew = (
   suc p.0,
   p.1 ++ item_text how new.reading item mid.printing,
-  (mid, item, p.1, p.2, step, preserved, printing, refl),
+  (mid, item, p.1, p.2, goes_on, step, preserved, printing, refl),
   Appends-trans a b d p.1 (item_text how new.reading item mid.printing) p.3 grew,
 )
 
@@ -60,34 +60,39 @@ PrintsTo-preserved how start mid a b d p grew =
 
 -- one more step, after the text printed so far
 pub PrintsTo-step : (how : CaptureStyle) (start mid new : Place) (a b d : Option (List ℕ))
-    → PrintsTo how start a b mid → TakesStep how (Ok false) mid new b d → PrintsTo how start a d new
-PrintsTo-step how start mid new a b d p s =
-    PrintsTo-more how start mid new s.0 a b d p s.1 s.2 s.3 s.4
+    → PrintsTo how start a b mid → is_complete mid.printing ≡ false → TakesStep how (Ok false) mid new b d → PrintsTo how start a d new
+PrintsTo-step how start mid new a b d p goes_on s =
+    PrintsTo-more how start mid new s.0 a b d p s.1 goes_on s.2 s.3 s.4
 
 -- the end of the capture, after the text printed so far
 pub ItemsEnd-done : (how : CaptureStyle) (start mid new : Place) (a b d : Option (List ℕ))
     → PrintsTo how start a b mid → TakesStep how (Ok true) mid new b d → ItemsEnd how start (Ok tt) new.printing a d
 ItemsEnd-done how start mid new a b d p s =
-    (mid, new.reading, PrintsTo-preserved how start mid a b d p s.2, s.1, s.0)
+    (mid, PrintsTo-preserved how start mid a b d p s.2, s.1, inr (new.reading, s.0))
+
+-- all requested frames are printed
+pub ItemsEnd-complete : (how : CaptureStyle) (start mid : Place) (a b : Option (List ℕ))
+    → PrintsTo how start a b mid → is_complete mid.printing ≡ true → ItemsEnd how start (Ok tt) mid.printing a b
+ItemsEnd-complete how start mid a b p complete = (mid, p, refl, inl complete)
 
 -- a stop, after the text printed so far
 pub ItemsEnd-stop : (how : CaptureStyle) (start mid new : Place) (printing : Printing) (a b d : Option (List ℕ)) (stop : CaptureStop)
-    → PrintsTo how start a b mid → TakesStep how (Err stop) mid new b d → ItemsEnd how start (Err stop) printing a d
-ItemsEnd-stop how start mid new printing a b d (Capture fault at) p s =
-    (mid, PrintsTo-preserved how start mid a b d p s.2, s.0, s.1)
-ItemsEnd-stop how start mid new printing a b d (Packet fault at) p s =
-    (mid, new.reading, PrintsTo-preserved how start mid a b d p s.2, s.0, s.1)
-ItemsEnd-stop how start mid new printing a b d (Input kind) p s = tt
-ItemsEnd-stop how start mid new printing a b d Device p s = tt
-ItemsEnd-stop how start mid new printing a b d Memory p s = tt
+    → PrintsTo how start a b mid → is_complete mid.printing ≡ false → TakesStep how (Err stop) mid new b d → ItemsEnd how start (Err stop) printing a d
+ItemsEnd-stop how start mid new printing a b d (Capture fault at) p goes_on s =
+    (mid, PrintsTo-preserved how start mid a b d p s.2, goes_on, s.0, s.1)
+ItemsEnd-stop how start mid new printing a b d (Packet fault at) p goes_on s =
+    (mid, new.reading, PrintsTo-preserved how start mid a b d p s.2, goes_on, s.0, s.1)
+ItemsEnd-stop how start mid new printing a b d (Input kind) p goes_on s = tt
+ItemsEnd-stop how start mid new printing a b d Device p goes_on s = tt
+ItemsEnd-stop how start mid new printing a b d Memory p goes_on s = tt
 
 pub ItemsEnd-from : {R : Type 0} (remaining : R → Option (List ℕ)) (how : CaptureStyle) (start mid : Place) (reader : CaptureReader R) (printing : Printing) (a b d : Option (List ℕ)) (stop : CaptureStop)
-    → PrintsTo how start a b mid → StepsFrom remaining how (Err stop) mid reader printing b d → ItemsEnd how start (Err stop) printing a d
-ItemsEnd-from remaining how start mid reader printing a b d (Capture fault at) p s = ItemsEnd-stop how start mid s.0 printing a b d (Capture fault at) p s.1
-ItemsEnd-from remaining how start mid reader printing a b d (Packet fault at) p s = ItemsEnd-stop how start mid s.0 printing a b d (Packet fault at) p s.1
-ItemsEnd-from remaining how start mid reader printing a b d (Input kind) p s = tt
-ItemsEnd-from remaining how start mid reader printing a b d Device p s = tt
-ItemsEnd-from remaining how start mid reader printing a b d Memory p s = tt
+    → PrintsTo how start a b mid → is_complete mid.printing ≡ false → StepsFrom remaining how (Err stop) mid reader printing b d → ItemsEnd how start (Err stop) printing a d
+ItemsEnd-from remaining how start mid reader printing a b d (Capture fault at) p goes_on s = ItemsEnd-stop how start mid s.0 printing a b d (Capture fault at) p goes_on s.1
+ItemsEnd-from remaining how start mid reader printing a b d (Packet fault at) p goes_on s = ItemsEnd-stop how start mid s.0 printing a b d (Packet fault at) p goes_on s.1
+ItemsEnd-from remaining how start mid reader printing a b d (Input kind) p goes_on s = tt
+ItemsEnd-from remaining how start mid reader printing a b d Device p goes_on s = tt
+ItemsEnd-from remaining how start mid reader printing a b d Memory p goes_on s = tt
 
 -- a stop is passed on
 pub ItemsEnd-passed : (how : CaptureStyle) (start : Place) (result : Result ⊤ CaptureStop) (stop : CaptureStop) (printing : Printing) (a d : Option (List ℕ))

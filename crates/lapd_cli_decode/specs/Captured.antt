@@ -1,5 +1,5 @@
 -- The output of `decode` for a capture.
-use Rattle.std.specs.Prelude.{◌≡◌, ℕ, ◌-◌, nat_lt, zero, suc, List, [], ◌++◌, take, drop, Option, Some, None, unwrap_or, Bool, true, false, Result, Ok, Err, ⊤}
+use Rattle.std.specs.Prelude.{◌≡◌, ◌⊎◌, ℕ, ◌-◌, nat_lt, zero, suc, List, [], ◌++◌, take, drop, Option, Some, None, unwrap_or, Bool, true, false, Result, Ok, Err, ⊤}
 use Rattle.std.specs.Io.KnownBytes.{Appends}
 use Rattle.lapd_frame.specs.declared.Side.{Side}
 use Rattle.lapd_capture.specs.declared.CaptureItem.{CaptureItem}
@@ -16,7 +16,7 @@ use Rattle.lapd_cli_decode.specs.declared.capture_lines.Seen.{Seen}
 use Rattle.lapd_cli_decode.specs.declared.frame_printer.Follow.{Follow}
 use Rattle.lapd_cli_decode.specs.declared.frame_printer.Origin.TheVariants.{Capture as FromCapture}
 use Rattle.lapd_cli_render.specs.declared.Packet.{Packet as JsonPacket}
-use Rattle.lapd_cli_decode.specs.Frames.{Printing, after_frame, closing_text, frame_text, is_violated_by, new_printing}
+use Rattle.lapd_cli_decode.specs.Frames.{Printing, after_frame, closing_text, frame_text, is_complete, is_violated_by, new_printing}
 
 -- ---- A frame that was found; `behind` is the capture after it.
 
@@ -68,7 +68,7 @@ pub record Place : Type 0 where
 abbrev pub begins_at : CaptureStyle → Option Follow → Reading → Place
 begins_at how follow reading = record {
   reading = reading;
-  printing = new_printing FromCapture how.style follow;
+  printing = new_printing FromCapture how.frames follow;
 }
 
 -- this many steps lead from one place to another, and this text is printed for them
@@ -76,6 +76,7 @@ abbrev pub Prints : CaptureStyle → ℕ → Place → List ℕ → Place → Ty
 Prints how zero old text new = (text ≡ []) × (new ≡ old)
 Prints how (suc n) old text new = (mid : Place) × (item : CaptureItem)
     × (before : List ℕ) × Prints how n old before mid
+    × (is_complete mid.printing ≡ false)
     × (next_step mid.reading ≡ Ok (record { item = item; reading = new.reading }))
     × (packet_fault how.keeps_going item ≡ None)
     × (new.printing ≡ after_item how new.reading item mid.printing)
@@ -86,17 +87,22 @@ abbrev pub PrintsTo : CaptureStyle → Place → Option (List ℕ) → Option (L
 PrintsTo how start old new place = (n : ℕ) × (text : List ℕ)
     × Prints how n start text place × Appends old new text
 
+-- all requested frames are printed, or the capture is at its end
+abbrev pub IsFinished : Place → Type 0
+IsFinished place = (is_complete place.printing ≡ true) ⊎ ((behind : Reading)
+    × (next_step place.reading ≡ Ok (record { item = End; reading = behind })))
+
 -- how reading a capture from a place ends, up to the tables
 abbrev pub ItemsEnd : CaptureStyle → Place → Result ⊤ CaptureStop → Printing
     → Option (List ℕ) → Option (List ℕ) → Type 0
-ItemsEnd how start (Ok done) s old new = (place : Place) × (behind : Reading)
-    × PrintsTo how start old new place × (s ≡ place.printing)
-    × (next_step place.reading ≡ Ok (record { item = End; reading = behind }))
+ItemsEnd how start (Ok done) s old new = (place : Place)
+    × PrintsTo how start old new place × (s ≡ place.printing) × IsFinished place
 ItemsEnd how start (Err (Capture fault at)) s old new = (place : Place)
-    × PrintsTo how start old new place
+    × PrintsTo how start old new place × (is_complete place.printing ≡ false)
     × (next_step place.reading ≡ Err fault) × (at ≡ place.reading.place)
 ItemsEnd how start (Err (Packet fault at)) s old new = (place : Place)
     × (behind : Reading) × PrintsTo how start old new place
+    × (is_complete place.printing ≡ false)
     × (next_step place.reading ≡ Ok (record { item = Unreadable fault; reading = behind }))
     × (at ≡ place.reading.place)
 ItemsEnd how start (Err (Input kind)) s old new = ⊤
@@ -114,21 +120,21 @@ CaptureCloses s (Err (Input kind)) old new = ⊤
 CaptureCloses s (Err Device) old new = ⊤
 CaptureCloses s (Err Memory) old new = ⊤
 
--- how reading a capture from a place ends, and the writer's contents then: all frames are printed,
--- and the tables of the links if these are followed; or all frames before the fault
+-- how reading a capture from a place ends, and the writer's contents then: all requested frames are
+-- printed, and the tables of the links if these are followed; or those before the fault
 abbrev pub CaptureEnds : CaptureStyle → Place → Result Seen CaptureStop → Option (List ℕ)
     → Option (List ℕ) → Type 0
-CaptureEnds how start (Ok seen) old new = (place : Place) × (behind : Reading) × (n : ℕ)
-    × (text : List ℕ) × Prints how n start text place
+CaptureEnds how start (Ok seen) old new = (place : Place) × (n : ℕ) × (text : List ℕ)
+    × Prints how n start text place
     × Appends old new (text ++ closing_text place.printing)
     × (seen.any ≡ nat_lt 0 place.printing.frames)
-    × (seen.is_violated ≡ is_violated_by place.printing.listening)
-    × (next_step place.reading ≡ Ok (record { item = End; reading = behind }))
+    × (seen.is_violated ≡ is_violated_by place.printing.listening) × IsFinished place
 CaptureEnds how start (Err (Capture fault at)) old new = (place : Place)
-    × PrintsTo how start old new place
+    × PrintsTo how start old new place × (is_complete place.printing ≡ false)
     × (next_step place.reading ≡ Err fault) × (at ≡ place.reading.place)
 CaptureEnds how start (Err (Packet fault at)) old new = (place : Place)
     × (behind : Reading) × PrintsTo how start old new place
+    × (is_complete place.printing ≡ false)
     × (next_step place.reading ≡ Ok (record { item = Unreadable fault; reading = behind }))
     × (at ≡ place.reading.place)
 CaptureEnds how start (Err (Input kind)) old new = ⊤

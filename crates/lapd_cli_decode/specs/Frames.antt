@@ -1,5 +1,5 @@
 -- What is printed of frames, and what is known after them.
-use Rattle.std.specs.Prelude.{◌≡◌, ℕ, Bool, false, List, [], Option, Some, None, Result, Ok, Err, ⊤}
+use Rattle.std.specs.Prelude.{◌≡◌, ℕ, Bool, false, if◌then◌else◌, List, [], ◌++◌, Option, Some, None, Result, Ok, Err, ⊤}
 use Rattle.std.specs.Io.KnownBytes.{Appends, Keeps}
 use Rattle.lapd_frame.specs.declared.Side.{Side}
 use Rattle.lapd_cli_render.specs.declared.Packet.{Packet}
@@ -15,17 +15,24 @@ use Rattle.lapd_cli_script.specs.declared.script.ScriptFault.TheVariants.{BadLin
 use Rattle.lapd_cli_decode.specs.declared.frame_printer.Follow.{Follow}
 use Rattle.lapd_cli_decode.specs.declared.frame_printer.Origin.{Origin}
 use Rattle.lapd_cli_decode.specs.declared.frame_printer.Origin.TheVariants.{Script, Capture}
+use Rattle.lapd_cli_decode.specs.declared.frame_style.FrameStyle.{FrameStyle}
 use Rattle.lapd_cli_decode.specs.declared.style.Style.{Style}
+use Rattle.lapd_cli_decode.specs.Filter.{reaches, takes_by}
 use Rattle.lapd_cli_decode.specs.Remarked.{remarked}
 use Rattle.lapd_cli_decode.specs.Style.{styled_packet, styled_text}
 use Rattle.lapd_cli_decode.specs.Tables.{tables_text}
+use Rattle.lapd_cli_decode.specs.Time.{either, front_text, time_of}
 
--- how frames are printed, how many there were, and what a listener knows of their links, if these
+-- how frames are printed, how many there were, how many of them were printed, when the first and
+-- the last of these were captured, as far as known, and what a listener knows of the links, if they
 -- are followed
 pub record Printing : Type 0 where
   pub origin : Origin
-  pub style : Style
+  pub how : FrameStyle
   pub frames : ℕ
+  pub printed : ℕ
+  pub first : Option ℕ
+  pub last : Option ℕ
   pub listening : Option Listening
 
 -- before the first frame
@@ -33,13 +40,20 @@ abbrev pub listening_by : Option Follow → Option Listening
 listening_by None = None
 listening_by (Some follow) = Some (new_listening follow.k)
 
-abbrev pub new_printing : Origin → Style → Option Follow → Printing
-new_printing origin style follow = record {
+abbrev pub new_printing : Origin → FrameStyle → Option Follow → Printing
+new_printing origin how follow = record {
   origin = origin;
-  style = style;
+  how = how;
   frames = 0;
+  printed = 0;
+  first = None;
+  last = None;
   listening = listening_by follow;
 }
+
+-- all requested frames are printed
+abbrev pub is_complete : Printing → Bool
+is_complete s = reaches s.how.count s.printed
 
 -- ---- One frame: its packet, the side that sent it, and its octets.
 
@@ -66,18 +80,38 @@ abbrev pub bare_text : Origin → Style → Packet → Side → List ℕ → Lis
 bare_text Script style packet from octets = styled_text style from octets
 bare_text Capture style packet from octets = styled_packet style packet from octets
 
--- the line of a frame
-abbrev pub frame_text : Packet → Side → List ℕ → Printing → List ℕ
-frame_text packet from octets s = text_line (remarked s.style
-    (said_by (followed_packet packet) from octets s.listening)
-    (bare_text s.origin s.style packet from octets))
+-- the line of a frame that is printed, with these remarks
+abbrev pub line_with : Option Remarks → Packet → Side → List ℕ → Printing → List ℕ
+line_with said packet from octets s = text_line (remarked s.how.style said
+    (front_text s.how.style s.how.time (time_of s.how.time s.first s.last packet.moment)
+    ++ bare_text s.origin s.how.style packet from octets))
 
--- what is known after it
-abbrev pub after_frame : Packet → Side → List ℕ → Printing → Printing
-after_frame packet from octets s = record s {
+-- what is known after a frame that is printed and was captured at this moment
+abbrev pub after_shown : Option ℕ → Printing → Printing
+after_shown moment s = record s {
+  printed = one_more s.printed;
+  first = either s.first moment;
+  last = either moment s.last;
+}
+
+-- what is known after a frame that is not printed
+abbrev pub after_heard : Packet → Side → List ℕ → Printing → Printing
+after_heard packet from octets s = record s {
   frames = one_more s.frames;
   listening = heard_by (followed_packet packet) from octets s.listening;
 }
+
+-- the text of a frame: nothing if it is filtered out
+abbrev pub frame_text : Packet → Side → List ℕ → Printing → List ℕ
+frame_text packet from octets s = if takes_by s.how.filter octets
+    then line_with (said_by (followed_packet packet) from octets s.listening) packet from octets s
+    else []
+
+-- what is known after it: each frame is followed
+abbrev pub after_frame : Packet → Side → List ℕ → Printing → Printing
+after_frame packet from octets s = if takes_by s.how.filter octets
+    then after_shown packet.moment (after_heard packet from octets s)
+    else after_heard packet from octets s
 
 -- how printing a line ends, and what is known then
 abbrev pub PrintEnds : List ℕ → Printing → Result ⊤ LineFault → Printing → Option (List ℕ)
@@ -95,7 +129,7 @@ tables_of style None = []
 tables_of style (Some l) = tables_text style l.tallies
 
 abbrev pub closing_text : Printing → List ℕ
-closing_text s = tables_of s.style s.listening
+closing_text s = tables_of s.how.style s.listening
 
 -- whether a remark was a violation
 abbrev pub is_violated_by : Option Listening → Bool

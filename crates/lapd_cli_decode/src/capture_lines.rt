@@ -7,7 +7,7 @@ ghost use Rattle.lapd_capture.specs.Reader.{reading_of, unread};
 ghost use Rattle.lapd_cli_decode.specs.Captured.{CaptureCloses, CaptureEnds, IsOtherStop, ItemsEnd, StepsFrom, after_item, begins_at, item_text, place_of};
 
 use crate::frame_printer::{Follow, FramePrinter, Origin};
-use crate::style::Style;
+use crate::frame_style::FrameStyle;
 use lapd_capture::{CaptureFault, CaptureItem, CaptureReader, PacketFault, ReadFault, Span};
 use lapd_cli_render::Packet;
 use lapd_cli_script::{LineFault, ScriptFault};
@@ -40,31 +40,32 @@ pub enum CaptureStop {
 /// How to print the frames of a capture.
 #[derive(Clone, Copy)]
 pub struct CaptureStyle {
-    /// The style of each line.
-    pub style: Style,
+    /// How frames are printed, and which.
+    pub frames: FrameStyle,
     /// The assumed sender of frames whose capture does not name it.
     pub sender: Side,
     /// Whether unreadable packets are skipped.
     pub keeps_going: bool,
 }
 
-/// What is known of the frames of a capture that was read to its end.
+/// What is known of the frames that were read of a capture.
 #[derive(Clone, Copy, Debug, PartialEq, Eq)]
 pub struct Seen {
-    /// Whether the capture has a frame.
+    /// Whether there was a frame, printed or not.
     pub any: bool,
     /// Whether a remark is a violation; `false` if links are not followed.
     pub is_violated: bool,
 }
 
-/// Prints the frames of a capture from its current place to its end. The writer is flushed before
-/// each read that may wait. If `keeps_going` is set, an unreadable packet is reported on the error
+/// Prints the requested frames of a capture from its current place. Reading stops at the end of the
+/// capture, or after as many printed frames as were requested. The writer is flushed before each
+/// read that may wait. If `keeps_going` is set, an unreadable packet is reported on the error
 /// writer and skipped; failures of the error writer are ignored.
 ///
 /// # Errors
 ///
-/// `Capture` and `Packet` at a fault, with all frames before it printed; `Input` if a read fails;
-/// `Device` if a write fails; `Memory` if an allocation fails.
+/// `Capture` and `Packet` at a fault, with the requested frames before it printed; `Input` if a read
+/// fails; `Device` if a write fails; `Memory` if an allocation fails.
 pub fn decode_capture<R: Read, W: Write, E: Write>(
     alloc: Global,
     capture: &mut CaptureReader<R>,
@@ -79,13 +80,13 @@ pub fn decode_capture<R: Read, W: Write, E: Write>(
     print_capture(alloc, capture, out, errors, how, None)
 }
 
-/// Like [`decode_capture`], but follows the link of each frame: the remarks on a frame are printed
-/// behind it, and after the last frame a table of each link.
+/// Like [`decode_capture`], but follows the link of each frame, printed or not: the remarks on a
+/// frame are printed behind it, and after the last frame a table of each link.
 ///
 /// # Errors
 ///
-/// `Capture` and `Packet` at a fault, with all frames before it printed; `Input` if a read fails;
-/// `Device` if a write fails; `Memory` if an allocation fails.
+/// `Capture` and `Packet` at a fault, with the requested frames before it printed; `Input` if a read
+/// fails; `Device` if a write fails; `Memory` if an allocation fails.
 pub fn follow_capture<R: Read, W: Write, E: Write>(
     alloc: Global,
     capture: &mut CaptureReader<R>,
@@ -101,7 +102,7 @@ pub fn follow_capture<R: Read, W: Write, E: Write>(
     print_capture(alloc, capture, out, errors, how, Some(follow))
 }
 
-/// Prints the frames of a capture from its current place to its end, and then the tables.
+/// Prints the requested frames of a capture from its current place, and then the tables.
 fn print_capture<R: Read, W: Write, E: Write>(
     alloc: Global,
     capture: &mut CaptureReader<R>,
@@ -114,13 +115,13 @@ fn print_capture<R: Read, W: Write, E: Write>(
         → CaptureEnds how (begins_at how follow (reading_of capture.old left)) result
         (W.contents out.old) (W.contents out.new) }
 {
-    match FramePrinter::new(alloc, Origin::Capture, how.style, follow) {
+    match FramePrinter::new(alloc, Origin::Capture, how.frames, follow) {
         Ok(mut printer) => print_to_end(capture, &mut printer, out, errors, how),
         Err(_) => Err(CaptureStop::Memory),
     }
 }
 
-/// Prints the frames of a capture from its current place to its end, and then the tables.
+/// Prints the requested frames of a capture from its current place, and then the tables.
 fn print_to_end<R: Read, W: Write, E: Write>(
     capture: &mut CaptureReader<R>,
     printer: &mut FramePrinter,
@@ -152,7 +153,7 @@ fn close<W: Write>(printer: &FramePrinter, out: &mut W) -> Result<Seen, CaptureS
     }
 }
 
-/// Prints the frames of a capture from its current place to its end.
+/// Prints the requested frames of a capture from its current place.
 fn print_items<R: Read, W: Write, E: Write>(
     capture: &mut CaptureReader<R>,
     printer: &mut FramePrinter,
@@ -165,6 +166,9 @@ fn print_items<R: Read, W: Write, E: Write>(
         (W.contents out.old) (W.contents out.new) }
 {
     for _step in 0..u64::MAX {
+        if printer.is_complete() {
+            return Ok(());
+        }
         if print_next(capture, printer, out, errors, how)? {
             return Ok(());
         }

@@ -2,8 +2,10 @@
 
 ghost use Rattle.std.specs.Prelude.{◌≡◌, nat_lt, IfOk, OnOk};
 ghost use Rattle.std.specs.String.{string_bytes};
-ghost use Rattle.lapd_cli_decode.specs.Frames.{ClosingEnds, PrintEnds, after_frame, bare_text, followed_packet, frame_text, heard_by, line_packet, listening_by, new_printing, said_by};
+ghost use Rattle.lapd_cli_decode.specs.Frames.{ClosingEnds, PrintEnds, after_frame, after_shown, bare_text, followed_packet, frame_text, heard_by, is_complete, line_packet, line_with, listening_by, new_printing, said_by};
 
+use crate::frame_style::FrameStyle;
+use crate::frame_time::either;
 use crate::remarked::put_frame;
 use crate::style::Style;
 use crate::tables::put_tables;
@@ -31,13 +33,17 @@ pub struct Follow {
     pub k: Option<u8>,
 }
 
-/// Prints frames, and follows their links if that is requested. It reuses its text for all frames.
+/// Prints the requested frames, and follows the links of all if that is requested. It reuses its
+/// text for all frames.
 #[derive(Drop)]
 pub(crate) struct FramePrinter {
     alloc: Global,
     origin: Origin,
-    style: Style,
+    how: FrameStyle,
     frames: u64,
+    printed: u64,
+    first: Option<u64>,
+    last: Option<u64>,
     listener: Option<Listener>,
     text: String,
 }
@@ -49,8 +55,11 @@ impl Model for FramePrinter {
 
     ghost view = { λ p. record {
       origin = p.origin;
-      style = p.style;
+      how = p.how;
       frames = p.frames;
+      printed = p.printed;
+      first = p.first;
+      last = p.last;
       listening = p.listener;
     } };
 }
@@ -64,17 +73,20 @@ impl FramePrinter {
     pub(crate) fn new(
         alloc: Global,
         origin: Origin,
-        style: Style,
+        how: FrameStyle,
         follow: Option<Follow>,
     ) -> Result<FramePrinter, AllocError>
-        ensures { IfOk result (λ printer. printer ≡ new_printing origin style follow) }
+        ensures { IfOk result (λ printer. printer ≡ new_printing origin how follow) }
     {
         let listener = listener_by(alloc, follow)?;
         Ok(FramePrinter {
             alloc,
             origin,
-            style,
+            how,
             frames: 0,
+            printed: 0,
+            first: None,
+            last: None,
             listener,
             text: String::new(alloc),
         })
@@ -87,6 +99,13 @@ impl FramePrinter {
         0 < self.frames
     }
 
+    /// Whether all requested frames are printed.
+    pub(crate) fn is_complete(&self) -> bool
+        ensures { result ≡ is_complete self.now }
+    {
+        self.how.ends_after(self.printed)
+    }
+
     /// The packet of the next line of a script.
     pub(crate) fn line_packet(&self) -> Packet
         ensures { result ≡ line_packet self.now }
@@ -97,7 +116,8 @@ impl FramePrinter {
         }
     }
 
-    /// Prints the octets that `from` sent next, and the remarks on them.
+    /// Follows the octets that `from` sent next, if links are followed, and prints them with the
+    /// remarks on them, unless they are filtered out.
     ///
     /// # Errors
     ///
@@ -117,8 +137,28 @@ impl FramePrinter {
             return Err(LineFault::Memory);
         };
         self.frames = self.frames.saturating_add(1);
-        let style = self.style;
-        match write_text(
+        if self.how.takes(octets) {
+            self.show(&said, packet, from, octets, out)
+        } else {
+            Ok(())
+        }
+    }
+
+    /// Prints octets with these remarks.
+    fn show<W: Write>(
+        &mut self,
+        said: &Option<Remarks>,
+        packet: Packet,
+        from: Side,
+        octets: &[u8],
+        out: &mut W,
+    ) -> Result<(), LineFault>
+        ensures { PrintEnds (line_with said.now packet from octets.now self.old)
+            (after_shown packet.moment self.old) result self.new (W.contents out.old)
+            (W.contents out.new) }
+    {
+        let style = self.how.style;
+        let Ok(()) = write_text(
             self.alloc,
             self.origin,
             style,
@@ -126,10 +166,21 @@ impl FramePrinter {
             from,
             octets,
             &mut self.text,
-        ) {
-            Ok(()) => put_frame(self.alloc, style, self.text.as_bytes(), &said, out),
-            Err(_) => Err(LineFault::Memory),
-        }
+        ) else {
+            return Err(LineFault::Memory);
+        };
+        let time = self.how.time.of(self.first, self.last, packet.moment);
+        let Ok(()) = self
+            .how
+            .time
+            .put_before(self.alloc, style, time, &mut self.text)
+        else {
+            return Err(LineFault::Memory);
+        };
+        self.printed = self.printed.saturating_add(1);
+        self.first = either(self.first, packet.moment);
+        self.last = either(packet.moment, self.last);
+        put_frame(self.alloc, style, self.text.as_bytes(), said, out)
     }
 
     /// Prints the tables of the links, if these are followed. Returns whether a remark was a
@@ -139,10 +190,10 @@ impl FramePrinter {
     ///
     /// `Memory` if an allocation fails, before anything is printed; `Device` if the writer fails.
     pub(crate) fn close<W: Write>(&self, out: &mut W) -> Result<bool, ScriptFault>
-        ensures { ClosingEnds self.now.style self.now.listening result (W.contents out.old)
+        ensures { ClosingEnds self.now.how.style self.now.listening result (W.contents out.old)
             (W.contents out.new) }
     {
-        close_links(self.alloc, self.style, &self.listener, out)
+        close_links(self.alloc, self.how.style, &self.listener, out)
     }
 }
 

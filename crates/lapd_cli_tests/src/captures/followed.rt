@@ -3,8 +3,8 @@
 use crate::captures::read::{are_lines, parts_of};
 use crate::wants::{all_hold, wants};
 use lapd_cli_decode::{
-    CaptureReader, CaptureStop, CaptureStyle, Follow, Following, LineForm, ReadFault, Seen, Side,
-    Style, follow_capture, follow_lines,
+    CaptureReader, CaptureStop, CaptureStyle, Follow, FrameStyle, LineForm, LinesStyle, ReadFault,
+    Seen, Side, Style, follow_capture, print_lines,
 };
 use lapd_cli_script::ScriptFault;
 use std::alloc::Global;
@@ -68,7 +68,10 @@ fn print_capture(
     style: Style,
 ) -> Result<Seen, CaptureStop> {
     let how = CaptureStyle {
-        style,
+        frames: FrameStyle {
+            style,
+            ..FrameStyle::PLAIN
+        },
         sender: Side::User,
         keeps_going: false,
     };
@@ -122,12 +125,12 @@ fn follow_loose(
     printed: &mut Vec<u8>,
     reported: &mut Vec<u8>,
 ) -> Result<bool, ScriptFault> {
-    let how = Following {
+    let how = LinesStyle {
         form: LineForm::Loose(Side::User),
-        style: Style::Plain,
+        frames: FrameStyle::PLAIN,
         keeps_going: true,
-        follow: Follow { k: None },
+        follow: Some(Follow { k: None }),
     };
     let mut script = LOOSE.as_bytes();
-    follow_lines(alloc, &mut script, printed, how, &mut *reported)
+    print_lines(alloc, &mut script, printed, how, &mut *reported)
 }
