@@ -8,11 +8,13 @@ _lapd() {
     [[ $before == "=" ]] && before=${COMP_WORDS[COMP_CWORD - 2]}
     case $before in
         --side | --sender) offered="net user" ;;
-        --sapi) offered="0 16" ;;
+        --sapi) [[ ${COMP_WORDS[1]} == decode ]] && return; offered="0 16" ;;
         --recovery | --recovery-user | --recovery-net) offered="enquiry last" ;;
         --clock) offered="script real" ;;
+        --kinds) offered="i,s,u i,s i,u s,u i s u" ;;
+        --time) [[ ${COMP_WORDS[1]} == decode ]] && offered="none absolute relative delta" ;;
         --pcap) mapfile -t COMPREPLY < <(compgen -f -- "$word"); return ;;
-        --tei | --k | --n200 | --room | --terminals | --idle-limit | --t20? | --seed) return ;;
+        --tei | --k | --n200 | --room | --terminals | --idle-limit | --t20? | --seed | --count) return ;;
         --listen | --connect | --gsmtap) return ;;
     esac
     if [[ -z $offered ]]; then
@@ -30,7 +32,10 @@ _lapd() {
                     offered+=" --pri --tei --sapi16 --k --n200 --room --recovery --t200 --t201 --t202 --t203 --seed"
                     offered+=" --json --clock --time --quiet --serve --keep --pcap --gsmtap"
                     ;;
-                decode) offered+=" --loose --sender --names --json --keep-going --pcap --follow --k" ;;
+                decode)
+                    offered+=" --loose --sender --names --json --keep-going --pcap --follow --k"
+                    offered+=" --time --count --sapi --tei --kinds --no-polls"
+                    ;;
                 help) offered=$commands ;;
                 *) return ;;
             esac

@@ -1,14 +1,14 @@
 //! The command `decode` for a capture.
 
 use crate::ending::{print_memory, print_violation};
-use crate::job::style_of;
+use crate::job::{follow_of, frames_of};
 use lapd_cli_console::Watched;
 use lapd_cli_decode::{
-    CaptureReader, CaptureStop, CaptureStyle, HeardCapture, ReadFault, Seen, decode_capture,
+    CaptureReader, CaptureStop, CaptureStyle, Follow, ReadFault, Seen, decode_capture,
     follow_capture,
 };
 use lapd_cli_io::{KindReason, Reason};
-use lapd_cli_options::{DecodeOptions, FollowOptions};
+use lapd_cli_options::DecodeOptions;
 use lapd_cli_script::ScriptFault;
 use std::fmt::Display;
 use std::fs::File;
@@ -59,21 +59,21 @@ fn print_capture<R: Read>(
     strict: bool,
 ) -> ExitCode {
     let how = CaptureStyle {
-        style: style_of(options),
+        frames: frames_of(options),
         sender: options.sender,
         keeps_going: options.keep_going,
     };
     let Ok(mut out) = BufWriter::new(rt.alloc(), Watched::new(rt.stdout())) else {
         return print_memory(rt);
     };
-    let ended = print_frames(rt, capture, &mut out, how, options.follow);
+    let ended = print_frames(rt, capture, &mut out, how, follow_of(options));
     let is_written = out.flush().is_ok();
     // Text that a failed writer did not accept is dropped.
     let (watched, _left) = out.into_parts();
     match ended {
-        Ok(heard) if is_written => {
-            print_none(rt, heard, capture.packets());
-            if strict && heard.is_violated {
+        Ok(seen) if is_written => {
+            print_none(rt, seen, capture.packets());
+            if strict && seen.is_violated {
                 print_violation(rt)
             } else {
                 ExitCode::SUCCESS
@@ -90,21 +90,17 @@ fn print_frames<R: Read, W: Write>(
     capture: &mut CaptureReader<R>,
     out: &mut W,
     how: CaptureStyle,
-    follow: Option<FollowOptions>,
-) -> Result<HeardCapture, CaptureStop> {
-    if let Some(options) = follow {
-        return follow_capture(rt.alloc(), capture, out, &mut rt.stderr(), how, options.k);
+    follow: Option<Follow>,
+) -> Result<Seen, CaptureStop> {
+    match follow {
+        None => decode_capture(rt.alloc(), capture, out, &mut rt.stderr(), how),
+        Some(follow) => { follow_capture(rt.alloc(), capture, out, &mut rt.stderr(), how, follow) }
     }
-    let Seen { any } = decode_capture(rt.alloc(), capture, out, &mut rt.stderr(), how)?;
-    Ok(HeardCapture {
-        any,
-        is_violated: false,
-    })
 }
 
 // Reports that a capture had no frame.
-fn print_none(rt: &HostRuntime, heard: HeardCapture, packets: u64) {
-    if !heard.any {
+fn print_none(rt: &HostRuntime, seen: Seen, packets: u64) {
+    if !seen.any {
         let _ = eprintln!(rt; "0 of {packets} packets are LAPD");
     }
 }

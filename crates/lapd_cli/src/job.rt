@@ -3,10 +3,16 @@
 use crate::ending::Stop;
 use crate::live::do_live;
 use lapd_cli_console::Script;
-use lapd_cli_decode::{Following, LineForm, Style, decode_good_lines, decode_lines, follow_lines};
+use lapd_cli_decode::{
+    Filter, Follow, FrameStyle, FrameTime, LineForm, LinesStyle, Style, decode_good_lines,
+    decode_lines, print_lines,
+};
 use lapd_cli_io::{Notes, connection};
 use lapd_cli_link_commands::{answer, bus, loop_over, pair};
-use lapd_cli_options::{Clock, DecodeOptions, Interface, Invocation, Job, LinkEnd, Params, Side};
+use lapd_cli_options::{
+    Clock, DecodeOptions, FrameOptions, Interface, Invocation, Job, LinkEnd, Params, PrintedTime,
+    Side,
+};
 use lapd_cli_script::ScriptFault;
 use lapd_cli_side_commands::{Config, FromRead, FromWrite, Port, SideRun, net, user};
 use lapd_cli_side_lines::LineStyle;
@@ -123,33 +129,34 @@ fn do_decode<R: Read, W: Write>(
     options: DecodeOptions,
     strict: bool,
 ) -> Result<(), Stop> {
-    let (form, style) = (form_of(options), style_of(options));
-    if let Some(follow) = options.follow {
-        let how = Following {
+    let form = form_of(options);
+    let frames = frames_of(options);
+    if options.follow.is_some() || frames.filter.is_some() || frames.count.is_some() {
+        let how = LinesStyle {
             form,
-            style,
+            frames,
             keeps_going: options.keep_going,
-            k: follow.k,
+            follow: follow_of(options),
         };
-        return do_follow(rt, script, out, how, strict);
+        return do_lines(rt, script, out, how, strict);
     }
     let ended = if options.keep_going {
-        decode_good_lines(rt.alloc(), script, out, form, style, rt.stderr())
+        decode_good_lines(rt.alloc(), script, out, form, frames.style, rt.stderr())
     } else {
-        decode_lines(rt.alloc(), script, out, form, style)
+        decode_lines(rt.alloc(), script, out, form, frames.style)
     };
     ended.map_err(Stop::Script)
 }
 
-// Executes a script of lines with octets, and follows the links.
-fn do_follow<R: Read, W: Write>(
+// Executes a script of lines with octets, of which not all are printed or links are followed.
+fn do_lines<R: Read, W: Write>(
     rt: &HostRuntime,
     script: &mut R,
     out: &mut W,
-    how: Following,
+    how: LinesStyle,
     strict: bool,
 ) -> Result<(), Stop> {
-    match follow_lines(rt.alloc(), script, out, how, rt.stderr()) {
+    match print_lines(rt.alloc(), script, out, how, rt.stderr()) {
         Ok(is_violated) if strict && is_violated => Err(Stop::Violated),
         Ok(_) => Ok(()),
         Err(fault) => Err(Stop::Script(fault)),
@@ -165,13 +172,64 @@ fn form_of(options: DecodeOptions) -> LineForm {
     }
 }
 
-/// The style in which `decode` prints a frame.
-pub fn style_of(options: DecodeOptions) -> Style {
+/// How `decode` prints frames, and which.
+pub fn frames_of(options: DecodeOptions) -> FrameStyle {
+    FrameStyle {
+        style: style_of(options),
+        time: time_of(options.time),
+        filter: filter_of(options.frames),
+        count: options.count,
+    }
+}
+
+// The style in which `decode` prints a frame.
+fn style_of(options: DecodeOptions) -> Style {
     match (options.json, options.names) {
         (false, false) => Style::Plain,
         (false, true) => Style::Named,
         (true, false) => Style::Json,
         (true, true) => Style::NamedJson,
+    }
+}
+
+// The time before a trace line.
+fn time_of(time: PrintedTime) -> FrameTime {
+    match time {
+        PrintedTime::Hidden => FrameTime::Hidden,
+        PrintedTime::Absolute => FrameTime::Absolute,
+        PrintedTime::Relative => FrameTime::Relative,
+        PrintedTime::Delta => FrameTime::Delta,
+    }
+}
+
+// Which frames are printed, if not all are.
+fn filter_of(frames: FrameOptions) -> Option<Filter> {
+    if frames == FrameOptions::ALL {
+        return None;
+    }
+    let FrameOptions {
+        sapi,
+        tei,
+        i,
+        s,
+        u,
+        polls,
+    } = frames;
+    Some(Filter {
+        sapi,
+        tei,
+        i,
+        s,
+        u,
+        polls,
+    })
+}
+
+/// How `decode` follows the links, if it does.
+pub fn follow_of(options: DecodeOptions) -> Option<Follow> {
+    match options.follow {
+        Some(follow) => Some(Follow { k: follow.k }),
+        None => None,
     }
 }
 

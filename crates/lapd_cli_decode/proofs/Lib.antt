@@ -1,3 +1,2 @@
 pub mod Closed
-pub mod Heard
 pub mod Printed

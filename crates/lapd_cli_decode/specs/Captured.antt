@@ -1,33 +1,53 @@
 -- The output of `decode` for a capture.
-use Rattle.std.specs.Prelude.{◌≡◌, ℕ, ◌-◌, zero, suc, List, [], ◌++◌, take, drop, Option, Some, None, unwrap_or, Bool, true, false, Result, Ok, Err, ⊤}
+use Rattle.std.specs.Prelude.{◌≡◌, ◌⊎◌, ℕ, ◌-◌, nat_lt, zero, suc, List, [], ◌++◌, take, drop, Option, Some, None, unwrap_or, Bool, true, false, Result, Ok, Err, ⊤}
 use Rattle.std.specs.Io.KnownBytes.{Appends}
+use Rattle.lapd_frame.specs.declared.Side.{Side}
 use Rattle.lapd_capture.specs.declared.CaptureItem.{CaptureItem}
 use Rattle.lapd_capture.specs.declared.CaptureItem.TheVariants.{Frame, Other, Unreadable, End}
 use Rattle.lapd_capture.specs.declared.PacketFault.{PacketFault}
+use Rattle.lapd_capture.specs.declared.Span.{Span}
 use Rattle.lapd_capture.specs.Reader.{reading_of, unread}
 use Rattle.lapd_capture.specs.Reading.{Reading, next_step}
 use Rattle.lapd_capture.specs.declared.CaptureReader.{CaptureReader}
-use Rattle.lapd_cli_script.specs.Line.{text_line}
 use Rattle.lapd_cli_decode.specs.declared.capture_lines.CaptureStop.{CaptureStop}
 use Rattle.lapd_cli_decode.specs.declared.capture_lines.CaptureStop.TheVariants.{Capture, Packet, Input, Device, Memory}
 use Rattle.lapd_cli_decode.specs.declared.capture_lines.CaptureStyle.{CaptureStyle}
 use Rattle.lapd_cli_decode.specs.declared.capture_lines.Seen.{Seen}
+use Rattle.lapd_cli_decode.specs.declared.frame_printer.Follow.{Follow}
+use Rattle.lapd_cli_decode.specs.declared.frame_printer.Origin.TheVariants.{Capture as FromCapture}
 use Rattle.lapd_cli_render.specs.declared.Packet.{Packet as JsonPacket}
-use Rattle.lapd_cli_decode.specs.Style.{styled_packet}
+use Rattle.lapd_cli_decode.specs.Frames.{Printing, after_frame, closing_text, frame_text, is_complete, is_violated_by, new_printing}
+
+-- ---- A frame that was found; `behind` is the capture after it.
 
 -- the packet read last
 abbrev pub last_packet : Reading → JsonPacket
-last_packet reading = record { number = reading.packets; moment = reading.moment }
+last_packet behind = record { number = behind.packets; moment = behind.moment }
 
--- the line of what was found; `behind` is the capture after it. If the capture does not name a
--- frame's sender, the chosen sender is printed.
-abbrev pub item_text : CaptureStyle → Reading → CaptureItem → List ℕ
-item_text how behind (Frame span) = text_line (styled_packet how.style (last_packet behind)
-    (unwrap_or span.from how.sender)
-    (take (span.end - span.start) (drop span.start behind.body)))
-item_text how behind (Unreadable fault) = []
-item_text how behind Other = []
-item_text how behind End = []
+-- who sent it; if the capture does not say, the chosen sender did
+abbrev pub sender_of : CaptureStyle → Span → Side
+sender_of how span = unwrap_or span.from how.sender
+
+abbrev pub octets_of : Reading → Span → List ℕ
+octets_of behind span = take (span.end - span.start) (drop span.start behind.body)
+
+-- ---- Each item.
+
+-- the text printed for it
+abbrev pub item_text : CaptureStyle → Reading → CaptureItem → Printing → List ℕ
+item_text how behind (Frame span) s =
+    frame_text (last_packet behind) (sender_of how span) (octets_of behind span) s
+item_text how behind (Unreadable fault) s = []
+item_text how behind Other s = []
+item_text how behind End s = []
+
+-- what is known of the frames after it
+abbrev pub after_item : CaptureStyle → Reading → CaptureItem → Printing → Printing
+after_item how behind (Frame span) s =
+    after_frame (last_packet behind) (sender_of how span) (octets_of behind span) s
+after_item how behind (Unreadable fault) s = s
+after_item how behind Other s = s
+after_item how behind End s = s
 
 -- the fault of an unreadable packet, at which reading stops unless such packets are skipped
 abbrev pub packet_fault : Bool → CaptureItem → Option PacketFault
@@ -37,50 +57,84 @@ packet_fault false (Unreadable fault) = Some fault
 packet_fault keeps_going Other = None
 packet_fault keeps_going End = None
 
--- what is known of the frames so far, after this item
-abbrev pub seen_after : Seen → CaptureItem → Seen
-seen_after seen (Frame span) = record { any = true }
-seen_after seen (Unreadable fault) = seen
-seen_after seen Other = seen
-seen_after seen End = seen
+-- ---- Places.
 
 -- a place in a capture, and what is known of the frames before it
 pub record Place : Type 0 where
   pub reading : Reading
-  pub seen : Seen
+  pub printing : Printing
 
 -- the beginning of a capture
-abbrev pub begins_at : Reading → Place
-begins_at reading = record { reading = reading; seen = record { any = false } }
+abbrev pub begins_at : CaptureStyle → Option Follow → Reading → Place
+begins_at how follow reading = record {
+  reading = reading;
+  printing = new_printing FromCapture how.frames follow;
+}
 
 -- this many steps lead from one place to another, and this text is printed for them
 abbrev pub Prints : CaptureStyle → ℕ → Place → List ℕ → Place → Type 0
 Prints how zero old text new = (text ≡ []) × (new ≡ old)
 Prints how (suc n) old text new = (mid : Place) × (item : CaptureItem)
     × (before : List ℕ) × Prints how n old before mid
+    × (is_complete mid.printing ≡ false)
     × (next_step mid.reading ≡ Ok (record { item = item; reading = new.reading }))
     × (packet_fault how.keeps_going item ≡ None)
-    × (new.seen ≡ seen_after mid.seen item)
-    × (text ≡ before ++ item_text how new.reading item)
+    × (new.printing ≡ after_item how new.reading item mid.printing)
+    × (text ≡ before ++ item_text how new.reading item mid.printing)
 
 -- this is the text printed up to a place
-abbrev pub PrintsTo : CaptureStyle → Reading → Option (List ℕ) → Option (List ℕ) → Place
-    → Type 0
+abbrev pub PrintsTo : CaptureStyle → Place → Option (List ℕ) → Option (List ℕ) → Place → Type 0
 PrintsTo how start old new place = (n : ℕ) × (text : List ℕ)
-    × Prints how n (begins_at start) text place × Appends old new text
+    × Prints how n start text place × Appends old new text
 
--- how reading a capture from a place ends, and the writer's contents then: all frames are printed,
--- or all before the fault
-abbrev pub CaptureEnds : CaptureStyle → Reading → Result Seen CaptureStop → Option (List ℕ)
+-- all requested frames are printed, or the capture is at its end
+abbrev pub IsFinished : Place → Type 0
+IsFinished place = (is_complete place.printing ≡ true) ⊎ ((behind : Reading)
+    × (next_step place.reading ≡ Ok (record { item = End; reading = behind })))
+
+-- how reading a capture from a place ends, up to the tables
+abbrev pub ItemsEnd : CaptureStyle → Place → Result ⊤ CaptureStop → Printing
+    → Option (List ℕ) → Option (List ℕ) → Type 0
+ItemsEnd how start (Ok done) s old new = (place : Place)
+    × PrintsTo how start old new place × (s ≡ place.printing) × IsFinished place
+ItemsEnd how start (Err (Capture fault at)) s old new = (place : Place)
+    × PrintsTo how start old new place × (is_complete place.printing ≡ false)
+    × (next_step place.reading ≡ Err fault) × (at ≡ place.reading.place)
+ItemsEnd how start (Err (Packet fault at)) s old new = (place : Place)
+    × (behind : Reading) × PrintsTo how start old new place
+    × (is_complete place.printing ≡ false)
+    × (next_step place.reading ≡ Ok (record { item = Unreadable fault; reading = behind }))
+    × (at ≡ place.reading.place)
+ItemsEnd how start (Err (Input kind)) s old new = ⊤
+ItemsEnd how start (Err Device) s old new = ⊤
+ItemsEnd how start (Err Memory) s old new = ⊤
+
+-- how printing the tables of the links ends
+abbrev pub CaptureCloses : Printing → Result Seen CaptureStop → Option (List ℕ)
     → Option (List ℕ) → Type 0
-CaptureEnds how start (Ok seen) old new = (place : Place) × (behind : Reading)
-    × PrintsTo how start old new place × (seen ≡ place.seen)
-    × (next_step place.reading ≡ Ok (record { item = End; reading = behind }))
+CaptureCloses s (Ok seen) old new = Appends old new (closing_text s)
+    × (seen.any ≡ nat_lt 0 s.frames) × (seen.is_violated ≡ is_violated_by s.listening)
+CaptureCloses s (Err (Capture fault at)) old new = ⊥
+CaptureCloses s (Err (Packet fault at)) old new = ⊥
+CaptureCloses s (Err (Input kind)) old new = ⊤
+CaptureCloses s (Err Device) old new = ⊤
+CaptureCloses s (Err Memory) old new = ⊤
+
+-- how reading a capture from a place ends, and the writer's contents then: all requested frames are
+-- printed, and the tables of the links if these are followed; or those before the fault
+abbrev pub CaptureEnds : CaptureStyle → Place → Result Seen CaptureStop → Option (List ℕ)
+    → Option (List ℕ) → Type 0
+CaptureEnds how start (Ok seen) old new = (place : Place) × (n : ℕ) × (text : List ℕ)
+    × Prints how n start text place
+    × Appends old new (text ++ closing_text place.printing)
+    × (seen.any ≡ nat_lt 0 place.printing.frames)
+    × (seen.is_violated ≡ is_violated_by place.printing.listening) × IsFinished place
 CaptureEnds how start (Err (Capture fault at)) old new = (place : Place)
-    × PrintsTo how start old new place
+    × PrintsTo how start old new place × (is_complete place.printing ≡ false)
     × (next_step place.reading ≡ Err fault) × (at ≡ place.reading.place)
 CaptureEnds how start (Err (Packet fault at)) old new = (place : Place)
     × (behind : Reading) × PrintsTo how start old new place
+    × (is_complete place.printing ≡ false)
     × (next_step place.reading ≡ Ok (record { item = Unreadable fault; reading = behind }))
     × (at ≡ place.reading.place)
 CaptureEnds how start (Err (Input kind)) old new = ⊤
@@ -101,11 +155,12 @@ abbrev pub TakesStep : CaptureStyle → Result Bool CaptureStop → Place → Pl
     → Option (List ℕ) → Option (List ℕ) → Type 0
 TakesStep how (Ok false) old new a b = (item : CaptureItem)
     × (next_step old.reading ≡ Ok (record { item = item; reading = new.reading }))
-    × (packet_fault how.keeps_going item ≡ None) × (new.seen ≡ seen_after old.seen item)
-    × Appends a b (item_text how new.reading item)
+    × (packet_fault how.keeps_going item ≡ None)
+    × (new.printing ≡ after_item how new.reading item old.printing)
+    × Appends a b (item_text how new.reading item old.printing)
 TakesStep how (Ok true) old new a b =
     (next_step old.reading ≡ Ok (record { item = End; reading = new.reading }))
-    × (new.seen ≡ old.seen) × Appends a b []
+    × (new.printing ≡ old.printing) × Appends a b []
 TakesStep how (Err (Capture fault at)) old new a b = (next_step old.reading ≡ Err fault)
     × (at ≡ old.reading.place) × Appends a b []
 TakesStep how (Err (Packet fault at)) old new a b =
@@ -116,20 +171,20 @@ TakesStep how (Err Device) old new a b = ⊤
 TakesStep how (Err Memory) old new a b = ⊤
 
 -- a reader at a place
-abbrev pub place_of : {R : Type 0} → CaptureReader R → List ℕ → Seen → Place
-place_of reader left seen = record { reading = reading_of reader left; seen = seen }
+abbrev pub place_of : {R : Type 0} → CaptureReader R → List ℕ → Printing → Place
+place_of reader left s = record { reading = reading_of reader left; printing = s }
 
 -- the same step of a reader of which these octets are left
 abbrev pub StepsFrom : {R : Type 0} → (R → Option (List ℕ)) → CaptureStyle
-    → Result Bool CaptureStop → Place → CaptureReader R → Seen → Option (List ℕ)
+    → Result Bool CaptureStop → Place → CaptureReader R → Printing → Option (List ℕ)
     → Option (List ℕ) → Type 0
-StepsFrom remaining how (Ok ended) old reader seen a b = (left : List ℕ)
+StepsFrom remaining how (Ok ended) old reader s a b = (left : List ℕ)
     × (unread remaining reader ≡ Some left)
-    × TakesStep how (Ok ended) old (place_of reader left seen) a b
-StepsFrom remaining how (Err (Capture fault at)) old reader seen a b = (new : Place)
+    × TakesStep how (Ok ended) old (place_of reader left s) a b
+StepsFrom remaining how (Err (Capture fault at)) old reader s a b = (new : Place)
     × TakesStep how (Err (Capture fault at)) old new a b
-StepsFrom remaining how (Err (Packet fault at)) old reader seen a b = (new : Place)
+StepsFrom remaining how (Err (Packet fault at)) old reader s a b = (new : Place)
     × TakesStep how (Err (Packet fault at)) old new a b
-StepsFrom remaining how (Err (Input kind)) old reader seen a b = ⊤
-StepsFrom remaining how (Err Device) old reader seen a b = ⊤
-StepsFrom remaining how (Err Memory) old reader seen a b = ⊤
+StepsFrom remaining how (Err (Input kind)) old reader s a b = ⊤
+StepsFrom remaining how (Err Device) old reader s a b = ⊤
+StepsFrom remaining how (Err Memory) old reader s a b = ⊤

@@ -1,9 +1,11 @@
 pub mod Captured
 pub mod Decoder
-pub mod Followed
-pub mod FollowedCapture
-pub mod FollowedLines
+pub mod Filter
+pub mod Frames
 pub mod Lines
+pub mod LinesPrinter
+pub mod PrintedLines
 pub mod Remarked
 pub mod Style
 pub mod Tables
+pub mod Time

@@ -53,6 +53,11 @@ said_behind NamedJson said = remarks_member said
 abbrev pub with_remarks : Style → Remarks → List ℕ → List ℕ
 with_remarks style said text = front_of style text ++ said_behind style said
 
+-- the same if its link is followed
+abbrev pub remarked : Style → Option Remarks → List ℕ → List ℕ
+remarked style None text = text
+remarked style (Some said) text = with_remarks style said text
+
 -- how printing this line ends
 abbrev pub RemarkedEnds : List ℕ → Result ⊤ LineFault → Option (List ℕ) → Option (List ℕ) → Type 0
 RemarkedEnds line (Ok done) old new = Appends old new line

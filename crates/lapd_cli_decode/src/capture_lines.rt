@@ -1,15 +1,16 @@
 //! Printing the frames of a capture.
 
-ghost use Rattle.std.specs.Prelude.{◌≡◌, length, List, ℕ, Some, OnOk};
+ghost use Rattle.std.specs.Prelude.{◌≡◌, length, List, ℕ, None, Some, OnOk};
 ghost use Rattle.std.specs.Io.KnownBytes.{Appends, Keeps};
 ghost use Rattle.lapd_capture.specs.Packet.{IsWithin};
 ghost use Rattle.lapd_capture.specs.Reader.{reading_of, unread};
-ghost use Rattle.lapd_cli_decode.specs.Captured.{CaptureEnds, item_text, IsOtherStop, StepsFrom, place_of};
+ghost use Rattle.lapd_cli_decode.specs.Captured.{CaptureCloses, CaptureEnds, IsOtherStop, ItemsEnd, StepsFrom, after_item, begins_at, item_text, place_of};
 
-use crate::style::Style;
+use crate::frame_printer::{Follow, FramePrinter, Origin};
+use crate::frame_style::FrameStyle;
 use lapd_capture::{CaptureFault, CaptureItem, CaptureReader, PacketFault, ReadFault, Span};
 use lapd_cli_render::Packet;
-use lapd_cli_script::{LineFault, put_line};
+use lapd_cli_script::{LineFault, ScriptFault};
 use lapd_frame::Side;
 use std::alloc::Global;
 use std::io::{ErrorKind, Read, Write};
@@ -39,29 +40,32 @@ pub enum CaptureStop {
 /// How to print the frames of a capture.
 #[derive(Clone, Copy)]
 pub struct CaptureStyle {
-    /// The style of each line.
-    pub style: Style,
+    /// How frames are printed, and which.
+    pub frames: FrameStyle,
     /// The assumed sender of frames whose capture does not name it.
     pub sender: Side,
     /// Whether unreadable packets are skipped.
     pub keeps_going: bool,
 }
 
-/// Whether a capture has frames.
+/// What is known of the frames that were read of a capture.
 #[derive(Clone, Copy, Debug, PartialEq, Eq)]
 pub struct Seen {
-    /// Whether the capture has a frame.
+    /// Whether there was a frame, printed or not.
     pub any: bool,
+    /// Whether a remark is a violation; `false` if links are not followed.
+    pub is_violated: bool,
 }
 
-/// Prints the frames of a capture from its current place to its end. The writer is flushed before
-/// each read that may wait. If `keeps_going` is set, an unreadable packet is reported on the error
+/// Prints the requested frames of a capture from its current place. Reading stops at the end of the
+/// capture, or after as many printed frames as were requested. The writer is flushed before each
+/// read that may wait. If `keeps_going` is set, an unreadable packet is reported on the error
 /// writer and skipped; failures of the error writer are ignored.
 ///
 /// # Errors
 ///
-/// `Capture` and `Packet` at a fault, with all frames before it printed; `Input` if a read fails;
-/// `Device` if a write fails; `Memory` if an allocation fails.
+/// `Capture` and `Packet` at a fault, with the requested frames before it printed; `Input` if a read
+/// fails; `Device` if a write fails; `Memory` if an allocation fails.
 pub fn decode_capture<R: Read, W: Write, E: Write>(
     alloc: Global,
     capture: &mut CaptureReader<R>,
@@ -70,13 +74,103 @@ pub fn decode_capture<R: Read, W: Write, E: Write>(
     how: CaptureStyle,
 ) -> Result<Seen, CaptureStop>
     ensures { (left : List ℕ) → unread R.remaining capture.old ≡ Some left
-        → CaptureEnds how (reading_of capture.old left) result (W.contents out.old)
+        → CaptureEnds how (begins_at how None (reading_of capture.old left)) result
+        (W.contents out.old) (W.contents out.new) }
+{
+    print_capture(alloc, capture, out, errors, how, None)
+}
+
+/// Like [`decode_capture`], but follows the link of each frame, printed or not: the remarks on a
+/// frame are printed behind it, and after the last frame a table of each link.
+///
+/// # Errors
+///
+/// `Capture` and `Packet` at a fault, with the requested frames before it printed; `Input` if a read
+/// fails; `Device` if a write fails; `Memory` if an allocation fails.
+pub fn follow_capture<R: Read, W: Write, E: Write>(
+    alloc: Global,
+    capture: &mut CaptureReader<R>,
+    out: &mut W,
+    errors: &mut E,
+    how: CaptureStyle,
+    follow: Follow,
+) -> Result<Seen, CaptureStop>
+    ensures { (left : List ℕ) → unread R.remaining capture.old ≡ Some left
+        → CaptureEnds how (begins_at how (Some follow) (reading_of capture.old left)) result
+        (W.contents out.old) (W.contents out.new) }
+{
+    print_capture(alloc, capture, out, errors, how, Some(follow))
+}
+
+/// Prints the requested frames of a capture from its current place, and then the tables.
+fn print_capture<R: Read, W: Write, E: Write>(
+    alloc: Global,
+    capture: &mut CaptureReader<R>,
+    out: &mut W,
+    errors: &mut E,
+    how: CaptureStyle,
+    follow: Option<Follow>,
+) -> Result<Seen, CaptureStop>
+    ensures { (left : List ℕ) → unread R.remaining capture.old ≡ Some left
+        → CaptureEnds how (begins_at how follow (reading_of capture.old left)) result
+        (W.contents out.old) (W.contents out.new) }
+{
+    match FramePrinter::new(alloc, Origin::Capture, how.frames, follow) {
+        Ok(mut printer) => print_to_end(capture, &mut printer, out, errors, how),
+        Err(_) => Err(CaptureStop::Memory),
+    }
+}
+
+/// Prints the requested frames of a capture from its current place, and then the tables.
+fn print_to_end<R: Read, W: Write, E: Write>(
+    capture: &mut CaptureReader<R>,
+    printer: &mut FramePrinter,
+    out: &mut W,
+    errors: &mut E,
+    how: CaptureStyle,
+) -> Result<Seen, CaptureStop>
+    ensures { (left : List ℕ) → unread R.remaining capture.old ≡ Some left
+        → CaptureEnds how (place_of capture.old left printer.old) result (W.contents out.old)
         (W.contents out.new) }
 {
-    let mut seen = Seen { any: false };
+    match print_items(capture, printer, out, errors, how) {
+        Ok(()) => close(printer, out),
+        Err(stop) => Err(stop),
+    }
+}
+
+/// Prints the tables of the links, if these are followed.
+fn close<W: Write>(printer: &FramePrinter, out: &mut W) -> Result<Seen, CaptureStop>
+    ensures { CaptureCloses printer.now result (W.contents out.old) (W.contents out.new) }
+{
+    match printer.close(out) {
+        Ok(is_violated) => Ok(Seen {
+            any: printer.any(),
+            is_violated,
+        }),
+        Err(ScriptFault::Memory) => Err(CaptureStop::Memory),
+        Err(_) => Err(CaptureStop::Device),
+    }
+}
+
+/// Prints the requested frames of a capture from its current place.
+fn print_items<R: Read, W: Write, E: Write>(
+    capture: &mut CaptureReader<R>,
+    printer: &mut FramePrinter,
+    out: &mut W,
+    errors: &mut E,
+    how: CaptureStyle,
+) -> Result<(), CaptureStop>
+    ensures { (left : List ℕ) → unread R.remaining capture.old ≡ Some left
+        → ItemsEnd how (place_of capture.old left printer.old) result printer.new
+        (W.contents out.old) (W.contents out.new) }
+{
     for _step in 0..u64::MAX {
-        if print_next(alloc, capture, &mut seen, out, errors, how)? {
-            return Ok(seen);
+        if printer.is_complete() {
+            return Ok(());
+        }
+        if print_next(capture, printer, out, errors, how)? {
+            return Ok(());
         }
     }
     Err(CaptureStop::Device)
@@ -85,23 +179,22 @@ pub fn decode_capture<R: Read, W: Write, E: Write>(
 /// Prints what the capture has next, after flushing the writer if reading may wait. Returns whether
 /// the end is reached.
 fn print_next<R: Read, W: Write, E: Write>(
-    alloc: Global,
     capture: &mut CaptureReader<R>,
-    seen: &mut Seen,
+    printer: &mut FramePrinter,
     out: &mut W,
     errors: &mut E,
     how: CaptureStyle,
 ) -> Result<bool, CaptureStop>
     ensures { (left : List ℕ) → unread R.remaining capture.old ≡ Some left
-        → StepsFrom R.remaining how result (place_of capture.old left seen.old) capture.new
-        seen.new (W.contents out.old) (W.contents out.new) }
+        → StepsFrom R.remaining how result (place_of capture.old left printer.old) capture.new
+        printer.new (W.contents out.old) (W.contents out.new) }
 {
     flush_before(capture, out)?;
-    print_item(alloc, capture, seen, out, errors, how)
+    print_item(capture, printer, out, errors, how)
 }
 
 /// Flushes the writer, unless what the capture has next is already in memory.
-pub(crate) fn flush_before<R: Read, W: Write>(
+fn flush_before<R: Read, W: Write>(
     capture: &CaptureReader<R>,
     out: &mut W,
 ) -> Result<(), CaptureStop>
@@ -119,24 +212,22 @@ pub(crate) fn flush_before<R: Read, W: Write>(
 
 /// Prints what the capture has next. Returns whether the end is reached.
 fn print_item<R: Read, W: Write, E: Write>(
-    alloc: Global,
     capture: &mut CaptureReader<R>,
-    seen: &mut Seen,
+    printer: &mut FramePrinter,
     out: &mut W,
     errors: &mut E,
     how: CaptureStyle,
 ) -> Result<bool, CaptureStop>
     ensures { (left : List ℕ) → unread R.remaining capture.old ≡ Some left
-        → StepsFrom R.remaining how result (place_of capture.old left seen.old) capture.new
-        seen.new (W.contents out.old) (W.contents out.new) }
+        → StepsFrom R.remaining how result (place_of capture.old left printer.old) capture.new
+        printer.new (W.contents out.old) (W.contents out.new) }
 {
     let place = capture.place();
     match capture.next() {
         Ok(CaptureItem::End) => Ok(true),
         Ok(CaptureItem::Other) => Ok(false),
         Ok(CaptureItem::Frame(frame)) => {
-            put_frame(alloc, capture, frame, out, how)?;
-            seen.any = true;
+            print_frame(capture, printer, frame, out, how)?;
             Ok(false)
         }
         Ok(CaptureItem::Unreadable(fault)) => {
@@ -154,9 +245,9 @@ fn print_item<R: Read, W: Write, E: Write>(
 }
 
 /// Prints a frame that was found.
-fn put_frame<R: Read, W: Write>(
-    alloc: Global,
+fn print_frame<R: Read, W: Write>(
     capture: &CaptureReader<R>,
+    printer: &mut FramePrinter,
     frame: Span,
     out: &mut W,
     how: CaptureStyle,
@@ -164,7 +255,9 @@ fn put_frame<R: Read, W: Write>(
     requires { IsWithin (length capture.now.body.items) (CaptureItem.Frame frame) }
     ensures line { OnOk result ((left : List ℕ) → Appends (W.contents out.old)
         (W.contents out.new) (item_text how (reading_of capture.now left)
-        (CaptureItem.Frame frame))) }
+        (CaptureItem.Frame frame) printer.old)) }
+    ensures after { OnOk result ((left : List ℕ) → printer.new ≡ after_item how
+        (reading_of capture.now left) (CaptureItem.Frame frame) printer.old) }
     ensures fault { IsOtherStop result }
 {
     let from = frame.from.unwrap_or(how.sender);
@@ -172,12 +265,9 @@ fn put_frame<R: Read, W: Write>(
         number: capture.packets(),
         moment: capture.moment(),
     };
-    let octets = capture.octets_of(frame);
-    let Ok(text) = how.style.packet_text(alloc, from, octets, packet) else {
-        return Err(CaptureStop::Memory);
-    };
-    match put_line(text.as_bytes(), &[], out) {
+    match printer.print(packet, from, capture.octets_of(frame), out) {
         Ok(()) => Ok(()),
+        Err(LineFault::Memory) => Err(CaptureStop::Memory),
         Err(_) => Err(CaptureStop::Device),
     }
 }

@@ -2,25 +2,33 @@
 //! from captures.
 //!
 //! [`decode_lines`] executes a script with lines of one [`LineForm`], and prints each frame in a
-//! [`Style`]. [`decode_good_lines`] reports and skips invalid lines. [`decode_capture`] prints the
-//! frames of a capture of `lapd_capture`. [`follow_lines`] and [`follow_capture`] do the same with
-//! the remarks of a listener of `lapd_follow`, and print a table of each link at the end.
+//! [`Style`]. [`decode_good_lines`] reports and skips invalid lines. [`print_lines`] prints the
+//! frames that a [`FrameStyle`] requests, and [`decode_capture`] those of a capture of
+//! `lapd_capture`. If links are followed, which [`follow_capture`] does for a capture, the remarks
+//! of a listener of `lapd_follow` are printed behind each frame, and a table of each link at the
+//! end.
 #![tactic(auto)]
 
 mod capture_lines;
-mod followed_capture;
-mod followed_lines;
+mod filter;
+mod frame_printer;
+mod frame_style;
+mod frame_time;
 mod line_decoder;
 mod line_form;
+mod printed_lines;
 mod remarked;
 mod style;
 mod tables;
 
-pub use capture_lines::{CaptureStop, CaptureStyle, Seen, decode_capture};
-pub use followed_capture::{HeardCapture, follow_capture};
-pub use followed_lines::{Following, follow_lines};
+pub use capture_lines::{CaptureStop, CaptureStyle, Seen, decode_capture, follow_capture};
+pub use filter::Filter;
+pub use frame_printer::Follow;
+pub use frame_style::FrameStyle;
+pub use frame_time::FrameTime;
 pub use lapd_capture::{CaptureFault, CaptureReader, PacketFault, ReadFault};
 pub use lapd_frame::Side;
 pub use line_decoder::{decode_good_lines, decode_lines};
 pub use line_form::LineForm;
+pub use printed_lines::{LinesStyle, print_lines};
 pub use style::Style;

@@ -4,7 +4,7 @@ ghost use Rattle.std.specs.Prelude.{◌≡◌, ◌++◌, Some, IfOk, OnOk};
 ghost use Rattle.std.specs.Io.KnownBytes.{Appends, Keeps};
 ghost use Rattle.std.specs.String.{string_bytes};
 ghost use Rattle.lapd_cli_script.specs.Line.{text_line};
-ghost use Rattle.lapd_cli_decode.specs.Remarked.{front_of, listed, object_or_none, remark_objects, remarks_member, said_behind, with_remarks, RemarkedEnds};
+ghost use Rattle.lapd_cli_decode.specs.Remarked.{front_of, listed, object_or_none, remark_objects, remarked, remarks_member, said_behind, with_remarks, RemarkedEnds};
 ghost use Rattle.lapd_follow.specs.Texts.{remarks_text};
 
 use crate::style::Style;
@@ -38,12 +38,29 @@ impl fmt::Display for RemarkObject {
     }
 }
 
-/// Prints the text of a frame with the remarks on it, as one line.
+/// Prints the text of a frame as one line, with the remarks on it if its link is followed.
 ///
 /// # Errors
 ///
 /// `Memory` if an allocation fails, before anything is printed; `Device` if the writer fails.
-pub(crate) fn put_remarked<W: Write>(
+pub(crate) fn put_frame<W: Write>(
+    alloc: Global,
+    style: Style,
+    text: &[u8],
+    said: &Option<Remarks>,
+    out: &mut W,
+) -> Result<(), LineFault>
+    ensures { RemarkedEnds (text_line (remarked style said.now text.now)) result
+        (W.contents out.old) (W.contents out.new) }
+{
+    match said {
+        None => put_line(text, &[], out),
+        Some(said) => put_remarked(alloc, style, text, said, out),
+    }
+}
+
+/// Prints the text of a frame with the remarks on it, as one line.
+fn put_remarked<W: Write>(
     alloc: Global,
     style: Style,
     text: &[u8],

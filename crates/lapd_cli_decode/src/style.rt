@@ -62,25 +62,32 @@ impl Style {
         }
     }
 
-    /// The line for octets that `from` sent, from a packet of a capture.
+    /// The same as [`Style::write`] for octets in a packet of a capture.
     ///
     /// # Errors
     ///
     /// `AllocError` if an allocation fails.
-    pub(crate) fn packet_text(
+    pub(crate) fn write_packet(
         self,
         alloc: Global,
         from: Side,
         octets: &[u8],
         packet: Packet,
-    ) -> Result<String, AllocError>
-        ensures { IfOk result (λ text.
-            string_bytes text ≡ styled_packet self packet from octets.now) }
+        line: &mut String,
+    ) -> Result<(), AllocError>
+        ensures { OnOk result (string_bytes line.new
+            ≡ styled_packet self packet from octets.now) }
     {
         match self {
-            Style::Plain | Style::Named => self.text(alloc, from, octets),
-            Style::Json => lapd_cli_render::packet_line(alloc, from, octets, packet),
-            Style::NamedJson => lapd_cli_render::named_packet_line(alloc, from, octets, packet),
+            Style::Plain | Style::Named => self.write(alloc, from, octets, line),
+            Style::Json => {
+                *line = lapd_cli_render::packet_line(alloc, from, octets, packet)?;
+                Ok(())
+            }
+            Style::NamedJson => {
+                *line = lapd_cli_render::named_packet_line(alloc, from, octets, packet)?;
+                Ok(())
+            }
         }
     }
 }

@@ -633,7 +633,14 @@ HEX. With --names a message of TEI management or of Q.931 follows, in words:
                                     side at which the call began; cr=dummy if it has no reference
   bearer=speech channel=B2 cause=16 calling=5551234 called=200
                                     then these information elements, in the order of the message
-With --follow the remarks on a frame are last, each after `; `. A frame that is simply the next one
+
+With --time a trace line begins with the time of its packet, in seconds with six digits after a
+point, or with - if the capture does not have it. --sapi, --tei, --kinds and --no-polls choose the
+frames that are printed, by their octets; octets that lack what is requested are left out. --count
+ends the output after so many printed frames: no more packets are read, and lines are skipped.
+
+With --follow the remarks on a frame are last, each after `; `. Frames that are not printed are
+followed too, up to the last one that --count allows. A frame that is simply the next one
 of its link has none. `violation: ` marks what no two ends do that follow Q.921. At the end of the
 input a table of each link has its establishments and, of each direction, the frames by kind, the
 messages, their octets, the repeated I frames, the polls and the times of answers.

@@ -3,15 +3,15 @@
 ghost use Rattle.std.specs.Prelude.{◌<◌, ◌≢◌, IfOk};
 ghost use Rattle.lapd_frame.specs.declared.Sapi.TheVariants.{Management};
 
-use crate::invocation::{DecodeOptions, FollowOptions, Job};
+use crate::decode_options::decode_of;
+use crate::invocation::Job;
 use crate::no_invocation::NoInvocation;
 use crate::script_command::ScriptCommand;
 use clap::ArgMatches;
 use lapd_cli_values::{
-    AddressOption, CONNECT, FOLLOWED_K, Interface, InterfaceOptions, K, KNOWN_TEI, LINK_TEI,
-    LINKS_K, LISTEN, LinkEnd, N200, NumberOption, OutOfRange, Params, ROOM, Recovery, SEED, Sapi,
-    Side, T200, T201, T202, T203, TERMINALS, Tei, interface_written, params_written, tei_written,
-    terminals_written, window_written,
+    AddressOption, CONNECT, Interface, InterfaceOptions, K, KNOWN_TEI, LINK_TEI, LINKS_K, LISTEN,
+    LinkEnd, N200, NumberOption, OutOfRange, Params, ROOM, Recovery, SEED, Sapi, Side, T200, T201,
+    T202, T203, TERMINALS, Tei, interface_written, params_written, tei_written, terminals_written,
 };
 use std::alloc::Global;
 
@@ -57,38 +57,6 @@ fn pair_of<'a>(given: &ArgMatches<'a>) -> Result<Job, NoInvocation<'a>> {
 fn loop_of<'a>(given: &ArgMatches<'a>) -> Result<Job, NoInvocation<'a>> {
     let (user, network) = ends_of(given)?;
     Ok(Job::Loop { user, network })
-}
-
-fn decode_of<'a>(given: &ArgMatches<'a>) -> Result<DecodeOptions, NoInvocation<'a>> {
-    let follow = follow_of(given)?;
-    Ok(DecodeOptions {
-        loose: given.get_flag("loose"),
-        sender: side_named(given, "sender"),
-        names: given.get_flag("names"),
-        json: given.get_flag("json"),
-        keep_going: given.get_flag("keep-going"),
-        follow,
-    })
-}
-
-// How the links are followed. An option of `--follow` is refused without it.
-fn follow_of<'a>(given: &ArgMatches<'a>) -> Result<Option<FollowOptions>, NoInvocation<'a>> {
-    let k = window_of(given)?;
-    if given.get_flag("follow") {
-        return Ok(Some(FollowOptions { k }));
-    }
-    match k {
-        Some(_) => Err(NoInvocation::NotFollowed(FOLLOWED_K.name)),
-        None => Ok(None),
-    }
-}
-
-// The window of links that are followed, if it is present.
-fn window_of<'a>(given: &ArgMatches<'a>) -> Result<Option<u8>, NoInvocation<'a>> {
-    match given.get_str(FOLLOWED_K.name) {
-        Some(written) => Ok(Some(window_written(written)?)),
-        None => Ok(None),
-    }
 }
 
 /// The file that replaces the script of this command, if the option is present.
@@ -209,8 +177,8 @@ fn written_address<'a>(
     }
 }
 
-// The side that the option of this name chooses.
-fn side_named(given: &ArgMatches<'_>, option: &str) -> Side {
+/// The side that the option of this name chooses.
+pub(crate) fn side_named(given: &ArgMatches<'_>, option: &str) -> Side {
     match given.get_str(option) {
         Some("user") => Side::User,
         _ => Side::Network,

@@ -72,6 +72,14 @@ pub const FOLLOW: &str = "\
 Adds remarks on what each frame means for its link, and prints a table of each link at the end; with \
 --strict also ends with exit status 5 if a frame violates Q.921";
 
+pub const FRAME_TIME: &str = "\
+With --pcap, begins each trace line with the time in seconds: since 1970, since the first printed \
+frame, or since the printed frame before";
+
+pub const KINDS: &str = "Prints only frames of these kinds: I, supervisory, unnumbered";
+
+pub const NO_POLLS: &str = "Leaves out supervisory frames with P or F 1";
+
 /// The help of `--json`, of `net` and `user`.
 pub const SIDE_JSON: &str = "Prints each line as a JSON object";
 

@@ -87,6 +87,54 @@ pub struct DecodeOptions {
     pub keep_going: bool,
     /// How the links are followed; `None` if they are not.
     pub follow: Option<FollowOptions>,
+    /// The time before each trace line of a capture.
+    pub time: PrintedTime,
+    /// After how many printed frames the output ends, at least 1; never if `None`.
+    pub count: Option<u64>,
+    /// Which frames are printed.
+    pub frames: FrameOptions,
+}
+
+/// The time before each trace line of a capture.
+#[derive(Clone, Copy)]
+pub enum PrintedTime {
+    /// None.
+    Hidden,
+    /// The seconds since 1970.
+    Absolute,
+    /// The seconds since the first printed frame.
+    Relative,
+    /// The seconds since the printed frame before.
+    Delta,
+}
+
+/// Which frames `decode` prints.
+#[derive(Clone, Copy, PartialEq, Eq)]
+pub struct FrameOptions {
+    /// Their SAPI, 0 to 63; any if `None`.
+    pub sapi: Option<u8>,
+    /// Their TEI, 0 to 127; any if `None`.
+    pub tei: Option<u8>,
+    /// Whether I frames are printed.
+    pub i: bool,
+    /// Whether supervisory frames are printed.
+    pub s: bool,
+    /// Whether unnumbered frames are printed.
+    pub u: bool,
+    /// Whether supervisory frames with P or F 1 are printed.
+    pub polls: bool,
+}
+
+impl FrameOptions {
+    /// All frames.
+    pub const ALL: FrameOptions = FrameOptions {
+        sapi: None,
+        tei: None,
+        i: true,
+        s: true,
+        u: true,
+        polls: true,
+    };
 }
 
 /// The options of `decode --follow`.

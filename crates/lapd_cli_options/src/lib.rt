@@ -11,6 +11,7 @@ mod clock_options;
 pub mod command_help;
 mod command_option;
 mod command_options;
+mod decode_options;
 pub mod help;
 mod invocation;
 mod no_invocation;
@@ -22,7 +23,9 @@ mod script_command;
 use clap::{ArgMatches, Command};
 use clock_options::clock_of;
 use command_options::{address_of, job_of, pcap_of, prints_json};
-pub use invocation::{Clock, DecodeOptions, FollowOptions, Invocation, Job, LiveOptions};
+pub use invocation::{
+    Clock, DecodeOptions, FollowOptions, FrameOptions, Invocation, Job, LiveOptions, PrintedTime,
+};
 pub use lapd_cli_values::{
     Durations, Interface, LinkEnd, NoAddress, OutOfRange, Params, Recovery, Sapi, Side, Tei,
 };
@@ -41,8 +44,8 @@ use std::convert::AsStr;
 /// # Errors
 ///
 /// - `Shown` if the words request help or the version;
-/// - `Refused`, `OutOfRange`, `NoAddress`, `NotReal`, `NotFollowed` or `OneTerminal` if they are not
-///   valid;
+/// - `Refused`, `OutOfRange`, `NoAddress`, `NotReal`, `NotFollowed`, `NotCaptured` or `OneTerminal`
+///   if they are not valid;
 /// - `Memory` if an allocation fails.
 pub fn parse_words<'a, S: AsStr>(
     alloc: Global,

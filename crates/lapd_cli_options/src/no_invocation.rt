@@ -11,8 +11,8 @@ pub enum NoInvocation<'a> {
     /// 0.
     Shown(String),
     /// The parser refuses them, for the reason in this text. The text is for standard error, and
-    /// the exit status is 2, as for `OutOfRange`, `NoAddress`, `NotReal`, `NotFollowed` and
-    /// `OneTerminal`.
+    /// the exit status is 2, as for `OutOfRange`, `NoAddress`, `NotReal`, `NotFollowed`,
+    /// `NotCaptured` and `OneTerminal`.
     Refused(String),
     /// A number that is not in the range of its option.
     OutOfRange(OutOfRange<'a>),
@@ -23,6 +23,8 @@ pub enum NoInvocation<'a> {
     NotReal(&'static str),
     /// The option with this name, without the hyphens, requires `--follow`, which is absent.
     NotFollowed(&'static str),
+    /// The option with this name, without the hyphens, requires `--pcap`, which is absent.
+    NotCaptured(&'static str),
     /// `--idle-limit` is present, but the side accepts only one connection.
     OneTerminal,
     /// An allocation failed.
@@ -41,6 +43,9 @@ impl fmt::Display for NoInvocation<'_> {
             }
             NoInvocation::NotFollowed(option) => {
                 writeln!(f, "error: --{option} requires --follow")
+            }
+            NoInvocation::NotCaptured(option) => {
+                writeln!(f, "error: --{option} requires --pcap")
             }
             NoInvocation::OneTerminal => {
                 f.write_str("error: --idle-limit requires --terminals above 1\n")

@@ -4,8 +4,9 @@
 use crate::command_option::{CommandOption, WordOption};
 use crate::help;
 use lapd_cli_values::{
-    CONNECT, CONNECTED_TERMINALS, FIXED_TEI, FOLLOWED_K, GSMTAP, IDLE_LIMIT, K, KNOWN_TEI,
-    LINK_TEI, LINKS_K, LISTEN, N200, ROOM, SEED, T200, T201, T202, T203, TERMINALS,
+    CONNECT, CONNECTED_TERMINALS, COUNT, FIXED_TEI, FOLLOWED_K, GSMTAP, IDLE_LIMIT, K, KNOWN_TEI,
+    LINK_TEI, LINKS_K, LISTEN, N200, PRINTED_SAPI, PRINTED_TEI, ROOM, SEED, T200, T201, T202, T203,
+    TERMINALS,
 };
 
 /// The options of `answer`.
@@ -73,6 +74,12 @@ pub(crate) const DECODE: &[&[CommandOption]] = &[
         CommandOption::File("pcap", help::PCAP),
         CommandOption::Flag("follow", help::FOLLOW),
         CommandOption::BareNumber(FOLLOWED_K),
+        CommandOption::Word(FRAME_TIME),
+        CommandOption::BareNumber(COUNT),
+        CommandOption::BareNumber(PRINTED_SAPI),
+        CommandOption::BareNumber(PRINTED_TEI),
+        CommandOption::Word(KINDS),
+        CommandOption::Flag("no-polls", help::NO_POLLS),
     ],
 ];
 
@@ -126,6 +133,24 @@ const SENDER: WordOption = WordOption {
     name: "sender",
     help: help::SENDER,
     ..SIDE
+};
+
+/// The time before each trace line that `decode` prints of a capture.
+const FRAME_TIME: WordOption = WordOption {
+    name: "time",
+    value_name: "TIME",
+    help: help::FRAME_TIME,
+    words: &["none", "absolute", "relative", "delta"],
+    default: "none",
+};
+
+/// The kinds of the frames that `decode` prints.
+const KINDS: WordOption = WordOption {
+    name: "kinds",
+    value_name: "KINDS",
+    help: help::KINDS,
+    words: &["i,s,u", "i,s", "i,u", "s,u", "i", "s", "u"],
+    default: "i,s,u",
 };
 
 /// The SAPI of a link.

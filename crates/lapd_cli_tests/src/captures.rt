@@ -1,6 +1,7 @@
 //! Tests of captures, and of `decode` with captures and with loose lines. The rows were written by
 //! Wireshark's programs.
 
+mod chosen;
 mod followed;
 mod lines;
 mod names;

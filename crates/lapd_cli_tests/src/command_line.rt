@@ -4,8 +4,8 @@ mod words;
 
 use crate::scenarios::words_of;
 use lapd_cli_options::{
-    Clock, Durations, FollowOptions, Interface, Invocation, Job, NoInvocation, Params, Recovery,
-    Side, help, parse_words,
+    Clock, DecodeOptions, Durations, FollowOptions, FrameOptions, Interface, Invocation, Job,
+    NoInvocation, Params, PrintedTime, Recovery, Side, help, parse_words,
 };
 use lapd_cli_script::{PortFault, ScriptFault};
 use lapd_timers::Timer;
@@ -18,6 +18,8 @@ use std::test::Fail;
 /// - for a link: the window, N200, the capacity of the I queue and the recovery;
 /// - for an interface: the same for SAPI 0 and for SAPI 16, T200 to T203, whether SAPI 16 is
 ///   served, the seed (`-` without one), and the TEIs;
+/// - for `decode`: whether links are followed and their window, the time, the count, and the frames
+///   that are printed if not all are;
 /// - for the real clock: the number of terminals, the file, the address of GSMTAP and the other
 ///   flags.
 const ROWS: &str = "\
@@ -61,6 +63,15 @@ lapd decode --json => decode
 lapd decode --follow => decode follow
 lapd decode --follow --strict => decode follow strict
 lapd decode --k 127 --follow => decode follow 127
+lapd decode --time none --kinds i,s,u => decode
+lapd decode --time absolute --pcap a => decode absolute
+lapd decode --time=relative --pcap=a => decode relative
+lapd decode --time delta --pcap - --count 1 => decode delta count 1
+lapd decode --count 18446744073709551615 => decode count 18446744073709551615
+lapd decode --sapi 63 --tei 127 => decode sapi 63 tei 127 isu polls
+lapd decode --sapi=0 --kinds=s => decode sapi 0 s polls
+lapd decode --tei=0 --kinds i,u --no-polls => decode tei 0 iu
+lapd decode --kinds i,s --follow => decode follow is polls
 lapd net --listen 127.0.0.1:4000 => net 1 3 512 enquiry 3 3 512 enquiry 1000 1000 2000 10000 with-16 - at 127.0.0.1:4000
 lapd user --connect 127.0.0.1:4000 => user 1 3 512 enquiry 3 3 512 enquiry 1000 1000 2000 10000 with-16 - at 127.0.0.1:4000
 lapd net --listen 127.0.0.1:4000 --pri => net 7 3 512 enquiry 7 3 512 enquiry 1000 1000 2000 10000 without-16 - 0 at 127.0.0.1:4000
@@ -116,6 +127,13 @@ lapd answer --clock real => refused
 lapd decode --side user => refused
 lapd decode --follow --follow => refused
 lapd decode more => refused
+lapd decode --time now => refused
+lapd decode --time => refused
+lapd decode --kinds s,i => refused
+lapd decode --kinds => refused
+lapd decode --no-polls --no-polls => refused
+lapd decode --count 1 --count 1 => refused
+lapd decode --sapi => refused
 lapd --terminals 3 => refused
 lapd bus more => refused
 lapd bus --k 3 => refused
@@ -165,6 +183,11 @@ lapd loop --n200 101 => error: invalid value '101' for '--n200 <TIMES>': not a n
 lapd bus --terminals 0 => error: invalid value '0' for '--terminals <TERMINALS>': not a number from 1 to 127 in decimal digits~
 lapd bus --terminals 128 => error: invalid value '128' for '--terminals <TERMINALS>': not a number from 1 to 127 in decimal digits~
 lapd decode --k 3 => error: --k requires --follow~
+lapd decode --time delta => error: --time requires --pcap~
+lapd decode --count 0 => error: invalid value '0' for '--count <FRAMES>': not a number from 1 to 18446744073709551615 in decimal digits~
+lapd decode --count 18446744073709551616 => error: invalid value '18446744073709551616' for '--count <FRAMES>': not a number from 1 to 18446744073709551615 in decimal digits~
+lapd decode --sapi 64 => error: invalid value '64' for '--sapi <SAPI>': not a number from 0 to 63 in decimal digits~
+lapd decode --tei 128 => error: invalid value '128' for '--tei <TEI>': not a number from 0 to 127 in decimal digits~
 lapd decode --follow --k 128 => error: invalid value '128' for '--k <FRAMES>': not a number from 1 to 127 in decimal digits~
 lapd user --connect=a:1 --time => error: --time requires --clock real~
 lapd net --listen=a:1 --clock=script --quiet => error: --quiet requires --clock real~
@@ -278,6 +301,8 @@ fn show_job(text: &mut String, job: &Job) {
         Job::Decode(options) => {
             let _ = text.push_str("decode");
             show_follow(text, options.follow);
+            show_output(text, options);
+            show_frames(text, &options.frames);
         }
     }
 }
@@ -289,6 +314,35 @@ fn show_follow(text: &mut String, follow: Option<FollowOptions>) {
             let _ = write!(text, " {k}");
         }
     }
+}
+
+fn show_output(text: &mut String, options: &DecodeOptions) {
+    let _ = text.push_str(match options.time {
+        PrintedTime::Hidden => "",
+        PrintedTime::Absolute => " absolute",
+        PrintedTime::Relative => " relative",
+        PrintedTime::Delta => " delta",
+    });
+    if let Some(count) = options.count {
+        let _ = write!(text, " count {count}");
+    }
+}
+
+fn show_frames(text: &mut String, frames: &FrameOptions) {
+    if *frames == FrameOptions::ALL {
+        return;
+    }
+    if let Some(sapi) = frames.sapi {
+        let _ = write!(text, " sapi {sapi}");
+    }
+    if let Some(tei) = frames.tei {
+        let _ = write!(text, " tei {tei}");
+    }
+    let _ = text.push_str(" ");
+    let _ = text.push_str(if frames.i { "i" } else { "" });
+    let _ = text.push_str(if frames.s { "s" } else { "" });
+    let _ = text.push_str(if frames.u { "u" } else { "" });
+    let _ = text.push_str(if frames.polls { " polls" } else { "" });
 }
 
 fn show_ends(text: &mut String, job: &str, one: &Params, other: &Params) {

@@ -4,8 +4,8 @@
 use crate::run::run;
 use crate::scenario::{Console, Line, Scenario, mark_of};
 use lapd_cli_options::{
-    Clock, DecodeOptions, Durations, FollowOptions, Interface, Invocation, Job, LinkEnd, Params,
-    Recovery, Sapi, Side, Tei,
+    Clock, DecodeOptions, Durations, FollowOptions, FrameOptions, Interface, Invocation, Job,
+    LinkEnd, Params, PrintedTime, Recovery, Sapi, Side, Tei,
 };
 use lapd_cli_script::ScriptFault;
 use lapd_cli_side_commands::{FromRead, FromWrite, Port};
@@ -154,29 +154,30 @@ frame 008153
 
 #[test]
 fn decodes_while_there_is_memory(rt: HostRuntime) -> Result<(), Fail> {
-    let options = DecodeOptions {
-        loose: false,
-        sender: Side::User,
-        names: false,
-        json: false,
-        keep_going: false,
-        follow: None,
-    };
-    preserves(&rt, Job::Decode(options), OCTETS)
+    preserves(&rt, Job::Decode(DECODE), OCTETS)
 }
 
 #[test]
 fn follows_while_there_is_memory(rt: HostRuntime) -> Result<(), Fail> {
     let options = DecodeOptions {
-        loose: false,
-        sender: Side::User,
-        names: false,
-        json: false,
-        keep_going: false,
         follow: Some(FollowOptions { k: Some(1) }),
+        ..DECODE
     };
     preserves(&rt, Job::Decode(options), FOLLOWED)
 }
+
+/// `decode` without options.
+const DECODE: DecodeOptions = DecodeOptions {
+    loose: false,
+    sender: Side::User,
+    names: false,
+    json: false,
+    keep_going: false,
+    follow: None,
+    time: PrintedTime::Hidden,
+    count: None,
+    frames: FrameOptions::ALL,
+};
 
 const FOLLOWED: &str = "\
 user

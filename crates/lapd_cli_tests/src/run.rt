@@ -1,8 +1,10 @@
 //! Running a command over any reader, writer and port.
 
-use lapd_cli_decode::{Following, LineForm, Style, decode_lines, follow_lines};
+use lapd_cli_decode::{
+    Filter, Follow, FrameStyle, FrameTime, LineForm, LinesStyle, Style, decode_lines, print_lines,
+};
 use lapd_cli_link_commands::{answer, bus, loop_over, pair};
-use lapd_cli_options::{DecodeOptions, Interface, Invocation, Job, LinkEnd};
+use lapd_cli_options::{DecodeOptions, FrameOptions, Interface, Invocation, Job, LinkEnd};
 use lapd_cli_script::ScriptFault;
 use lapd_cli_side_commands::{Config, Port, SideRun, Sink, Source, net, user};
 use lapd_cli_side_lines::LineStyle;
@@ -63,17 +65,41 @@ fn do_decode<R: Read, W: Write>(
     } else {
         Style::Plain
     };
-    let Some(follow) = options.follow else {
+    if options.follow.is_none() && options.count.is_none() && options.frames == FrameOptions::ALL {
         return decode_lines(alloc, script, out, form, style);
-    };
-    let how = Following {
+    }
+    let how = LinesStyle {
         form,
-        style,
+        frames: FrameStyle {
+            style,
+            time: FrameTime::Hidden,
+            filter: Some(filter_of(options.frames)),
+            count: options.count,
+        },
         keeps_going: false,
-        k: follow.k,
+        follow: options.follow.map(|follow| Follow { k: follow.k }),
     };
-    let _is_violated = follow_lines(alloc, script, out, how, io::sink())?;
+    let _is_violated = print_lines(alloc, script, out, how, io::sink())?;
     Ok(())
+}
+
+fn filter_of(frames: FrameOptions) -> Filter {
+    let FrameOptions {
+        sapi,
+        tei,
+        i,
+        s,
+        u,
+        polls,
+    } = frames;
+    Filter {
+        sapi,
+        tei,
+        i,
+        s,
+        u,
+        polls,
+    }
 }
 
 fn do_net<R: Read, W: Write, S: Source, K: Sink>(

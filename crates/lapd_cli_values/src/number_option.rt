@@ -135,6 +135,36 @@ pub const FOLLOWED_K: NumberOption = NumberOption {
     most: 127,
 };
 
+/// After how many printed frames the output of `decode` ends. By default it does not.
+pub const COUNT: NumberOption = NumberOption {
+    name: "count",
+    value_name: "FRAMES",
+    help: "Ends after this many frames were printed, 1 to 18446744073709551615; if absent, at the end of the input",
+    default: "",
+    least: 1,
+    most: 18_446_744_073_709_551_615,
+};
+
+/// The SAPI of the frames that `decode` prints (Q.921 3.3.3). By default all are printed.
+pub const PRINTED_SAPI: NumberOption = NumberOption {
+    name: "sapi",
+    value_name: "SAPI",
+    help: "Prints only frames with this SAPI, 0 to 63",
+    default: "",
+    least: 0,
+    most: 63,
+};
+
+/// The TEI of the frames that `decode` prints (Q.921 3.3.4). By default all are printed.
+pub const PRINTED_TEI: NumberOption = NumberOption {
+    name: "tei",
+    value_name: "TEI",
+    help: "Prints only frames with this TEI, 0 to 127",
+    default: "",
+    least: 0,
+    most: 127,
+};
+
 /// The duration of T200 (Q.921 5.9.1).
 pub const T200: NumberOption = NumberOption {
     name: "t200",

@@ -3,8 +3,8 @@
 use crate::captures::read::{are_lines, parts_of};
 use crate::wants::{all_hold, wants};
 use lapd_cli_decode::{
-    CaptureReader, CaptureStop, CaptureStyle, Following, HeardCapture, LineForm, ReadFault, Side,
-    Style, follow_capture, follow_lines,
+    CaptureReader, CaptureStop, CaptureStyle, Follow, FrameStyle, LineForm, LinesStyle, ReadFault,
+    Seen, Side, Style, follow_capture, print_lines,
 };
 use lapd_cli_script::ScriptFault;
 use std::alloc::Global;
@@ -54,9 +54,9 @@ fn prints(alloc: Global, style: Style, lines: &str) -> bool {
 }
 
 // Whether a capture ended, with frames and with no violation.
-fn is_heard(ended: &Result<HeardCapture, CaptureStop>) -> bool {
+fn is_heard(ended: &Result<Seen, CaptureStop>) -> bool {
     match ended {
-        Ok(heard) => heard.any && !heard.is_violated,
+        Ok(seen) => seen.any && !seen.is_violated,
         Err(_) => false,
     }
 }
@@ -66,16 +66,20 @@ fn print_capture(
     octets: &[u8],
     printed: &mut Vec<u8>,
     style: Style,
-) -> Result<HeardCapture, CaptureStop> {
+) -> Result<Seen, CaptureStop> {
     let how = CaptureStyle {
-        style,
+        frames: FrameStyle {
+            style,
+            ..FrameStyle::PLAIN
+        },
         sender: Side::User,
         keeps_going: false,
     };
     let mut reported = Vec::new(alloc);
     match CaptureReader::new(alloc, parts_of(octets, 7)) {
         Ok(mut capture) => {
-            follow_capture(alloc, &mut capture, printed, &mut reported, how, Some(7))
+            let follow = Follow { k: Some(7) };
+            follow_capture(alloc, &mut capture, printed, &mut reported, how, follow)
         }
         Err(ReadFault::Capture(fault)) => Err(CaptureStop::Capture(fault, 0)),
         Err(ReadFault::Device(kind)) => Err(CaptureStop::Input(kind)),
@@ -121,12 +125,12 @@ fn follow_loose(
     printed: &mut Vec<u8>,
     reported: &mut Vec<u8>,
 ) -> Result<bool, ScriptFault> {
-    let how = Following {
+    let how = LinesStyle {
         form: LineForm::Loose(Side::User),
-        style: Style::Plain,
+        frames: FrameStyle::PLAIN,
         keeps_going: true,
-        k: None,
+        follow: Some(Follow { k: None }),
     };
     let mut script = LOOSE.as_bytes();
-    follow_lines(alloc, &mut script, printed, how, &mut *reported)
+    print_lines(alloc, &mut script, printed, how, &mut *reported)
 }

@@ -3,7 +3,8 @@
 use crate::streams::Parts;
 use crate::wants::{is_printed_as, wants};
 use lapd_cli_decode::{
-    CaptureReader, CaptureStop, CaptureStyle, ReadFault, Seen, Side, Style, decode_capture,
+    CaptureReader, CaptureStop, CaptureStyle, FrameStyle, ReadFault, Seen, Side, Style,
+    decode_capture,
 };
 use std::alloc::Global;
 use std::test::Fail;
@@ -70,8 +71,13 @@ pcapng, two interfaces of two units|0a0d0d0a1c0000004d3c2b1a01000000ffffffffffff
 const PASSED_OVER: &str = "\
 captured in part|d4c3b2a102000400000000000000000000000400b100000001000000d00700001300000013000000000420fd00010000000000000000003000817f01000000d00700001300000028000000000420fd00010000000000000000003000817f01000000d00700001300000013000000000420fd00010000000000000000003000817f|U>N SAPI 0 TEI 64 C SABME P=1/U>N SAPI 0 TEI 64 C SABME P=1";
 
-const HOW: CaptureStyle = CaptureStyle {
+const NAMED: FrameStyle = FrameStyle {
     style: Style::Named,
+    ..FrameStyle::PLAIN
+};
+
+const HOW: CaptureStyle = CaptureStyle {
+    frames: NAMED,
     sender: Side::User,
     keeps_going: false,
 };
@@ -79,7 +85,10 @@ const HOW: CaptureStyle = CaptureStyle {
 #[test]
 fn captures_are_printed(rt: HostRuntime) -> Result<(), Fail> {
     let objects = CaptureStyle {
-        style: Style::Json,
+        frames: FrameStyle {
+            style: Style::Json,
+            ..NAMED
+        },
         ..HOW
     };
     let keeps_going = CaptureStyle {
@@ -112,7 +121,15 @@ fn row_holds(alloc: Global, row: &str, how: CaptureStyle) -> bool {
     }
 }
 
-fn result_is(alloc: Global, digits: &str, how: CaptureStyle, fault: &str, lines: &str) -> bool {
+/// Whether the capture that these digits spell ends with this fault, or without one if it is empty,
+/// and is printed as these lines.
+pub(crate) fn result_is(
+    alloc: Global,
+    digits: &str,
+    how: CaptureStyle,
+    fault: &str,
+    lines: &str,
+) -> bool {
     match hex::decode(alloc, digits.as_bytes()) {
         Ok(octets) => prints(alloc, octets.as_slice(), how, fault, lines),
         Err(_) => false,

@@ -78,4 +78,53 @@ net 00 81
 
 lapd decode
 decode
-! line 1: bad command";
+! line 1: bad command
+
+lapd decode --kinds s --no-polls
+# supervisory frames without P and F
+user 00817f
+user 008100000801
+net 00810102
+    N>U SAPI 0 TEI 64 R RR N(R)=1 F=0
+net 02810103
+user 00810100
+    U>N SAPI 0 TEI 64 C RR N(R)=0 P=0
+user
+nobody 00
+! line 8: bad command
+
+lapd decode --sapi 63 --tei 127
+# one SAPI and TEI
+user 00817f
+user fcff030f619901ff
+    U>N SAPI 63 TEI 127 C UI P=0 info=0f619901ff
+net fefb030f00070281
+user fc
+user 04817f
+
+lapd decode --sapi 1
+# a SAPI that is not served
+user 00817f
+user 04817f
+    U>N F3 SapiNotServed 04817f
+
+lapd decode --tei 64 --kinds i,u
+user 00817f
+    U>N SAPI 0 TEI 64 C SABME P=1
+user 00837f
+net 008173
+    N>U SAPI 0 TEI 64 R UA F=1
+user 008100000801
+    U>N SAPI 0 TEI 64 C I N(S)=0 N(R)=0 P=0 info=0801
+net 00810102
+user 00
+
+lapd decode --count 2 --kinds u
+# lines after the second printed frame are skipped
+user 00817f
+    U>N SAPI 0 TEI 64 C SABME P=1
+net 00810102
+net 008173
+    N>U SAPI 0 TEI 64 R UA F=1
+user 00817f
+nobody 00";

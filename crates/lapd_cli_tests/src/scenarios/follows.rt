@@ -46,6 +46,38 @@ user
 .
     {"establishments":1,"network":{"disc":0,"dm":0,"frmr":0,"i":0,"messages":0,"octets":0,"polls":0,"rej":0,"repeated":0,"rnr":0,"rr":0,"sabme":0,"ua":1,"ui":0,"xid":0},"sapi":0,"tei":64,"user":{"disc":0,"dm":0,"frmr":0,"i":0,"messages":0,"octets":0,"polls":1,"rej":0,"repeated":0,"rnr":0,"rr":0,"sabme":1,"ua":0,"ui":0,"xid":0}}
 
+lapd decode --follow --kinds s
+# frames that are not printed are followed
+user 00817f
+net 008173
+user 008100000801
+net 00810102
+    N>U SAPI 0 TEI 64 R RR N(R)=1 F=0
+net 00810103
+    N>U SAPI 0 TEI 64 R RR N(R)=1 F=1; violation: response without a poll
+user 00810101
+    U>N SAPI 0 TEI 64 C RR N(R)=0 P=1
+net 00810103
+    N>U SAPI 0 TEI 64 R RR N(R)=1 F=1; answers packet 6
+.
+    SAPI 0 TEI 64: establishments 1
+      U>N I 1, RR 1, RNR 0, REJ 0, SABME 1, DISC 0, UA 0, DM 0, UI 0, FRMR 0, XID 0
+      U>N messages 1, octets 2, repeated 0, polls 2
+      N>U I 0, RR 3, RNR 0, REJ 0, SABME 0, DISC 0, UA 1, DM 0, UI 0, FRMR 0, XID 0
+      N>U messages 0, octets 0, repeated 0, polls 0
+
+lapd decode --follow --count 1
+# the tables count the frames up to the last printed one
+user 00817f
+    U>N SAPI 0 TEI 64 C SABME P=1
+net 008173
+.
+    SAPI 0 TEI 64: establishments 0
+      U>N I 0, RR 0, RNR 0, REJ 0, SABME 1, DISC 0, UA 0, DM 0, UI 0, FRMR 0, XID 0
+      U>N messages 0, octets 0, repeated 0, polls 1
+      N>U I 0, RR 0, RNR 0, REJ 0, SABME 0, DISC 0, UA 0, DM 0, UI 0, FRMR 0, XID 0
+      N>U messages 0, octets 0, repeated 0, polls 0
+
 lapd decode --follow --k 1
 # two links, a window that is exceeded, a repetition, and a line that is no line
 user 00817f

@@ -1,0 +1,12 @@
+use Rattle.std.proofs.Common.{IfSome, subst}
+use Rattle.lapd_cli_script.specs.Script.{lines_of}
+use Rattle.lapd_cli_decode.specs.Frames.{Printing}
+use Rattle.lapd_cli_decode.specs.PrintedLines.{LinesEnd, PrintingLines}
+use Rattle.lapd_cli_decode.proofs.printed_lines.print_lines.Goals as goal
+
+pub returns-in-Ok : goal.returns-in-Ok
+returns-in-Ok g c =
+    let begun : Printing → PrintingLines = λ p. record { form = c.args.how.form; keeps_going = c.args.how.keeps_going; printing = p } in
+    subst (λ (p : Printing). IfSome (g.R.Read.remaining c.args.script.now) (λ octets. LinesEnd (begun p) c.print_to_end.result (lines_of octets) (g.W.Write.contents c.args.out.now) (g.W.Write.contents c.print_to_end.new.out)))
+    c.in-Ok.ensures
+    c.print_to_end.ensures

@@ -1,0 +1,147 @@
+-- What is printed of frames, and what is known after them.
+use Rattle.std.specs.Prelude.{◌≡◌, ℕ, Bool, false, if◌then◌else◌, List, [], ◌++◌, Option, Some, None, Result, Ok, Err, ⊤}
+use Rattle.std.specs.Io.KnownBytes.{Appends, Keeps}
+use Rattle.lapd_frame.specs.declared.Side.{Side}
+use Rattle.lapd_cli_render.specs.declared.Packet.{Packet}
+use Rattle.lapd_follow.specs.declared.packet.Packet.{Packet as FollowedPacket}
+use Rattle.lapd_follow.specs.declared.remarks.Remarks.{Remarks}
+use Rattle.lapd_follow.specs.Ends.{one_more}
+use Rattle.lapd_follow.specs.Listening.{Listening, listening_after, new_listening, said_of_octets}
+use Rattle.lapd_cli_script.specs.Line.{text_line}
+use Rattle.lapd_cli_script.specs.declared.script.LineFault.{LineFault}
+use Rattle.lapd_cli_script.specs.declared.script.LineFault.TheVariants.{Bad, Device as LineDevice, Memory as LineMemory}
+use Rattle.lapd_cli_script.specs.declared.script.ScriptFault.{ScriptFault}
+use Rattle.lapd_cli_script.specs.declared.script.ScriptFault.TheVariants.{BadLine, Device, Memory, Port}
+use Rattle.lapd_cli_decode.specs.declared.frame_printer.Follow.{Follow}
+use Rattle.lapd_cli_decode.specs.declared.frame_printer.Origin.{Origin}
+use Rattle.lapd_cli_decode.specs.declared.frame_printer.Origin.TheVariants.{Script, Capture}
+use Rattle.lapd_cli_decode.specs.declared.frame_style.FrameStyle.{FrameStyle}
+use Rattle.lapd_cli_decode.specs.declared.style.Style.{Style}
+use Rattle.lapd_cli_decode.specs.Filter.{reaches, takes_by}
+use Rattle.lapd_cli_decode.specs.Remarked.{remarked}
+use Rattle.lapd_cli_decode.specs.Style.{styled_packet, styled_text}
+use Rattle.lapd_cli_decode.specs.Tables.{tables_text}
+use Rattle.lapd_cli_decode.specs.Time.{either, front_text, time_of}
+
+-- how frames are printed, how many there were, how many of them were printed, when the first and
+-- the last of these were captured, as far as known, and what a listener knows of the links, if they
+-- are followed
+pub record Printing : Type 0 where
+  pub origin : Origin
+  pub how : FrameStyle
+  pub frames : ℕ
+  pub printed : ℕ
+  pub first : Option ℕ
+  pub last : Option ℕ
+  pub listening : Option Listening
+
+-- before the first frame
+abbrev pub listening_by : Option Follow → Option Listening
+listening_by None = None
+listening_by (Some follow) = Some (new_listening follow.k)
+
+abbrev pub new_printing : Origin → FrameStyle → Option Follow → Printing
+new_printing origin how follow = record {
+  origin = origin;
+  how = how;
+  frames = 0;
+  printed = 0;
+  first = None;
+  last = None;
+  listening = listening_by follow;
+}
+
+-- all requested frames are printed
+abbrev pub is_complete : Printing → Bool
+is_complete s = reaches s.how.count s.printed
+
+-- ---- One frame: its packet, the side that sent it, and its octets.
+
+-- the packet of the next line of a script: its number is its place among the frames
+abbrev pub line_packet : Printing → Packet
+line_packet s = record { number = one_more s.frames; moment = None }
+
+-- a packet, for a listener
+abbrev pub followed_packet : Packet → FollowedPacket
+followed_packet packet = record { number = packet.number; moment = packet.moment }
+
+-- the remarks on a frame, if its link is followed
+abbrev pub said_by : FollowedPacket → Side → List ℕ → Option Listening → Option Remarks
+said_by packet from octets None = None
+said_by packet from octets (Some l) = Some (said_of_octets packet from octets l)
+
+-- what a listener knows after it
+abbrev pub heard_by : FollowedPacket → Side → List ℕ → Option Listening → Option Listening
+heard_by packet from octets None = None
+heard_by packet from octets (Some l) = Some (listening_after packet from octets l)
+
+-- the text of a frame without remarks
+abbrev pub bare_text : Origin → Style → Packet → Side → List ℕ → List ℕ
+bare_text Script style packet from octets = styled_text style from octets
+bare_text Capture style packet from octets = styled_packet style packet from octets
+
+-- the line of a frame that is printed, with these remarks
+abbrev pub line_with : Option Remarks → Packet → Side → List ℕ → Printing → List ℕ
+line_with said packet from octets s = text_line (remarked s.how.style said
+    (front_text s.how.style s.how.time (time_of s.how.time s.first s.last packet.moment)
+    ++ bare_text s.origin s.how.style packet from octets))
+
+-- what is known after a frame that is printed and was captured at this moment
+abbrev pub after_shown : Option ℕ → Printing → Printing
+after_shown moment s = record s {
+  printed = one_more s.printed;
+  first = either s.first moment;
+  last = either moment s.last;
+}
+
+-- what is known after a frame that is not printed
+abbrev pub after_heard : Packet → Side → List ℕ → Printing → Printing
+after_heard packet from octets s = record s {
+  frames = one_more s.frames;
+  listening = heard_by (followed_packet packet) from octets s.listening;
+}
+
+-- the text of a frame: nothing if it is filtered out
+abbrev pub frame_text : Packet → Side → List ℕ → Printing → List ℕ
+frame_text packet from octets s = if takes_by s.how.filter octets
+    then line_with (said_by (followed_packet packet) from octets s.listening) packet from octets s
+    else []
+
+-- what is known after it: each frame is followed
+abbrev pub after_frame : Packet → Side → List ℕ → Printing → Printing
+after_frame packet from octets s = if takes_by s.how.filter octets
+    then after_shown packet.moment (after_heard packet from octets s)
+    else after_heard packet from octets s
+
+-- how printing a line ends, and what is known then
+abbrev pub PrintEnds : List ℕ → Printing → Result ⊤ LineFault → Printing → Option (List ℕ)
+    → Option (List ℕ) → Type 0
+PrintEnds line next (Ok done) now old new = (now ≡ next) × Appends old new line
+PrintEnds line next (Err LineMemory) now old new = Keeps old new
+PrintEnds line next (Err LineDevice) now old new = ⊤
+PrintEnds line next (Err Bad) now old new = ⊥
+
+-- ---- After the last frame.
+
+-- the tables of the links, if these are followed
+abbrev pub tables_of : Style → Option Listening → List ℕ
+tables_of style None = []
+tables_of style (Some l) = tables_text style l.tallies
+
+abbrev pub closing_text : Printing → List ℕ
+closing_text s = tables_of s.how.style s.listening
+
+-- whether a remark was a violation
+abbrev pub is_violated_by : Option Listening → Bool
+is_violated_by None = false
+is_violated_by (Some l) = l.is_violated
+
+-- how printing the tables ends
+abbrev pub ClosingEnds : Style → Option Listening → Result Bool ScriptFault → Option (List ℕ)
+    → Option (List ℕ) → Type 0
+ClosingEnds style listening (Ok is_violated) old new =
+    Appends old new (tables_of style listening) × (is_violated ≡ is_violated_by listening)
+ClosingEnds style listening (Err Memory) old new = Keeps old new
+ClosingEnds style listening (Err Device) old new = ⊤
+ClosingEnds style listening (Err (BadLine number)) old new = ⊥
+ClosingEnds style listening (Err (Port fault)) old new = ⊥

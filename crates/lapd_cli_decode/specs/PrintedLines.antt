@@ -1,0 +1,64 @@
+-- The output of `decode` for lines, if frames are chosen or their links are followed.
+use Rattle.std.specs.Prelude.{◌≡◌, ℕ, Bool, if◌then◌else◌, List, [], ◌++◌, Option, Some, None, Result, Ok, Err, ⊤}
+use Rattle.std.specs.Io.KnownBytes.{Appends}
+use Rattle.lapd_frame.specs.declared.Side.{Side}
+use Rattle.lapd_cli_script.specs.Script.{LineOutcome, PrintsFront, bad_line, output_of, state_after}
+use Rattle.lapd_cli_script.specs.declared.script.ScriptFault.{ScriptFault}
+use Rattle.lapd_cli_script.specs.declared.script.ScriptFault.TheVariants.{BadLine, Device, Memory, Port}
+use Rattle.lapd_cli_decode.specs.declared.printed_lines.LinesStyle.{LinesStyle}
+use Rattle.lapd_cli_decode.specs.declared.frame_printer.Origin.TheVariants.{Script}
+use Rattle.lapd_cli_decode.specs.declared.line_form.LineForm.{LineForm}
+use Rattle.lapd_cli_decode.specs.Frames.{Printing, after_frame, closing_text, frame_text, is_complete, is_violated_by, line_packet, new_printing}
+use Rattle.lapd_cli_decode.specs.Lines.{sent_in}
+
+-- how lines are read, whether bad ones are skipped, and what is known of the frames before the next
+pub record PrintingLines : Type 0 where
+  pub form : LineForm
+  pub keeps_going : Bool
+  pub printing : Printing
+
+-- before the first line
+abbrev pub before_lines : LinesStyle → PrintingLines
+before_lines how = record {
+  form = how.form;
+  keeps_going = how.keeps_going;
+  printing = new_printing Script how.frames how.follow;
+}
+
+-- the state after the octets that this side sent
+abbrev pub after_octets : PrintingLines → Side → List ℕ → PrintingLines
+after_octets s from octets = record s {
+  printing = after_frame (line_packet s.printing) from octets s.printing;
+}
+
+-- the result of a line that names a side and octets, or doesn't
+abbrev pub sent_outcome : PrintingLines → Option (Side × List ℕ) → LineOutcome PrintingLines
+sent_outcome s None = None
+sent_outcome s (Some sent) = Some (
+  frame_text (line_packet s.printing) sent.0 sent.1 s.printing,
+  after_octets s sent.0 sent.1,
+)
+
+-- if bad lines are skipped, nothing is printed for them, and nothing changes
+abbrev pub or_skipped : PrintingLines → LineOutcome PrintingLines → LineOutcome PrintingLines
+or_skipped s None = if s.keeps_going then Some ([], s) else None
+or_skipped s (Some next) = Some next
+
+-- the result of each line; after the last requested frame all lines are skipped
+abbrev pub print_step : PrintingLines → List ℕ → LineOutcome PrintingLines
+print_step s line = if is_complete s.printing then Some ([], s)
+    else or_skipped s (sent_outcome s (sent_in s.form line))
+
+-- how printing the frames of these lines ends, and the writer's contents then: after the last line
+-- the tables of the links are printed, if these are followed
+abbrev pub LinesEnd : PrintingLines → Result Bool ScriptFault → List (List ℕ) → Option (List ℕ)
+    → Option (List ℕ) → Type 0
+LinesEnd s (Ok is_violated) lines old new = (bad_line print_step s lines ≡ None)
+    × Appends old new (output_of print_step s lines
+    ++ closing_text (state_after print_step s lines).printing)
+    × (is_violated ≡ is_violated_by (state_after print_step s lines).printing.listening)
+LinesEnd s (Err (BadLine number)) lines old new = (bad_line print_step s lines ≡ Some number)
+    × Appends old new (output_of print_step s lines)
+LinesEnd s (Err Memory) lines old new = PrintsFront print_step s lines old new
+LinesEnd s (Err Device) lines old new = ⊤
+LinesEnd s (Err (Port fault)) lines old new = ⊥

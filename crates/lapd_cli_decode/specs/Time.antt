@@ -1,0 +1,51 @@
+-- The time that is printed before a trace line.
+use Rattle.std.specs.Prelude.{ℕ, ◌-◌, ◌/◌, ◌%◌, List, [], ◌++◌, codes, Option, None, Some}
+use Rattle.std.specs.Fmt.{decimal}
+use Rattle.lapd_cli_decode.specs.declared.frame_time.FrameTime.{FrameTime}
+use Rattle.lapd_cli_decode.specs.declared.frame_time.FrameTime.TheVariants.{Hidden, Absolute, Relative, Delta}
+use Rattle.lapd_cli_decode.specs.declared.style.Style.{Style}
+use Rattle.lapd_cli_decode.specs.declared.style.Style.TheVariants.{Plain, Named, Json, NamedJson}
+
+-- the first of two that is known
+abbrev pub either : Option ℕ → Option ℕ → Option ℕ
+either None other = other
+either (Some moment) other = Some moment
+
+-- the time since an earlier moment; 0 if there is none, or if the clock ran back
+abbrev pub since : Option ℕ → Option ℕ → Option ℕ
+since earlier None = None
+since None (Some moment) = Some 0
+since (Some earlier) (Some moment) = Some (moment - earlier)
+
+-- the time of a frame that was captured at this moment, in microseconds: since 1970, since the
+-- first printed frame, or since the printed frame before
+abbrev pub time_of : FrameTime → Option ℕ → Option ℕ → Option ℕ → Option ℕ
+time_of Hidden first last moment = None
+time_of Absolute first last moment = moment
+time_of Relative first last moment = since first moment
+time_of Delta first last moment = since last moment
+
+-- microseconds as seconds with six digits after the point, and a space
+abbrev pub seconds_text : ℕ → List ℕ
+seconds_text time = decimal (time / 1000000) ++ (codes "." ++ (decimal (time / 100000 % 10)
+    ++ (decimal (time / 10000 % 10) ++ (decimal (time / 1000 % 10)
+    ++ (decimal (time / 100 % 10) ++ (decimal (time / 10 % 10) ++ (decimal (time % 10)
+    ++ codes " ")))))))
+
+-- `-` if it is not known
+abbrev pub known_text : Option ℕ → List ℕ
+known_text None = codes "- "
+known_text (Some time) = seconds_text time
+
+abbrev pub time_text : FrameTime → Option ℕ → List ℕ
+time_text Hidden time = []
+time_text Absolute time = known_text time
+time_text Relative time = known_text time
+time_text Delta time = known_text time
+
+-- only a trace line begins with it
+abbrev pub front_text : Style → FrameTime → Option ℕ → List ℕ
+front_text Plain time moment = time_text time moment
+front_text Named time moment = time_text time moment
+front_text Json time moment = []
+front_text NamedJson time moment = []

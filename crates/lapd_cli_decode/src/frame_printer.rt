@@ -1,0 +1,279 @@
+//! Printing frames one after the other, with the remarks on them if their links are followed.
+
+ghost use Rattle.std.specs.Prelude.{◌≡◌, nat_lt, IfOk, OnOk};
+ghost use Rattle.std.specs.String.{string_bytes};
+ghost use Rattle.lapd_cli_decode.specs.Frames.{ClosingEnds, PrintEnds, after_frame, after_shown, bare_text, followed_packet, frame_text, heard_by, is_complete, line_packet, line_with, listening_by, new_printing, said_by};
+
+use crate::frame_style::FrameStyle;
+use crate::frame_time::either;
+use crate::remarked::put_frame;
+use crate::style::Style;
+use crate::tables::put_tables;
+use lapd_cli_render::Packet;
+use lapd_cli_script::{LineFault, ScriptFault};
+use lapd_follow::{Listener, Remarks};
+use lapd_frame::Side;
+use std::alloc::{AllocError, Global};
+use std::io::Write;
+use std::marker::Model;
+
+/// Where frames come from.
+#[derive(Clone, Copy)]
+pub enum Origin {
+    /// The lines of a script.
+    Script,
+    /// The packets of a capture.
+    Capture,
+}
+
+/// How links are followed.
+#[derive(Clone, Copy)]
+pub struct Follow {
+    /// The window k of all links, 1 to 127, if it is known.
+    pub k: Option<u8>,
+}
+
+/// Prints the requested frames, and follows the links of all if that is requested. It reuses its
+/// text for all frames.
+#[derive(Drop)]
+pub(crate) struct FramePrinter {
+    alloc: Global,
+    origin: Origin,
+    how: FrameStyle,
+    frames: u64,
+    printed: u64,
+    first: Option<u64>,
+    last: Option<u64>,
+    listener: Option<Listener>,
+    text: String,
+}
+
+impl Model for FramePrinter {
+    ghost use Rattle.lapd_cli_decode.specs.Frames.{Printing};
+
+    ghost Value = { Printing };
+
+    ghost view = { λ p. record {
+      origin = p.origin;
+      how = p.how;
+      frames = p.frames;
+      printed = p.printed;
+      first = p.first;
+      last = p.last;
+      listening = p.listener;
+    } };
+}
+
+impl FramePrinter {
+    /// A printer before the first frame.
+    ///
+    /// # Errors
+    ///
+    /// `AllocError` if links are followed and an allocation fails.
+    pub(crate) fn new(
+        alloc: Global,
+        origin: Origin,
+        how: FrameStyle,
+        follow: Option<Follow>,
+    ) -> Result<FramePrinter, AllocError>
+        ensures { IfOk result (λ printer. printer ≡ new_printing origin how follow) }
+    {
+        let listener = listener_by(alloc, follow)?;
+        Ok(FramePrinter {
+            alloc,
+            origin,
+            how,
+            frames: 0,
+            printed: 0,
+            first: None,
+            last: None,
+            listener,
+            text: String::new(alloc),
+        })
+    }
+
+    /// Whether there was a frame.
+    pub(crate) fn any(&self) -> bool
+        ensures { result ≡ nat_lt 0 self.now.frames }
+    {
+        0 < self.frames
+    }
+
+    /// Whether all requested frames are printed.
+    pub(crate) fn is_complete(&self) -> bool
+        ensures { result ≡ is_complete self.now }
+    {
+        self.how.ends_after(self.printed)
+    }
+
+    /// The packet of the next line of a script.
+    pub(crate) fn line_packet(&self) -> Packet
+        ensures { result ≡ line_packet self.now }
+    {
+        Packet {
+            number: self.frames.saturating_add(1),
+            moment: None,
+        }
+    }
+
+    /// Follows the octets that `from` sent next, if links are followed, and prints them with the
+    /// remarks on them, unless they are filtered out.
+    ///
+    /// # Errors
+    ///
+    /// `Memory` if an allocation fails, before anything is printed; `Device` if the writer fails.
+    pub(crate) fn print<W: Write>(
+        &mut self,
+        packet: Packet,
+        from: Side,
+        octets: &[u8],
+        out: &mut W,
+    ) -> Result<(), LineFault>
+        ensures { PrintEnds (frame_text packet from octets.now self.old)
+            (after_frame packet from octets.now self.old) result self.new (W.contents out.old)
+            (W.contents out.new) }
+    {
+        let Ok(said) = listen(&mut self.listener, followed(packet), from, octets) else {
+            return Err(LineFault::Memory);
+        };
+        self.frames = self.frames.saturating_add(1);
+        if self.how.takes(octets) {
+            self.show(&said, packet, from, octets, out)
+        } else {
+            Ok(())
+        }
+    }
+
+    /// Prints octets with these remarks.
+    fn show<W: Write>(
+        &mut self,
+        said: &Option<Remarks>,
+        packet: Packet,
+        from: Side,
+        octets: &[u8],
+        out: &mut W,
+    ) -> Result<(), LineFault>
+        ensures { PrintEnds (line_with said.now packet from octets.now self.old)
+            (after_shown packet.moment self.old) result self.new (W.contents out.old)
+            (W.contents out.new) }
+    {
+        let style = self.how.style;
+        let Ok(()) = write_text(
+            self.alloc,
+            self.origin,
+            style,
+            packet,
+            from,
+            octets,
+            &mut self.text,
+        ) else {
+            return Err(LineFault::Memory);
+        };
+        let time = self.how.time.of(self.first, self.last, packet.moment);
+        let Ok(()) = self
+            .how
+            .time
+            .put_before(self.alloc, style, time, &mut self.text)
+        else {
+            return Err(LineFault::Memory);
+        };
+        self.printed = self.printed.saturating_add(1);
+        self.first = either(self.first, packet.moment);
+        self.last = either(packet.moment, self.last);
+        put_frame(self.alloc, style, self.text.as_bytes(), said, out)
+    }
+
+    /// Prints the tables of the links, if these are followed. Returns whether a remark was a
+    /// violation.
+    ///
+    /// # Errors
+    ///
+    /// `Memory` if an allocation fails, before anything is printed; `Device` if the writer fails.
+    pub(crate) fn close<W: Write>(&self, out: &mut W) -> Result<bool, ScriptFault>
+        ensures { ClosingEnds self.now.how.style self.now.listening result (W.contents out.old)
+            (W.contents out.new) }
+    {
+        close_links(self.alloc, self.how.style, &self.listener, out)
+    }
+}
+
+/// The listener before the first frame, if links are followed.
+fn listener_by(alloc: Global, follow: Option<Follow>) -> Result<Option<Listener>, AllocError>
+    ensures { IfOk result (λ listener. listener ≡ listening_by follow) }
+{
+    match follow {
+        None => Ok(None),
+        Some(follow) => {
+            let listener = Listener::new(alloc, follow.k)?;
+            Ok(Some(listener))
+        }
+    }
+}
+
+/// Passes octets to the listener, if there is one, and returns its remarks.
+fn listen(
+    listener: &mut Option<Listener>,
+    packet: lapd_follow::Packet,
+    from: Side,
+    octets: &[u8],
+) -> Result<Option<Remarks>, AllocError>
+    ensures said { IfOk result (λ said. said ≡ said_by packet from octets.now listener.old) }
+    ensures after { OnOk result (listener.new ≡ heard_by packet from octets.now listener.old) }
+{
+    match listener {
+        None => Ok(None),
+        Some(listener) => {
+            let said = listener.octets(packet, from, octets)?;
+            Ok(Some(said))
+        }
+    }
+}
+
+/// Replaces `line` with the text of a frame without remarks.
+fn write_text(
+    alloc: Global,
+    origin: Origin,
+    style: Style,
+    packet: Packet,
+    from: Side,
+    octets: &[u8],
+    line: &mut String,
+) -> Result<(), AllocError>
+    ensures { OnOk result (string_bytes line.new
+        ≡ bare_text origin style packet from octets.now) }
+{
+    match origin {
+        Origin::Script => style.write(alloc, from, octets, line),
+        Origin::Capture => style.write_packet(alloc, from, octets, packet, line),
+    }
+}
+
+/// The packet, for a listener.
+fn followed(packet: Packet) -> lapd_follow::Packet
+    ensures { result ≡ followed_packet packet }
+{
+    lapd_follow::Packet {
+        number: packet.number,
+        moment: packet.moment,
+    }
+}
+
+/// Prints the tables of the links that a listener followed. Returns whether a remark was a
+/// violation.
+fn close_links<W: Write>(
+    alloc: Global,
+    style: Style,
+    listener: &Option<Listener>,
+    out: &mut W,
+) -> Result<bool, ScriptFault>
+    ensures { ClosingEnds style listener.now result (W.contents out.old) (W.contents out.new) }
+{
+    match listener {
+        None => Ok(false),
+        Some(listener) => match put_tables(alloc, style, listener.links(), out) {
+            Ok(()) => Ok(listener.has_violation()),
+            Err(ScriptFault::Memory) => Err(ScriptFault::Memory),
+            Err(_) => Err(ScriptFault::Device),
+        },
+    }
+}

@@ -1,0 +1,49 @@
+ghost use Rattle.std.specs.Prelude.{◌≡◌};
+ghost use Rattle.lapd_cli_decode.specs.Filter.{reaches, takes_by};
+
+use crate::filter::Filter;
+use crate::frame_time::FrameTime;
+use crate::style::Style;
+
+/// How frames are printed, and which.
+#[derive(Clone, Copy)]
+pub struct FrameStyle {
+    /// The style of each line.
+    pub style: Style,
+    /// The time before a trace line. The lines of a script have no time, so there it is `-`.
+    pub time: FrameTime,
+    /// Which frames are printed; all if `None`.
+    pub filter: Option<Filter>,
+    /// After how many printed frames the output ends; never if `None`.
+    pub count: Option<u64>,
+}
+
+impl FrameStyle {
+    /// All frames as their trace lines.
+    pub const PLAIN: FrameStyle = FrameStyle {
+        style: Style::Plain,
+        time: FrameTime::Hidden,
+        filter: None,
+        count: None,
+    };
+
+    /// Whether a frame of these octets is printed.
+    pub(crate) fn takes(&self, octets: &[u8]) -> bool
+        ensures { result ≡ takes_by self.now.filter octets.now }
+    {
+        match &self.filter {
+            None => true,
+            Some(filter) => filter.takes(octets),
+        }
+    }
+
+    /// Whether the output ends after so many printed frames.
+    pub(crate) fn ends_after(&self, printed: u64) -> bool
+        ensures { result ≡ reaches self.now.count printed }
+    {
+        match self.count {
+            None => false,
+            Some(count) => count <= printed,
+        }
+    }
+}

@@ -1,0 +1,132 @@
+//! The time before a trace line.
+
+ghost use Rattle.std.specs.Prelude.{◌≡◌, ◌++◌, IfOk, OnOk};
+ghost use Rattle.std.specs.String.{string_bytes};
+ghost use Rattle.lapd_cli_decode.specs.Time.{either, front_text, known_text, seconds_text, since, time_of, time_text};
+
+use crate::style::Style;
+use std::alloc::{AllocError, Global};
+
+/// The time before the trace line of a frame of a capture.
+#[derive(Clone, Copy, Debug, PartialEq, Eq)]
+pub enum FrameTime {
+    /// None.
+    Hidden,
+    /// The seconds since 1970.
+    Absolute,
+    /// The seconds since the first printed frame.
+    Relative,
+    /// The seconds since the printed frame before.
+    Delta,
+}
+
+impl FrameTime {
+    /// The time of a frame that was captured at this moment, in microseconds. `first` and `last` are
+    /// the moments of the first and the last frame that was printed.
+    pub(crate) fn of(
+        self,
+        first: Option<u64>,
+        last: Option<u64>,
+        moment: Option<u64>,
+    ) -> Option<u64>
+        ensures { result ≡ time_of self first last moment }
+    {
+        match self {
+            FrameTime::Hidden => None,
+            FrameTime::Absolute => moment,
+            FrameTime::Relative => since(first, moment),
+            FrameTime::Delta => since(last, moment),
+        }
+    }
+
+    /// Puts a time before a line of this style, if it is a trace line.
+    ///
+    /// # Errors
+    ///
+    /// `AllocError` if an allocation fails.
+    pub(crate) fn put_before(
+        self,
+        alloc: Global,
+        style: Style,
+        time: Option<u64>,
+        line: &mut String,
+    ) -> Result<(), AllocError>
+        ensures { OnOk result (string_bytes line.new
+            ≡ front_text style self time ++ string_bytes line.old) }
+    {
+        match style {
+            Style::Plain | Style::Named => self.put_before_trace(alloc, time, line),
+            Style::Json | Style::NamedJson => Ok(()),
+        }
+    }
+
+    /// Puts a time before a trace line.
+    fn put_before_trace(
+        self,
+        alloc: Global,
+        time: Option<u64>,
+        line: &mut String,
+    ) -> Result<(), AllocError>
+        ensures { OnOk result (string_bytes line.new
+            ≡ time_text self time ++ string_bytes line.old) }
+    {
+        match self {
+            FrameTime::Hidden => Ok(()),
+            FrameTime::Absolute | FrameTime::Relative | FrameTime::Delta => {
+                let mut text = known_text(alloc, time)?;
+                text.push_str(line.as_str())?;
+                *line = text;
+                Ok(())
+            }
+        }
+    }
+}
+
+/// The first of two moments that is known.
+pub(crate) fn either(moment: Option<u64>, other: Option<u64>) -> Option<u64>
+    ensures { result ≡ either moment other }
+{
+    match moment {
+        None => other,
+        Some(moment) => Some(moment),
+    }
+}
+
+/// The time since an earlier moment; 0 if there is none, or if the clock ran back.
+fn since(earlier: Option<u64>, moment: Option<u64>) -> Option<u64>
+    ensures { result ≡ since earlier moment }
+{
+    match (earlier, moment) {
+        (_, None) => None,
+        (None, Some(_)) => Some(0),
+        (Some(earlier), Some(moment)) => Some(moment.saturating_sub(earlier)),
+    }
+}
+
+/// A time and a space; `-` if it is not known.
+fn known_text(alloc: Global, time: Option<u64>) -> Result<String, AllocError>
+    ensures { IfOk result (λ text. string_bytes text ≡ known_text time) }
+{
+    match time {
+        None => {
+            let mut text = String::new(alloc);
+            text.push_str("- ")?;
+            Ok(text)
+        }
+        Some(time) => seconds_text(alloc, time),
+    }
+}
+
+/// Microseconds as seconds with six digits after the point, and a space.
+fn seconds_text(alloc: Global, time: u64) -> Result<String, AllocError>
+    ensures { IfOk result (λ text. string_bytes text ≡ seconds_text time) }
+{
+    let seconds = time / 1_000_000;
+    let first = time / 100_000 % 10;
+    let second = time / 10_000 % 10;
+    let third = time / 1_000 % 10;
+    let fourth = time / 100 % 10;
+    let fifth = time / 10 % 10;
+    let sixth = time % 10;
+    format!(in alloc; "{seconds}.{first}{second}{third}{fourth}{fifth}{sixth} ")
+}

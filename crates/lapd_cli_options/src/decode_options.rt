@@ -1,0 +1,99 @@
+//! The options of `decode`.
+
+use crate::command_options::side_named;
+use crate::invocation::{DecodeOptions, FollowOptions, FrameOptions, PrintedTime};
+use crate::no_invocation::NoInvocation;
+use clap::ArgMatches;
+use lapd_cli_values::{
+    COUNT, FOLLOWED_K, NumberOption, PRINTED_SAPI, PRINTED_TEI, number_written, window_written,
+};
+
+/// The options of `decode` among these.
+pub(crate) fn decode_of<'a>(given: &ArgMatches<'a>) -> Result<DecodeOptions, NoInvocation<'a>> {
+    let follow = follow_of(given)?;
+    let time = time_of(given)?;
+    let count = number_of(given, COUNT)?;
+    let frames = frames_of(given)?;
+    Ok(DecodeOptions {
+        loose: given.get_flag("loose"),
+        sender: side_named(given, "sender"),
+        names: given.get_flag("names"),
+        json: given.get_flag("json"),
+        keep_going: given.get_flag("keep-going"),
+        follow,
+        time,
+        count,
+        frames,
+    })
+}
+
+// How the links are followed. An option of `--follow` is refused without it.
+fn follow_of<'a>(given: &ArgMatches<'a>) -> Result<Option<FollowOptions>, NoInvocation<'a>> {
+    let k = window_of(given)?;
+    if given.get_flag("follow") {
+        return Ok(Some(FollowOptions { k }));
+    }
+    match k {
+        Some(_) => Err(NoInvocation::NotFollowed(FOLLOWED_K.name)),
+        None => Ok(None),
+    }
+}
+
+// The window of links that are followed, if it is present.
+fn window_of<'a>(given: &ArgMatches<'a>) -> Result<Option<u8>, NoInvocation<'a>> {
+    match given.get_str(FOLLOWED_K.name) {
+        Some(written) => Ok(Some(window_written(written)?)),
+        None => Ok(None),
+    }
+}
+
+// The time before each trace line. Without a capture there is none, and the option is refused.
+fn time_of<'a>(given: &ArgMatches<'a>) -> Result<PrintedTime, NoInvocation<'a>> {
+    let time = match given.get_str("time") {
+        Some("absolute") => PrintedTime::Absolute,
+        Some("relative") => PrintedTime::Relative,
+        Some("delta") => PrintedTime::Delta,
+        _ => return Ok(PrintedTime::Hidden),
+    };
+    match given.get_str("pcap") {
+        Some(_) => Ok(time),
+        None => Err(NoInvocation::NotCaptured("time")),
+    }
+}
+
+// Which frames are printed.
+fn frames_of<'a>(given: &ArgMatches<'a>) -> Result<FrameOptions, NoInvocation<'a>> {
+    let sapi = octet_of(given, PRINTED_SAPI)?;
+    let tei = octet_of(given, PRINTED_TEI)?;
+    let kinds = given.get_str("kinds").unwrap_or("i,s,u");
+    Ok(FrameOptions {
+        sapi,
+        tei,
+        i: kinds.contains('i'),
+        s: kinds.contains('s'),
+        u: kinds.contains('u'),
+        polls: !given.get_flag("no-polls"),
+    })
+}
+
+// The number of this option, if it is present and below 256.
+fn octet_of<'a>(
+    given: &ArgMatches<'a>,
+    option: NumberOption,
+) -> Result<Option<u8>, NoInvocation<'a>> {
+    match number_of(given, option)? {
+        Some(number) => Ok(u8::try_from(number).ok()),
+        None => Ok(None),
+    }
+}
+
+// The number of this option, if it is present.
+fn number_of<'a>(
+    given: &ArgMatches<'a>,
+    option: NumberOption,
+) -> Result<Option<u64>, NoInvocation<'a>> {
+    match given.get_str(option.name) {
+        Some(written) => Ok(Some(number_written(option, written)?)),
+        None => Ok(None),
+    }
+}
