@@ -1,4 +1,4 @@
--- What is printed of frames, and what is known after them.
+-- The text that is printed for frames, and the state after them.
 use Rattle.std.specs.Prelude.{◌≡◌, ℕ, Bool, false, if◌then◌else◌, List, [], ◌++◌, Option, Some, None, Result, Ok, Err, ⊤}
 use Rattle.std.specs.Io.KnownBytes.{Appends, Keeps}
 use Rattle.lapd_frame.specs.declared.Side.{Side}

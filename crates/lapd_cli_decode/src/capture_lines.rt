@@ -48,7 +48,7 @@ pub struct CaptureStyle {
     pub keeps_going: bool,
 }
 
-/// What is known of the frames that were read of a capture.
+/// The result of printing the frames of a capture.
 #[derive(Clone, Copy, Debug, PartialEq, Eq)]
 pub struct Seen {
     /// Whether there was a frame, printed or not.
