@@ -4,6 +4,8 @@ pub mod Followed
 pub mod FollowedCapture
 pub mod FollowedLines
 pub mod Lines
+pub mod Loose
 pub mod Remarked
+pub mod Sent
 pub mod Style
 pub mod Tables

@@ -12,6 +12,7 @@ mod followed_capture;
 mod followed_lines;
 mod line_decoder;
 mod line_form;
+mod loose;
 mod remarked;
 mod style;
 mod tables;
