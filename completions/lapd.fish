@@ -43,7 +43,7 @@ __lapd_option "net user decode" pcap -r -F -d "Capture file"
 __lapd_option "net user" gsmtap -x -d "Send frames as GSMTAP to this address"
 __lapd_option net idle-limit -x -d "Close a silent connection, in milliseconds"
 
-__lapd_option decode loose -d "Allow spaces and libpri's lines"
+__lapd_option decode loose -d "Allow more forms of lines"
 __lapd_option decode sender -x -a "net user" -d "Sender if none is named"
 __lapd_option decode names -d "Name messages"
 __lapd_option decode keep-going -d "Skip bad lines"

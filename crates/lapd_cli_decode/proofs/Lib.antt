@@ -1,3 +1,4 @@
 pub mod Closed
 pub mod Lines
+pub mod LooseLine
 pub mod Printed

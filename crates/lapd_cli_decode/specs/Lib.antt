@@ -4,8 +4,10 @@ pub mod Filter
 pub mod Frames
 pub mod Lines
 pub mod LinesPrinter
+pub mod Loose
 pub mod PrintedLines
 pub mod Remarked
+pub mod Sent
 pub mod Style
 pub mod Tables
 pub mod Time

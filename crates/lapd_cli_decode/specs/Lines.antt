@@ -1,20 +1,16 @@
 -- The lines of `decode`: strict, or loose.
-use Rattle.std.specs.Prelude.{ℕ, ◌==◌, ◌||◌, not, if◌then◌else◌, Bool, true, List, [], ◌∷◌, codes, take, drop, Option, Some, None, option_map}
-use Rattle.std.specs.List.{filter}
+use Rattle.std.specs.Prelude.{ℕ, if◌then◌else◌, List, [], ◌∷◌, codes, Option, Some, None, option_map}
 use Rattle.std.specs.Str.{bytes_eq}
 use Rattle.lapd_frame.specs.declared.Side.{Side}
 use Rattle.lapd_frame.specs.declared.Side.TheVariants.{Network, User}
-use Rattle.lapd_field.specs.Address.{other_side}
-use Rattle.lapd_cli_script.specs.Line.{octets_behind, octets_of, text_line, words_of}
+use Rattle.lapd_cli_script.specs.Line.{octets_behind, text_line, words_of}
 use Rattle.lapd_cli_script.specs.Script.{LineOutcome}
 use Rattle.lapd_cli_decode.specs.declared.line_form.LineForm.{LineForm}
 use Rattle.lapd_cli_decode.specs.declared.line_form.LineForm.TheVariants.{Strict, Loose}
 use Rattle.lapd_cli_decode.specs.declared.style.Style.{Style}
+use Rattle.lapd_cli_decode.specs.Loose.{loose_line}
+use Rattle.lapd_cli_decode.specs.Sent.{sent_by}
 use Rattle.lapd_cli_decode.specs.Style.{styled_text}
-
--- a side and the octets it sent, if the line names them
-abbrev pub sent_by : Side → Option (List ℕ) → Option (Side × List ℕ)
-sent_by from octets = option_map (λ octets. (from, octets)) octets
 
 -- ---- A strict line: `SIDE HEX`, single spaces between its words.
 
@@ -23,44 +19,6 @@ strict_words [] = None
 strict_words (word ∷ behind) =
     if bytes_eq word (codes "user") then sent_by User (octets_behind behind) else (
     if bytes_eq word (codes "net") then sent_by Network (octets_behind behind) else None)
-
--- ---- A loose line: separators among the digits are skipped.
-
--- a space, a tab, a carriage return, a colon, or a bracket
-abbrev pub is_separator : ℕ → Bool
-is_separator octet = (octet == 32) || ((octet == 9) || ((octet == 13) || ((octet == 58)
-    || ((octet == 91) || (octet == 93)))))
-
-abbrev pub is_no_separator : ℕ → Bool
-is_no_separator octet = not (is_separator octet)
-
--- the octets of these digits; without digits, no octets
-abbrev pub octets_or_none : List ℕ → Option (List ℕ)
-octets_or_none [] = Some []
-octets_or_none (digit ∷ digits) = octets_of (digit ∷ digits)
-
-abbrev pub loose_octets : List ℕ → Option (List ℕ)
-loose_octets rest = octets_or_none (filter is_no_separator rest)
-
--- a separator, or the line's end, ends the word before it
-abbrev pub is_parted : List ℕ → Bool
-is_parted [] = true
-is_parted (octet ∷ octets) = is_separator octet
-
-abbrev pub loose_behind : Side → List ℕ → Option (Side × List ℕ)
-loose_behind from rest = if is_parted rest then sent_by from (loose_octets rest) else None
-
--- libpri prints `>` before what it sent, and `<` before what it received
-abbrev pub printed_line : Side → List ℕ → Option (Side × List ℕ)
-printed_line printer [] = None
-printed_line printer (mark ∷ rest) = if mark == 62 then loose_behind printer rest else (
-    if mark == 60 then loose_behind (other_side printer) rest else None)
-
-abbrev pub loose_line : Side → List ℕ → Option (Side × List ℕ)
-loose_line printer line =
-    if bytes_eq (take 4 line) (codes "user") then loose_behind User (drop 4 line) else (
-    if bytes_eq (take 3 line) (codes "net") then loose_behind Network (drop 3 line) else
-    printed_line printer line)
 
 -- ---- Both.
 

@@ -16,6 +16,7 @@ mod frame_style;
 mod frame_time;
 mod line_decoder;
 mod line_form;
+mod loose;
 mod printed_lines;
 mod remarked;
 mod style;

@@ -607,10 +607,14 @@ pub const DECODE: &str = "\
 
 Lines of the script:
   SIDE HEX  this side, user or net, sent these octets
-With --loose also:
-  user 00 81 7f, net 00:81:73   spaces, tabs, colons and brackets among the digits are ignored
+With --loose also, by the first of these forms that a line has:
+  user 00 81 7f, net 0x00:0x81  in HEX spaces, tabs, colons, brackets and 0x are ignored
   > [ 00 81 7f ]                libpri's own line: the side that --sender names sent these octets
   < [ 00 81 73 ]                the same: the other side sent these octets
+  TEXT > [ 00 81 7f ] TEXT      the same in a log, as of Asterisk or FreeSWITCH; also with <
+  00000000: 0081 7f    TEXT     a hex dump of one line (xxd, tcpdump), sent by the --sender
+  0000  00 81 7f    TEXT        the same of Wireshark
+  00 81 7f                      HEX alone, sent by the --sender
 
 With --pcap no script is read. A capture is pcap or pcapng of link type 177 (LINUX_LAPD) or 203
 (LAPD), or GSMTAP over UDP in Ethernet or IPv4. Packets without LAPD are skipped. A line is printed

@@ -53,11 +53,13 @@ pub const PRI: &str =
 pub const SAPI16: &str = "With --pri, serves SAPI 16 too; without --pri, SAPI 16 is always served";
 
 /// The help of the options of `decode`.
-pub const LOOSE: &str =
-    "Allows spaces, colons and brackets among the digits, and libpri's own lines";
+pub const LOOSE: &str = "\
+Allows spaces, colons, brackets and 0x in HEX, and lines of libpri and of logs, hex dumps of one \
+line, and HEX alone";
 
 pub const SENDER: &str = "\
-The side that printed libpri's lines, and that sent the frames of a capture that does not name it";
+The side that printed the lines of libpri and of logs, and that sent the octets of a line or a \
+capture that does not name it";
 
 pub const NAMES: &str = "Adds the message of TEI management or of Q.931 to the line, in words";
 

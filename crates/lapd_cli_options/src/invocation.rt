@@ -73,10 +73,9 @@ pub struct LiveOptions<'a> {
 /// The options of `decode`.
 #[derive(Clone, Copy)]
 pub struct DecodeOptions {
-    /// Whether lines may have spaces, colons and brackets among the digits, or be lines printed by
-    /// libpri.
+    /// Whether lines may have more forms, such as those of libpri, of logs and of hex dumps.
     pub loose: bool,
-    /// The sender of what libpri prints after `>`, and of captured frames whose capture does not
+    /// The sender of what libpri prints after `>`, and of octets whose line or capture does not
     /// name the sender.
     pub sender: Side,
     /// Whether the message in a frame is named.

@@ -1,4 +1,4 @@
-//! Lines of loose forms and their output; and lines that are skipped.
+//! Lines of loose forms and their output, and lines that are skipped.
 
 use crate::wants::{all_hold, wants};
 use lapd_cli_decode::{LineForm, Side, Style, decode_good_lines, decode_lines};
@@ -17,17 +17,67 @@ user|U>N F1 TooShort
 > [ 00 81 7f ]|U>N SAPI 0 TEI 64 C SABME P=1
 < [ 00 81 73 ]|N>U SAPI 0 TEI 64 R UA F=1
 > [ 02 81 01 01 ]|U>N SAPI 0 TEI 64 R RR N(R)=0 F=1
+> 0x00|U>N F1 TooShort 00
+net 0x00 0x81 0X73|N>U SAPI 0 TEI 64 R UA F=1
 userx 00|
 user 00 8|
 user 00-81|
+user 0x0x00|
 nobody 00|
- user 00|
-> 0x00|
-[ 00 ]|";
+ user 00|";
+
+// Lines of the logs of Asterisk and FreeSWITCH, and what else is in such logs.
+const LOGS: &str = "\
+PRI Span: 1 > [ 00 81 7f ]|U>N SAPI 0 TEI 64 C SABME P=1
+[Nov 28 01:02:03] VERBOSE[42] chan_dahdi.c: PRI Span: 1 < [ 00 81 73 ]|N>U SAPI 0 TEI 64 R UA F=1
+2026-11-28 01:02:03.4 [DEBUG] ftmod_libpri.c:9 [s1c16][1:16] > [ 00 81 7f ]|U>N SAPI 0 TEI 64 C SABME P=1
+1 > [ 00 81 7f ]\r|U>N SAPI 0 TEI 64 C SABME P=1
+user: 1 < [ 00 81 73 ] from [ 1 ]|N>U SAPI 0 TEI 64 R UA F=1
+> [ 00 81 7f ] SABME|U>N SAPI 0 TEI 64 C SABME P=1
+> [ 00 81 7f ] ff|U>N F5 InfoNotPermitted 00817fff
+1 > [ 00 81 7f ] < [ 00 81 73 ]|U>N SAPI 0 TEI 64 C SABME P=1
+a -> [x] b <- [] > [ 1 ] < [ 00 81 73 ]|N>U SAPI 0 TEI 64 R UA F=1
+1 > [ 00 > [ 00 81 7f ]|U>N SAPI 0 TEI 64 C SABME P=1
+0010  1 > [ 00 81 7f ]|U>N SAPI 0 TEI 64 C SABME P=1
+1 > [ ]|
+1 > [ 00 81 7f|
+1 >[ 00 81 7f ]|
+1 [ 00 81 7f ]|
+PRI Span: 1 > Protocol Discriminator: Q.931 (8)  len=5|";
+
+// Hex dumps of one line, as xxd, Wireshark and tcpdump print them, and octets alone.
+const DUMPS: &str = "\
+00000000: 0081 7f                                  ...|U>N SAPI 0 TEI 64 C SABME P=1
+00000000: 00 81 7f                                         ...|U>N SAPI 0 TEI 64 C SABME P=1
+00000000: 0081 0000 0801 0105 0403 8090 a218 03a9  ................|U>N SAPI 0 TEI 64 C I N(S)=0 N(R)=0 P=0 info=0801010504038090a21803a9
+00000000: 0081 7f  ab|U>N SAPI 0 TEI 64 C SABME P=1
+00000000: 0081 7f|U>N SAPI 0 TEI 64 C SABME P=1
+0000  00 81 7f|U>N SAPI 0 TEI 64 C SABME P=1
+0000   00 81 7f   ...|U>N SAPI 0 TEI 64 C SABME P=1
+0000  00 81 00 00 08 01 01 05  04 03 80 90 a2 18 03 a9   ................|U>N SAPI 0 TEI 64 C I N(S)=0 N(R)=0 P=0 info=0801010504038090a21803a9
+\t0x0000:  0081 7f                                  ...|U>N SAPI 0 TEI 64 C SABME P=1
+00000010: 0081 7f                                  ...|
+0010  00 81 7f|
+\t0x0010:  0081 7f|
+0000  00 81 7f  ...|
+00817f|U>N SAPI 0 TEI 64 C SABME P=1
+ 00 81 7f |U>N SAPI 0 TEI 64 C SABME P=1
+00:81:7F|U>N SAPI 0 TEI 64 C SABME P=1
+[ 00 81 7f ]|U>N SAPI 0 TEI 64 C SABME P=1
+0x00817f|U>N SAPI 0 TEI 64 C SABME P=1
+0x00 0x81 0x7f|U>N SAPI 0 TEI 64 C SABME P=1
+0000 00 81 7f|U>N F2 BadAddress 000000817f
+0081 7f SABME|
+00 81 7|
+0x|
+: 00|";
 
 #[test]
 fn loose_lines_are_decoded(rt: HostRuntime) -> Result<(), Fail> {
-    rows_hold(rt.alloc(), LINES, LineForm::Loose(Side::User), Style::Plain)
+    let form = LineForm::Loose(Side::User);
+    rows_hold(rt.alloc(), LINES, form, Style::Plain)?;
+    rows_hold(rt.alloc(), LOGS, form, Style::Plain)?;
+    rows_hold(rt.alloc(), DUMPS, form, Style::Plain)
 }
 
 /// Each row is a line and its output without the line feed; nothing if the line is bad.
