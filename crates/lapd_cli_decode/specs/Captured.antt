@@ -4,6 +4,7 @@ use Rattle.std.specs.Io.KnownBytes.{Appends}
 use Rattle.lapd_capture.specs.declared.CaptureItem.{CaptureItem}
 use Rattle.lapd_capture.specs.declared.CaptureItem.TheVariants.{Frame, Other, Unreadable, End}
 use Rattle.lapd_capture.specs.declared.PacketFault.{PacketFault}
+use Rattle.lapd_capture.specs.declared.Span.{Span}
 use Rattle.lapd_capture.specs.Reader.{reading_of, unread}
 use Rattle.lapd_capture.specs.Reading.{Reading, next_step}
 use Rattle.lapd_capture.specs.declared.CaptureReader.{CaptureReader}
@@ -15,14 +16,18 @@ use Rattle.lapd_cli_decode.specs.declared.capture_lines.Seen.{Seen}
 use Rattle.lapd_cli_render.specs.declared.Packet.{Packet as JsonPacket}
 use Rattle.lapd_cli_decode.specs.Style.{styled_packet}
 
--- the packet read last
-abbrev pub last_packet : Reading → JsonPacket
-last_packet reading = record { number = reading.packets; moment = reading.moment }
+-- the packet read last, in which this frame was found
+abbrev pub last_packet : Reading → Span → JsonPacket
+last_packet reading span = record {
+  number = reading.packets;
+  moment = reading.moment;
+  is_cut = span.is_cut;
+}
 
 -- the line of what was found; `behind` is the capture after it. If the capture does not name a
 -- frame's sender, the chosen sender is printed.
 abbrev pub item_text : CaptureStyle → Reading → CaptureItem → List ℕ
-item_text how behind (Frame span) = text_line (styled_packet how.style (last_packet behind)
+item_text how behind (Frame span) = text_line (styled_packet how.style (last_packet behind span)
     (unwrap_or span.from how.sender)
     (take (span.end - span.start) (drop span.start behind.body)))
 item_text how behind (Unreadable fault) = []

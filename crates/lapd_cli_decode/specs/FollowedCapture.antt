@@ -38,7 +38,7 @@ octets_of behind span = take (span.end - span.start) (drop span.start behind.bod
 abbrev pub heard_text : CaptureStyle → Reading → Span → Listening → List ℕ
 heard_text how behind span l = text_line (with_remarks how.style
     (said_of_octets (heard_packet behind) (sender_of how span) (octets_of behind span) l)
-    (styled_packet how.style (last_packet behind) (sender_of how span) (octets_of behind span)))
+    (styled_packet how.style (last_packet behind span) (sender_of how span) (octets_of behind span)))
 
 -- what is known after it
 abbrev pub heard_after : CaptureStyle → Reading → Span → Listening → Listening

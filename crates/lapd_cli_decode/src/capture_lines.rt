@@ -171,6 +171,7 @@ fn put_frame<R: Read, W: Write>(
     let packet = Packet {
         number: capture.packets(),
         moment: capture.moment(),
+        is_cut: frame.is_cut,
     };
     let octets = capture.octets_of(frame);
     let Ok(text) = how.style.packet_text(alloc, from, octets, packet) else {

@@ -214,6 +214,7 @@ fn follow_frame<R: Read, W: Write>(
     let packet = Packet {
         number: capture.packets(),
         moment: capture.moment(),
+        is_cut: frame.is_cut,
     };
     let octets = capture.octets_of(frame);
     let Ok(said) = heard.listener.octets(followed(packet), from, octets) else {

@@ -1,6 +1,6 @@
 ghost use Rattle.std.specs.Prelude.{◌≡◌, ◌++◌, IfOk, OnOk};
 ghost use Rattle.std.specs.String.{string_bytes};
-ghost use Rattle.lapd_cli_decode.specs.Style.{styled_packet, styled_text};
+ghost use Rattle.lapd_cli_decode.specs.Style.{marked, styled_packet, styled_text};
 
 use lapd_cli_render::Packet;
 use lapd_frame::Side;
@@ -62,7 +62,7 @@ impl Style {
         }
     }
 
-    /// The line for octets that `from` sent, from a packet of a capture.
+    /// The line for octets that `from` sent, from a packet of a capture: marked if it was cut.
     ///
     /// # Errors
     ///
@@ -78,10 +78,25 @@ impl Style {
             string_bytes text ≡ styled_packet self packet from octets.now) }
     {
         match self {
-            Style::Plain | Style::Named => self.text(alloc, from, octets),
+            Style::Plain | Style::Named => {
+                let mut text = self.text(alloc, from, octets)?;
+                mark_cut(&mut text, packet.is_cut)?;
+                Ok(text)
+            }
             Style::Json => lapd_cli_render::packet_line(alloc, from, octets, packet),
             Style::NamedJson => lapd_cli_render::named_packet_line(alloc, from, octets, packet),
         }
+    }
+}
+
+/// Appends a mark to a line if the capture has only the first of its octets.
+fn mark_cut(line: &mut String, is_cut: bool) -> Result<(), AllocError>
+    ensures { OnOk result (string_bytes line.new ≡ marked is_cut (string_bytes line.old)) }
+{
+    if is_cut {
+        line.push_str(" [cut]")
+    } else {
+        Ok(())
     }
 }
 
