@@ -1,13 +1,14 @@
 -- The content of a packet of a capture, by the link type of its interface. All places are indices
--- of the capture's octets.
-use Rattle.std.specs.Prelude.{ℕ, ◌+◌, ◌*◌, ◌/◌, ◌%◌, ◌-◌, ◌≤◌, ◌==◌, nat_lt, not, if◌then◌else◌, List, slice_index, Option, Some, None, ⊤}
+-- of the capture's octets. A part of a packet lies from `start` to `end`, and was captured up to
+-- `kept`, which may be before `end`. Lengths in the packet are compared with `end`.
+use Rattle.std.specs.Prelude.{ℕ, ◌+◌, ◌*◌, ◌/◌, ◌%◌, ◌-◌, ◌≤◌, ◌==◌, max, min, nat_lt, not, if◌then◌else◌, List, slice_index, Option, Some, None, ⊤}
 use Rattle.lapd_field.specs.declared.side.Side.{Side}
 use Rattle.lapd_field.specs.declared.side.Side.TheVariants.{Network, User}
 use Rattle.lapd_field.specs.Address.{other_side}
 use Rattle.lapd_capture.specs.declared.order.Order.TheVariants.{Big}
 use Rattle.lapd_capture.specs.declared.item.CaptureItem.{CaptureItem}
 use Rattle.lapd_capture.specs.declared.item.CaptureItem.TheVariants.{Frame, Other, Unreadable, End}
-use Rattle.lapd_capture.specs.declared.item.PacketFault.TheVariants.{BadLength, BadHeader, Partial}
+use Rattle.lapd_capture.specs.declared.item.PacketFault.TheVariants.{BadLength, BadHeader, CutHeader}
 use Rattle.lapd_capture.specs.declared.link_type.LinkType.{LinkType}
 use Rattle.lapd_capture.specs.declared.link_type.LinkType.TheVariants.{LinuxLapd, Lapd, Ethernet, Ip, NotServed}
 use Rattle.lapd_capture.specs.Octets.{number_at}
@@ -36,14 +37,16 @@ sender_of type side = if nat_lt type 3 then Some (other_side side) else (
 
 -- the frame after the 16 octets from `start` on: packet type, ARPHRD type, length of the address, 8
 -- octets of address, and the protocol, 0x0030
-abbrev pub linux_lapd : ℕ → ℕ → List ℕ → CaptureItem
-linux_lapd start end octets = if nat_lt (end - start) 16 then Unreadable BadLength else (
+abbrev pub linux_lapd : ℕ → ℕ → ℕ → List ℕ → CaptureItem
+linux_lapd start kept end octets = if nat_lt (end - start) 16 then Unreadable BadLength else (
+    if nat_lt (kept - start) 16 then Unreadable CutHeader else (
     if number_at Big 2 (start + 14) octets == 0x0030 then Frame (record {
       from = sender_of (number_at Big 2 start octets)
           (capturing_side (slice_index octets (start + 6)));
       start = start + 16;
-      end = end;
-    }) else Unreadable BadHeader)
+      end = kept;
+      is_cut = nat_lt kept end;
+    }) else Unreadable BadHeader))
 
 -- ---- GSMTAP over UDP over IPv4.
 
@@ -52,66 +55,80 @@ abbrev pub gsmtap_sender : ℕ → Side
 gsmtap_sender channel = if channel / 0x4000 % 2 == 1 then User else Network
 
 -- the frame after a GSMTAP header of this length in octets
-abbrev pub gsmtap_frame : ℕ → ℕ → ℕ → List ℕ → CaptureItem
-gsmtap_frame header start end octets = if nat_lt header 16 then Unreadable BadLength else (
-    if nat_lt (end - start) header then Unreadable BadLength else Frame (record {
+abbrev pub gsmtap_frame : ℕ → ℕ → ℕ → ℕ → List ℕ → CaptureItem
+gsmtap_frame header start kept end octets = if nat_lt header 16 then Unreadable BadLength else (
+    if nat_lt (end - start) header then Unreadable BadLength else (
+    if nat_lt (kept - start) header then Unreadable CutHeader else Frame (record {
       from = Some (gsmtap_sender (number_at Big 2 (start + 4) octets));
       start = start + header;
-      end = end;
-    }))
+      end = kept;
+      is_cut = nat_lt kept end;
+    })))
 
 -- GSMTAP of version 2: the length of its header in words of four octets, its type, 0x13 for E1 and
 -- T1 lines, and at 12 its subtype, 1 for LAPD
-abbrev pub gsmtap : ℕ → ℕ → List ℕ → CaptureItem
-gsmtap start end octets = if nat_lt (end - start) 16 then Unreadable BadLength else (
+abbrev pub gsmtap : ℕ → ℕ → ℕ → List ℕ → CaptureItem
+gsmtap start kept end octets = if nat_lt (end - start) 16 then Unreadable BadLength else (
+    if nat_lt (kept - start) 16 then Unreadable CutHeader else (
     if not (slice_index octets start == 2) then Other else (
     if not (slice_index octets (start + 2) == 0x13) then Other else (
     if not (slice_index octets (start + 12) == 1) then Other else
-    gsmtap_frame (slice_index octets (start + 1) * 4) start end octets)))
+    gsmtap_frame (slice_index octets (start + 1) * 4) start kept end octets))))
 
 -- a UDP datagram to the port of GSMTAP, 4729, by its own length
-abbrev pub udp : ℕ → ℕ → List ℕ → CaptureItem
-udp start end octets = if not (number_at Big 2 (start + 2) octets == 4729) then Other else (
+abbrev pub udp : ℕ → ℕ → ℕ → List ℕ → CaptureItem
+udp start kept end octets = if nat_lt (kept - start) 8 then Unreadable CutHeader else (
+    if not (number_at Big 2 (start + 2) octets == 4729) then Other else (
     if nat_lt (number_at Big 2 (start + 4) octets) 8 then Unreadable BadLength else (
     if nat_lt (end - start) (number_at Big 2 (start + 4) octets) then Unreadable BadLength else
-    gsmtap (start + 8) (start + number_at Big 2 (start + 4) octets) octets))
+    gsmtap (start + 8) (min kept (start + number_at Big 2 (start + 4) octets))
+    (start + number_at Big 2 (start + 4) octets) octets)))
 
 -- the content after an IPv4 header of this length, in a packet of this total length
-abbrev pub ip_payload : ℕ → ℕ → ℕ → ℕ → List ℕ → CaptureItem
-ip_payload header total start end octets = if nat_lt header 20 then Unreadable BadLength else (
+abbrev pub ip_payload : ℕ → ℕ → ℕ → ℕ → ℕ → List ℕ → CaptureItem
+ip_payload header total start kept end octets = if nat_lt header 20 then Unreadable BadLength else (
     if nat_lt total (header + 8) then Unreadable BadLength else (
-    if nat_lt (end - start) total then Unreadable BadLength else
-    udp (start + header) (start + total) octets))
+    if nat_lt (end - start) total then Unreadable BadLength else (
+    if nat_lt (kept - start) header then Unreadable CutHeader else
+    udp (start + header) (min kept (start + total)) (start + total) octets)))
 
--- an IPv4 packet that is complete and carries UDP
-abbrev pub ip : ℕ → ℕ → List ℕ → CaptureItem
-ip start end octets = if nat_lt (end - start) 20 then Unreadable BadLength else (
+-- an IPv4 packet that is no fragment and carries UDP
+abbrev pub ip : ℕ → ℕ → ℕ → List ℕ → CaptureItem
+ip start kept end octets = if nat_lt (end - start) 20 then Unreadable BadLength else (
+    if nat_lt (kept - start) 20 then Unreadable CutHeader else (
     if not (slice_index octets start / 16 == 4) then Other else (
     if not (slice_index octets (start + 9) == 17) then Other else (
     if not (number_at Big 2 (start + 6) octets % 0x4000 == 0) then Other else
-    ip_payload (slice_index octets start % 16 * 4) (number_at Big 2 (start + 2) octets) start end
-    octets)))
+    ip_payload (slice_index octets start % 16 * 4) (number_at Big 2 (start + 2) octets) start kept
+    end octets))))
 
 -- an Ethernet frame that carries IPv4
-abbrev pub ethernet : ℕ → ℕ → List ℕ → CaptureItem
-ethernet start end octets = if nat_lt (end - start) 14 then Unreadable BadLength else (
-    if number_at Big 2 (start + 12) octets == 0x0800 then ip (start + 14) end octets else Other)
+abbrev pub ethernet : ℕ → ℕ → ℕ → List ℕ → CaptureItem
+ethernet start kept end octets = if nat_lt (end - start) 14 then Unreadable BadLength else (
+    if nat_lt (kept - start) 14 then Unreadable CutHeader else (
+    if number_at Big 2 (start + 12) octets == 0x0800 then ip (start + 14) kept end octets
+    else Other))
 
 -- ---- All link types.
 
--- the content of the octets from `start` to `end`, on an interface with this link type
-abbrev pub packet_at : LinkType → ℕ → ℕ → List ℕ → CaptureItem
-packet_at LinuxLapd start end octets = linux_lapd start end octets
-packet_at Lapd start end octets = Frame (record { from = None; start = start; end = end })
-packet_at Ethernet start end octets = ethernet start end octets
-packet_at Ip start end octets = ip start end octets
-packet_at NotServed start end octets = Other
+-- the content of a packet on an interface with this link type
+abbrev pub packet_at : LinkType → ℕ → ℕ → ℕ → List ℕ → CaptureItem
+packet_at LinuxLapd start kept end octets = linux_lapd start kept end octets
+packet_at Lapd start kept end octets = Frame (record {
+  from = None;
+  start = start;
+  end = kept;
+  is_cut = nat_lt kept end;
+})
+packet_at Ethernet start kept end octets = ethernet start kept end octets
+packet_at Ip start kept end octets = ip start kept end octets
+packet_at NotServed start kept end octets = Other
 
--- the same for a packet of this original length: if fewer octets were captured, it was captured in
--- part
-abbrev pub whole_packet_at : ℕ → LinkType → ℕ → ℕ → List ℕ → CaptureItem
-whole_packet_at original link start end octets =
-    if nat_lt (end - start) original then Unreadable Partial else packet_at link start end octets
+-- the same for a packet of this original length, captured from `start` to `kept`: it was cut if
+-- fewer octets were captured
+abbrev pub captured_packet_at : ℕ → LinkType → ℕ → ℕ → List ℕ → CaptureItem
+captured_packet_at original link start kept octets =
+    packet_at link start kept (max kept (start + original)) octets
 
 -- a frame that was found lies within this many octets
 abbrev pub IsWithin : ℕ → CaptureItem → Type 0

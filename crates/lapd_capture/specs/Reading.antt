@@ -5,7 +5,7 @@ use Rattle.lapd_capture.specs.declared.order.Order.{Order}
 use Rattle.lapd_capture.specs.declared.order.Order.TheVariants.{Big, Little}
 use Rattle.lapd_capture.specs.declared.item.CaptureItem.{CaptureItem}
 use Rattle.lapd_capture.specs.declared.item.CaptureItem.TheVariants.{Other, Unreadable, End}
-use Rattle.lapd_capture.specs.declared.item.PacketFault.TheVariants.{NoInterface, Partial, BadLength as BadPacketLength}
+use Rattle.lapd_capture.specs.declared.item.PacketFault.TheVariants.{NoInterface, BadLength as BadPacketLength}
 use Rattle.lapd_capture.specs.declared.fault.CaptureFault.{CaptureFault}
 use Rattle.lapd_capture.specs.declared.fault.CaptureFault.TheVariants.{NotACapture, Gzip, LinkNotServed, Cut, BadLength, TooManyInterfaces}
 use Rattle.lapd_capture.specs.declared.link_type.LinkType.{LinkType}
@@ -14,7 +14,7 @@ use Rattle.lapd_capture.specs.declared.interface.Interface.{Interface}
 use Rattle.lapd_capture.specs.declared.format.Format.{Format}
 use Rattle.lapd_capture.specs.declared.format.Format.TheVariants.{Pcap, Pcapng}
 use Rattle.lapd_capture.specs.Octets.{number_at}
-use Rattle.lapd_capture.specs.Packet.{link_type_of, whole_packet_at}
+use Rattle.lapd_capture.specs.Packet.{captured_packet_at, link_type_of}
 use Rattle.lapd_capture.specs.Moment.{units_in, moment_in}
 
 -- A capture and how far it is read: the octets that are left and how many were before them, the
@@ -40,11 +40,11 @@ pub record Step : Type 0 where
 abbrev pub most_packet : ℕ
 most_packet = 262144
 
--- the packet on this interface
+-- the packet of this original length on this interface, captured from `start` to `kept`
 abbrev pub item_on : Option Interface → ℕ → ℕ → ℕ → List ℕ → CaptureItem
-item_on None original start end octets = Unreadable NoInterface
-item_on (Some interface) original start end octets =
-    whole_packet_at original interface.link start end octets
+item_on None original start kept octets = Unreadable NoInterface
+item_on (Some interface) original start kept octets =
+    captured_packet_at original interface.link start kept octets
 
 -- ---- pcap: a header of 24 octets, followed by records of a header of 16 octets and a packet.
 
@@ -110,13 +110,22 @@ enhanced_packet n head r = if nat_lt n 32 then Unreadable BadPacketLength else (
     item_on (slice_get r.interfaces (number_at r.order 4 8 head)) (number_at r.order 4 12 r.body)
     16 (16 + number_at r.order 4 8 r.body) r.body))
 
+-- how many octets of a packet of this original length are captured on this interface
+abbrev pub snapped : Option Interface → ℕ → ℕ
+snapped None original = original
+snapped (Some interface) original =
+    if interface.snap == 0 then original else min interface.snap original
+
+-- so many captured octets in a simple packet block of this length
+abbrev pub simple_captured : ℕ → ℕ → List ℕ → Reading → CaptureItem
+simple_captured captured n head r = if nat_lt most_packet captured then Unreadable BadPacketLength
+    else (if nat_lt (n - 16) captured then Unreadable BadPacketLength else
+    item_on (slice_get r.interfaces 0) (number_at r.order 4 8 head) 0 captured r.body)
+
 -- a simple packet block of this length: the original length of a packet on the first interface
 abbrev pub simple_packet : ℕ → List ℕ → Reading → CaptureItem
-simple_packet n head r = if nat_lt n 16 then Unreadable BadPacketLength else (
-    if nat_lt most_packet (number_at r.order 4 8 head) then Unreadable BadPacketLength else (
-    if nat_lt (n - 16) (number_at r.order 4 8 head) then Unreadable Partial else
-    item_on (slice_get r.interfaces 0) (number_at r.order 4 8 head) 0 (number_at r.order 4 8 head)
-    r.body))
+simple_packet n head r = if nat_lt n 16 then Unreadable BadPacketLength else
+    simple_captured (snapped (slice_get r.interfaces 0) (number_at r.order 4 8 head)) n head r
 
 -- the moment of a packet on this interface, from two numbers
 abbrev pub moment_on : Option Interface → ℕ → ℕ → Option ℕ
@@ -149,7 +158,7 @@ abbrev pub section_step : ℕ → Reading → Result Step CaptureFault
 section_step n r = if nat_lt n 28 then Err BadLength else
     other_step n (record r { interfaces = [] })
 
--- an interface description: its link type, and the units of its moments
+-- an interface description: its link type, its snap length, and the units of its moments
 abbrev pub interface_step : ℕ → List ℕ → Reading → Result Step CaptureFault
 interface_step n head r = if nat_lt n 20 then Err BadLength else (
     if length r.interfaces == 64 then Err TooManyInterfaces else
@@ -157,6 +166,7 @@ interface_step n head r = if nat_lt n 20 then Err BadLength else (
       interfaces = r.interfaces ++ record {
         link = link_type_of (number_at r.order 2 8 head);
         units = units_in r.order (drop 4 r.body);
+        snap = number_at r.order 4 0 r.body;
       } ∷ [];
     }))
 
@@ -235,7 +245,7 @@ with_link order link units r = Ok (record r {
   place = 24;
   order = order;
   format = Pcap;
-  interfaces = record { link = link; units = units } ∷ [];
+  interfaces = record { link = link; units = units; snap = 0 } ∷ [];
 })
 
 -- the rest of a pcap file after its first four octets: the low half of its last four header octets

@@ -1,8 +1,8 @@
-ghost use Rattle.std.specs.Prelude.{◌≡◌, ◌≤◌, ◌<◌, ◌-◌, ◌+◌, ◌++◌, [], ℕ, List, Some, min, length, IfOk, IfErr, OnOk, IfSome, slice_get, take, drop};
+ghost use Rattle.std.specs.Prelude.{◌≡◌, ◌≤◌, ◌<◌, ◌-◌, ◌+◌, ◌^◌, ◌++◌, [], ℕ, List, Some, min, length, IfOk, IfErr, OnOk, IfSome, slice_get, take, drop};
 ghost use Rattle.lapd_capture.specs.Octets.{number_at};
 ghost use Rattle.lapd_capture.specs.Packet.{IsWithin};
 ghost use Rattle.lapd_capture.specs.Reader.{Opens, OpensAs, Steps, TakesBody, TakesLast, reading_of, unread};
-ghost use Rattle.lapd_capture.specs.Reading.{after_section, block_after, block_ended, block_moment, block_of_kind, block_of_length, block_order, block_rest, block_step, enhanced_packet, fault_of_magic, interface_step, item_on, moment_at, moment_on, next_step, opened, opened_from, or_end, order_of_magic, order_of_pcap, other_step, pcap_opened, record_after, record_found, record_step, section_step, simple_packet, units_of_pcap, unread_capture, with_link};
+ghost use Rattle.lapd_capture.specs.Reading.{after_section, block_after, block_ended, block_moment, block_of_kind, block_of_length, block_order, block_rest, block_step, enhanced_packet, fault_of_magic, interface_step, item_on, moment_at, moment_on, next_step, opened, opened_from, or_end, order_of_magic, order_of_pcap, other_step, pcap_opened, record_after, record_found, record_step, section_step, simple_packet, snapped, units_of_pcap, unread_capture, with_link};
 ghost use Rattle.lapd_capture.specs.Takes.{IsApart};
 
 use crate::fault::{CaptureFault, ReadFault};
@@ -11,7 +11,7 @@ use crate::interface::{Interface, units_in};
 use crate::item::{CaptureItem, PacketFault, Span};
 use crate::link_type::LinkType;
 use crate::order::Order;
-use crate::packet::whole_packet_at;
+use crate::packet::captured_packet_at;
 use crate::taking::{Taken, skip, take_all};
 use arrayvec::ArrayVec;
 use std::alloc::Global;
@@ -252,7 +252,11 @@ impl<R: Read> CaptureReader<R> {
             return Err(ReadFault::Capture(CaptureFault::LinkNotServed));
         }
         self.interfaces.clear();
-        self.interfaces.push(Interface { link, units });
+        self.interfaces.push(Interface {
+            link,
+            units,
+            snap: 0,
+        });
         self.place = 24;
         self.order = order;
         self.format = Format::Pcap;
@@ -309,18 +313,20 @@ impl<R: Read> CaptureReader<R> {
         Ok(())
     }
 
-    /// The content of a packet on an interface.
-    fn item_on(&self, interface: usize, original: usize, start: usize, end: usize) -> CaptureItem
-        requires order { start ≤ end }
-        requires within { end ≤ length self.now.body.items }
+    /// The content of a packet of this original length on an interface, captured from `start` to
+    /// `kept`.
+    fn item_on(&self, interface: usize, original: usize, start: usize, kept: usize) -> CaptureItem
+        requires fits { original < 2 ^ 32 }
+        requires order { start ≤ kept }
+        requires within { kept ≤ length self.now.body.items }
         ensures exact { result ≡ item_on (slice_get self.now.interfaces.items interface) original
-            start end self.now.body.items }
+            start kept self.now.body.items }
         ensures within { IsWithin (length self.now.body.items) result }
     {
         match self.interfaces.as_slice().get(interface) {
             None => CaptureItem::Unreadable(PacketFault::NoInterface),
             Some(interface) => {
-                whole_packet_at(original, interface.link, start, end, self.body.as_slice())
+                captured_packet_at(original, interface.link, start, kept, self.body.as_slice())
             }
         }
     }
@@ -556,7 +562,8 @@ impl<R: Read> CaptureReader<R> {
         }
         let link = LinkType::of(self.order.u16_at(8, head));
         let units = units_in(self.order, &self.body.as_slice()[4..]);
-        self.interfaces.push(Interface { link, units });
+        let snap = self.order.u32_at(0, self.body.as_slice());
+        self.interfaces.push(Interface { link, units, snap });
         self.take_other(count)
     }
 
@@ -618,13 +625,24 @@ impl<R: Read> CaptureReader<R> {
             return BAD_PACKET;
         }
         let original = self.order.u32_at(8, head);
-        if original > MOST_PACKET {
+        let captured = self.snapped(original);
+        if captured > MOST_PACKET {
             return BAD_PACKET;
         }
-        if count - 16 < original {
-            return CaptureItem::Unreadable(PacketFault::Partial);
+        if count - 16 < captured {
+            return BAD_PACKET;
         }
-        self.item_on(0, original, 0, original)
+        self.item_on(0, original, 0, captured)
+    }
+
+    /// How many octets of a packet of this original length are captured on the first interface.
+    fn snapped(&self, original: usize) -> usize
+        ensures { result ≡ snapped (slice_get self.now.interfaces.items 0) original }
+    {
+        match self.interfaces.as_slice().first() {
+            None => original,
+            Some(interface) => interface.snapped(original),
+        }
     }
 }
 

@@ -27,32 +27,42 @@ const LAPD_SUBTYPE: u8 = 1;
 
 const BAD_LENGTH: CaptureItem = CaptureItem::Unreadable(PacketFault::BadLength);
 
+const CUT: CaptureItem = CaptureItem::Unreadable(PacketFault::CutHeader);
+
 /// The content of an Ethernet frame.
-pub(crate) fn ethernet(start: usize, end: usize, octets: &[u8]) -> CaptureItem
-    requires order { start ≤ end }
-    requires within { end ≤ length octets.now }
-    ensures exact { result ≡ ethernet start end octets.now }
+pub(crate) fn ethernet(start: usize, kept: usize, end: usize, octets: &[u8]) -> CaptureItem
+    requires order { start ≤ kept }
+    requires cut { kept ≤ end }
+    requires within { kept ≤ length octets.now }
+    ensures exact { result ≡ ethernet start kept end octets.now }
     ensures within { IsWithin (length octets.now) result }
 {
     if end - start < 14 {
         return BAD_LENGTH;
     }
+    if kept - start < 14 {
+        return CUT;
+    }
     if Order::Big.u16_at(start + 12, octets) == IP {
-        ip(start + 14, end, octets)
+        ip(start + 14, kept, end, octets)
     } else {
         CaptureItem::Other
     }
 }
 
-/// The content of an IPv4 packet, if it is complete and carries UDP.
-pub(crate) fn ip(start: usize, end: usize, octets: &[u8]) -> CaptureItem
-    requires order { start ≤ end }
-    requires within { end ≤ length octets.now }
-    ensures exact { result ≡ ip start end octets.now }
+/// The content of an IPv4 packet, if it is no fragment and carries UDP.
+pub(crate) fn ip(start: usize, kept: usize, end: usize, octets: &[u8]) -> CaptureItem
+    requires order { start ≤ kept }
+    requires cut { kept ≤ end }
+    requires within { kept ≤ length octets.now }
+    ensures exact { result ≡ ip start kept end octets.now }
     ensures within { IsWithin (length octets.now) result }
 {
     if end - start < 20 {
         return BAD_LENGTH;
+    }
+    if kept - start < 20 {
+        return CUT;
     }
     if octets[start] / 16 != 4 {
         return CaptureItem::Other;
@@ -65,15 +75,23 @@ pub(crate) fn ip(start: usize, end: usize, octets: &[u8]) -> CaptureItem
     }
     let header = usize::from(octets[start] % 16) * 4;
     let total = Order::Big.u16_at(start + 2, octets);
-    ip_payload(header, total, start, end, octets)
+    ip_payload(header, total, start, kept, end, octets)
 }
 
 /// The content after an IPv4 header of this length, in a packet of this total length.
-fn ip_payload(header: usize, total: usize, start: usize, end: usize, octets: &[u8]) -> CaptureItem
+fn ip_payload(
+    header: usize,
+    total: usize,
+    start: usize,
+    kept: usize,
+    end: usize,
+    octets: &[u8],
+) -> CaptureItem
     requires header { header < 64 }
-    requires order { start ≤ end }
-    requires within { end ≤ length octets.now }
-    ensures exact { result ≡ ip_payload header total start end octets.now }
+    requires order { start ≤ kept }
+    requires cut { kept ≤ end }
+    requires within { kept ≤ length octets.now }
+    ensures exact { result ≡ ip_payload header total start kept end octets.now }
     ensures within { IsWithin (length octets.now) result }
 {
     if header < 20 {
@@ -85,16 +103,28 @@ fn ip_payload(header: usize, total: usize, start: usize, end: usize, octets: &[u
     if end - start < total {
         return BAD_LENGTH;
     }
-    udp(start + header, start + total, octets)
+    if kept - start < header {
+        return CUT;
+    }
+    udp(
+        start + header,
+        kept.min(start + total),
+        start + total,
+        octets,
+    )
 }
 
 /// The content of a UDP datagram, if it is sent to the port of GSMTAP.
-fn udp(start: usize, end: usize, octets: &[u8]) -> CaptureItem
-    requires order { start + 8 ≤ end }
-    requires within { end ≤ length octets.now }
-    ensures exact { result ≡ udp start end octets.now }
+fn udp(start: usize, kept: usize, end: usize, octets: &[u8]) -> CaptureItem
+    requires order { start ≤ kept }
+    requires cut { kept ≤ end }
+    requires within { kept ≤ length octets.now }
+    ensures exact { result ≡ udp start kept end octets.now }
     ensures within { IsWithin (length octets.now) result }
 {
+    if kept - start < 8 {
+        return CUT;
+    }
     if Order::Big.u16_at(start + 2, octets) != PORT {
         return CaptureItem::Other;
     }
@@ -105,18 +135,22 @@ fn udp(start: usize, end: usize, octets: &[u8]) -> CaptureItem
     if end - start < count {
         return BAD_LENGTH;
     }
-    gsmtap(start + 8, start + count, octets)
+    gsmtap(start + 8, kept.min(start + count), start + count, octets)
 }
 
 /// The frame after a GSMTAP header of version 2, if it is a LAPD frame.
-fn gsmtap(start: usize, end: usize, octets: &[u8]) -> CaptureItem
-    requires order { start ≤ end }
-    requires within { end ≤ length octets.now }
-    ensures exact { result ≡ gsmtap start end octets.now }
+fn gsmtap(start: usize, kept: usize, end: usize, octets: &[u8]) -> CaptureItem
+    requires order { start ≤ kept }
+    requires cut { kept ≤ end }
+    requires within { kept ≤ length octets.now }
+    ensures exact { result ≡ gsmtap start kept end octets.now }
     ensures within { IsWithin (length octets.now) result }
 {
     if end - start < LEAST_HEADER {
         return BAD_LENGTH;
+    }
+    if kept - start < LEAST_HEADER {
+        return CUT;
     }
     if octets[start] != 2 {
         return CaptureItem::Other;
@@ -128,14 +162,15 @@ fn gsmtap(start: usize, end: usize, octets: &[u8]) -> CaptureItem
         return CaptureItem::Other;
     }
     let header = usize::from(octets[start + 1]) * 4;
-    gsmtap_frame(header, start, end, octets)
+    gsmtap_frame(header, start, kept, end, octets)
 }
 
 /// The frame after a GSMTAP header of this length.
-fn gsmtap_frame(header: usize, start: usize, end: usize, octets: &[u8]) -> CaptureItem
-    requires order { start ≤ end }
-    requires within { end ≤ length octets.now }
-    ensures exact { result ≡ gsmtap_frame header start end octets.now }
+fn gsmtap_frame(header: usize, start: usize, kept: usize, end: usize, octets: &[u8]) -> CaptureItem
+    requires order { start ≤ kept }
+    requires cut { kept ≤ end }
+    requires within { kept ≤ length octets.now }
+    ensures exact { result ≡ gsmtap_frame header start kept end octets.now }
     ensures within { IsWithin (length octets.now) result }
 {
     if header < LEAST_HEADER {
@@ -144,11 +179,15 @@ fn gsmtap_frame(header: usize, start: usize, end: usize, octets: &[u8]) -> Captu
     if end - start < header {
         return BAD_LENGTH;
     }
+    if kept - start < header {
+        return CUT;
+    }
     let channel = Order::Big.u16_at(start + 4, octets);
     CaptureItem::Frame(Span {
         from: Some(gsmtap_sender(channel)),
         start: start + header,
-        end,
+        end: kept,
+        is_cut: kept < end,
     })
 }
 

@@ -1,6 +1,7 @@
 //! The units of time of an interface.
 
-ghost use Rattle.std.specs.Prelude.{◌≡◌, ◌<◌, ◌^◌, ◌*◌, ◌+◌, drop};
+ghost use Rattle.std.specs.Prelude.{◌≡◌, ◌<◌, ◌^◌, ◌*◌, ◌+◌, drop, Some};
+ghost use Rattle.lapd_capture.specs.Reading.{snapped};
 ghost use Rattle.lapd_capture.specs.Moment.{moment_in, padded, units_in, units_of};
 
 use crate::link_type::LinkType;
@@ -19,6 +20,9 @@ pub struct Interface {
     pub(crate) link: LinkType,
     /// How many units of time a second has; 0 if it is not known.
     pub(crate) units: u64,
+    /// The most octets of a packet that are captured; 0 if there is no limit, and for pcap, where
+    /// each record says how many were captured.
+    pub(crate) snap: usize,
 }
 
 /// The moment after this many units of time, in microseconds.
@@ -38,6 +42,17 @@ fn moment_in(units: u64, ticks: u128) -> Option<u64>
 }
 
 impl Interface {
+    /// How many octets of a packet of this original length are captured.
+    pub(crate) fn snapped(self, original: usize) -> usize
+        ensures { result ≡ snapped (Some self) original }
+    {
+        if self.snap == 0 {
+            original
+        } else {
+            self.snap.min(original)
+        }
+    }
+
     /// The moment of a packet, by the units of time since 1970.
     pub(crate) fn moment_of(self, ticks: u64) -> Option<u64>
         ensures { result ≡ moment_in self.units ticks }

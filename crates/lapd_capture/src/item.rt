@@ -8,8 +8,10 @@ pub struct Span {
     pub from: Option<Side>,
     /// The place of its first octet.
     pub start: usize,
-    /// The place after its last octet.
+    /// The place after its last octet that was captured.
     pub end: usize,
+    /// Whether it has further octets, which were not captured.
+    pub is_cut: bool,
 }
 
 /// The next item in a capture.
@@ -28,7 +30,7 @@ pub enum CaptureItem {
 /// Why a packet can't be read.
 #[derive(Clone, Copy, Debug, PartialEq, Eq, Error)]
 pub enum PacketFault {
-    /// A length in it is greater than the octets that are left, or it is shorter than its headers.
+    /// A length in it is greater than the octets of the packet, or it is shorter than its headers.
     #[error("packet: bad length")]
     BadLength,
     /// Its header of link type 177 has a protocol other than LAPD.
@@ -37,7 +39,7 @@ pub enum PacketFault {
     /// No block describes its interface.
     #[error("packet: unknown interface")]
     NoInterface,
-    /// It was captured in part.
-    #[error("packet: captured in part")]
-    Partial,
+    /// It was cut within the headers before its frame.
+    #[error("packet: cut within its headers")]
+    CutHeader,
 }

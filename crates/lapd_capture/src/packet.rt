@@ -1,7 +1,7 @@
 //! The content of a packet of a capture, by the link type of its interface.
 
-ghost use Rattle.std.specs.Prelude.{◌≡◌, ◌≤◌, ◌+◌, length};
-ghost use Rattle.lapd_capture.specs.Packet.{linux_lapd, capturing_side, sender_of, packet_at, whole_packet_at, IsWithin};
+ghost use Rattle.std.specs.Prelude.{◌≡◌, ◌≤◌, ◌<◌, ◌+◌, ◌^◌, length};
+ghost use Rattle.lapd_capture.specs.Packet.{linux_lapd, capturing_side, captured_packet_at, sender_of, packet_at, IsWithin};
 
 use crate::gsmtap;
 use crate::item::{CaptureItem, PacketFault, Span};
@@ -15,54 +15,60 @@ const LINUX_HEADER: usize = 16;
 /// The protocol number of LAPD in this header, ETH_P_LAPD.
 const PROTOCOL: usize = 0x0030;
 
-/// The content of the octets from `start` to `end` of a packet whose original length is `original`.
-pub(crate) fn whole_packet_at(
+/// The content of a packet of this original length, captured from `start` to `kept`. A frame in it
+/// is what was captured of it.
+pub(crate) fn captured_packet_at(
     original: usize,
     link: LinkType,
     start: usize,
-    end: usize,
+    kept: usize,
     octets: &[u8],
 ) -> CaptureItem
-    requires order { start ≤ end }
-    requires within { end ≤ length octets.now }
-    ensures exact { result ≡ whole_packet_at original link start end octets.now }
+    requires fits { original < 2 ^ 32 }
+    requires order { start ≤ kept }
+    requires within { kept ≤ length octets.now }
+    ensures exact { result ≡ captured_packet_at original link start kept octets.now }
     ensures within { IsWithin (length octets.now) result }
 {
-    if end - start < original {
-        return CaptureItem::Unreadable(PacketFault::Partial);
-    }
-    packet_at(link, start, end, octets)
+    packet_at(link, start, kept, kept.max(start + original), octets)
 }
 
-/// The content of the octets from `start` to `end`, on an interface with this link type.
-fn packet_at(link: LinkType, start: usize, end: usize, octets: &[u8]) -> CaptureItem
-    requires order { start ≤ end }
-    requires within { end ≤ length octets.now }
-    ensures exact { result ≡ packet_at link start end octets.now }
+/// The content of a packet from `start` to `end`, captured up to `kept`, on an interface with this
+/// link type.
+fn packet_at(link: LinkType, start: usize, kept: usize, end: usize, octets: &[u8]) -> CaptureItem
+    requires order { start ≤ kept }
+    requires cut { kept ≤ end }
+    requires within { kept ≤ length octets.now }
+    ensures exact { result ≡ packet_at link start kept end octets.now }
     ensures within { IsWithin (length octets.now) result }
 {
     match link {
-        LinkType::LinuxLapd => linux_lapd(start, end, octets),
+        LinkType::LinuxLapd => linux_lapd(start, kept, end, octets),
         LinkType::Lapd => CaptureItem::Frame(Span {
             from: None,
             start,
-            end,
+            end: kept,
+            is_cut: kept < end,
         }),
-        LinkType::Ethernet => gsmtap::ethernet(start, end, octets),
-        LinkType::Ip => gsmtap::ip(start, end, octets),
+        LinkType::Ethernet => gsmtap::ethernet(start, kept, end, octets),
+        LinkType::Ip => gsmtap::ip(start, kept, end, octets),
         LinkType::NotServed => CaptureItem::Other,
     }
 }
 
 /// The frame after the header of link type 177.
-fn linux_lapd(start: usize, end: usize, octets: &[u8]) -> CaptureItem
-    requires order { start ≤ end }
-    requires within { end ≤ length octets.now }
-    ensures exact { result ≡ linux_lapd start end octets.now }
+fn linux_lapd(start: usize, kept: usize, end: usize, octets: &[u8]) -> CaptureItem
+    requires order { start ≤ kept }
+    requires cut { kept ≤ end }
+    requires within { kept ≤ length octets.now }
+    ensures exact { result ≡ linux_lapd start kept end octets.now }
     ensures within { IsWithin (length octets.now) result }
 {
     if end - start < LINUX_HEADER {
         return CaptureItem::Unreadable(PacketFault::BadLength);
+    }
+    if kept - start < LINUX_HEADER {
+        return CaptureItem::Unreadable(PacketFault::CutHeader);
     }
     if Order::Big.u16_at(start + 14, octets) != PROTOCOL {
         return CaptureItem::Unreadable(PacketFault::BadHeader);
@@ -71,7 +77,8 @@ fn linux_lapd(start: usize, end: usize, octets: &[u8]) -> CaptureItem
     CaptureItem::Frame(Span {
         from: sender_of(Order::Big.u16_at(start, octets), side),
         start: start + LINUX_HEADER,
-        end,
+        end: kept,
+        is_cut: kept < end,
     })
 }
 

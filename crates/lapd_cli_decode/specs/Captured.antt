@@ -20,9 +20,13 @@ use Rattle.lapd_cli_decode.specs.Frames.{Printing, after_frame, closing_text, fr
 
 -- ---- A frame that was found; `behind` is the capture after it.
 
--- the packet read last
-abbrev pub last_packet : Reading → JsonPacket
-last_packet behind = record { number = behind.packets; moment = behind.moment }
+-- the packet read last, which holds it
+abbrev pub last_packet : Reading → Span → JsonPacket
+last_packet behind span = record {
+  number = behind.packets;
+  moment = behind.moment;
+  is_cut = span.is_cut;
+}
 
 -- who sent it; if the capture does not say, the chosen sender did
 abbrev pub sender_of : CaptureStyle → Span → Side
@@ -36,7 +40,7 @@ octets_of behind span = take (span.end - span.start) (drop span.start behind.bod
 -- the text printed for it
 abbrev pub item_text : CaptureStyle → Reading → CaptureItem → Printing → List ℕ
 item_text how behind (Frame span) s =
-    frame_text (last_packet behind) (sender_of how span) (octets_of behind span) s
+    frame_text (last_packet behind span) (sender_of how span) (octets_of behind span) s
 item_text how behind (Unreadable fault) s = []
 item_text how behind Other s = []
 item_text how behind End s = []
@@ -44,7 +48,7 @@ item_text how behind End s = []
 -- what is known of the frames after it
 abbrev pub after_item : CaptureStyle → Reading → CaptureItem → Printing → Printing
 after_item how behind (Frame span) s =
-    after_frame (last_packet behind) (sender_of how span) (octets_of behind span) s
+    after_frame (last_packet behind span) (sender_of how span) (octets_of behind span) s
 after_item how behind (Unreadable fault) s = s
 after_item how behind Other s = s
 after_item how behind End s = s

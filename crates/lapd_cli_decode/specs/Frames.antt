@@ -59,7 +59,7 @@ is_complete s = reaches s.how.count s.printed
 
 -- the packet of the next line of a script: its number is its place among the frames
 abbrev pub line_packet : Printing → Packet
-line_packet s = record { number = one_more s.frames; moment = None }
+line_packet s = record { number = one_more s.frames; moment = None; is_cut = false }
 
 -- a packet, for a listener
 abbrev pub followed_packet : Packet → FollowedPacket

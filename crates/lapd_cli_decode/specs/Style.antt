@@ -1,5 +1,5 @@
 -- How the octets that a side sent are printed.
-use Rattle.std.specs.Prelude.{ℕ, List, ◌++◌}
+use Rattle.std.specs.Prelude.{ℕ, List, ◌++◌, codes, Bool, true, false}
 use Rattle.lapd_frame.specs.declared.Side.{Side}
 use Rattle.lapd_trace.specs.Trace.{trace_line}
 use Rattle.lapd_cli_render.specs.Names.{names_text}
@@ -16,10 +16,16 @@ styled_text Named from octets = trace_line from octets ++ names_text from octets
 styled_text Json from octets = object_text (frame_members from octets)
 styled_text NamedJson from octets = object_text (named_members from octets)
 
--- the same for a packet of a capture: a JSON object also has the packet's number and time
+-- a mark behind a line if the capture has only the first of its octets
+abbrev pub marked : Bool → List ℕ → List ℕ
+marked false text = text
+marked true text = text ++ codes " [cut]"
+
+-- the same for a packet of a capture: a line is marked if it was cut; a JSON object also has the
+-- packet's number and time, and whether it was cut
 abbrev pub styled_packet : Style → Packet → Side → List ℕ → List ℕ
-styled_packet Plain packet from octets = styled_text Plain from octets
-styled_packet Named packet from octets = styled_text Named from octets
+styled_packet Plain packet from octets = marked packet.is_cut (styled_text Plain from octets)
+styled_packet Named packet from octets = marked packet.is_cut (styled_text Named from octets)
 styled_packet Json packet from octets = object_text (with_packet packet (frame_members from octets))
 styled_packet NamedJson packet from octets =
     object_text (with_packet packet (named_members from octets))

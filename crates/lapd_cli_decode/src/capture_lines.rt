@@ -264,6 +264,7 @@ fn print_frame<R: Read, W: Write>(
     let packet = Packet {
         number: capture.packets(),
         moment: capture.moment(),
+        is_cut: frame.is_cut,
     };
     match printer.print(packet, from, capture.octets_of(frame), out) {
         Ok(()) => Ok(()),

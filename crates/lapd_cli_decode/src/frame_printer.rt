@@ -113,6 +113,7 @@ impl FramePrinter {
         Packet {
             number: self.frames.saturating_add(1),
             moment: None,
+            is_cut: false,
         }
     }
 

@@ -1,6 +1,6 @@
 ghost use Rattle.std.specs.Prelude.{◌≡◌, ◌++◌, IfOk, OnOk};
 ghost use Rattle.std.specs.String.{string_bytes};
-ghost use Rattle.lapd_cli_decode.specs.Style.{styled_packet, styled_text};
+ghost use Rattle.lapd_cli_decode.specs.Style.{marked, styled_packet, styled_text};
 
 use lapd_cli_render::Packet;
 use lapd_frame::Side;
@@ -62,7 +62,8 @@ impl Style {
         }
     }
 
-    /// The same as [`Style::write`] for octets in a packet of a capture.
+    /// The same as [`Style::write`] for octets in a packet of a capture. The text is marked if the
+    /// packet was cut.
     ///
     /// # Errors
     ///
@@ -79,7 +80,10 @@ impl Style {
             ≡ styled_packet self packet from octets.now) }
     {
         match self {
-            Style::Plain | Style::Named => self.write(alloc, from, octets, line),
+            Style::Plain | Style::Named => {
+                self.write(alloc, from, octets, line)?;
+                mark_cut(line, packet.is_cut)
+            }
             Style::Json => {
                 *line = lapd_cli_render::packet_line(alloc, from, octets, packet)?;
                 Ok(())
@@ -89,6 +93,17 @@ impl Style {
                 Ok(())
             }
         }
+    }
+}
+
+/// Appends a mark to a line if only the first of its octets were captured.
+fn mark_cut(line: &mut String, is_cut: bool) -> Result<(), AllocError>
+    ensures { OnOk result (string_bytes line.new ≡ marked is_cut (string_bytes line.old)) }
+{
+    if is_cut {
+        line.push_str(" [cut]")
+    } else {
+        Ok(())
     }
 }
 

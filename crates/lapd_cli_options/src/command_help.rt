@@ -619,7 +619,8 @@ With --loose also, by the first of these forms that a line has:
 With --pcap no script is read. A capture is pcap or pcapng of link type 177 (LINUX_LAPD) or 203
 (LAPD), or GSMTAP over UDP in Ethernet or IPv4. Packets without LAPD are skipped. A line is printed
 before the program waits for the next packet, so FILE may be a pipe. A fault is reported with the
-place of its packet or block in the file, in octets from 0, and the exit status is 1.
+place of its packet or block in the file, in octets from 0, and the exit status is 1. The line of a
+packet that was not captured to its end ends with [cut].
 
 Output for a frame, in one line:
   U>N or N>U    the user side, or the network side, sent it
@@ -659,6 +660,7 @@ With --json a line is an object with these members, in the order of their names:
   info             \"HEX\", if it has octets
   message          with --names, the words above
   fault, octets    instead of all members but direction: \"F1 TooShort\" and \"HEX\"
+  cut              with --pcap, true if the packet was not captured to its end
   packet           with --pcap, the number of the packet, from 1
   time             with --pcap, if known: \"SECONDS\" since 1970, with six digits after a point
   remarks          with --follow, the last one: a list of objects with class, clause and text

@@ -2,7 +2,7 @@
 -- primitives of a side.
 use Rattle.std.specs.Prelude.{ℕ, ◌==◌, if◌then◌else◌, Bool, true, false, List, [], ◌∷◌, codes, Result, Ok, Err}
 use Rattle.hex.specs.Hex.{encode_lower}
-use Rattle.serde_json.specs.Data.{Members, number, no_members, object, put, string, unsigned}
+use Rattle.serde_json.specs.Data.{Members, boolean, number, no_members, object, put, string, unsigned}
 use Rattle.serde_json.specs.Written.{compact_text}
 use Rattle.lapd_frame.specs.declared.Side.{Side}
 use Rattle.lapd_frame.specs.declared.Side.TheVariants.{Network, User}
@@ -34,6 +34,9 @@ with_text key text members = put key (string text) members
 
 abbrev pub with_number : List ℕ → ℕ → Members → Members
 with_number key value members = put key (number (unsigned value)) members
+
+abbrev pub with_flag : List ℕ → Bool → Members → Members
+with_flag key flag members = put key (boolean flag) members
 
 -- who sent it, the user or the network
 abbrev pub direction_text : Side → List ℕ

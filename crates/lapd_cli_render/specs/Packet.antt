@@ -1,10 +1,11 @@
--- Objects for octets in a packet of a capture, with its number and the time of the capture.
-use Rattle.std.specs.Prelude.{ℕ, ◌+◌, ◌*◌, ◌/◌, ◌%◌, List, [], ◌∷◌, ◌++◌, codes, Option, Some, None}
+-- Objects for octets in a packet of a capture, with its number, the time of the capture, and
+-- whether it was cut.
+use Rattle.std.specs.Prelude.{ℕ, ◌+◌, ◌*◌, ◌/◌, ◌%◌, List, [], ◌∷◌, ◌++◌, codes, Bool, true, false, Option, Some, None}
 use Rattle.std.specs.Fmt.{decimal}
 use Rattle.hex.specs.Hex.{encode_lower}
 use Rattle.serde_json.specs.Data.{Members}
 use Rattle.lapd_cli_render.specs.declared.packet.Packet.{Packet}
-use Rattle.lapd_cli_render.specs.Json.{with_number, with_text}
+use Rattle.lapd_cli_render.specs.Json.{with_flag, with_number, with_text}
 
 -- two decimal digits in BCD
 abbrev pub two_digits : ℕ → ℕ
@@ -25,7 +26,12 @@ abbrev pub with_moment : Option ℕ → Members → Members
 with_moment None members = members
 with_moment (Some moment) members = with_text (codes "time") (seconds_text moment) members
 
--- the number of the packet, and the time of its capture
+-- a mark if the packet was cut
+abbrev pub with_cut : Bool → Members → Members
+with_cut false members = members
+with_cut true members = with_flag (codes "cut") true members
+
+-- the number of the packet, the time of its capture, and whether it was cut
 abbrev pub with_packet : Packet → Members → Members
-with_packet packet members =
-    with_moment packet.moment (with_number (codes "packet") packet.number members)
+with_packet packet members = with_cut packet.is_cut
+    (with_moment packet.moment (with_number (codes "packet") packet.number members))

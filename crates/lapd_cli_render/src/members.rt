@@ -1,16 +1,16 @@
-//! The members of an object of texts and numbers.
+//! The members of an object of texts, numbers and flags.
 
 ghost use Rattle.std.specs.Prelude.{◌≡◌, false, IfOk, OnOk};
 ghost use Rattle.std.specs.String.{string_bytes};
 ghost use Rattle.serde_json.specs.Data.{no_members};
 ghost use Rattle.serde_json.specs.View.{members_view};
 ghost use Rattle.serde_json.specs.Written.{members_have_float};
-ghost use Rattle.lapd_cli_render.specs.Json.{object_text, with_number, with_text};
+ghost use Rattle.lapd_cli_render.specs.Json.{object_text, with_flag, with_number, with_text};
 
 use serde_json::{Map, Value, put};
 use std::alloc::{AllocError, Global};
 
-/// The members of an object in alphabetical order. Each is a text or a number.
+/// The members of an object in alphabetical order. Each is a text, a number or a flag.
 #[derive(Drop)]
 pub(crate) struct Members {
     alloc: Global,
@@ -44,6 +44,14 @@ impl Members {
             ≡ with_number key.now number (members_view self.old.map.entries)) }
     {
         put(&mut self.map, self.alloc, key, Value::from(number))
+    }
+
+    /// Sets a member to a flag.
+    pub(crate) fn put_flag(&mut self, key: &str, flag: bool) -> Result<(), AllocError>
+        ensures { OnOk result (members_view self.new.map.entries
+            ≡ with_flag key.now flag (members_view self.old.map.entries)) }
+    {
+        put(&mut self.map, self.alloc, key, Value::from(flag))
     }
 
     /// The object's text, in one line without spaces.

@@ -5,7 +5,7 @@ ghost use Rattle.std.specs.Fmt.{decimal};
 ghost use Rattle.std.specs.String.{string_bytes};
 ghost use Rattle.serde_json.specs.View.{members_view};
 ghost use Rattle.lapd_cli_render.specs.Json.{frame_members, named_members, object_text};
-ghost use Rattle.lapd_cli_render.specs.Packet.{seconds_text, six_digits, two_digits, with_packet};
+ghost use Rattle.lapd_cli_render.specs.Packet.{seconds_text, six_digits, two_digits, with_cut, with_moment, with_packet};
 
 use crate::lines::{put_message, put_reading};
 use crate::members::Members;
@@ -19,10 +19,13 @@ pub struct Packet {
     pub number: u64,
     /// The time of the capture in microseconds since 1970, if known.
     pub moment: Option<u64>,
+    /// Whether only the first octets of its frame were captured.
+    pub is_cut: bool,
 }
 
 /// Like [`crate::line`], for octets in a packet of a capture. The member `packet` is its number, and
-/// `time` is the time of the capture, if known, in seconds since 1970 with six decimals.
+/// `time` is the time of the capture, if known, in seconds since 1970 with six decimals. If the
+/// packet was cut, a member `cut` is true.
 ///
 /// ```text
 /// {"direction":"U>N","frame":"SABME","p":1,"packet":2,"role":"command","sapi":0,"tei":64,"time":"1.002000"}
@@ -67,15 +70,36 @@ pub fn named_packet_line(
     members.into_text()
 }
 
-/// Adds the number of a packet, and the time of its capture, if known.
+/// Adds the number of a packet, the time of its capture, if known, and whether it was cut.
 fn put_packet(alloc: Global, members: &mut Members, packet: Packet) -> Result<(), AllocError>
     ensures { OnOk result (members_view members.new.map.entries
         ≡ with_packet packet (members_view members.old.map.entries)) }
 {
     members.put_number("packet", packet.number)?;
-    match packet.moment {
+    put_moment(alloc, members, packet.moment)?;
+    put_cut(members, packet.is_cut)
+}
+
+/// Adds the time of a capture, if known.
+fn put_moment(alloc: Global, members: &mut Members, moment: Option<u64>) -> Result<(), AllocError>
+    ensures { OnOk result (members_view members.new.map.entries
+        ≡ with_moment moment (members_view members.old.map.entries)) }
+{
+    match moment {
         Some(moment) => members.put_text("time", seconds_text(alloc, moment)?.as_str()),
         None => Ok(()),
+    }
+}
+
+/// Adds a mark if a packet was cut.
+fn put_cut(members: &mut Members, is_cut: bool) -> Result<(), AllocError>
+    ensures { OnOk result (members_view members.new.map.entries
+        ≡ with_cut is_cut (members_view members.old.map.entries)) }
+{
+    if is_cut {
+        members.put_flag("cut", true)
+    } else {
+        Ok(())
     }
 }
 

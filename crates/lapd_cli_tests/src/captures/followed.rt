@@ -1,7 +1,7 @@
 //! Captures and lines whose links are followed.
 
 use crate::captures::read::{are_lines, parts_of};
-use crate::wants::{all_hold, wants};
+use crate::wants::all_hold;
 use lapd_cli_decode::{
     CaptureReader, CaptureStop, CaptureStyle, Follow, FrameStyle, LineForm, LinesStyle, ReadFault,
     Seen, Side, Style, follow_capture, print_lines,
@@ -16,8 +16,22 @@ d4c3b2a102000400000000000000000000000400b1000000\
 01000000d00700001300000013000000000420fd00010000000000000000003000817f\
 01000000a86100001300000013000000000020fd000100000000000000000030008173";
 
+// The same, but the UA has an octet that was not captured.
+const CUT_CAPTURE: &str = "\
+d4c3b2a102000400000000000000000000000400b1000000\
+01000000d00700001300000013000000000420fd00010000000000000000003000817f\
+01000000a86100001300000014000000000020fd000100000000000000000030008173";
+
 const LINES: &str = "\
 U>N SAPI 0 TEI 64 C SABME P=1/N>U SAPI 0 TEI 64 R UA F=1; begins establishment 1; answers packet 1 after 0.023 s\
+/SAPI 0 TEI 64: establishments 1\
+/  U>N I 0, RR 0, RNR 0, REJ 0, SABME 1, DISC 0, UA 0, DM 0, UI 0, FRMR 0, XID 0\
+/  U>N messages 0, octets 0, repeated 0, polls 1\
+/  N>U I 0, RR 0, RNR 0, REJ 0, SABME 0, DISC 0, UA 1, DM 0, UI 0, FRMR 0, XID 0\
+/  N>U messages 0, octets 0, repeated 0, polls 0, answers 1 after 0.023 to 0.023 s, mean 0.023 s";
+
+const CUT_LINES: &str = "\
+U>N SAPI 0 TEI 64 C SABME P=1/N>U SAPI 0 TEI 64 R UA F=1 [cut]; begins establishment 1; answers packet 1 after 0.023 s\
 /SAPI 0 TEI 64: establishments 1\
 /  U>N I 0, RR 0, RNR 0, REJ 0, SABME 1, DISC 0, UA 0, DM 0, UI 0, FRMR 0, XID 0\
 /  U>N messages 0, octets 0, repeated 0, polls 1\
@@ -29,21 +43,29 @@ const OBJECTS: &str =
 
 #[test]
 fn captures_are_followed(rt: HostRuntime) -> Result<(), Fail> {
-    wants(
-        prints(rt.alloc(), Style::Plain, LINES),
-        LINES,
-        "its end, or its lines",
-    )?;
-    wants(
-        prints(rt.alloc(), Style::Json, OBJECTS),
-        OBJECTS,
-        "its end, or its lines",
-    )
+    let alloc = rt.alloc();
+    all_hold(&[
+        (
+            prints(alloc, CAPTURE, Style::Plain, LINES),
+            LINES,
+            "its end, or its lines",
+        ),
+        (
+            prints(alloc, CUT_CAPTURE, Style::Plain, CUT_LINES),
+            CUT_LINES,
+            "its end, or its lines",
+        ),
+        (
+            prints(alloc, CAPTURE, Style::Json, OBJECTS),
+            OBJECTS,
+            "its end, or its lines",
+        ),
+    ])
 }
 
-// Whether the capture is printed so in this style.
-fn prints(alloc: Global, style: Style, lines: &str) -> bool {
-    match hex::decode(alloc, CAPTURE.as_bytes()) {
+// Whether a capture is printed so in this style.
+fn prints(alloc: Global, capture: &str, style: Style, lines: &str) -> bool {
+    match hex::decode(alloc, capture.as_bytes()) {
         Ok(octets) => {
             let mut printed = Vec::new(alloc);
             let ended = print_capture(alloc, octets.as_slice(), &mut printed, style);
