@@ -24,7 +24,8 @@ object_or_none (Some r) = remark_object r
 abbrev pub remark_objects : Remarks → List ℕ
 remark_objects r = object_or_none r.establishment ++ (object_or_none r.ns
     ++ (object_or_none r.window ++ (object_or_none r.busy ++ (object_or_none r.nr
-    ++ object_or_none r.answer))))
+    ++ (object_or_none r.answer ++ (object_or_none r.identity
+    ++ object_or_none r.conflict))))))
 
 -- the same without the first comma
 abbrev pub listed : List ℕ → List ℕ

@@ -56,8 +56,14 @@ counts_text direction t = codes "  " ++ (direction ++ (codes " messages "
     ++ (codes ", repeated " ++ (decimal t.repeated ++ (codes ", polls "
     ++ decimal t.polls))))))))
 
+-- how long an end was busy
+abbrev pub busy_text : Option ℕ → List ℕ
+busy_text None = []
+busy_text (Some total) = codes ", busy " ++ (thousandths total ++ codes " s")
+
 abbrev pub counts_line : List ℕ → Tally → List ℕ
-counts_line direction t = counts_text direction t ++ (times_text t.times ++ codes "\n")
+counts_line direction t = counts_text direction t
+    ++ (times_text t.times ++ (busy_text t.busy.total ++ codes "\n"))
 
 abbrev pub end_lines : List ℕ → Tally → List ℕ
 end_lines direction t = kinds_line direction t.kinds ++ counts_line direction t
@@ -87,6 +93,10 @@ range_member t (Some least) (Some greatest) = answers_member t.count greatest le
 abbrev pub times_member : Times → List ℕ
 times_member t = range_member t t.least t.greatest
 
+abbrev pub busy_member : Option ℕ → List ℕ
+busy_member None = []
+busy_member (Some total) = codes "\"busy\":" ++ (decimal total ++ codes ",")
+
 abbrev pub first_members : Tally → List ℕ
 first_members t = codes "\"disc\":" ++ (decimal t.kinds.disc ++ (codes ",\"dm\":"
     ++ (decimal t.kinds.dm ++ (codes ",\"frmr\":" ++ (decimal t.kinds.frmr ++ (codes ",\"i\":"
@@ -102,7 +112,8 @@ last_members t = codes ",\"rej\":" ++ (decimal t.kinds.rej ++ (codes ",\"repeate
     ++ (codes ",\"xid\":" ++ (decimal t.kinds.xid ++ codes "}")))))))))))))))
 
 abbrev pub end_object : Tally → List ℕ
-end_object t = codes "{" ++ (times_member t.times ++ (first_members t ++ last_members t))
+end_object t = codes "{" ++ (times_member t.times
+    ++ (busy_member t.busy.total ++ (first_members t ++ last_members t)))
 
 abbrev pub object_head : LinkTally → List ℕ
 object_head t = codes "{\"establishments\":" ++ (decimal t.establishments

@@ -115,7 +115,9 @@ fn remark_objects(alloc: Global, said: &Remarks) -> Result<String, AllocError>
     let busy = object_of(said.busy);
     let nr = object_of(said.nr);
     let answer = object_of(said.answer);
-    format!(in alloc; "{establishment}{ns}{window}{busy}{nr}{answer}")
+    let identity = object_of(said.identity);
+    let conflict = object_of(said.conflict);
+    format!(in alloc; "{establishment}{ns}{window}{busy}{nr}{answer}{identity}{conflict}")
 }
 
 /// A remark as an object.

@@ -3,7 +3,7 @@
 ghost use Rattle.std.specs.Prelude.{◌≡◌, ◌++◌, Some, IfOk, OnOk};
 ghost use Rattle.std.specs.Io.KnownBytes.{Appends, Keeps};
 ghost use Rattle.std.specs.String.{string_bytes};
-ghost use Rattle.lapd_cli_decode.specs.Tables.{TablesEnd, address_members, answers_member, counts_line, counts_text, end_lines, end_object, first_members, head_line, kinds_line, last_members, link_lines, link_object, link_text, mean_of, messages_of, object_front, object_head, object_rest, place_text, range_text, tables_text, thousandths, times_member, times_text};
+ghost use Rattle.lapd_cli_decode.specs.Tables.{TablesEnd, address_members, answers_member, busy_member, busy_text, counts_line, counts_text, end_lines, end_object, first_members, head_line, kinds_line, last_members, link_lines, link_object, link_text, mean_of, messages_of, object_front, object_head, object_rest, place_text, range_text, tables_text, thousandths, times_member, times_text};
 
 use crate::style::Style;
 use lapd_cli_script::ScriptFault;
@@ -137,6 +137,7 @@ fn push_counts_line(text: &mut String, direction: &str, tally: &Tally) -> Result
 {
     push_counts(text, direction, tally)?;
     push_times(text, &tally.times)?;
+    push_busy(text, tally.busy.total)?;
     text.push_str("\n")
 }
 
@@ -180,6 +181,19 @@ fn push_range(text: &mut String, times: &Times, least: u64, greatest: u64) -> Re
         text,
         ", answers {count} after {first} to {last} s, mean {mean} s"
     )
+}
+
+/// Appends how long an end was busy, if it was.
+fn push_busy(text: &mut String, total: Option<u64>) -> Result<(), AllocError>
+    ensures { OnOk result (string_bytes text.new ≡ string_bytes text.old ++ busy_text total) }
+{
+    match total {
+        None => Ok(()),
+        Some(time) => {
+            let total = Thousandths { time };
+            write!(text, ", busy {total} s")
+        }
+    }
 }
 
 /// Appends the object of a link.
@@ -231,6 +245,7 @@ fn push_end_object(text: &mut String, tally: &Tally) -> Result<(), AllocError>
 {
     text.push_str("{")?;
     push_times_member(text, &tally.times)?;
+    push_busy_member(text, tally.busy.total)?;
     push_first_members(text, tally)?;
     push_last_members(text, tally)
 }
@@ -262,6 +277,16 @@ fn push_answers_member(
         text,
         "\"answers\":{{\"count\":{count},\"greatest\":{greatest},\"least\":{least},\"mean\":{mean}}},"
     )
+}
+
+/// Appends the member of the busy time, if there is any.
+fn push_busy_member(text: &mut String, total: Option<u64>) -> Result<(), AllocError>
+    ensures { OnOk result (string_bytes text.new ≡ string_bytes text.old ++ busy_member total) }
+{
+    match total {
+        None => Ok(()),
+        Some(total) => write!(text, "\"busy\":{total},"),
+    }
 }
 
 /// Appends the members from `disc` to `polls`.

@@ -648,7 +648,8 @@ With --follow the remarks on a frame are last, each after `; `. Frames that are 
 followed too, up to the last one that --count allows. A frame that is simply the next one
 of its link has none. `violation: ` marks what no two ends do that follow Q.921. At the end of the
 input a table of each link has its establishments and, of each direction, the frames by kind, the
-messages, their octets, the repeated I frames, the polls and the times of answers.
+messages, their octets, the repeated I frames, the polls, the times of answers and the time that an
+end was busy. Messages of TEI management have remarks too.
 
 With --json a line is an object with these members, in the order of their names:
   direction        \"U>N\" or \"N>U\"

@@ -1,13 +1,19 @@
--- All data links of a line, by SAPI and TEI.
-use Rattle.std.specs.Prelude.{ℕ, ◌+◌, ◌*◌, List, set, replicate, slice_get, Option, Some, None}
+-- All data links of a line, by SAPI and TEI, and the assignment of TEIs.
+use Rattle.std.specs.Prelude.{ℕ, ◌+◌, ◌*◌, ◌==◌, if◌then◌else◌, List, map, set, replicate, slice_get, Option, Some, None}
 use Rattle.lapd_frame.specs.declared.Sapi.{Sapi}
 use Rattle.lapd_frame.specs.declared.Sapi.TheVariants.{Call, Packet, Management}
 use Rattle.lapd_frame.specs.declared.Address.{Address}
+use Rattle.lapd_follow.specs.declared.identity.Identity.{Identity}
+use Rattle.lapd_follow.specs.declared.remark.Remark.TheVariants.{Manages}
 use Rattle.lapd_follow.specs.declared.remarks.Remarks.{Remarks}
+use Rattle.lapd_follow.specs.Identities.{identity_of, renewed}
 use Rattle.lapd_follow.specs.Link.{LinkKnown, Sighting, new_link, said_of, link_after}
+use Rattle.lapd_follow.specs.Teis.{TeisKnown, conflict_of, new_teis, teis_after}
+
+-- ---- Links.
 
 -- the window k of all links, if it is known, and each link of which a frame was seen
-pub record LineKnown : Type 0 where
+pub record LinksKnown : Type 0 where
   pub k : Option ℕ
   pub links : List (Option LinkKnown)
 
@@ -21,8 +27,8 @@ abbrev pub place_of : Address → ℕ
 place_of a = sapi_place a.sapi * 128 + a.tei
 
 -- nothing was seen
-abbrev pub new_line : Option ℕ → LineKnown
-new_line k = record { k = k; links = replicate 384 None }
+abbrev pub new_links : Option ℕ → LinksKnown
+new_links k = record { k = k; links = replicate 384 None }
 
 -- a link that was not seen is new
 abbrev pub link_or_new : Option ℕ → Option (Option LinkKnown) → LinkKnown
@@ -35,16 +41,71 @@ abbrev pub seen_link : Option (Option LinkKnown) → Option LinkKnown
 seen_link (Some link) = link
 seen_link None = None
 
-abbrev pub link_at : ℕ → LineKnown → LinkKnown
-link_at place line = link_or_new line.k (slice_get line.links place)
+abbrev pub link_at : ℕ → LinksKnown → LinkKnown
+link_at place all = link_or_new all.k (slice_get all.links place)
 
--- what is said of a frame: only its own link matters
-abbrev pub said_on_line : Sighting → LineKnown → Remarks
-said_on_line s line = said_of s (link_at (place_of s.frame.address) line)
+-- what is said of a frame by its own link
+abbrev pub said_on_links : Sighting → LinksKnown → Remarks
+said_on_links s all = said_of s (link_at (place_of s.frame.address) all)
 
 -- what is known after it: no other link changes
-abbrev pub line_after : Sighting → LineKnown → LineKnown
-line_after s line = record line {
-  links = set line.links (place_of s.frame.address)
-      (Some (link_after s (link_at (place_of s.frame.address) line)));
+abbrev pub links_after : Sighting → LinksKnown → LinksKnown
+links_after s all = record all {
+  links = set all.links (place_of s.frame.address)
+      (Some (link_after s (link_at (place_of s.frame.address) all)));
 }
+
+-- nothing is known of a link
+abbrev pub no_link : Option LinkKnown → Option LinkKnown
+no_link link = None
+
+-- nothing is known of the links of this TEI; the group TEI stands for all
+abbrev pub without_tei : ℕ → List (Option LinkKnown) → List (Option LinkKnown)
+without_tei tei links = if tei == 127 then map no_link links
+    else set (set (set links tei None) (tei + 128) None) (tei + 256) None
+
+abbrev pub forgotten : Option ℕ → List (Option LinkKnown) → List (Option LinkKnown)
+forgotten None links = links
+forgotten (Some tei) links = without_tei tei links
+
+-- ---- A line: its links, and its TEIs.
+
+pub record LineKnown : Type 0 where
+  pub links : LinksKnown
+  pub teis : TeisKnown
+
+abbrev pub new_line : Option ℕ → LineKnown
+new_line k = record { links = new_links k; teis = new_teis }
+
+-- the remarks on a frame, with those on its message of TEI management
+abbrev pub managed : Identity → TeisKnown → Remarks → Remarks
+managed message teis said = record said {
+  identity = Some (Manages message);
+  conflict = conflict_of message teis;
+}
+
+abbrev pub managed_if : Option Identity → TeisKnown → Remarks → Remarks
+managed_if None teis said = said
+managed_if (Some message) teis said = managed message teis said
+
+-- what is said of a frame: only its own link and the messages of TEI management matter
+abbrev pub said_on_line : Sighting → LineKnown → Remarks
+said_on_line s line =
+    managed_if (identity_of s.sender s.frame) line.teis (said_on_links s line.links)
+
+-- The line after a message of TEI management. After the assignment or the removal of a TEI its
+-- links are new.
+abbrev pub line_with_message : Identity → LineKnown → LineKnown
+line_with_message message line = record {
+  links = record line.links { links = forgotten (renewed message) line.links.links };
+  teis = teis_after message line.teis;
+}
+
+abbrev pub line_with_message_if : Option Identity → LineKnown → LineKnown
+line_with_message_if None line = line
+line_with_message_if (Some message) line = line_with_message message line
+
+-- what is known after a frame
+abbrev pub line_after : Sighting → LineKnown → LineKnown
+line_after s line = line_with_message_if (identity_of s.sender s.frame)
+    (record line { links = links_after s line.links })

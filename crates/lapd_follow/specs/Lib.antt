@@ -1,9 +1,13 @@
+pub mod BusyTimes
 pub mod Ends
 pub mod Exchange
 pub mod Follower
+pub mod Identities
 pub mod Link
 pub mod Listening
 pub mod Remarks
 pub mod Tallies
+pub mod Teis
 pub mod Texts
 pub mod Worked
+pub mod WorkedTeis

@@ -11,6 +11,7 @@ use Rattle.lapd_follow.specs.declared.remark.Remark.{Remark}
 use Rattle.lapd_follow.specs.declared.remark.Remark.TheVariants.{Begins}
 use Rattle.lapd_follow.specs.declared.remarks.Remarks.{Remarks}
 use Rattle.lapd_follow.specs.declared.link_tally.LinkTally.{LinkTally}
+use Rattle.lapd_follow.specs.Ends.{one_more}
 use Rattle.lapd_follow.specs.Follower.{LineKnown, line_after, new_line, place_of, said_on_line}
 use Rattle.lapd_follow.specs.Link.{Sighting}
 use Rattle.lapd_follow.specs.Remarks.{has_violation}
@@ -30,18 +31,18 @@ new_tally a = record {
 
 -- how many establishments began, after a frame with this remark on establishment
 abbrev pub establishments_after : Option Remark → ℕ → ℕ
-establishments_after (Some (Begins number)) before = number
+establishments_after (Some (Begins number)) before = one_more before
 establishments_after remark before = before
 
 -- one more frame of this sender, with the remarks on it
-abbrev pub link_tallied : Side → Fields → Remarks → LinkTally → LinkTally
-link_tallied User f said t = record t {
+abbrev pub link_tallied : Side → Packet → Fields → Remarks → LinkTally → LinkTally
+link_tallied User packet f said t = record t {
   establishments = establishments_after said.establishment t.establishments;
-  user = tallied f said t.user;
+  user = tallied packet f said t.user;
 }
-link_tallied Network f said t = record t {
+link_tallied Network packet f said t = record t {
   establishments = establishments_after said.establishment t.establishments;
-  network = tallied f said t.network;
+  network = tallied packet f said t.network;
 }
 
 -- ---- All links, each at its place.
@@ -53,11 +54,11 @@ tally_or_new a (Some None) = new_tally a
 tally_or_new a None = new_tally a
 
 -- one more frame; no other link changes
-abbrev pub tallied_on_line : Side → Fields → Remarks → List (Option LinkTally)
+abbrev pub tallied_on_line : Sighting → Remarks → List (Option LinkTally)
     → List (Option LinkTally)
-tallied_on_line sender f said all = set all (place_of f.address)
-    (Some (link_tallied sender f said
-    (tally_or_new f.address (slice_get all (place_of f.address)))))
+tallied_on_line s said all = set all (place_of s.frame.address)
+    (Some (link_tallied s.sender s.packet s.frame said
+    (tally_or_new s.frame.address (slice_get all (place_of s.frame.address)))))
 
 -- what is known of each link, its frames, and whether a remark was a violation
 pub record Listening : Type 0 where
@@ -77,7 +78,7 @@ new_listening k = record {
 abbrev pub with_frame : Sighting → Listening → Listening
 with_frame s l = record {
   line = line_after s l.line;
-  tallies = tallied_on_line s.sender s.frame (said_on_line s l.line) l.tallies;
+  tallies = tallied_on_line s (said_on_line s l.line) l.tallies;
   is_violated = l.is_violated || has_violation (said_on_line s l.line);
 }
 
@@ -91,6 +92,8 @@ no_remarks = record {
   busy = None;
   nr = None;
   answer = None;
+  identity = None;
+  conflict = None;
 }
 
 abbrev pub said_of_reading : Packet → Side → Result Fields FrameFault → Listening → Remarks

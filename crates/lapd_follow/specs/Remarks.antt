@@ -15,7 +15,7 @@ use Rattle.lapd_follow.specs.declared.end.Busy.TheVariants as busy
 use Rattle.lapd_follow.specs.declared.remark.Class.{Class}
 use Rattle.lapd_follow.specs.declared.remark.Class.TheVariants.{Normal, Recovery, Violation}
 use Rattle.lapd_follow.specs.declared.remark.Remark.{Remark}
-use Rattle.lapd_follow.specs.declared.remark.Remark.TheVariants.{Begins, LateUa, UaWithoutCommand, FirstNs, NsExpected, Repeated, RepeatedOtherwise, WindowExceeded, SentToBusy, SentToKnownBusy, NrOutside, Answers, LateResponse, ResponseWithoutPoll, NotAnswered}
+use Rattle.lapd_follow.specs.declared.remark.Remark.TheVariants.{Begins, LateUa, UaWithoutCommand, FirstNs, NsExpected, Repeated, RepeatedOtherwise, WindowExceeded, SentToBusy, SentToKnownBusy, NrOutside, Answers, LateResponse, ResponseWithoutPoll, NotAnswered, Manages, Unrequested, AssignedTwice, AssignedInUse, TwoResponses}
 use Rattle.lapd_follow.specs.declared.remarks.Remarks.{Remarks}
 use Rattle.lapd_follow.specs.Ends.{one_more, from_end}
 use Rattle.lapd_follow.specs.Exchange.{Exchange, begins_establishment}
@@ -38,6 +38,11 @@ class_of (Answers packet after) = Normal
 class_of LateResponse = Recovery
 class_of ResponseWithoutPoll = Violation
 class_of (NotAnswered packet) = Recovery
+class_of (Manages message) = Normal
+class_of Unrequested = Recovery
+class_of (AssignedTwice tei ri) = Violation
+class_of (AssignedInUse tei) = Recovery
+class_of (TwoResponses tei first second) = Recovery
 
 abbrev pub is_violation_class : Class → Bool
 is_violation_class Normal = false
@@ -183,7 +188,7 @@ nr_of (Rnr nr pf) x = nr_remark nr x.from.numbering x.to.numbering
 nr_of (Rej nr pf) x = nr_remark nr x.from.numbering x.to.numbering
 nr_of control x = None
 
--- the remarks on the frame in this packet; `k` is the window, if it is known
+-- the remarks of its own link on the frame in this packet; `k` is the window, if it is known
 abbrev pub remarks_on : Option ℕ → Packet → Fields → Exchange → Remarks
 remarks_on k packet f x = record {
   establishment = establishment_remark f.control x;
@@ -192,9 +197,12 @@ remarks_on k packet f x = record {
   busy = busy_of f.control x;
   nr = nr_of f.control x;
   answer = answer_remark f.control f.address.role packet x;
+  identity = None;
+  conflict = None;
 }
 
 -- one of the remarks is a violation
 abbrev pub has_violation : Remarks → Bool
 has_violation r = is_violation r.establishment || is_violation r.ns || is_violation r.window
     || is_violation r.busy || is_violation r.nr || is_violation r.answer
+    || is_violation r.identity || is_violation r.conflict

@@ -1,5 +1,5 @@
 -- How many frames of each kind one end of a link sent, and the time that it took to answer polls.
-use Rattle.std.specs.Prelude.{ℕ, ◌+◌, ◌-◌, ◌^◌, min, max, Bool, true, false, if◌then◌else◌, length, Option, Some, None}
+use Rattle.std.specs.Prelude.{ℕ, min, max, Bool, true, false, if◌then◌else◌, length, Option, Some, None}
 use Rattle.lapd_frame.specs.declared.Role.{Role}
 use Rattle.lapd_frame.specs.declared.Role.TheVariants.{Command, Answer}
 use Rattle.lapd_frame.specs.declared.Control.{Control}
@@ -11,6 +11,8 @@ use Rattle.lapd_follow.specs.declared.remarks.Remarks.{Remarks}
 use Rattle.lapd_follow.specs.declared.tally.Kinds.{Kinds}
 use Rattle.lapd_follow.specs.declared.tally.Times.{Times}
 use Rattle.lapd_follow.specs.declared.tally.Tally.{Tally}
+use Rattle.lapd_follow.specs.declared.packet.Packet.{Packet}
+use Rattle.lapd_follow.specs.BusyTimes.{busy_after, no_busy_time, sum_of}
 use Rattle.lapd_follow.specs.Ends.{one_more}
 
 -- nothing was counted
@@ -39,11 +41,8 @@ no_tally = record {
   repeated = 0;
   polls = 0;
   times = no_times;
+  busy = no_busy_time;
 }
-
--- a sum, up to the greatest number of 64 bits
-abbrev pub sum_of : ℕ → ℕ → ℕ
-sum_of n m = min (n + m) (2 ^ 64 - 1)
 
 -- one more frame of this kind
 abbrev pub counted : Control → Kinds → Kinds
@@ -104,12 +103,13 @@ abbrev pub is_poll : Role → Control → Bool
 is_poll Command control = poll_bit control
 is_poll Answer control = false
 
--- one more frame, with the remarks on it
-abbrev pub tallied : Fields → Remarks → Tally → Tally
-tallied f said t = record {
+-- one more frame, in this packet, with the remarks on it
+abbrev pub tallied : Packet → Fields → Remarks → Tally → Tally
+tallied packet f said t = record {
   kinds = counted f.control t.kinds;
   octets = sum_of t.octets (length f.info);
   repeated = if is_repeat said.ns then one_more t.repeated else t.repeated;
   polls = if is_poll f.address.role f.control then one_more t.polls else t.polls;
   times = with_time (answer_time said.answer) t.times;
+  busy = busy_after f.control packet.moment t.busy;
 }

@@ -1,10 +1,12 @@
 -- The words of each remark.
-use Rattle.std.specs.Prelude.{ℕ, ◌/◌, ◌%◌, List, [], ◌++◌, codes, Option, Some, None}
+use Rattle.std.specs.Prelude.{ℕ, ◌/◌, ◌%◌, ◌==◌, if◌then◌else◌, List, [], ◌++◌, codes, Option, Some, None}
 use Rattle.std.specs.Fmt.{decimal}
+use Rattle.lapd_follow.specs.declared.identity.Identity.{Identity}
+use Rattle.lapd_follow.specs.declared.identity.Identity.TheVariants.{Request, Assigned, Denied, CheckRequest, CheckResponse, Remove, Verify}
 use Rattle.lapd_follow.specs.declared.remark.Class.{Class}
 use Rattle.lapd_follow.specs.declared.remark.Class.TheVariants.{Normal, Recovery, Violation}
 use Rattle.lapd_follow.specs.declared.remark.Remark.{Remark}
-use Rattle.lapd_follow.specs.declared.remark.Remark.TheVariants.{Begins, LateUa, UaWithoutCommand, FirstNs, NsExpected, Repeated, RepeatedOtherwise, WindowExceeded, SentToBusy, SentToKnownBusy, NrOutside, Answers, LateResponse, ResponseWithoutPoll, NotAnswered}
+use Rattle.lapd_follow.specs.declared.remark.Remark.TheVariants.{Begins, LateUa, UaWithoutCommand, FirstNs, NsExpected, Repeated, RepeatedOtherwise, WindowExceeded, SentToBusy, SentToKnownBusy, NrOutside, Answers, LateResponse, ResponseWithoutPoll, NotAnswered, Manages, Unrequested, AssignedTwice, AssignedInUse, TwoResponses}
 use Rattle.lapd_follow.specs.declared.remarks.Remarks.{Remarks}
 use Rattle.lapd_follow.specs.Remarks.{class_of}
 
@@ -12,6 +14,16 @@ abbrev pub class_name : Class → List ℕ
 class_name Normal = codes "normal"
 class_name Recovery = codes "recovery"
 class_name Violation = codes "violation"
+
+-- the clause of Q.921 that defines a message of TEI management
+abbrev pub identity_clause : Identity → List ℕ
+identity_clause (Request ri) = codes "5.3.2"
+identity_clause (Assigned tei ri) = codes "5.3.2"
+identity_clause (Denied ri) = codes "5.3.2"
+identity_clause (CheckRequest tei) = codes "5.3.3.2"
+identity_clause (CheckResponse tei ri) = codes "5.3.3.2"
+identity_clause (Remove tei) = codes "5.3.4"
+identity_clause (Verify tei) = codes "5.3.5"
 
 -- the clause of Q.921 on which a remark depends
 abbrev pub clause_of : Remark → List ℕ
@@ -30,6 +42,11 @@ clause_of (Answers packet after) = codes "3.5.1"
 clause_of LateResponse = codes "5.6.7"
 clause_of ResponseWithoutPoll = codes "5.6.2.1"
 clause_of (NotAnswered packet) = codes "5.6.7"
+clause_of (Manages message) = identity_clause message
+clause_of Unrequested = codes "5.3.2"
+clause_of (AssignedTwice tei ri) = codes "5.3.2"
+clause_of (AssignedInUse tei) = codes "5.3.3.2"
+clause_of (TwoResponses tei first second) = codes "5.3.3.2"
 
 -- so many microseconds, in seconds with three digits after the point
 abbrev pub after_text : Option ℕ → List ℕ
@@ -37,6 +54,27 @@ after_text None = []
 after_text (Some n) = codes " after " ++ (decimal (n / 1000000) ++ (codes "."
     ++ (decimal (n / 100000 % 10) ++ (decimal (n / 10000 % 10)
     ++ (decimal (n / 1000 % 10) ++ codes " s")))))
+
+-- a TEI in words; the group TEI stands for all
+abbrev pub tei_names : ℕ → List ℕ
+tei_names tei = if tei == 127 then codes "all TEIs" else (codes "TEI " ++ decimal tei)
+
+-- a message of TEI management
+abbrev pub identity_text : Identity → List ℕ
+identity_text (Request ri) = codes "requests a TEI, reference " ++ decimal ri
+identity_text (Assigned tei ri) = codes "assigns TEI " ++ (decimal tei
+    ++ (codes " to reference " ++ decimal ri))
+identity_text (Denied ri) = codes "denies a TEI to reference " ++ decimal ri
+identity_text (CheckRequest tei) = codes "checks " ++ tei_names tei
+identity_text (CheckResponse tei ri) = codes "answers the check of TEI " ++ (decimal tei
+    ++ (codes ", reference " ++ decimal ri))
+identity_text (Remove tei) = codes "removes " ++ tei_names tei
+identity_text (Verify tei) = codes "requests a check of TEI " ++ decimal tei
+
+-- an earlier assignment
+abbrev pub assignment_text : ℕ → ℕ → List ℕ
+assignment_text tei ri = codes "TEI " ++ (decimal tei
+    ++ (codes " is already assigned to reference " ++ decimal ri))
 
 abbrev pub remark_text : Remark → List ℕ
 remark_text (Begins n) = codes "begins establishment " ++ decimal n
@@ -56,6 +94,14 @@ remark_text (Answers packet after) = codes "answers packet " ++ (decimal packet 
 remark_text LateResponse = codes "answers an earlier poll"
 remark_text ResponseWithoutPoll = codes "response without a poll"
 remark_text (NotAnswered packet) = codes "packet " ++ (decimal packet ++ codes " is not answered")
+remark_text (Manages message) = identity_text message
+remark_text Unrequested = codes "no known request has this reference"
+remark_text (AssignedTwice tei ri) = assignment_text tei ri
+remark_text (AssignedInUse tei) = codes "a terminal answered the last check of TEI "
+    ++ decimal tei
+remark_text (TwoResponses tei first second) = codes "two terminals answer the check of TEI "
+    ++ (decimal tei ++ (codes ", references " ++ (decimal first
+    ++ (codes " and " ++ decimal second))))
 
 -- a remark behind the line of its frame, after a semicolon; a violation is marked
 abbrev pub marked_text : Class → List ℕ → List ℕ
@@ -70,4 +116,5 @@ noted_text (Some remark) = marked_text (class_of remark) (remark_text remark)
 -- all remarks on a frame, in the order of their kinds
 abbrev pub remarks_text : Remarks → List ℕ
 remarks_text r = noted_text r.establishment ++ (noted_text r.ns ++ (noted_text r.window
-    ++ (noted_text r.busy ++ (noted_text r.nr ++ noted_text r.answer))))
+    ++ (noted_text r.busy ++ (noted_text r.nr ++ (noted_text r.answer
+    ++ (noted_text r.identity ++ noted_text r.conflict))))))

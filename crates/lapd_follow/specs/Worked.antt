@@ -14,7 +14,8 @@ use Rattle.lapd_follow.specs.Link.{Sighting, new_link, said_of_all}
 -- the remarks in order
 abbrev pub list_of : Remarks → List Remark
 list_of r = option_to_list r.establishment ++ (option_to_list r.ns ++ (option_to_list r.window
-    ++ (option_to_list r.busy ++ (option_to_list r.nr ++ option_to_list r.answer))))
+    ++ (option_to_list r.busy ++ (option_to_list r.nr ++ (option_to_list r.answer
+    ++ (option_to_list r.identity ++ option_to_list r.conflict))))))
 
 -- a frame of SAPI 0 and TEI 64, before it is numbered
 pub record Sent : Type 0 where

@@ -1,35 +1,31 @@
-ghost use Rattle.std.specs.Prelude.{◌≡◌, ◌<◌, IfOk, OnOk, OnErr, replicate, None, option_copied, slice_get};
+ghost use Rattle.std.specs.Prelude.{◌≡◌, IfOk, OnOk, OnErr, option_copied, slice_get};
 ghost use Rattle.lapd_follow.specs.Link.{Sighting};
-ghost use Rattle.lapd_follow.specs.Follower.{new_line, place_of, seen_link, said_on_line, line_after};
+ghost use Rattle.lapd_follow.specs.Follower.{line_after, line_with_message, managed, new_line, place_of, said_on_line, seen_link};
 
-use crate::{LinkFollower, Packet, Remarks};
-use lapd_frame::{Address, Frame, Sapi, Side};
+use crate::identity::identity_of;
+use crate::link_table::LinkTable;
+use crate::teis::Teis;
+use crate::{Identity, LinkFollower, Packet, Remark, Remarks};
+use lapd_frame::{Address, Frame, Side};
 use std::alloc::{AllocError, Global};
 use std::marker::Model;
 
-/// How many links there may be: 128 TEIs for each of three SAPIs.
-pub(crate) const LINKS: usize = 384;
-
-/// Follows all data links of a line by its frames alone.
+/// Follows all data links of a line, and the assignment of TEIs, by its frames alone.
 ///
 /// It allocates for a link when the first frame of the link is seen, and for the octets of at most
-/// 127 I frames of each end.
+/// 127 I frames of each end. Of requests for a TEI that are not answered it knows the last 16.
 #[derive(Drop)]
 pub struct Follower {
-    alloc: Global,
-    k: Option<u8>,
-    links: Vec<Option<LinkFollower>>,
+    links: LinkTable,
+    teis: Teis,
 }
 
 impl Model for Follower {
-    ghost use Rattle.std.specs.Prelude.{◌≡◌, length};
     ghost use Rattle.lapd_follow.specs.Follower.{LineKnown};
 
     ghost Value = { LineKnown };
 
-    ghost view = { λ f. record { k = f.k; links = f.links.items } };
-
-    ghost invariant = { λ f. length f.links.items ≡ 384 };
+    ghost view = { λ f. record { links = f.links; teis = f.teis } };
 }
 
 impl Follower {
@@ -38,9 +34,8 @@ impl Follower {
         ensures { IfOk result (λ line. line ≡ new_line k) }
     {
         Ok(Follower {
-            alloc,
-            k,
-            links: no_links(alloc)?,
+            teis: Teis::new(),
+            links: LinkTable::new(alloc, k)?,
         })
     }
 
@@ -66,53 +61,34 @@ impl Follower {
         }) self.old) }
         ensures unchanged { OnErr result (self.new ≡ self.old) }
     {
-        let place = place_of(&frame.address());
-        let Some(slot) = self.links.get_mut(place) else {
-            unreachable!()
-        };
-        match slot {
-            Some(link) => link.frame(packet, sender, frame),
-            None => {
-                let mut link = LinkFollower::new(self.alloc, self.k)?;
-                let said = link.frame(packet, sender, frame)?;
-                *slot = Some(link);
-                Ok(said)
-            }
+        let said = self.links.frame(packet, sender, frame)?;
+        Ok(match identity_of(sender, frame) {
+            None => said,
+            Some(message) => self.manage(&message, &said),
+        })
+    }
+
+    /// Takes a message of TEI management, and adds the remarks on it to those on its frame.
+    fn manage(&mut self, message: &Identity, said: &Remarks) -> Remarks
+        ensures remarks { result ≡ managed message.now self.old.teis said.now }
+        ensures after { self.new ≡ line_with_message message.now self.old }
+    {
+        let conflict = self.teis.conflict(message);
+        self.teis.take(message);
+        self.links.forget(message.renewed());
+        Remarks {
+            identity: Some(Remark::Manages(*message)),
+            conflict,
+            ..*said
         }
     }
 
-    /// The link of frames with this address, if one was seen.
+    /// The link of frames with this address, if one was seen. A link whose TEI was assigned or
+    /// removed since its last frame is not known.
     pub fn link(&self, address: &Address) -> Option<&LinkFollower>
         ensures { option_copied result ≡ seen_link
-            (slice_get self.now.links (place_of address.now)) }
+            (slice_get self.now.links.links (place_of address.now)) }
     {
-        match self.links.get(place_of(address)) {
-            Some(Some(link)) => Some(link),
-            _ => None,
-        }
+        self.links.link(address)
     }
-}
-
-/// No link, at each place.
-fn no_links(alloc: Global) -> Result<Vec<Option<LinkFollower>>, AllocError>
-    ensures { IfOk result (λ links. links.items ≡ replicate 384 None) }
-{
-    let mut links = Vec::with_capacity(alloc, LINKS)?;
-    for _ in 0..LINKS {
-        links.push(None)?;
-    }
-    Ok(links)
-}
-
-/// The place of the link with this address.
-pub(crate) fn place_of(address: &Address) -> usize
-    ensures value { result ≡ place_of address.now }
-    ensures in_range { result < 384 }
-{
-    let first = match address.sapi {
-        Sapi::Call => 0,
-        Sapi::Packet => 128,
-        Sapi::Management => 256,
-    };
-    first + usize::from(address.tei.value())
 }

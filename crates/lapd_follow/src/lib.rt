@@ -3,17 +3,22 @@
 //!
 //! Begin with [`Follower`], or [`LinkFollower`] for one link: it takes frames in the order in which
 //! they are seen, at either end or between, and returns [`Remarks`] on each: a repeated I frame, an
-//! N(R) out of range, the poll that a response answers. Each [`Remark`] has a [`Class`]. A violation
-//! is a frame that no two ends send which follow the standard, whatever frames are lost, if T200
-//! exceeds the time until an answer (Q.921 5.9.1). [`Tally`] counts the frames of one end.
-//! [`Listener`] follows all links of a line and counts their frames.
+//! N(R) out of range, the poll that a response answers, a TEI that is assigned twice. Each
+//! [`Remark`] has a [`Class`]. A violation is a frame that no two ends send which follow the
+//! standard, whatever frames are lost, if T200 exceeds the time until an answer (Q.921 5.9.1), and
+//! if the listener sees one of two messages that free a TEI (Q.921 5.3.4). [`Tally`] counts the
+//! frames of one end. [`Listener`] follows all links of a line and counts their frames.
 #![tactic(auto)]
 
+mod busy_time;
 mod dialogue;
 mod end;
 mod follower;
+mod holder;
+mod identity;
 mod laws;
 mod link_follower;
+mod link_table;
 mod link_tally;
 mod listener;
 mod noted;
@@ -23,11 +28,14 @@ mod polls;
 mod remark;
 mod remarks;
 mod tally;
+mod teis;
 mod unacknowledged;
 
+pub use busy_time::BusyTime;
 pub use end::Busy;
 pub use follower::Follower;
-pub use laws::remarks_are_computed;
+pub use identity::Identity;
+pub use laws::{identities_are_computed, remarks_are_computed};
 pub use link_follower::LinkFollower;
 pub use link_tally::LinkTally;
 pub use listener::Listener;

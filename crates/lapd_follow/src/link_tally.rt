@@ -1,7 +1,7 @@
 ghost use Rattle.std.specs.Prelude.{◌≡◌};
 ghost use Rattle.lapd_follow.specs.Listening.{establishments_after, link_tallied, new_tally};
 
-use crate::{Remark, Remarks, Tally};
+use crate::{Packet, Remark, Remarks, Tally};
 use lapd_frame::{Address, Frame, Sapi, Side, Tei};
 
 /// The frames that both ends of one link sent.
@@ -34,13 +34,13 @@ impl LinkTally {
     }
 
     /// Counts one more frame, with the remarks on it.
-    pub(crate) fn add(&mut self, sender: Side, frame: &Frame<'_>, said: &Remarks)
-        ensures { self.new ≡ link_tallied sender frame.now said.now self.old }
+    pub(crate) fn add(&mut self, packet: Packet, sender: Side, frame: &Frame<'_>, said: &Remarks)
+        ensures { self.new ≡ link_tallied sender packet frame.now said.now self.old }
     {
         self.establishments = establishments_after(&said.establishment, self.establishments);
         match sender {
-            Side::User => self.user.add(frame, said),
-            Side::Network => self.network.add(frame, said),
+            Side::User => self.user.add(packet, frame, said),
+            Side::Network => self.network.add(packet, frame, said),
         }
     }
 }
@@ -50,7 +50,7 @@ fn establishments_after(remark: &Option<Remark>, before: u64) -> u64
     ensures { result ≡ establishments_after remark.now before }
 {
     match remark {
-        Some(Remark::Begins(number)) => *number,
+        Some(Remark::Begins(_)) => before.saturating_add(1),
         _ => before,
     }
 }

@@ -1,8 +1,9 @@
 ghost use Rattle.std.specs.Prelude.{◌≡◌, replicate, None, IfOk, OnOk, OnErr};
 ghost use Rattle.lapd_follow.specs.Follower.{said_on_line};
+ghost use Rattle.lapd_follow.specs.Link.{Sighting};
 ghost use Rattle.lapd_follow.specs.Listening.{listening_after, new_listening, no_remarks, said_of_octets, tallied_on_line, with_frame};
 
-use crate::follower::{LINKS, place_of};
+use crate::link_table::{LINKS, place_of};
 use crate::{Follower, LinkTally, Packet, Remarks};
 use lapd_frame::{Frame, Side, read};
 use std::alloc::{AllocError, Global};
@@ -36,18 +37,22 @@ impl Tallies {
     }
 
     /// Counts a frame of its link.
-    fn add(&mut self, sender: Side, frame: &Frame<'_>, said: &Remarks)
-        ensures { self.new ≡ tallied_on_line sender frame.now said.now self.old }
+    fn add(&mut self, packet: Packet, sender: Side, frame: &Frame<'_>, said: &Remarks)
+        ensures { self.new ≡ tallied_on_line (record {
+          packet = packet;
+          sender = sender;
+          frame = frame.now;
+        }) said.now self.old }
     {
         let address = frame.address();
         let Some(slot) = self.links.get_mut(place_of(&address)) else {
             unreachable!()
         };
         match slot {
-            Some(link) => link.add(sender, frame, said),
+            Some(link) => link.add(packet, sender, frame, said),
             None => {
                 let mut link = LinkTally::new(&address);
-                link.add(sender, frame, said);
+                link.add(packet, sender, frame, said);
                 *slot = Some(link);
             }
         }
@@ -128,7 +133,7 @@ impl Listener {
         ensures unchanged { OnErr result (self.new ≡ self.old) }
     {
         let said = self.follower.frame(packet, sender, frame)?;
-        self.tallies.add(sender, frame, &said);
+        self.tallies.add(packet, sender, frame, &said);
         self.is_violated = self.is_violated || said.has_violation();
         Ok(said)
     }
@@ -171,5 +176,7 @@ fn no_remarks() -> Remarks
         busy: None,
         nr: None,
         answer: None,
+        identity: None,
+        conflict: None,
     }
 }

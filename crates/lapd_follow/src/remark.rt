@@ -1,7 +1,9 @@
 ghost use Rattle.std.specs.Prelude.{◌≡◌, Some};
 ghost use Rattle.lapd_follow.specs.Remarks.{class_of};
-ghost use Rattle.lapd_follow.specs.Texts.{class_name, clause_of, remark_text};
+ghost use Rattle.lapd_follow.specs.Texts.{assignment_text, class_name, clause_of, remark_text};
 
+use crate::Identity;
+use lapd_frame::Tei;
 use lapd_mod128::Seq;
 use std::fmt;
 
@@ -79,6 +81,29 @@ pub enum Remark {
     ResponseWithoutPoll,
     /// The poll is sent while the one in this packet is not answered (Q.921 5.6.7).
     NotAnswered(u64),
+    /// The frame carries this message of TEI management (Q.921 5.3).
+    Manages(Identity),
+    /// An assignment or a denial, but no known request has its reference (Q.921 5.3.2).
+    Unrequested,
+    /// A TEI is assigned that was assigned before, and neither removed nor checked since (Q.921
+    /// 5.3.2).
+    AssignedTwice {
+        /// The TEI, 0 to 126.
+        tei: Tei,
+        /// The reference to which it was assigned before.
+        ri: u16,
+    },
+    /// A TEI is assigned, but a terminal answered its last check (Q.921 5.3.3.2).
+    AssignedInUse(Tei),
+    /// Two terminals answer the check of a TEI (Q.921 5.3.3.2).
+    TwoResponses {
+        /// The TEI, 0 to 126.
+        tei: Tei,
+        /// The reference of the first response.
+        first: u16,
+        /// The reference of this one.
+        second: u16,
+    },
 }
 
 impl Remark {
@@ -87,19 +112,23 @@ impl Remark {
         ensures { result ≡ class_of self.now }
     {
         match *self {
-            Remark::Begins(_) | Remark::Answers { .. } => Class::Normal,
+            Remark::Begins(_) | Remark::Answers { .. } | Remark::Manages(_) => Class::Normal,
             Remark::LateUa
             | Remark::FirstNs(_)
             | Remark::NsExpected { .. }
             | Remark::Repeated
             | Remark::SentToBusy
             | Remark::LateResponse
-            | Remark::NotAnswered(_) => Class::Recovery,
+            | Remark::NotAnswered(_)
+            | Remark::Unrequested
+            | Remark::AssignedInUse(_)
+            | Remark::TwoResponses { .. } => Class::Recovery,
             Remark::UaWithoutCommand
             | Remark::RepeatedOtherwise
             | Remark::WindowExceeded(_)
             | Remark::SentToKnownBusy
             | Remark::NrOutside { .. }
+            | Remark::AssignedTwice { .. }
             | Remark::ResponseWithoutPoll => Class::Violation,
         }
     }
@@ -124,6 +153,11 @@ impl Remark {
             Remark::LateResponse => "5.6.7",
             Remark::ResponseWithoutPoll => "5.6.2.1",
             Remark::NotAnswered(_) => "5.6.7",
+            Remark::Manages(message) => message.clause(),
+            Remark::Unrequested => "5.3.2",
+            Remark::AssignedTwice { .. } => "5.3.2",
+            Remark::AssignedInUse(_) => "5.3.3.2",
+            Remark::TwoResponses { .. } => "5.3.3.2",
         }
     }
 }
@@ -176,6 +210,43 @@ impl fmt::Display for Remark {
             Remark::LateResponse => write!(f, "answers an earlier poll"),
             Remark::ResponseWithoutPoll => write!(f, "response without a poll"),
             Remark::NotAnswered(packet) => write!(f, "packet {packet} is not answered"),
+            Remark::Manages(message) => write!(f, "{message}"),
+            Remark::Unrequested => write!(f, "no known request has this reference"),
+            Remark::AssignedTwice { tei, ri } => {
+                let earlier = Assignment {
+                    tei: tei.value(),
+                    ri,
+                };
+                write!(f, "{earlier}")
+            }
+            Remark::AssignedInUse(tei) => {
+                let tei = tei.value();
+                write!(f, "a terminal answered the last check of TEI {tei}")
+            }
+            Remark::TwoResponses { tei, first, second } => {
+                let tei = tei.value();
+                write!(
+                    f,
+                    "two terminals answer the check of TEI {tei}, references {first} and {second}"
+                )
+            }
         }
+    }
+}
+
+/// An earlier assignment.
+#[derive(Clone, Copy)]
+struct Assignment {
+    tei: u8,
+    ri: u16,
+}
+
+impl fmt::Display for Assignment {
+    ghost output = { λ earlier. Some (assignment_text earlier.tei earlier.ri) };
+
+    fn fmt<W: fmt::Write>(&self, f: &mut fmt::Formatter<W>) -> fmt::Result {
+        let tei = self.tei;
+        let ri = self.ri;
+        write!(f, "TEI {tei} is already assigned to reference {ri}")
     }
 }

@@ -29,6 +29,10 @@ pub struct Remarks {
     pub nr: Option<Remark>,
     /// Of a poll or a response: what it answers, or what was not answered.
     pub answer: Option<Remark>,
+    /// Of a message of TEI management: what it does.
+    pub identity: Option<Remark>,
+    /// Of such a message: how it conflicts with earlier ones.
+    pub conflict: Option<Remark>,
 }
 
 impl Remarks {
@@ -42,6 +46,8 @@ impl Remarks {
             || is_violation(&self.busy)
             || is_violation(&self.nr)
             || is_violation(&self.answer)
+            || is_violation(&self.identity)
+            || is_violation(&self.conflict)
     }
 }
 
@@ -56,7 +62,12 @@ impl fmt::Display for Remarks {
         let busy = noted(self.busy);
         let nr = noted(self.nr);
         let answer = noted(self.answer);
-        write!(f, "{establishment}{ns}{window}{busy}{nr}{answer}")
+        let identity = noted(self.identity);
+        let conflict = noted(self.conflict);
+        write!(
+            f,
+            "{establishment}{ns}{window}{busy}{nr}{answer}{identity}{conflict}"
+        )
     }
 }
 
@@ -77,7 +88,7 @@ fn is_violation(remark: &Option<Remark>) -> bool
     }
 }
 
-/// The remarks on a frame. `k` is the window, if it is known.
+/// The remarks of its own link on a frame. `k` is the window, if it is known.
 pub(crate) fn remarks_on(
     k: Option<u8>,
     packet: Packet,
@@ -94,6 +105,8 @@ pub(crate) fn remarks_on(
         busy: busy_of(&control, dialogue),
         nr: nr_of(&control, dialogue),
         answer: answer_remark(&control, frame.address().role, packet, dialogue),
+        identity: None,
+        conflict: None,
     }
 }
 
@@ -299,7 +312,7 @@ fn answers_poll(packet: Packet, poll: Packet) -> Remark
 }
 
 /// The time from one moment to another.
-fn time_from(first: Option<u64>, last: Option<u64>) -> Option<u64>
+pub(crate) fn time_from(first: Option<u64>, last: Option<u64>) -> Option<u64>
     ensures { result ≡ time_from first last }
 {
     match (first, last) {

@@ -1,7 +1,8 @@
 ghost use Rattle.std.specs.Prelude.{◌≡◌};
 ghost use Rattle.lapd_follow.specs.Tallies.{answer_time, counted, greatest_with, is_poll, is_repeat, least_with, no_kinds, no_tally, no_times, poll_bit, tallied, with_time};
 
-use crate::{Remark, Remarks};
+use crate::busy_time::no_busy_time;
+use crate::{BusyTime, Packet, Remark, Remarks};
 use lapd_frame::{Control, Frame, Role};
 
 /// How many frames of each kind were sent. Each count stops at 2^64 - 1.
@@ -46,6 +47,8 @@ pub struct Tally {
     pub polls: u64,
     /// How soon it answered polls.
     pub times: Times,
+    /// How long it was busy.
+    pub busy: BusyTime,
 }
 
 impl Tally {
@@ -59,12 +62,13 @@ impl Tally {
             repeated: 0,
             polls: 0,
             times: no_times(),
+            busy: no_busy_time(),
         }
     }
 
-    /// Counts one more frame, with the remarks on it.
-    pub fn add(&mut self, frame: &Frame<'_>, said: &Remarks)
-        ensures { self.new ≡ tallied frame.now said.now self.old }
+    /// Counts one more frame, in this packet, with the remarks on it.
+    pub fn add(&mut self, packet: Packet, frame: &Frame<'_>, said: &Remarks)
+        ensures { self.new ≡ tallied packet frame.now said.now self.old }
     {
         *self = Tally {
             kinds: counted(&frame.control(), self.kinds),
@@ -80,6 +84,7 @@ impl Tally {
                 self.polls
             },
             times: with_time(answer_time(&said.answer), self.times),
+            busy: self.busy.after(&frame.control(), packet.moment),
         };
     }
 }

@@ -6,8 +6,13 @@
 //! `0281` the others. `7f` is SABME, `73` UA, `53` DISC, `1f` DM; `01`, `05` and `09` with N(R) * 2
 //! + P/F are RR, RNR and REJ; an I frame is N(S) * 2, N(R) * 2 + P and its message. Each packet
 //! is 40 ms after the one before.
+//!
+//! `fcff03` begins messages of TEI management of the user, `feff03` those of the network. Then `0f`,
+//! the reference, the type and Ai * 2 + 1 follow: `01ff` requests a TEI, `0281` assigns TEI 64,
+//! `03ff` denies one, `0481` checks TEI 64, `0581` answers, `0681` removes it, `0781` requests a
+//! check.
 
-use lapd_follow::{Class, LinkFollower, Packet, Remark, Remarks};
+use lapd_follow::{Class, Follower, Packet, Remark, Remarks};
 use lapd_frame::{Side, read};
 use lapd_testing::{Text, split};
 use std::alloc::Global;
@@ -134,12 +139,81 @@ net 00810902:
 user 0081020002:
 user 0081040003:
 net 00810106:
+# TEIs are assigned and denied; then without a request
+user fcff030f123401ff: requests a TEI, reference 4660;
+net feff030f12340281: assigns TEI 64 to reference 4660;
+user fcff030f567801ff: requests a TEI, reference 22136;
+net feff030f567803ff: denies a TEI to reference 22136;
+net feff030f12340283: assigns TEI 65 to reference 4660; no known request has this reference;
+net feff030f567803ff: denies a TEI to reference 22136; no known request has this reference;
+# one terminal answers each request of a check
+user fcff030f00000781: requests a check of TEI 64;
+net feff030f00000481: checks TEI 64;
+user fcff030f00010581: answers the check of TEI 64, reference 1;
+net feff030f00000481: checks TEI 64;
+user fcff030f00020581: answers the check of TEI 64, reference 2;
+net feff030f000004ff: checks all TEIs;
+user fcff030f00030581: answers the check of TEI 64, reference 3;
+# two terminals answer a check, so the TEI is removed
+net feff030f00000481: checks TEI 64;
+user fcff030f00010581: answers the check of TEI 64, reference 1;
+user fcff030f00010581: answers the check of TEI 64, reference 1;
+user fcff030f00020581: answers the check of TEI 64, reference 2; \
+two terminals answer the check of TEI 64, references 1 and 2;
+net feff030f00000681: removes TEI 64;
+net feff030f00000681: removes TEI 64;
+net feff030f000006ff: removes all TEIs;
+# a TEI is given twice
+user fcff030f123401ff: requests a TEI, reference 4660;
+net feff030f12340281: assigns TEI 64 to reference 4660;
+user fcff030f567801ff: requests a TEI, reference 22136;
+net feff030f56780281: assigns TEI 64 to reference 22136; \
+!TEI 64 is already assigned to reference 4660;
+# a TEI is given again: to the same reference, after a check, and after removals
+user fcff030f123401ff: requests a TEI, reference 4660;
+net feff030f12340281: assigns TEI 64 to reference 4660;
+net feff030f12340281: assigns TEI 64 to reference 4660; no known request has this reference;
+net feff030f00000481: checks TEI 64;
+net feff030f00000481: checks TEI 64;
+user fcff030f567801ff: requests a TEI, reference 22136;
+net feff030f56780281: assigns TEI 64 to reference 22136;
+net feff030f00000681: removes TEI 64;
+user fcff030f000101ff: requests a TEI, reference 1;
+net feff030f00010281: assigns TEI 64 to reference 1;
+net feff030f000006ff: removes all TEIs;
+user fcff030f000201ff: requests a TEI, reference 2;
+net feff030f00020281: assigns TEI 64 to reference 2;
+# a terminal that answered the check may have its TEI still
+net feff030f00000481: checks TEI 64;
+user fcff030f00010581: answers the check of TEI 64, reference 1;
+user fcff030f123401ff: requests a TEI, reference 4660;
+net feff030f12340281: assigns TEI 64 to reference 4660; \
+a terminal answered the last check of TEI 64;
+# these are not messages of TEI management: of the wrong side, to another TEI, too short
+user fcff030f12340281:
+net feff030f123401ff:
+user fc81030f123401ff:
+user fcff030f123401:
+user fcff030f123401fe:
+net feff030f123402ff:
+# the links of a TEI that is removed are new
+user 00817f:
+net 008173: begins establishment 1; answers packet 1 after 0.040 s;
+user 0081000001:
+net feff030f00000681: removes TEI 64;
+net 00810106:
+user 00817f:
+net 008173: begins establishment 1; answers packet 6 after 0.040 s;
+net feff030f000006ff: removes all TEIs;
+net 00810106:
+user 00817f:
+net 008173: begins establishment 1; answers packet 10 after 0.040 s;
 ";
 
 /// A listener, with what it says of the last frame.
 #[derive(Drop)]
 struct Scene {
-    link: Option<LinkFollower>,
+    line: Option<Follower>,
     packets: u64,
     text: Text,
 }
@@ -147,21 +221,21 @@ struct Scene {
 impl Scene {
     /// Takes a frame in hexadecimal digits.
     fn take(&mut self, alloc: Global, sender: Side, digits: &str) {
-        if let (Some(link), Ok(octets)) = (&mut self.link, hex::decode(alloc, digits.as_bytes())) {
+        if let (Some(line), Ok(octets)) = (&mut self.line, hex::decode(alloc, digits.as_bytes())) {
             self.packets = self.packets.wrapping_add(1);
             let packet = Packet {
                 number: self.packets,
                 moment: Some(self.packets.wrapping_mul(40_000)),
             };
-            follow(link, packet, sender, octets.as_slice(), &mut self.text);
+            follow(line, packet, sender, octets.as_slice(), &mut self.text);
         }
     }
 }
 
 /// Takes a frame, and writes the remarks on it.
-fn follow(link: &mut LinkFollower, packet: Packet, sender: Side, octets: &[u8], text: &mut Text) {
+fn follow(line: &mut Follower, packet: Packet, sender: Side, octets: &[u8], text: &mut Text) {
     if let Ok(frame) = read(octets, sender) {
-        if let Ok(said) = link.frame(packet, sender, &frame) {
+        if let Ok(said) = line.frame(packet, sender, &frame) {
             put_remarks(text, &said);
         }
     }
@@ -174,6 +248,8 @@ fn put_remarks(text: &mut Text, said: &Remarks) {
     put_remark(text, &said.busy);
     put_remark(text, &said.nr);
     put_remark(text, &said.answer);
+    put_remark(text, &said.identity);
+    put_remark(text, &said.conflict);
 }
 
 fn put_remark(text: &mut Text, remark: &Option<Remark>) {
@@ -187,14 +263,14 @@ fn put_remark(text: &mut Text, remark: &Option<Remark>) {
 /// The first line whose remarks differ.
 fn wrong_line(alloc: Global, text: &mut Text) -> Option<&'static str> {
     let mut scene = Scene {
-        link: None,
+        line: None,
         packets: 0,
         text: Text::new(),
     };
     for line in DIALOGUES.lines() {
         scene.text.clear();
         if line.starts_with("#") {
-            scene.link = LinkFollower::new(alloc, Some(3)).ok();
+            scene.line = Follower::new(alloc, Some(3)).ok();
             scene.packets = 0;
         } else {
             let (words, wanted) = split(line, ":");
