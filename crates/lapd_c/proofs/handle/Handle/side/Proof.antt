@@ -2,7 +2,7 @@
 -- and the handle ends with what is left of it.
 use Rattle.std.proofs.Common.{ℕ, List, [], ◌∷◌, refl, lit<}
 use seplogic.Ra.Ura.{Ura}
-use mir.Syntax.{named}
+use mir.Syntax.{Body, named, w8, int, place, copy, rv_opd, aggregate, assign, seq}
 use mir.Val.{Val, vptr, of_list}
 use mir.Raw.{raw as bare}
 use base.Fraction.{full_share}
@@ -10,11 +10,11 @@ use base.Logic.{SProp, ent, sep, emp, via, fst∗}
 use base.Fml.{Lft, GName, Share, Fml, ftrue, fsep, flft, fobs, fres}
 use prog.Memory.{Memory}
 use prog.Routine.{Routine}
-use prog.Wp.{WpFn, Calls, Env, Loops}
+use prog.Wp.{WpFn, Wp, Calls, Env, Loops, after_seq}
 use types.Logic.{Logic, sem}
 use contract.Monad.{Fun}
 use contract.Running.{tables}
-use types.Kit.{‵, raw, given, later, some, at_ret, ◌⊛◌, ◌$◌, ◌∵◌, !, qed, by, move, keep, drop, use0, use1, split, join, pick, fsplit, fsplit3, fjoin, fpack, fpick, learn, rewrite, await, group, frame, suffices, done}
+use types.Kit.{Post as Ends, ‵, raw, given, later, some, any_q, at_ret, post, ◌⊛◌, ◌$◌, ◌∵◌, !, qed, by, move, keep, drop, use0, use1, split, join, pick, fsplit, fsplit3, fjoin, fpack, fpick, learn, rewrite, await, group, frame, suffices, done}
 use types.Part.{whole, sub, look_in, agg}
 use types.Match.{live}
 use types.Run.{stop, fld, lit, bin, load, addr, no_more, and_then, of_opd, first, blocks, branches, exec, returns, enter}
@@ -48,6 +48,10 @@ use Rattle.lapd_c.proofs.handle.Handle.side.Code.Mir as mir'
 
 abbrev T : RattleType
 T = held_side.the_row
+
+-- the code after the `unsafe` block
+abbrev some_of_it : Body
+some_of_it = seq (assign (place 5 []) (rv_opd (copy (place 6 [])))) (assign (place 4 []) (aggregate (int w8 1 ∷ copy (place 5 []) ∷ [])))
 
 abbrev stayed : Stays ended.signature.params ended.kept
 stayed = (stay_dropped (mut_ref_to (0 ∷ []) tt (plain (λ _. H))) no, tt)
@@ -131,6 +135,7 @@ module _ {M : Type 1} {𝓤 : Ura M} (𝓛 : Logic 𝓤) (at_mem : Memory → SP
         qed 𝓛 ((‵ (flft κ q) ⊛ ‵ ftrue) ∷ ‵ (owns (MutRef (named 0) κ H ∷ []) (lender p (Some x), tt) (vptr rb ro ∷ [], tt)) ∷ []) ∵
         enter ! C Λ code.function (vptr rb ro ∷ []) _ $ alloc_all ! (λ l. pass_all ! refl ((tt, tt), tt) $
         let En : Env 𝓤 𝓛.H = env code.function.locals l in
+        let joined : Ends 𝓤 𝓛.H = any_q (after_seq 𝓤 𝓛.H (Wp 𝓤 𝓛.H C Λ En mir'.t-4 (post 𝓤 𝓛.H (at_ret En (Post p (Some x))))) (post 𝓤 𝓛.H (at_ret En (Post p (Some x))))) in
         move ! (1 ∷ []) $ fsplit ! $ fsplit3 ! $ drop ! $ move ! (3 ∷ []) $ split ! $ move ! (2 ∷ 3 ∷ 0 ∷ []) $
         opens ! tt H {h = d} rb ro (λ vs. move ! (1 ∷ []) $ handle_out ! d vs (λ h ws fits.
         use1 𝓛 (given (Testable p) (‵ (box_owns (ghosts.dealloc_token a) T p x))) (tested 𝓛 a p x) $ learn ! (λ t.
@@ -141,7 +146,7 @@ module _ {M : Type 1} {𝓤 : Ura M} (𝓛 : Logic 𝓤) (at_mem : Memory → SP
         first ! $ blocks ! $
         sets ! (of_opd ! (load ! (through ! refl (fld ! refl (stop !))) (look_in ! 2 (sub ! 0 refl (whole !))))) refl (tt, tt) $
         sets_last ! (addr ! (through ! refl (stop !))) refl (tt, tt) $
-        exec ! C Λ En mir'.t-5 (at_ret En (Post p (Some x))) $
+        exec ! C Λ En some_of_it joined $ sets ! (of_opd ! (get ! refl)) refl (tt, tt) $
         sets_last ! (agg ! (and_then ! (lit ! tt) (and_then ! (get ! refl) (no_more !)))) refl (tt, (record { fits = lit< tt }, (tt, tt))) $
         exec ! C Λ En mir'.t-4 (at_ret En (Post p (Some x))) $ sets ! (of_opd ! (get ! refl)) refl (tt, (record { fits = lit< tt }, (tt, tt))) $
         fsplit ! $ move ! (1 ∷ 2 ∷ []) $ fjoin ! $ move ! (0 ∷ 2 ∷ []) $ fjoin ! $ move ! (2 ∷ 3 ∷ 4 ∷ 1 ∷ 0 ∷ []) $ group ! 5 $
