@@ -1,6 +1,6 @@
 -- Results that are appended to a backlog whose first items are removed.
-use Rattle.std.proofs.Common.{◌≡◌, ◌≤◌, ℕ, List, ◌++◌, length, map, drop, Result, Ok, Err, OnOk, sym, ap, subst, ◌∙◌}
-use Rattle.std.proofs.lemmas.List.{drop-map, drop-append-le, length-map}
+use Rattle.std.proofs.Common.{◌≡◌, ◌≤◌, ◌+◌, ℕ, List, ◌++◌, length, map, drop, Result, Ok, Err, OnOk, sym, ap, subst, ◌∙◌}
+use Rattle.std.proofs.lemmas.List.{drop-map, drop-drop, drop-append-le, length-map}
 use Rattle.arrayvec.specs.ArrayVec.{ArrayVec}
 use Rattle.lapd_sides_links.specs.declared.primitive.Primitive.{Primitive}
 use Rattle.lapd_sides_links.specs.Effects.{Effects}
@@ -29,3 +29,11 @@ wait_behind removed gone old new earlier later given within inside frames primit
 pub both_on_ok : {A E : Type 0} (result : Result A E) (P Q R : Type 0) → (P → Q → R) → OnOk result P → OnOk result Q → OnOk result R
 both_on_ok (Ok a) P Q R f p q = f p q
 both_on_ok (Err e) P Q R f p q = tt
+
+-- the first one is removed
+pub frame_removed : (removed : ℕ) (frames : List (ArrayVec ℕ)) (primitives : List Primitive) → these (octets_of (drop (removed + 1) frames)) primitives ≡ these (drop 1 (octets_of (drop removed frames))) primitives
+frame_removed removed frames primitives =
+    ap (λ (l : List (List ℕ)). these l primitives) (sym (drop-map (λ (f : ArrayVec ℕ). f.items) 1 (drop removed frames) ∙ ap octets_of (drop-drop 1 removed frames)))
+
+pub primitive_removed : (gone : ℕ) (primitives : List Primitive) (frames : List (List ℕ)) → these frames (drop (gone + 1) primitives) ≡ these frames (drop 1 (drop gone primitives))
+primitive_removed gone primitives frames = ap (these frames) (sym (drop-drop 1 gone primitives))
