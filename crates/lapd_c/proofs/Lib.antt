@@ -1,2 +1,3 @@
+pub mod Backlogs
 pub mod CodeOrder
 pub mod HandleValues

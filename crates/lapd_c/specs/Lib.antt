@@ -2,6 +2,7 @@ pub mod Calls
 pub mod CodeOrder
 pub mod Codes
 pub mod FlatPrimitives
+pub mod Lent
 pub mod LinkStates
 pub mod Names
 pub mod Owned

@@ -1,31 +1,38 @@
-ghost use Rattle.std.specs.Prelude.{◌≡◌, ◌<◌, length, drop, map, OnOk, OnErr};
+ghost use Rattle.std.specs.Prelude.{◌≡◌, ◌<◌, ◌≤◌, length, drop, map, OnOk, OnErr};
 ghost use Rattle.lapd_sides_links.specs.Effects.{and_then, no_effects};
 
 use arrayvec::ArrayVec;
 use lapd_frame::MOST_OCTETS;
 use lapd_sides::{Acts, Primitive};
-use lapd_sides_links::remove_first;
 use std::alloc::{AllocError, Global};
 use std::marker::Model;
 
 /// The frames and primitives of several calls of a side, each in order, for a program that
-/// continues before it has fetched all of them.
+/// continues before it has fetched all of them. Removed ones keep their places until others are
+/// appended, so that removing one moves no other.
 #[derive(Drop)]
 pub struct Backlog {
     frames: Vec<ArrayVec<u8, MOST_OCTETS>>,
+    /// The number of frames at the front that are removed.
+    removed_frames: usize,
     primitives: Vec<Primitive>,
+    /// The number of primitives at the front that are removed.
+    removed_primitives: usize,
 }
 
 impl Model for Backlog {
-    ghost use Rattle.std.specs.Prelude.{map};
+    ghost use Rattle.std.specs.Prelude.{◌≤◌, drop, length, map};
     ghost use Rattle.lapd_sides_links.specs.Effects.{Effects};
 
     ghost Value = { Effects };
 
     ghost view = { λ b. record {
-      frames = map (λ f. f.items) b.frames.items;
-      primitives = b.primitives.items;
+      frames = map (λ f. f.items) (drop b.removed_frames b.frames.items);
+      primitives = drop b.removed_primitives b.primitives.items;
     } };
+
+    ghost invariant = { λ b. (b.removed_frames ≤ length b.frames.items)
+        × (b.removed_primitives ≤ length b.primitives.items) };
 }
 
 impl Backlog {
@@ -35,7 +42,9 @@ impl Backlog {
     {
         Backlog {
             frames: Vec::new(alloc),
+            removed_frames: 0,
             primitives: Vec::new(alloc),
+            removed_primitives: 0,
         }
     }
 
@@ -52,21 +61,30 @@ impl Backlog {
         ensures unmoved { OnErr result (self.new ≡ self.old) }
         ensures unchanged { OnErr result (acts.new ≡ acts.old) }
     {
+        self.close_up();
         acts.move_behind(&mut self.frames, &mut self.primitives)
+    }
+
+    /// Frees the places of removed frames and primitives, if at least half of all are removed.
+    fn close_up(&mut self)
+        ensures { self.new ≡ self.old }
+    {
+        self.removed_frames = close_up(&mut self.frames, self.removed_frames);
+        self.removed_primitives = close_up(&mut self.primitives, self.removed_primitives);
     }
 
     /// The frames to send, as octets, in order.
     pub fn frames(&self) -> &[ArrayVec<u8, MOST_OCTETS>]
         ensures { map (λ f. f.items) result.now ≡ self.now.frames }
     {
-        self.frames.as_slice()
+        &self.frames[self.removed_frames..]
     }
 
     /// The primitives for the layers above, in order.
     pub fn primitives(&self) -> &[Primitive]
         ensures { result.now ≡ self.now.primitives }
     {
-        self.primitives.as_slice()
+        &self.primitives[self.removed_primitives..]
     }
 
     /// Removes the first frame.
@@ -74,7 +92,7 @@ impl Backlog {
         requires { 0 < length self.old.frames }
         ensures { self.new ≡ record self.old { frames = drop 1 self.old.frames } }
     {
-        remove_first(&mut self.frames);
+        self.removed_frames += 1;
     }
 
     /// Removes the first primitive.
@@ -82,6 +100,24 @@ impl Backlog {
         requires { 0 < length self.old.primitives }
         ensures { self.new ≡ record self.old { primitives = drop 1 self.old.primitives } }
     {
-        remove_first(&mut self.primitives);
+        self.removed_primitives += 1;
+    }
+}
+
+/// Frees the places of the first `removed` items, if these are at least half of all, so that an
+/// item is moved once at most, on average. Returns how many removed items still have a place.
+fn close_up<T: Drop>(items: &mut Vec<T>, removed: usize) -> usize
+    requires { removed ≤ length items.old.items }
+    ensures same { drop result items.new.items ≡ drop removed items.old.items }
+    ensures within { result ≤ length items.new.items }
+{
+    if removed == items.len() {
+        items.clear();
+        0
+    } else if removed < items.len() / 2 {
+        removed
+    } else {
+        let _ = items.drain(..removed);
+        0
     }
 }

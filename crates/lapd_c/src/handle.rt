@@ -1,6 +1,7 @@
 //! The handle that C holds.
 
 ghost use Rattle.std.specs.Prelude.{◌≡◌, Some, None, MatchOption};
+ghost use Rattle.std.specs.Borrow.{sem};
 ghost use Rattle.lapd_c.specs.Owned.{owns, held_coded, Held};
 
 use crate::box_parts::BoxParts;
@@ -23,6 +24,8 @@ impl Model for Handle {
 }
 
 impl Handle {
+    ghost use Rattle.lapd_c.specs.Lent.{LendsSide};
+
     /// A handle that owns nothing.
     pub(crate) fn empty(alloc: Global) -> Handle
         ensures { result.held ≡ None }
@@ -44,7 +47,20 @@ impl Handle {
         }
     }
 
-    /// The side that the handle owns, if any.
+    /// The side that the handle owns, if any, in its place on the heap.
+    #[inline(always)]
+    pub(crate) fn side(&mut self) -> Option<&mut HeldSide>
+        ensures* writes_back { sem 𝓛 (LendsSide self.entry result) }
+        ensures owned { MatchOption result (self.old.held ≡ None) (λ s. self.old.held ≡ Some s.now) }
+    {
+        if self.at.is_null() {
+            None
+        } else {
+            Some(unsafe { &mut *self.at.cast::<HeldSide>() })
+        }
+    }
+
+    /// The side that the handle owned, if any.
     pub(crate) fn into_parts(self) -> Option<BoxParts<HeldSide, Global>>
         ensures { MatchOption result (self.held ≡ None) (λ p. self.held ≡ Some p.value) }
     {

@@ -117,61 +117,45 @@ pub extern "C" fn lapd_side_free(handle: &mut Handle, alloc: Global)
 /// Processes the octets of a frame received from the line, without flags and check sequence, at the
 /// time `now`.
 #[unsafe(no_mangle)]
-pub extern "C" fn lapd_side_take(handle: &mut Handle, octets: &[u8], now: u64, alloc: Global) -> u32
+pub extern "C" fn lapd_side_take(handle: &mut Handle, octets: &[u8], now: u64) -> u32
     ensures { AsksSide (Takes octets.now now) result handle.old.held handle.new.held }
 {
-    let Some(mut side) = opened(handle, alloc) else {
+    let Some(side) = handle.side() else {
         return NO_SIDE;
     };
-    let code = side.take(octets, now);
-    shut(handle, side);
-    code
+    side.take(octets, now)
 }
 
 /// Executes a request.
-fn ask(handle: &mut Handle, request: Request, now: u64, alloc: Global) -> u32
+fn ask(handle: &mut Handle, request: Request, now: u64) -> u32
     ensures { AsksSide (Answers request now) result handle.old.held handle.new.held }
 {
-    let Some(mut side) = opened(handle, alloc) else {
+    let Some(side) = handle.side() else {
         return NO_SIDE;
     };
-    let code = side.request(request, now);
-    shut(handle, side);
-    code
+    side.request(request, now)
 }
 
 /// Establishes a link (DL-ESTABLISH request).
 #[unsafe(no_mangle)]
-pub extern "C" fn lapd_side_establish(
-    handle: &mut Handle,
-    sapi: u8,
-    tei: u8,
-    now: u64,
-    alloc: Global,
-) -> u32
+pub extern "C" fn lapd_side_establish(handle: &mut Handle, sapi: u8, tei: u8, now: u64) -> u32
     ensures { AsksLink (λ id. Answers (Request.Establish id) now) result
         handle.old.held handle.new.held (link_of sapi tei) }
 {
     match link_of(sapi, tei) {
-        Some(id) => ask(handle, Request::Establish(id), now, alloc),
+        Some(id) => ask(handle, Request::Establish(id), now),
         None => OUT_OF_RANGE,
     }
 }
 
 /// Releases a link (DL-RELEASE request).
 #[unsafe(no_mangle)]
-pub extern "C" fn lapd_side_release(
-    handle: &mut Handle,
-    sapi: u8,
-    tei: u8,
-    now: u64,
-    alloc: Global,
-) -> u32
+pub extern "C" fn lapd_side_release(handle: &mut Handle, sapi: u8, tei: u8, now: u64) -> u32
     ensures { AsksLink (λ id. Answers (Request.Release id) now) result
         handle.old.held handle.new.held (link_of sapi tei) }
 {
     match link_of(sapi, tei) {
-        Some(id) => ask(handle, Request::Release(id), now, alloc),
+        Some(id) => ask(handle, Request::Release(id), now),
         None => OUT_OF_RANGE,
     }
 }
@@ -179,19 +163,12 @@ pub extern "C" fn lapd_side_release(
 /// Enters own receiver busy on a link if `on` is not 0, so that this end accepts no more messages,
 /// or leaves it (Q.921 5.6.6).
 #[unsafe(no_mangle)]
-pub extern "C" fn lapd_side_busy(
-    handle: &mut Handle,
-    sapi: u8,
-    tei: u8,
-    on: u8,
-    now: u64,
-    alloc: Global,
-) -> u32
+pub extern "C" fn lapd_side_busy(handle: &mut Handle, sapi: u8, tei: u8, on: u8, now: u64) -> u32
     ensures { AsksLink (λ id. Answers (Request.Busy id (not (on == 0))) now) result
         handle.old.held handle.new.held (link_of sapi tei) }
 {
     match link_of(sapi, tei) {
-        Some(id) => ask(handle, Request::Busy(id, on != 0), now, alloc),
+        Some(id) => ask(handle, Request::Busy(id, on != 0), now),
         None => OUT_OF_RANGE,
     }
 }
@@ -213,7 +190,7 @@ pub extern "C" fn lapd_side_give(
         return OUT_OF_RANGE;
     };
     match Vec::from_slice(alloc, octets) {
-        Ok(message) => ask(handle, Request::Give(id, message), now, alloc),
+        Ok(message) => ask(handle, Request::Give(id, message), now),
         Err(_) => MEMORY,
     }
 }
@@ -235,41 +212,39 @@ pub extern "C" fn lapd_side_unit(
         return OUT_OF_RANGE;
     };
     match Vec::from_slice(alloc, octets) {
-        Ok(message) => ask(handle, Request::Unit(id, message), now, alloc),
+        Ok(message) => ask(handle, Request::Unit(id, message), now),
         Err(_) => MEMORY,
     }
 }
 
 /// Requests a TEI. A network side ignores it.
 #[unsafe(no_mangle)]
-pub extern "C" fn lapd_side_ask_tei(handle: &mut Handle, now: u64, alloc: Global) -> u32
+pub extern "C" fn lapd_side_ask_tei(handle: &mut Handle, now: u64) -> u32
     ensures { AsksSide (Answers Request.AskTei now) result handle.old.held handle.new.held }
 {
-    ask(handle, Request::AskTei, now, alloc)
+    ask(handle, Request::AskTei, now)
 }
 
 /// Checks a TEI, 0 to 126, unless another check is in progress. A user side ignores it.
 #[unsafe(no_mangle)]
-pub extern "C" fn lapd_side_check_tei(handle: &mut Handle, tei: u8, now: u64, alloc: Global) -> u32
+pub extern "C" fn lapd_side_check_tei(handle: &mut Handle, tei: u8, now: u64) -> u32
     ensures { AsksCheck now result handle.old.held handle.new.held (own_tei tei) }
 {
     match own_tei(tei) {
-        Some(tei) => check(handle, tei, now, alloc),
+        Some(tei) => check(handle, tei, now),
         None => OUT_OF_RANGE,
     }
 }
 
 /// Checks a TEI.
-fn check(handle: &mut Handle, tei: Tei, now: u64, alloc: Global) -> u32
+fn check(handle: &mut Handle, tei: Tei, now: u64) -> u32
     ensures { Through (λ old new. Checks tei now old new result) (result ≡ 1)
         handle.old.held handle.new.held }
 {
-    let Some(mut side) = opened(handle, alloc) else {
+    let Some(side) = handle.side() else {
         return NO_SIDE;
     };
-    let code = side.check(tei, now);
-    shut(handle, side);
-    code
+    side.check(tei, now)
 }
 
 /// Sets T200 to T203, each 1 to 3,600,000 ms, for timers that are started from then on, also those
@@ -281,103 +256,82 @@ pub extern "C" fn lapd_side_set_timers(
     t201: u32,
     t202: u32,
     t203: u32,
-    alloc: Global,
 ) -> u32
     ensures { SetsTimers result handle.old.held handle.new.held (lengths_of t200 t201 t202 t203) }
 {
     match Durations::new(t200, t201, t202, t203) {
-        Some(durations) => set_timers(handle, durations, alloc),
+        Some(durations) => set_timers(handle, durations),
         None => OUT_OF_RANGE,
     }
 }
 
 /// Sets the durations of timers.
-fn set_timers(handle: &mut Handle, durations: Durations, alloc: Global) -> u32
+fn set_timers(handle: &mut Handle, durations: Durations) -> u32
     ensures { Through (λ old new. HasSetTimers durations old new result) (result ≡ 1)
         handle.old.held handle.new.held }
 {
-    let Some(mut side) = opened(handle, alloc) else {
+    let Some(side) = handle.side() else {
         return NO_SIDE;
     };
-    let code = side.set_timers(durations);
-    shut(handle, side);
-    code
+    side.set_timers(durations)
 }
 
 /// Expires the first timer that is due at `now`, in milliseconds. `expired` is 1 if one was due,
 /// else 0. Before you expire timers for a moment, pass in every frame that had arrived by then.
 #[unsafe(no_mangle)]
-pub extern "C" fn lapd_side_tick(
-    handle: &mut Handle,
-    now: u64,
-    expired: &mut u8,
-    alloc: Global,
-) -> u32
+pub extern "C" fn lapd_side_tick(handle: &mut Handle, now: u64, expired: &mut u8) -> u32
     ensures { Through (λ old new. Ticks now expired.new old new result)
         ((result ≡ 1) × (expired.new ≡ 0)) handle.old.held handle.new.held }
 {
-    let Some(mut side) = opened(handle, alloc) else {
+    let Some(side) = handle.side() else {
         *expired = 0;
         return NO_SIDE;
     };
-    let code = side.tick(now, expired);
-    shut(handle, side);
-    code
+    side.tick(now, expired)
 }
 
 /// Sets `moment` to the next moment at which something is due; before it [`lapd_side_tick`] has
 /// nothing to do. `moment` is the greatest moment if no timer runs or the handle owns no side.
 #[unsafe(no_mangle)]
-pub extern "C" fn lapd_side_deadline(handle: &mut Handle, moment: &mut u64, alloc: Global) -> u32
+pub extern "C" fn lapd_side_deadline(handle: &mut Handle, moment: &mut u64) -> u32
     ensures { Through (λ old new. ReturnsDeadline moment.new old new result)
         ((result ≡ 1) × (moment.new ≡ or_never None)) handle.old.held handle.new.held }
 {
-    let Some(side) = opened(handle, alloc) else {
+    let Some(side) = handle.side() else {
         *moment = u64::MAX;
         return NO_SIDE;
     };
-    let code = side.next_deadline(moment);
-    shut(handle, side);
-    code
+    side.next_deadline(moment)
 }
 
 /// Sets `count` to the number of frames that the side has discarded since it was created. It stops
 /// at the greatest number.
 #[unsafe(no_mangle)]
-pub extern "C" fn lapd_side_discarded(handle: &mut Handle, count: &mut u64, alloc: Global) -> u32
+pub extern "C" fn lapd_side_discarded(handle: &mut Handle, count: &mut u64) -> u32
     ensures { Through (λ old new. ReturnsDiscarded count.new old new result)
         ((result ≡ 1) × (count.new ≡ 0)) handle.old.held handle.new.held }
 {
-    let Some(side) = opened(handle, alloc) else {
+    let Some(side) = handle.side() else {
         *count = 0;
         return NO_SIDE;
     };
-    let code = side.discarded(count);
-    shut(handle, side);
-    code
+    side.discarded(count)
 }
 
 /// Sets `state` to the state of a user side's terminal, 1 to 4, and `tei` to its TEI, or 255 if it
 /// has none. A network side has no terminal: 0 and 255, as if the handle owns no side.
 #[unsafe(no_mangle)]
-pub extern "C" fn lapd_side_tei(
-    handle: &mut Handle,
-    state: &mut u8,
-    tei: &mut u8,
-    alloc: Global,
-) -> u32
+pub extern "C" fn lapd_side_tei(handle: &mut Handle, state: &mut u8, tei: &mut u8) -> u32
     ensures { Through (λ old new. ReturnsTerminal state.new tei.new old new result)
         ((result ≡ 1) × (state.new ≡ 0) × (tei.new ≡ or_no_tei None))
         handle.old.held handle.new.held }
 {
-    let Some(side) = opened(handle, alloc) else {
+    let Some(side) = handle.side() else {
         *state = 0;
         *tei = 255;
         return NO_SIDE;
     };
-    let code = side.terminal_state(state, tei);
-    shut(handle, side);
-    code
+    side.terminal_state(state, tei)
 }
 
 /// Sets `state` to the state of a link; all fields are 0 if the link does not exist. A user side
@@ -388,7 +342,6 @@ pub extern "C" fn lapd_side_state(
     sapi: u8,
     tei: u8,
     state: &mut LinkState,
-    alloc: Global,
 ) -> u32
     ensures { ReturnsStateOf state.new result handle.old.held handle.new.held (link_of sapi tei) }
 {
@@ -396,12 +349,10 @@ pub extern "C" fn lapd_side_state(
     let Some(id) = link_of(sapi, tei) else {
         return OUT_OF_RANGE;
     };
-    let Some(side) = opened(handle, alloc) else {
+    let Some(side) = handle.side() else {
         return NO_SIDE;
     };
-    let code = side.state(id, state);
-    shut(handle, side);
-    code
+    side.state(id, state)
 }
 
 /// Writes a line of text for the octets of a frame, sent by a network side if `network` is not 0,
@@ -460,24 +411,17 @@ fn sender(network: u8) -> Side
 /// 0 if no frame is left. If the buffer is too small, nothing is written, and the frame still
 /// waits.
 #[unsafe(no_mangle)]
-pub extern "C" fn lapd_side_frame(
-    handle: &mut Handle,
-    buffer: &mut [u8],
-    count: &mut usize,
-    alloc: Global,
-) -> u32
+pub extern "C" fn lapd_side_frame(handle: &mut Handle, buffer: &mut [u8], count: &mut usize) -> u32
     ensures { Through (λ old new. FetchesFrame old new result count.new
         (record { before = buffer.old; after = buffer.new }))
         ((result ≡ 1) × (count.new ≡ 0) × (buffer.new ≡ buffer.old))
         handle.old.held handle.new.held }
 {
-    let Some(mut side) = opened(handle, alloc) else {
+    let Some(side) = handle.side() else {
         *count = 0;
         return NO_SIDE;
     };
-    let code = side.next_frame(buffer, count);
-    shut(handle, side);
-    code
+    side.next_frame(buffer, count)
 }
 
 /// Fetches the next primitive, and copies its octets to the beginning of the buffer. Its kind is 0
@@ -488,20 +432,17 @@ pub extern "C" fn lapd_side_primitive(
     handle: &mut Handle,
     delivered: &mut FlatPrimitive,
     buffer: &mut [u8],
-    alloc: Global,
 ) -> u32
     ensures { Through (λ old new. FetchesPrimitive old new result delivered.new
         (record { before = buffer.old; after = buffer.new }))
         ((result ≡ 1) × (delivered.new ≡ nothing) × (buffer.new ≡ buffer.old))
         handle.old.held handle.new.held }
 {
-    let Some(mut side) = opened(handle, alloc) else {
+    let Some(side) = handle.side() else {
         *delivered = FlatPrimitive::nothing();
         return NO_SIDE;
     };
-    let code = side.next_primitive(delivered, buffer);
-    shut(handle, side);
-    code
+    side.next_primitive(delivered, buffer)
 }
 
 /// Fetches the next frame to send or, if none is left, the next primitive, and copies its octets to
@@ -514,19 +455,16 @@ pub extern "C" fn lapd_side_next(
     item: &mut FlatPrimitive,
     buffer: &mut [u8],
     left: &mut usize,
-    alloc: Global,
 ) -> u32
     ensures { Through (λ old new. FetchesNext old new result item.new left.new
         (record { before = buffer.old; after = buffer.new }))
         ((result ≡ 1) × (item.new ≡ nothing) × (left.new ≡ 0) × (buffer.new ≡ buffer.old))
         handle.old.held handle.new.held }
 {
-    let Some(mut side) = opened(handle, alloc) else {
+    let Some(side) = handle.side() else {
         *item = FlatPrimitive::nothing();
         *left = 0;
         return NO_SIDE;
     };
-    let code = side.next(item, buffer, left);
-    shut(handle, side);
-    code
+    side.next(item, buffer, left)
 }
