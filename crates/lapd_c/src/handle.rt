@@ -51,7 +51,8 @@ impl Handle {
     #[inline(always)]
     pub(crate) fn side(&mut self) -> Option<&mut HeldSide>
         ensures* writes_back { sem 𝓛 (LendsSide self.entry result) }
-        ensures owned { MatchOption result (self.old.held ≡ None) (λ s. self.old.held ≡ Some s.now) }
+        ensures owned { MatchOption result (self.old.held ≡ None)
+            (λ s. self.old.held ≡ Some s.now) }
     {
         if self.at.is_null() {
             None

@@ -21,7 +21,11 @@ out_line from Nothing = []
 
 -- the octets of the outputs, which are those the line carried: a frame's information or unit data
 abbrev pub input_as_octets : List ℕ → OutputOctets
-input_as_octets input_octets = record { message = input_octets; unit = input_octets; sent = input_octets }
+input_as_octets input_octets = record {
+  message = input_octets;
+  unit = input_octets;
+  sent = input_octets;
+}
 
 -- `messages`: those neither acknowledged nor dropped after the step
 abbrev pub outs_text : Setup → List (List ℕ) → List ℕ → List Out → List ℕ

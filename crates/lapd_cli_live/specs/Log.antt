@@ -111,6 +111,7 @@ pub record IsCarriedOut (acts : Effects) (a b : LiveState) : Type 0 where
   pub beside : HappenBeside events a b
 
 -- one after another, each between two states that follow each other
-abbrev pub Chain : (LiveState → LiveState → Type 0) → List LiveState → LiveState → LiveState → Type 0
+abbrev pub Chain : (LiveState → LiveState → Type 0)
+    → List LiveState → LiveState → LiveState → Type 0
 Chain R [] a b = b ≡ a
 Chain R (mid ∷ more) a b = R a mid × Chain R more mid b

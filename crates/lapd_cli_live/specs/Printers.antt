@@ -17,8 +17,8 @@ shown contents printer = record {
 }
 
 -- exactly these entries are printed and counted, in the same style
-pub record PrintsOn {W : Type 0} (contents : W → Option (List ℕ)) (own : Side) (entries : List Entry)
-    (old new : Printer W) : Type 0 where
+pub record PrintsOn {W : Type 0} (contents : W → Option (List ℕ)) (own : Side)
+    (entries : List Entry) (old new : Printer W) : Type 0 where
   pub style : new.style ≡ old.style
   pub prints : Prints old.style own entries (shown contents old) (shown contents new)
 
@@ -44,7 +44,8 @@ pub record Awaits {W : Type 0} (words : List ℕ) (old new : Printer W) : Type 0
   pub matched : new.is_matched ≡ false
 
 -- these frames are sent, and each is printed once it is sent
-pub record SendsAll {W : Type 0} (own : Side) (frames : List (List ℕ)) (before after : Option (List IoEvent))
+pub record SendsAll {W : Type 0} (own : Side) (frames : List (List ℕ))
+    (before after : Option (List IoEvent))
     (contents : W → Option (List ℕ)) (old new : Printer W) : Type 0 where
   pub outgoing : List Outgoing
   pub octets : map octets_of outgoing ≡ frames

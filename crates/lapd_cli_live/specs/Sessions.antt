@@ -128,8 +128,8 @@ DoesLine octets a b = ObeysUnless (is_passed_over octets) octets a b
 
 -- The lines before one of them are executed. That one has this outcome, and no line after it is
 -- executed. Its number counts from the lines before all of these.
-pub record StopsAt (why : Obeyed) (number count : ℕ) (lines : List (List ℕ)) (a b : LiveState) : Type 0
-  where
+pub record StopsAt (why : Obeyed) (number count : ℕ) (lines : List (List ℕ))
+    (a b : LiveState) : Type 0 where
     pub before : List (List ℕ)
     pub stopping : List ℕ
     pub behind : List (List ℕ)
@@ -163,8 +163,8 @@ LinesEnd (Err stop) before after n m a b = (more : List ℕ)
 -- A script ends well once each of its lines is executed; then the side runs on, if requested.
 -- Otherwise it stops at the first line that is bad or unmet.
 abbrev pub ScriptEnds : Bool → Result ⊤ LiveStop → List (List ℕ) → LiveState → LiveState → Type 0
-ScriptEnds serve_on (Ok done) lines a b = (ended : LiveState) × InOrder Awaits DoesLine lines a ended
-    × ServesOn serve_on ended b
+ScriptEnds serve_on (Ok done) lines a b = (ended : LiveState)
+    × InOrder Awaits DoesLine lines a ended × ServesOn serve_on ended b
 ScriptEnds serve_on (Err stop) lines a b = StopsBy stop 0 lines a b
 
 -- ---- Typed lines.
@@ -268,7 +268,8 @@ pub record EndsByClose (tidy : List ℕ → Option (List ℕ)) (lines : List (Li
   pub reported : b.reported ≡ met.reported
 
 -- how a session ends without a fault
-abbrev pub SessionEnds : (List ℕ → Option (List ℕ)) → Bool → List (List ℕ) → Session → Session → Type 0
+abbrev pub SessionEnds : (List ℕ → Option (List ℕ)) → Bool → List (List ℕ)
+    → Session → Session → Type 0
 SessionEnds tidy serve_on lines a b = EndsByInput tidy serve_on lines a b ⊎ Quits tidy lines a b
     ⊎ EndsByClose tidy lines a b
 

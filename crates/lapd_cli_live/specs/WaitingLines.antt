@@ -14,8 +14,8 @@ abbrev pub service : Option ℕ → Until → Lines → Service
 service end until lines = record { end = end; until = until; lines = lines }
 
 -- the clock is read, and the side runs from then on, for this many milliseconds if given
-pub record ServedFor (ms : Option ℕ) (until : Until) (lines : Lines) (end_reason : EndReason) (a b : LiveState) :
-    Type 0 where
+pub record ServedFor (ms : Option ℕ) (until : Until) (lines : Lines) (end_reason : EndReason)
+    (a b : LiveState) : Type 0 where
   pub end : Option ℕ
   pub begun : LiveState
   pub ends : EndsAfter ms end a begun

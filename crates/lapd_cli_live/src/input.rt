@@ -160,8 +160,9 @@ fn run_script<R: Read, O: Outside, W: Write>(
     script: &mut R,
     serve_on: bool,
 ) -> Result<(), LiveStop>
-    ensures { IfSome (R.remaining script.old) (λ octets. Between O.io_events W.contents live.old live.new
-        (ScriptEnds serve_on result (lines_of octets))) }
+    ensures { IfSome (R.remaining script.old) (λ octets.
+        Between O.io_events W.contents live.old live.new
+            (ScriptEnds serve_on result (lines_of octets))) }
 {
     let mut lines = TypedLines::new(alloc);
     let mut number: u64 = 0;

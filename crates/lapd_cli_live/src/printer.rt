@@ -94,7 +94,8 @@ impl<W: Write> Printer<W> {
     /// Sets the moment that printed lines have from now on.
     pub(crate) fn set_moment(&mut self, now: u64)
         ensures moment { self.new.moment ≡ now }
-        ensures dated { (own : SideValue) → PrintsOn W.contents own (Dated now ∷ []) self.old self.new }
+        ensures dated { (own : SideValue) →
+            PrintsOn W.contents own (Dated now ∷ []) self.old self.new }
     {
         self.moment = now;
     }
@@ -428,11 +429,13 @@ impl<W: Write> Printer<W> {
     /// Notes whether the buffered line is the awaited one, and keeps it for a later `expect`.
     fn notice_line(&mut self) -> Result<(), AllocError>
         ensures matched { OnOk result (self.new ≡ record self.old {
-          is_matched = self.old.is_matched || begins self.old.awaited.items (string_bytes self.old.line);
+          is_matched = self.old.is_matched
+              || begins self.old.awaited.items (string_bytes self.old.line);
           unseen = self.new.unseen;
         }) }
-        ensures lines { OnOk result (recent_lines self.new.unseen ≡ with_line
-            self.old.unseen.is_retained (string_bytes self.old.line) (recent_lines self.old.unseen)) }
+        ensures lines { OnOk result (recent_lines self.new.unseen
+            ≡ with_line self.old.unseen.is_retained (string_bytes self.old.line)
+                (recent_lines self.old.unseen)) }
         ensures preserved { OnOk result
             (self.new.unseen.is_retained ≡ self.old.unseen.is_retained) }
     {

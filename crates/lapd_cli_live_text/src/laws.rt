@@ -40,8 +40,8 @@ pub fn worked_lines()
     ensures management { management_text request_timers 500 ≡ codes "tei T202=1500" }
     ensures past { management_text request_timers 2500 ≡ codes "tei T202=0" }
     ensures none { management_text (all_stopped standard_lengths) 500 ≡ [] }
-    ensures object { words_object (codes "0 64 state 7 V(S)=1 RC=0 own-busy T203=9998")
-        ≡ codes "{\"RC\":0,\"T203\":9998,\"V(S)\":1,\"line\":\"state 7 own-busy\",\"sapi\":0,\"tei\":64}" }
+    ensures object { words_object (codes "0 64 state 7 V(S)=1 RC=0 own-busy T203=9998") ≡ codes
+        "{\"RC\":0,\"T203\":9998,\"V(S)\":1,\"line\":\"state 7 own-busy\",\"sapi\":0,\"tei\":64}" }
     ensures later { words_object (codes "x=1 x=2 y= 65 a=b")
         ≡ codes "{\"line\":\"y= 65 a=b\",\"x\":2}" }
 {}
@@ -49,15 +49,18 @@ pub fn worked_lines()
 /// Requests of lines with the real clock, as documented. The user side has the TEI 70.
 pub fn worked_requests()
     ensures read { live_request_of_line Network 127 (codes "read") ≡ Some (Read None) }
-    ensures wait { live_request_of_line Network 127 (codes "wait 3600000") ≡ Some (Run (Some 3600000)) }
+    ensures wait { live_request_of_line Network 127 (codes "wait 3600000")
+        ≡ Some (Run (Some 3600000)) }
     ensures too_long { live_request_of_line Network 127 (codes "wait 3600001") ≡ None }
-    ensures state { live_request_of_line User 70 (codes "state 0") ≡ Some (State (Some (named Call 70))) }
+    ensures state { live_request_of_line User 70 (codes "state 0")
+        ≡ Some (State (Some (named Call 70))) }
     ensures no_tei { live_request_of_line Network 127 (codes "state 0") ≡ None }
     ensures release { live_request_of_line User 70 (codes "release 0")
         ≡ Some (Ask (Release (named Call 70))) }
     ensures busy { live_request_of_line Network 127 (codes "busy 16 5 off")
         ≡ Some (Busy (named Packet 5) false) }
-    ensures impair { live_request_of_line Network 127 (codes "impair 20% 100") ≡ Some (Impair 20 100) }
+    ensures impair { live_request_of_line Network 127 (codes "impair 20% 100")
+        ≡ Some (Impair 20 100) }
     ensures no_delay { live_request_of_line User 70 (codes "impair 0") ≡ Some (Impair 0 0) }
     ensures too_much { live_request_of_line User 70 (codes "impair 101%") ≡ None }
     ensures tick { live_request_of_line Network 127 (codes "tick 5") ≡ None }

@@ -131,7 +131,8 @@ fn push_busy(window: Window, text: &mut String) -> Result<(), AllocError>
 
 /// Appends a word if its condition holds.
 fn push_word_if(holds: bool, word: &str, text: &mut String) -> Result<(), AllocError>
-    ensures { OnOk result (string_bytes text.new ≡ string_bytes text.old ++ word_if holds word.now) }
+    ensures { OnOk result
+        (string_bytes text.new ≡ string_bytes text.old ++ word_if holds word.now) }
 {
     if holds { text.push_str(word) } else { Ok(()) }
 }
