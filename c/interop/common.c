@@ -16,11 +16,26 @@ bool is_readable(int line, int wait)
 	return poll(&it, 1, wait) > 0;
 }
 
+/* Adds a frame, as a line of a script of `lapd decode`, to the file that INTEROP_OCTETS names. */
+static void record(const uint8_t *frame, size_t length, bool network)
+{
+	static FILE *script;
+	const char *name = getenv("INTEROP_OCTETS");
+
+	if (script == NULL && (name == NULL || (script = fopen(name, "w")) == NULL))
+		return;
+	fprintf(script, network ? "net " : "user ");
+	for (size_t place = 0; place < length; place++)
+		fprintf(script, "%02x", frame[place]);
+	fprintf(script, "\n");
+}
+
 void trace(const uint8_t *frame, size_t length, bool network, const char *note)
 {
 	uint8_t text[64 + 2 * 1024];
 	size_t characters;
 
+	record(frame, length, network);
 	if (getenv("INTEROP_TRACE") == NULL || length > 1024)
 		return;
 	check(lapd_frame_text(frame, length, network, text, sizeof text, &characters), "frame_text");

@@ -7,7 +7,8 @@
 /* Whether octets can be read or the other side has hung up. Waits at most `wait` milliseconds. */
 bool is_readable(int line, int wait);
 
-/* Prints a frame on the line as a trace line on standard error, if INTEROP_TRACE is set. */
+/* Prints a frame on the line as a trace line on standard error, if INTEROP_TRACE is set, and adds it
+   to the script for `lapd decode` that INTEROP_OCTETS names, if it is set. */
 void trace(const uint8_t *frame, size_t length, bool network, const char *note);
 
 bool is_i_frame(const uint8_t *frame, size_t length);
