@@ -1,4 +1,4 @@
--- A listener on the line: what it knows of both ends of each link, and how many frames they sent.
+-- A listener on the line: it follows both ends of each link, and counts the frames that they sent.
 use Rattle.std.specs.Prelude.{ℕ, ◌||◌, Bool, false, List, set, replicate, slice_get, Option, Some, None, Result, Ok, Err}
 use Rattle.lapd_frame.specs.declared.Side.{Side}
 use Rattle.lapd_frame.specs.declared.Side.TheVariants.{Network, User}
@@ -60,7 +60,7 @@ tallied_on_line s said all = set all (place_of s.frame.address)
     (Some (link_tallied s.sender s.packet s.frame said
     (tally_or_new s.frame.address (slice_get all (place_of s.frame.address)))))
 
--- what is known of each link, its frames, and whether a remark was a violation
+-- the line, the frames of each link, and whether a remark was a violation
 pub record Listening : Type 0 where
   pub line : LineKnown
   pub tallies : List (Option LinkTally)
@@ -106,10 +106,10 @@ after_reading packet sender (Ok f) l =
     with_frame (record { packet = packet; sender = sender; frame = f }) l
 after_reading packet sender (Err fault) l = l
 
--- what is said of the octets that a side sent next
+-- the remarks on the octets that a side sent next
 abbrev pub said_of_octets : Packet → Side → List ℕ → Listening → Remarks
 said_of_octets packet sender octets l = said_of_reading packet sender (frame_at sender octets) l
 
--- what is known after them
+-- the listener after them
 abbrev pub listening_after : Packet → Side → List ℕ → Listening → Listening
 listening_after packet sender octets l = after_reading packet sender (frame_at sender octets) l
