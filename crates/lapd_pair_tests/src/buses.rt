@@ -68,7 +68,7 @@ struct Listener {
 }
 
 impl Listener {
-    /// Takes a message that is sent. It is wrong if the listener does not read it.
+    /// Takes a message that is sent. The remarks are wrong if they do not name it.
     fn take(&mut self, message: &TeiMessage) {
         if message.ai <= 127 {
             let from = sender_of(message.kind);
