@@ -57,6 +57,9 @@ pub record Sighting : Type 0 where
   pub sender : Side
   pub frame : Fields
 
+abbrev pub sighting : Packet → Side → Fields → Sighting
+sighting packet sender f = record { packet = packet; sender = sender; frame = f }
+
 -- the remarks on it
 abbrev pub said_of : Sighting → LinkKnown → Remarks
 said_of s l = remarks_on l.k s.packet s.frame (seen_from s.sender l)

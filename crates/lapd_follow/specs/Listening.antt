@@ -13,7 +13,7 @@ use Rattle.lapd_follow.specs.declared.remarks.Remarks.{Remarks}
 use Rattle.lapd_follow.specs.declared.link_tally.LinkTally.{LinkTally}
 use Rattle.lapd_follow.specs.Ends.{one_more}
 use Rattle.lapd_follow.specs.Follower.{LineKnown, line_after, new_line, place_of, said_on_line}
-use Rattle.lapd_follow.specs.Link.{Sighting}
+use Rattle.lapd_follow.specs.Link.{Sighting, sighting}
 use Rattle.lapd_follow.specs.Remarks.{has_violation}
 use Rattle.lapd_follow.specs.Tallies.{no_tally, tallied}
 
@@ -98,12 +98,12 @@ no_remarks = record {
 
 abbrev pub said_of_reading : Packet → Side → Result Fields FrameFault → Listening → Remarks
 said_of_reading packet sender (Ok f) l =
-    said_on_line (record { packet = packet; sender = sender; frame = f }) l.line
+    said_on_line (sighting packet sender f) l.line
 said_of_reading packet sender (Err fault) l = no_remarks
 
 abbrev pub after_reading : Packet → Side → Result Fields FrameFault → Listening → Listening
 after_reading packet sender (Ok f) l =
-    with_frame (record { packet = packet; sender = sender; frame = f }) l
+    with_frame (sighting packet sender f) l
 after_reading packet sender (Err fault) l = l
 
 -- the remarks on the octets that a side sent next

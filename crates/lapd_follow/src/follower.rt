@@ -1,5 +1,5 @@
 ghost use Rattle.std.specs.Prelude.{◌≡◌, IfOk, OnOk, OnErr, option_copied, slice_get};
-ghost use Rattle.lapd_follow.specs.Link.{Sighting};
+ghost use Rattle.lapd_follow.specs.Link.{sighting};
 ghost use Rattle.lapd_follow.specs.Follower.{line_after, line_with_message, managed, new_line, place_of, said_on_line, seen_link};
 
 use crate::identity::identity_of;
@@ -49,16 +49,10 @@ impl Follower {
         sender: Side,
         frame: &Frame<'_>,
     ) -> Result<Remarks, AllocError>
-        ensures remarks { IfOk result (λ said. said ≡ said_on_line (record {
-          packet = packet;
-          sender = sender;
-          frame = frame.now;
-        }) self.old) }
-        ensures after { OnOk result (self.new ≡ line_after (record {
-          packet = packet;
-          sender = sender;
-          frame = frame.now;
-        }) self.old) }
+        ensures remarks { IfOk result (λ said.
+            said ≡ said_on_line (sighting packet sender frame.now) self.old) }
+        ensures after { OnOk result
+            (self.new ≡ line_after (sighting packet sender frame.now) self.old) }
         ensures unchanged { OnErr result (self.new ≡ self.old) }
     {
         let mut said = Remarks::none();
@@ -74,16 +68,10 @@ impl Follower {
         frame: &Frame<'_>,
         said: &mut Remarks,
     ) -> Result<(), AllocError>
-        ensures remarks { OnOk result (said.new ≡ said_on_line (record {
-          packet = packet;
-          sender = sender;
-          frame = frame.now;
-        }) self.old) }
-        ensures after { OnOk result (self.new ≡ line_after (record {
-          packet = packet;
-          sender = sender;
-          frame = frame.now;
-        }) self.old) }
+        ensures remarks { OnOk result
+            (said.new ≡ said_on_line (sighting packet sender frame.now) self.old) }
+        ensures after { OnOk result
+            (self.new ≡ line_after (sighting packet sender frame.now) self.old) }
         ensures unchanged { OnErr result (self.new ≡ self.old) }
         ensures no_remarks { OnErr result (said.new ≡ said.old) }
     {

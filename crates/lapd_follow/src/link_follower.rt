@@ -1,6 +1,6 @@
 ghost use Rattle.std.specs.Prelude.{◌≡◌, IfOk, OnOk, OnErr};
 ghost use Rattle.lapd_follow.specs.Exchange.{kept_octets};
-ghost use Rattle.lapd_follow.specs.Link.{Sighting, new_link, end_of, said_of, link_after};
+ghost use Rattle.lapd_follow.specs.Link.{sighting, new_link, end_of, said_of, link_after};
 
 use crate::dialogue::Dialogue;
 use crate::end::End;
@@ -57,16 +57,10 @@ impl LinkFollower {
         sender: Side,
         frame: &Frame<'_>,
     ) -> Result<Remarks, AllocError>
-        ensures remarks { IfOk result (λ said. said ≡ said_of (record {
-          packet = packet;
-          sender = sender;
-          frame = frame.now;
-        }) self.old) }
-        ensures after { OnOk result (self.new ≡ link_after (record {
-          packet = packet;
-          sender = sender;
-          frame = frame.now;
-        }) self.old) }
+        ensures remarks { IfOk result (λ said.
+            said ≡ said_of (sighting packet sender frame.now) self.old) }
+        ensures after { OnOk result
+            (self.new ≡ link_after (sighting packet sender frame.now) self.old) }
         ensures unchanged { OnErr result (self.new ≡ self.old) }
     {
         let mut said = Remarks::none();
@@ -82,16 +76,10 @@ impl LinkFollower {
         frame: &Frame<'_>,
         said: &mut Remarks,
     ) -> Result<(), AllocError>
-        ensures remarks { OnOk result (said.new ≡ said_of (record {
-          packet = packet;
-          sender = sender;
-          frame = frame.now;
-        }) self.old) }
-        ensures after { OnOk result (self.new ≡ link_after (record {
-          packet = packet;
-          sender = sender;
-          frame = frame.now;
-        }) self.old) }
+        ensures remarks { OnOk result
+            (said.new ≡ said_of (sighting packet sender frame.now) self.old) }
+        ensures after { OnOk result
+            (self.new ≡ link_after (sighting packet sender frame.now) self.old) }
         ensures unchanged { OnErr result (self.new ≡ self.old) }
         ensures no_remarks { OnErr result (said.new ≡ said.old) }
     {

@@ -1,5 +1,5 @@
 ghost use Rattle.std.specs.Prelude.{◌≡◌, ◌<◌, ◌+◌, IfOk, OnOk, OnErr, replicate, None, length, map, option_copied, set, slice_get};
-ghost use Rattle.lapd_follow.specs.Link.{Sighting};
+ghost use Rattle.lapd_follow.specs.Link.{sighting};
 ghost use Rattle.lapd_follow.specs.Follower.{forgotten, new_links, no_link, place_of, said_on_links, links_after, seen_link, without_tei};
 
 use crate::{LinkFollower, Packet, Remarks};
@@ -51,16 +51,10 @@ impl LinkTable {
         frame: &Frame<'_>,
         said: &mut Remarks,
     ) -> Result<(), AllocError>
-        ensures remarks { OnOk result (said.new ≡ said_on_links (record {
-          packet = packet;
-          sender = sender;
-          frame = frame.now;
-        }) self.old) }
-        ensures after { OnOk result (self.new ≡ links_after (record {
-          packet = packet;
-          sender = sender;
-          frame = frame.now;
-        }) self.old) }
+        ensures remarks { OnOk result
+            (said.new ≡ said_on_links (sighting packet sender frame.now) self.old) }
+        ensures after { OnOk result
+            (self.new ≡ links_after (sighting packet sender frame.now) self.old) }
         ensures unchanged { OnErr result (self.new ≡ self.old) }
         ensures no_remarks { OnErr result (said.new ≡ said.old) }
     {

@@ -1,6 +1,6 @@
 ghost use Rattle.std.specs.Prelude.{◌≡◌, replicate, None, IfOk, OnOk, OnErr};
 ghost use Rattle.lapd_follow.specs.Follower.{said_on_line};
-ghost use Rattle.lapd_follow.specs.Link.{Sighting};
+ghost use Rattle.lapd_follow.specs.Link.{sighting};
 ghost use Rattle.lapd_follow.specs.Listening.{listening_after, new_listening, said_of_octets, tallied_on_line, with_frame};
 
 use crate::link_table::{LINKS, place_of};
@@ -38,11 +38,7 @@ impl Tallies {
 
     /// Counts a frame of its link.
     fn add(&mut self, packet: Packet, sender: Side, frame: &Frame<'_>, said: &Remarks)
-        ensures { self.new ≡ tallied_on_line (record {
-          packet = packet;
-          sender = sender;
-          frame = frame.now;
-        }) said.now self.old }
+        ensures { self.new ≡ tallied_on_line (sighting packet sender frame.now) said.now self.old }
     {
         let address = frame.address();
         let Some(slot) = self.links.get_mut(place_of(&address)) else {
@@ -144,16 +140,10 @@ impl Listener {
         frame: &Frame<'_>,
         said: &mut Remarks,
     ) -> Result<(), AllocError>
-        ensures remarks { OnOk result (said.new ≡ said_on_line (record {
-          packet = packet;
-          sender = sender;
-          frame = frame.now;
-        }) self.old.line) }
-        ensures after { OnOk result (self.new ≡ with_frame (record {
-          packet = packet;
-          sender = sender;
-          frame = frame.now;
-        }) self.old) }
+        ensures remarks { OnOk result
+            (said.new ≡ said_on_line (sighting packet sender frame.now) self.old.line) }
+        ensures after { OnOk result
+            (self.new ≡ with_frame (sighting packet sender frame.now) self.old) }
         ensures unchanged { OnErr result (self.new ≡ self.old) }
         ensures no_remarks { OnErr result (said.new ≡ said.old) }
     {
