@@ -8,6 +8,7 @@ use std::fmt;
 use std::fmt::Display;
 
 /// Writes a remark after the line of its frame; nothing if there is none.
+#[inline(always)]
 pub(crate) fn put_noted<W: fmt::Write>(
     remark: &Option<Remark>,
     f: &mut fmt::Formatter<W>,
@@ -21,6 +22,7 @@ pub(crate) fn put_noted<W: fmt::Write>(
 }
 
 /// Writes a remark after a semicolon. A violation is marked.
+#[inline(never)]
 fn put_marked<W: fmt::Write>(remark: &Remark, f: &mut fmt::Formatter<W>) -> fmt::Result
     ensures { DisplaysOnOk W.write_str_gives f.old result
         (Some (marked_text (class_of remark.now) (remark_text remark.now))) f.new }
