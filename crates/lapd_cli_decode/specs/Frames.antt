@@ -70,6 +70,10 @@ abbrev pub said_by : FollowedPacket → Side → List ℕ → Option Listening �
 said_by packet from octets None = None
 said_by packet from octets (Some l) = Some (said_of_octets packet from octets l)
 
+-- these remarks, if links are followed
+abbrev pub said_if : Bool → Remarks → Option Remarks
+said_if is_followed said = if is_followed then Some said else None
+
 -- what a listener knows after it
 abbrev pub heard_by : FollowedPacket → Side → List ℕ → Option Listening → Option Listening
 heard_by packet from octets None = None

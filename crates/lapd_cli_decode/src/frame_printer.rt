@@ -2,7 +2,7 @@
 
 ghost use Rattle.std.specs.Prelude.{◌≡◌, nat_lt, IfOk, OnOk};
 ghost use Rattle.std.specs.String.{string_bytes};
-ghost use Rattle.lapd_cli_decode.specs.Frames.{ClosingEnds, PrintEnds, after_frame, after_shown, bare_text, followed_packet, frame_text, heard_by, is_complete, line_packet, line_with, listening_by, new_printing, said_by};
+ghost use Rattle.lapd_cli_decode.specs.Frames.{ClosingEnds, PrintEnds, after_frame, after_shown, bare_text, followed_packet, frame_text, heard_by, is_complete, line_packet, line_with, listening_by, new_printing, said_by, said_if};
 
 use crate::frame_style::FrameStyle;
 use crate::frame_time::either;
@@ -134,27 +134,35 @@ impl FramePrinter {
             (after_frame packet from octets.now self.old) result self.new (W.contents out.old)
             (W.contents out.new) }
     {
-        let Ok(said) = listen(&mut self.listener, followed(packet), from, octets) else {
+        let mut said = Remarks::none();
+        let Ok(is_followed) = listen(
+            &mut self.listener,
+            followed(packet),
+            from,
+            octets,
+            &mut said,
+        ) else {
             return Err(LineFault::Memory);
         };
         self.frames = self.frames.saturating_add(1);
         if self.how.takes(octets) {
-            self.show(&said, packet, from, octets, out)
+            self.show(is_followed, &said, packet, from, octets, out)
         } else {
             Ok(())
         }
     }
 
-    /// Prints octets with these remarks.
+    /// Prints octets, with these remarks if links are followed.
     fn show<W: Write>(
         &mut self,
-        said: &Option<Remarks>,
+        is_followed: bool,
+        said: &Remarks,
         packet: Packet,
         from: Side,
         octets: &[u8],
         out: &mut W,
     ) -> Result<(), LineFault>
-        ensures { PrintEnds (line_with said.now packet from octets.now self.old)
+        ensures { PrintEnds (line_with (said_if is_followed said.now) packet from octets.now self.old)
             (after_shown packet.moment self.old) result self.new (W.contents out.old)
             (W.contents out.new) }
     {
@@ -181,7 +189,7 @@ impl FramePrinter {
         self.printed = self.printed.saturating_add(1);
         self.first = either(self.first, packet.moment);
         self.last = either(packet.moment, self.last);
-        put_frame(self.alloc, style, self.text.as_bytes(), said, out)
+        put_frame(self.alloc, style, &mut self.text, is_followed, said, out)
     }
 
     /// Prints the tables of the links, if these are followed. Returns whether a remark was a
@@ -211,21 +219,24 @@ fn listener_by(alloc: Global, follow: Option<Follow>) -> Result<Option<Listener>
     }
 }
 
-/// Passes octets to the listener, if there is one, and returns its remarks.
+/// Passes octets to the listener, if there is one, and replaces `said` with its remarks. Returns
+/// whether there is one.
 fn listen(
     listener: &mut Option<Listener>,
     packet: lapd_follow::Packet,
     from: Side,
     octets: &[u8],
-) -> Result<Option<Remarks>, AllocError>
-    ensures said { IfOk result (λ said. said ≡ said_by packet from octets.now listener.old) }
+    said: &mut Remarks,
+) -> Result<bool, AllocError>
+    ensures said { IfOk result (λ is_followed. said_if is_followed said.new
+        ≡ said_by packet from octets.now listener.old) }
     ensures after { OnOk result (listener.new ≡ heard_by packet from octets.now listener.old) }
 {
     match listener {
-        None => Ok(None),
+        None => Ok(false),
         Some(listener) => {
-            let said = listener.octets(packet, from, octets)?;
-            Ok(Some(said))
+            listener.octets_into(packet, from, octets, said)?;
+            Ok(true)
         }
     }
 }

@@ -4,7 +4,8 @@ ghost use Rattle.std.specs.Prelude.{◌≡◌, ◌++◌, Some, IfOk, OnOk};
 ghost use Rattle.std.specs.Io.KnownBytes.{Appends, Keeps};
 ghost use Rattle.std.specs.String.{string_bytes};
 ghost use Rattle.lapd_cli_script.specs.Line.{text_line};
-ghost use Rattle.lapd_cli_decode.specs.Remarked.{front_of, listed, object_or_none, remark_objects, remarked, remarks_member, said_behind, with_remarks, RemarkedEnds};
+ghost use Rattle.lapd_cli_decode.specs.Frames.{said_if};
+ghost use Rattle.lapd_cli_decode.specs.Remarked.{listed, object_or_none, remark_objects, remarked, remarks_member, with_remarks, RemarkedEnds};
 ghost use Rattle.lapd_follow.specs.Texts.{remarks_text};
 
 use crate::style::Style;
@@ -38,7 +39,8 @@ impl fmt::Display for RemarkObject {
     }
 }
 
-/// Prints the text of a frame as one line, with the remarks on it if its link is followed.
+/// Prints the text of a frame as one line, with the remarks on it if its link is followed. It may
+/// append these to the text.
 ///
 /// # Errors
 ///
@@ -46,16 +48,18 @@ impl fmt::Display for RemarkObject {
 pub(crate) fn put_frame<W: Write>(
     alloc: Global,
     style: Style,
-    text: &[u8],
-    said: &Option<Remarks>,
+    text: &mut String,
+    is_followed: bool,
+    said: &Remarks,
     out: &mut W,
 ) -> Result<(), LineFault>
-    ensures { RemarkedEnds (text_line (remarked style said.now text.now)) result
-        (W.contents out.old) (W.contents out.new) }
+    ensures { RemarkedEnds (text_line (remarked style (said_if is_followed said.now)
+        (string_bytes text.old))) result (W.contents out.old) (W.contents out.new) }
 {
-    match said {
-        None => put_line(text, &[], out),
-        Some(said) => put_remarked(alloc, style, text, said, out),
+    if is_followed {
+        put_remarked(alloc, style, text, said, out)
+    } else {
+        put_line(text.as_bytes(), &[], out)
     }
 }
 
@@ -63,37 +67,45 @@ pub(crate) fn put_frame<W: Write>(
 fn put_remarked<W: Write>(
     alloc: Global,
     style: Style,
+    text: &mut String,
+    said: &Remarks,
+    out: &mut W,
+) -> Result<(), LineFault>
+    ensures { RemarkedEnds (text_line (with_remarks style said.now (string_bytes text.old))) result
+        (W.contents out.old) (W.contents out.new) }
+{
+    match style {
+        Style::Plain | Style::Named => put_trace(text, said, out),
+        Style::Json | Style::NamedJson => put_object(alloc, text.as_bytes(), said, out),
+    }
+}
+
+/// Appends the remarks to the trace line of their frame, and prints it.
+fn put_trace<W: Write>(text: &mut String, said: &Remarks, out: &mut W) -> Result<(), LineFault>
+    ensures { RemarkedEnds (text_line (string_bytes text.old ++ remarks_text said.now)) result
+        (W.contents out.old) (W.contents out.new) }
+{
+    let Ok(()) = write!(text, "{said}") else {
+        return Err(LineFault::Memory);
+    };
+    put_line(text.as_bytes(), &[], out)
+}
+
+/// Prints the object of a frame with the remarks as its last member.
+fn put_object<W: Write>(
+    alloc: Global,
     text: &[u8],
     said: &Remarks,
     out: &mut W,
 ) -> Result<(), LineFault>
-    ensures { RemarkedEnds (text_line (with_remarks style said.now text.now)) result
+    ensures { RemarkedEnds (text_line (with_remarks Style.Json said.now text.now)) result
         (W.contents out.old) (W.contents out.new) }
 {
-    let Ok(behind) = said_behind(alloc, style, said) else {
+    let Ok(member) = remarks_member(alloc, said) else {
         return Err(LineFault::Memory);
     };
-    put_line(front_of(style, text), behind.as_bytes(), out)
-}
-
-/// The line of a frame up to the remarks: an object lacks its last brace.
-fn front_of(style: Style, text: &[u8]) -> &[u8]
-    ensures { result.now ≡ front_of style text.now }
-{
-    match style {
-        Style::Plain | Style::Named => text,
-        Style::Json | Style::NamedJson => &text[..text.len().saturating_sub(1)],
-    }
-}
-
-/// The rest of the line.
-fn said_behind(alloc: Global, style: Style, said: &Remarks) -> Result<String, AllocError>
-    ensures { IfOk result (λ text. string_bytes text ≡ said_behind style said.now) }
-{
-    match style {
-        Style::Plain | Style::Named => format!(in alloc; "{said}"),
-        Style::Json | Style::NamedJson => remarks_member(alloc, said),
-    }
+    let front = &text[..text.len().saturating_sub(1)];
+    put_line(front, member.as_bytes(), out)
 }
 
 /// The last member of an object, and its end.

@@ -1,4 +1,4 @@
--- The link as a sender sees it, by who sent the frame before.
+-- The link as a sender sees it, by the sender of the frame before.
 use Rattle.std.proofs.Common.{◌≡◌, ℕ, Option, refl}
 use Rattle.lapd_frame.specs.declared.Side.{Side}
 use Rattle.lapd_frame.specs.declared.Side.TheVariants.{Network, User}

@@ -21,21 +21,21 @@ or_since moment None = moment
 abbrev pub busy_begins : Option ℕ → BusyTime → BusyTime
 busy_begins moment b = record b { since = or_since moment b.since }
 
--- one more time, if it is known
+-- the sum with one more time, if that time is known
 abbrev pub with_lasted : Option ℕ → Option ℕ → Option ℕ
 with_lasted None total = total
 with_lasted (Some n) None = Some n
 with_lasted (Some n) (Some total) = Some (sum_of total n)
 
--- it reports at this moment that it is not busy any more, or begins anew
+-- it reports at this moment that it is no longer busy, or begins anew
 abbrev pub busy_ends : Option ℕ → BusyTime → BusyTime
 busy_ends moment b = record {
   since = None;
   total = with_lasted (time_from b.since moment) b.total;
 }
 
--- It sends a frame of this kind at this moment. RR and REJ clear the busy condition; after SABME,
--- DISC, UA and DM no exception condition is set (5.5.1.2).
+-- The times after a frame of this kind that it sends at this moment. RR and REJ clear the busy
+-- condition; after SABME, DISC, UA and DM no exception condition is set (5.5.1.2).
 abbrev pub busy_after : Control → Option ℕ → BusyTime → BusyTime
 busy_after (I ns nr p) moment b = b
 busy_after (Rr nr pf) moment b = busy_ends moment b

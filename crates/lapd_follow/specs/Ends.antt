@@ -18,7 +18,7 @@ one_more n = min (n + 1) (2 ^ 64 - 1)
 abbrev pub unseen_polls : Polls
 unseen_polls = record { last = None; unanswered = 0; complete = false }
 
--- no poll can be answered any more
+-- no poll is to be answered any more
 abbrev pub no_polls : Polls
 no_polls = record { last = None; unanswered = 0; complete = true }
 
@@ -59,7 +59,7 @@ is_next ns None = false
 is_next ns (Some own) = ns == own.next
 
 -- An N(R) of this end is valid if it lies from the last one that it sent to the next N(S) of its
--- peer (3.5.2.3): V(R) grows, by I frames on the line alone.
+-- peer (3.5.2.3): only I frames on the line raise V(R).
 abbrev pub is_valid_nr : ℕ → Option Numbering → Option Numbering → Bool
 is_valid_nr nr None peer = false
 is_valid_nr nr (Some own) None = false
@@ -87,7 +87,7 @@ from_end n frames = if nat_le n (length frames) then slice_get frames (length fr
 
 -- ---- One end.
 
--- The numbers of its frames, unless they are not known. The octets of its I frames up to the next
+-- The numbers of its frames, if they are known. The octets of its I frames up to the next
 -- N(S) that its peer has not acknowledged, oldest first, 127 at most. Whether it is busy (5.6.6).
 -- Its I, RR, RNR and REJ commands with P=1. Its SABME and DISC commands, and whether the last was a
 -- SABME.

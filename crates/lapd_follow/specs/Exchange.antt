@@ -1,6 +1,7 @@
--- A frame changes what is known of both ends: of its sender and of its receiver. The listener may
--- be at either end or between them. So an end received only frames that the listener saw before.
-use Rattle.std.specs.Prelude.{ℕ, ◌==◌, ◌&&◌, not, if◌then◌else◌, Bool, true, false, List, is_some}
+-- The state of both ends after a frame, as its sender and its receiver show it on the line. The
+-- listener may be at either end or between them. So an end received only frames that the listener
+-- saw before.
+use Rattle.std.specs.Prelude.{ℕ, ◌==◌, ◌&&◌, not, if◌then◌else◌, Bool, true, false, List, [], is_some}
 use Rattle.lapd_frame.specs.declared.Side.{Side}
 use Rattle.lapd_frame.specs.declared.Side.TheVariants.{Network, User}
 use Rattle.lapd_frame.specs.declared.Role.{Role}
@@ -65,8 +66,8 @@ accepts x = record {
       else x.establishments;
 }
 
--- A UA that answers an earlier SABME or DISC, or none: its sender begins anew, and how the other
--- end takes it is not known.
+-- A UA that answers an earlier SABME or DISC, or none: its sender begins anew, and the numbers of
+-- the other end are unknown.
 unfoldable pub accepts_late : Exchange → Exchange
 accepts_late x = record x { from = begun x.from; to = command_answered (unnumbered x.to) }
 
@@ -146,6 +147,11 @@ after_control (Ua f) role octets packet x = acknowledges_mode x
 after_control (Frmr f) role octets packet x = x
 after_control (Xid pf) role octets packet x = x
 
--- what is known after a frame in this packet
+-- the octets that are kept of a frame: the information of an I frame
+abbrev pub kept_octets : Control → List ℕ → List ℕ
+kept_octets (I ns nr p) info = info
+kept_octets control info = []
+
+-- the state after a frame in this packet
 abbrev pub known_after : Packet → Fields → Exchange → Exchange
 known_after packet f x = after_control f.control f.address.role f.info packet x

@@ -44,11 +44,11 @@ seen_link None = None
 abbrev pub link_at : ℕ → LinksKnown → LinkKnown
 link_at place all = link_or_new all.k (slice_get all.links place)
 
--- what is said of a frame by its own link
+-- the remarks of its own link on a frame
 abbrev pub said_on_links : Sighting → LinksKnown → Remarks
 said_on_links s all = said_of s (link_at (place_of s.frame.address) all)
 
--- what is known after it: no other link changes
+-- the links after it: no other link changes
 abbrev pub links_after : Sighting → LinksKnown → LinksKnown
 links_after s all = record all {
   links = set all.links (place_of s.frame.address)
@@ -88,7 +88,7 @@ abbrev pub managed_if : Option Identity → TeisKnown → Remarks → Remarks
 managed_if None teis said = said
 managed_if (Some message) teis said = managed message teis said
 
--- what is said of a frame: only its own link and the messages of TEI management matter
+-- all remarks on a frame: they depend on its own link and on the messages of TEI management alone
 abbrev pub said_on_line : Sighting → LineKnown → Remarks
 said_on_line s line =
     managed_if (identity_of s.sender s.frame) line.teis (said_on_links s line.links)
@@ -105,7 +105,7 @@ abbrev pub line_with_message_if : Option Identity → LineKnown → LineKnown
 line_with_message_if None line = line
 line_with_message_if (Some message) line = line_with_message message line
 
--- what is known after a frame
+-- the line after a frame
 abbrev pub line_after : Sighting → LineKnown → LineKnown
 line_after s line = line_with_message_if (identity_of s.sender s.frame)
     (record line { links = links_after s line.links })

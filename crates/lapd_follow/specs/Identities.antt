@@ -69,7 +69,7 @@ identity_under control sender f = None
 abbrev pub identity_of : Side → Fields → Option Identity
 identity_of sender f = identity_under f.control sender f
 
--- ---- What a message says of links.
+-- ---- The links that begin anew after a message.
 
 -- the TEI whose links begin anew: it is assigned (5.3.2) or removed (5.3.4)
 abbrev pub renewed : Identity → Option ℕ

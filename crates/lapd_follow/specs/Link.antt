@@ -42,7 +42,7 @@ abbrev pub network_of : Side → Exchange → EndKnown
 network_of User x = x.to
 network_of Network x = x.from
 
--- the link with what this sender of a frame sees of it
+-- the link whose two ends this sender of a frame sees so
 abbrev pub with_exchange : Option ℕ → Side → Exchange → LinkKnown
 with_exchange k sender x = record {
   k = k;
@@ -57,15 +57,18 @@ pub record Sighting : Type 0 where
   pub sender : Side
   pub frame : Fields
 
--- what is said of it
+abbrev pub sighting : Packet → Side → Fields → Sighting
+sighting packet sender f = record { packet = packet; sender = sender; frame = f }
+
+-- the remarks on it
 abbrev pub said_of : Sighting → LinkKnown → Remarks
 said_of s l = remarks_on l.k s.packet s.frame (seen_from s.sender l)
 
--- what is known after it
+-- the link after it
 abbrev pub link_after : Sighting → LinkKnown → LinkKnown
 link_after s l = with_exchange l.k s.sender (known_after s.packet s.frame (seen_from s.sender l))
 
--- what is known after these frames, and what is said of each
+-- the link after these frames, and the remarks on each
 abbrev pub known_after_all : List Sighting → LinkKnown → LinkKnown
 known_after_all [] l = l
 known_after_all (s ∷ seen) l = known_after_all seen (link_after s l)

@@ -1,4 +1,4 @@
--- A listener on the line: what it knows of both ends of each link, and how many frames they sent.
+-- A listener on the line: it follows both ends of each link, and counts the frames that they sent.
 use Rattle.std.specs.Prelude.{ℕ, ◌||◌, Bool, false, List, set, replicate, slice_get, Option, Some, None, Result, Ok, Err}
 use Rattle.lapd_frame.specs.declared.Side.{Side}
 use Rattle.lapd_frame.specs.declared.Side.TheVariants.{Network, User}
@@ -13,7 +13,7 @@ use Rattle.lapd_follow.specs.declared.remarks.Remarks.{Remarks}
 use Rattle.lapd_follow.specs.declared.link_tally.LinkTally.{LinkTally}
 use Rattle.lapd_follow.specs.Ends.{one_more}
 use Rattle.lapd_follow.specs.Follower.{LineKnown, line_after, new_line, place_of, said_on_line}
-use Rattle.lapd_follow.specs.Link.{Sighting}
+use Rattle.lapd_follow.specs.Link.{Sighting, sighting}
 use Rattle.lapd_follow.specs.Remarks.{has_violation}
 use Rattle.lapd_follow.specs.Tallies.{no_tally, tallied}
 
@@ -60,7 +60,7 @@ tallied_on_line s said all = set all (place_of s.frame.address)
     (Some (link_tallied s.sender s.packet s.frame said
     (tally_or_new s.frame.address (slice_get all (place_of s.frame.address)))))
 
--- what is known of each link, its frames, and whether a remark was a violation
+-- the line, the frames of each link, and whether a remark was a violation
 pub record Listening : Type 0 where
   pub line : LineKnown
   pub tallies : List (Option LinkTally)
@@ -98,18 +98,18 @@ no_remarks = record {
 
 abbrev pub said_of_reading : Packet → Side → Result Fields FrameFault → Listening → Remarks
 said_of_reading packet sender (Ok f) l =
-    said_on_line (record { packet = packet; sender = sender; frame = f }) l.line
+    said_on_line (sighting packet sender f) l.line
 said_of_reading packet sender (Err fault) l = no_remarks
 
 abbrev pub after_reading : Packet → Side → Result Fields FrameFault → Listening → Listening
 after_reading packet sender (Ok f) l =
-    with_frame (record { packet = packet; sender = sender; frame = f }) l
+    with_frame (sighting packet sender f) l
 after_reading packet sender (Err fault) l = l
 
--- what is said of the octets that a side sent next
+-- the remarks on the octets that a side sent next
 abbrev pub said_of_octets : Packet → Side → List ℕ → Listening → Remarks
 said_of_octets packet sender octets l = said_of_reading packet sender (frame_at sender octets) l
 
--- what is known after them
+-- the listener after them
 abbrev pub listening_after : Packet → Side → List ℕ → Listening → Listening
 listening_after packet sender octets l = after_reading packet sender (frame_at sender octets) l

@@ -1,4 +1,4 @@
--- The remarks on the next frame, by what was known before it, and the class of each remark.
+-- The remarks on the next frame, by the state of both ends before it, and the class of each remark.
 use Rattle.std.specs.Prelude.{ℕ, ◌-◌, ◌==◌, ◌&&◌, ◌||◌, nat_lt, nat_le, if◌then◌else◌, Bool, true, false, List, Option, Some, None, is_some}
 use Rattle.std.specs.Str.{bytes_eq}
 use Rattle.lapd_mod128.specs.Counting.{Tagged, steps, lies_within}
@@ -20,8 +20,8 @@ use Rattle.lapd_follow.specs.declared.remarks.Remarks.{Remarks}
 use Rattle.lapd_follow.specs.Ends.{one_more, from_end}
 use Rattle.lapd_follow.specs.Exchange.{Exchange, begins_establishment}
 
--- Normal: what an undisturbed data link does. Recovery: also two ends that follow Q.921 do this, if
--- frames are lost or late. Violation: no two ends do that follow it.
+-- Normal: an undisturbed data link does this. Recovery: two ends that follow Q.921 do this only if
+-- frames are lost or late. Violation: two ends that follow Q.921 never do this.
 abbrev pub class_of : Remark → Class
 class_of (Begins n) = Normal
 class_of LateUa = Recovery
@@ -71,14 +71,14 @@ establishment_remark control x = None
 
 -- ---- N(S): of an I frame, if the numbers of both ends are known (Q.921 3.5.2.4, 5.6.1, 5.6.4).
 
--- the same octets as before, or others
+-- whether the frame has the same octets as the earlier one; `unknown` if that one is not kept
 abbrev pub repeated : List ℕ → Option (List ℕ) → Remark → Remark
 repeated octets None unknown = unknown
 repeated octets (Some earlier) unknown = if bytes_eq earlier octets then Repeated
     else RepeatedOtherwise
 
--- a frame that is not the next: the first of an establishment, or an unacknowledged one again, or
--- out of sequence
+-- The N(S) is not the next one: the frame is the first of an establishment, repeats one that is not
+-- acknowledged, or is out of sequence.
 abbrev pub out_of_sequence : ℕ → List ℕ → Numbering → List (List ℕ) → Remark
 out_of_sequence ns octets own unacknowledged = if own.is_first then FirstNs ns
     else repeated octets (from_end (steps Tagged ns own.next) unacknowledged)
@@ -166,7 +166,7 @@ answer_remark (Ua f) role packet x = answer_to packet x.to.commands.last
 answer_remark (Frmr f) role packet x = None
 answer_remark (Xid pf) role packet x = None
 
--- ---- All that is said of a frame.
+-- ---- All remarks on a frame.
 
 abbrev pub ns_of : Control → List ℕ → Exchange → Option Remark
 ns_of (I ns nr p) octets x =

@@ -1,4 +1,5 @@
--- How many frames of each kind one end of a link sent, and the time that it took to answer polls.
+-- How many frames of each kind one end of a link sent, how soon it answered polls, and how long it
+-- was busy.
 use Rattle.std.specs.Prelude.{ℕ, min, max, Bool, true, false, if◌then◌else◌, length, Option, Some, None}
 use Rattle.lapd_frame.specs.declared.Role.{Role}
 use Rattle.lapd_frame.specs.declared.Role.TheVariants.{Command, Answer}
@@ -78,7 +79,7 @@ abbrev pub greatest_with : ℕ → Option ℕ → ℕ
 greatest_with n None = n
 greatest_with n (Some m) = max m n
 
--- one more time
+-- the times with one more, if there is one
 abbrev pub with_time : Option ℕ → Times → Times
 with_time None t = t
 with_time (Some n) t = record {

@@ -43,7 +43,7 @@ answered_with ri h = record h { answer = Some (first_answer ri h.answer) }
 
 -- ---- All TEIs.
 
--- the references of the requests, and each TEI at its place, of which that of the group is not used
+-- the references of the requests, and each TEI at its place; the place of the group TEI is not used
 pub record TeisKnown : Type 0 where
   pub requests : List ℕ
   pub holders : List Holder
@@ -61,7 +61,7 @@ abbrev pub forgotten_tei : ℕ → List Holder → List Holder
 forgotten_tei tei holders = if tei == 127 then replicate 128 unknown_holder
     else set holders tei unknown_holder
 
--- what is known after a message
+-- the knowledge after a message
 abbrev pub teis_after : Identity → TeisKnown → TeisKnown
 teis_after (Request ri) t = record t { requests = with_request ri t.requests }
 teis_after (Assigned tei ri) t = record {
@@ -89,7 +89,7 @@ abbrev pub answered_check : ℕ → ℕ → Option ℕ → TeisKnown → Option 
 answered_check tei ri None t = unrequested ri t.requests
 answered_check tei ri (Some answer) t = Some (AssignedInUse tei)
 
--- Nor is it free if it was assigned, and neither removed nor checked since.
+-- A TEI is not free either if it was assigned, and neither removed nor checked since.
 abbrev pub conflict_of_assignment : ℕ → ℕ → Option ℕ → TeisKnown → Option Remark
 conflict_of_assignment tei ri None t =
     answered_check tei ri (holder_at tei t.holders).answer t

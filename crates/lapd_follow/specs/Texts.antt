@@ -48,7 +48,7 @@ clause_of (AssignedTwice tei ri) = codes "5.3.2"
 clause_of (AssignedInUse tei) = codes "5.3.3.2"
 clause_of (TwoResponses tei first second) = codes "5.3.3.2"
 
--- so many microseconds, in seconds with three digits after the point
+-- a time in microseconds, as seconds with three digits after the point
 abbrev pub after_text : Option ℕ → List ℕ
 after_text None = []
 after_text (Some n) = codes " after " ++ (decimal (n / 1000000) ++ (codes "."
@@ -103,7 +103,7 @@ remark_text (TwoResponses tei first second) = codes "two terminals answer the ch
     ++ (decimal tei ++ (codes ", references " ++ (decimal first
     ++ (codes " and " ++ decimal second))))
 
--- a remark behind the line of its frame, after a semicolon; a violation is marked
+-- a remark after the line of its frame and a semicolon; a violation is marked
 abbrev pub marked_text : Class → List ℕ → List ℕ
 marked_text Normal words = codes "; " ++ words
 marked_text Recovery words = codes "; " ++ words

@@ -72,13 +72,13 @@ vr_not_reset = established ++ message User 0 0 5 ∷ response Network (Rr 1 fals
     ∷ command User (Sabme true) ∷ response Network (Ua true) ∷ message User 0 0 7
     ∷ response Network (Rr 2 false) ∷ []
 
--- the second I frame is lost, rejected, and sent again; then again with other octets
+-- the second I frame is lost, rejected and sent again, and then its N(S) with other octets
 abbrev pub sent_again : List Sent
 sent_again = established ++ message User 0 0 5 ∷ message User 2 0 7
     ∷ response Network (Rej 1 false) ∷ message User 1 0 6 ∷ message User 1 0 6
     ∷ message User 1 0 9 ∷ []
 
--- a UA, a response with F=1 and an N(R) for which there is no cause
+-- a UA, a response with F=1 and an N(R) without a cause
 abbrev pub without_cause : List Sent
 without_cause = established ++ response Network (Rr 0 true) ∷ response Network (Rr 1 false)
     ∷ response Network (Ua true) ∷ []

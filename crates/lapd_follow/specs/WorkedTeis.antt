@@ -20,7 +20,7 @@ abbrev pub known_after : Option Identity → TeisKnown → TeisKnown
 known_after None t = t
 known_after (Some message) t = teis_after message t
 
--- what is said of each of these octets of information, which follow others
+-- the notes on these octets of information, one after another, after this knowledge
 abbrev pub notes_from : List (Side × List ℕ) → TeisKnown → List Note
 notes_from [] t = []
 notes_from (sent ∷ rest) t = record {
@@ -67,13 +67,13 @@ verify = (User, 0x0F ∷ 0 ∷ 0 ∷ 7 ∷ 0x81 ∷ [])
 
 -- ---- Dialogues.
 
--- one request is served, one is denied, and then again without a request; octets that form no
--- message of the network side
+-- a TEI is assigned on a request and denied on another, then both without a request; the last
+-- octets form no message of the network side
 abbrev pub assignment : List (Side × List ℕ)
 assignment = request 1 ∷ assigned 1 ∷ request 2 ∷ denied 2 ∷ assigned 1 ∷ denied 2
     ∷ (Network, 0x0F ∷ 0 ∷ 1 ∷ 1 ∷ 0xFF ∷ []) ∷ []
 
--- a check that one terminal answers, and one that two answer; and an assignment after that
+-- a check that one terminal answers, one that two answer, and an assignment after that
 abbrev pub checks : List (Side × List ℕ)
 checks = verify ∷ check ∷ response 1 ∷ check ∷ response 2 ∷ response 3 ∷ request 1 ∷ assigned 1 ∷ []
 

@@ -26,41 +26,36 @@ pub(crate) fn no_busy_time() -> BusyTime
 }
 
 impl BusyTime {
-    /// The times after a frame that the end sent at this moment.
-    pub(crate) fn after(self, control: &Control, moment: Option<u64>) -> BusyTime
-        ensures { result ≡ busy_after control.now moment self }
+    /// Takes a frame that the end sent at this moment.
+    pub(crate) fn take(&mut self, control: &Control, moment: Option<u64>)
+        ensures { self.new ≡ busy_after control.now moment self.old }
     {
         match *control {
-            Control::Rnr { .. } => self.begun(moment),
+            Control::Rnr { .. } => self.begin(moment),
             Control::Rr { .. }
             | Control::Rej { .. }
             | Control::Sabme { .. }
             | Control::Dm { .. }
             | Control::Disc { .. }
-            | Control::Ua { .. } => self.ended(moment),
+            | Control::Ua { .. } => self.end(moment),
             Control::I { .. } | Control::Ui { .. } | Control::Frmr { .. } | Control::Xid { .. } =>
-                self,
+                {}
         }
     }
 
     /// The end reports that it is busy.
-    fn begun(self, moment: Option<u64>) -> BusyTime
-        ensures { result ≡ busy_begins moment self }
+    fn begin(&mut self, moment: Option<u64>)
+        ensures { self.new ≡ busy_begins moment self.old }
     {
-        BusyTime {
-            since: or_since(moment, self.since),
-            total: self.total,
-        }
+        self.since = or_since(moment, self.since);
     }
 
     /// The end reports that it is not busy, or begins anew.
-    fn ended(self, moment: Option<u64>) -> BusyTime
-        ensures { result ≡ busy_ends moment self }
+    fn end(&mut self, moment: Option<u64>)
+        ensures { self.new ≡ busy_ends moment self.old }
     {
-        BusyTime {
-            since: None,
-            total: with_lasted(time_from(self.since, moment), self.total),
-        }
+        self.total = with_lasted(time_from(self.since, moment), self.total);
+        self.since = None;
     }
 }
 

@@ -24,10 +24,10 @@ impl Model for Dialogue {
     ghost view = { λ d. record { from = d.from; to = d.to; establishments = d.establishments } };
 }
 
-/// The sender changes.
+/// A change of the sender.
 #[tactic(auto, unfolding(crate::specs::Exchange::turned))]
 impl Dialogue {
-    /// The same, as the sender `now` sees it, and not the sender `before`.
+    /// Turns the view of the sender `before` into that of the sender `now`.
     pub(crate) fn turn(&mut self, before: Side, now: Side)
         ensures { self.new ≡ turned before now self.old }
     {
@@ -52,7 +52,7 @@ impl Dialogue {
         self.to.end_polls();
     }
 
-    /// A SABME or a DISC.
+    /// Takes a SABME or a DISC.
     fn command(&mut self, is_sabme: bool, packet: Packet)
         ensures { self.new ≡ commands is_sabme packet self.old }
     {
@@ -60,7 +60,7 @@ impl Dialogue {
         self.from.command(is_sabme, packet);
     }
 
-    /// A DM.
+    /// Takes a DM.
     fn disconnect(&mut self, f: bool)
         ensures { self.new ≡ disconnects f self.old }
     {
@@ -77,7 +77,7 @@ impl Dialogue {
         self.to.awaits_ua() && !self.from.awaits_ua()
     }
 
-    /// A UA that answers the last SABME or DISC.
+    /// Takes a UA that answers the last SABME or DISC.
     fn accept(&mut self)
         ensures { self.new ≡ accepts self.old }
     {
@@ -91,7 +91,7 @@ impl Dialogue {
         self.to.take_command_answer();
     }
 
-    /// A UA that answers an earlier SABME or DISC, or none.
+    /// Takes a UA that answers an earlier SABME or DISC, or none.
     fn accept_late(&mut self)
         ensures { self.new ≡ accepts_late self.old }
     {
@@ -100,7 +100,7 @@ impl Dialogue {
         self.to.take_command_answer();
     }
 
-    /// A UA.
+    /// Takes a UA.
     fn acknowledge_mode(&mut self)
         ensures { self.new ≡ acknowledges_mode self.old }
     {
@@ -115,7 +115,7 @@ impl Dialogue {
 /// I and S frames.
 #[tactic(auto, unfolding(crate::specs::Exchange::takes_nr, crate::specs::Exchange::polls, crate::specs::Exchange::sends, crate::specs::Exchange::answers, crate::specs::Exchange::reports))]
 impl Dialogue {
-    /// An N(R).
+    /// Takes an N(R) of the sender.
     fn take_nr(&mut self, nr: Number)
         ensures { self.new ≡ takes_nr nr self.old }
     {
@@ -126,7 +126,7 @@ impl Dialogue {
         }
     }
 
-    /// The P bit of a command.
+    /// Takes the P bit of a command.
     fn poll(&mut self, p: bool, packet: Packet)
         ensures { self.new ≡ polls p packet self.old }
     {
@@ -135,14 +135,14 @@ impl Dialogue {
         }
     }
 
-    /// An I frame.
+    /// Takes an I frame.
     fn send(&mut self, ns: Number, octets: Vec<u8>)
         ensures { self.new ≡ sends ns octets.items self.old }
     {
         self.from.send(counter(ns), octets);
     }
 
-    /// The F bit of an S response.
+    /// Takes the F bit of an S response.
     fn answer(&mut self, f: bool)
         ensures { self.new ≡ answers f self.old }
     {
@@ -151,7 +151,7 @@ impl Dialogue {
         }
     }
 
-    /// The busy condition of the sender.
+    /// Takes the busy condition that the sender reports.
     fn report(&mut self, busy: Busy)
         ensures { self.new ≡ reports busy self.old }
     {
@@ -162,7 +162,7 @@ impl Dialogue {
 /// S frames.
 #[tactic(auto, unfolding(crate::specs::Exchange::supervises))]
 impl Dialogue {
-    /// The P or F bit of an S frame.
+    /// Takes the P or F bit of an S frame.
     fn poll_or_answer(&mut self, role: Role, pf: bool, packet: Packet)
         ensures { self.new ≡ poll_or_final role pf packet self.old }
     {
@@ -179,7 +179,7 @@ impl Dialogue {
         busy_if(self.from.busy, answers_only_poll(role, pf, self.to.polls))
     }
 
-    /// An S frame.
+    /// Takes an S frame.
     fn supervise(&mut self, role: Role, pf: bool, nr: Number, busy: Busy, packet: Packet)
         ensures { self.new ≡ supervises role pf nr busy packet self.old }
     {
@@ -192,7 +192,7 @@ impl Dialogue {
 /// Each frame.
 #[tactic(auto)]
 impl Dialogue {
-    /// A frame with this control field and role. `octets` are its information.
+    /// Takes a frame with this control field and role. `octets` are the information of an I frame.
     pub(crate) fn take(&mut self, control: &Control, role: Role, octets: Vec<u8>, packet: Packet)
         ensures { self.new ≡ after_control control.now role octets.items packet self.old }
     {

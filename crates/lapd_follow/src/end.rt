@@ -9,7 +9,7 @@ use lapd_mod128::Seq;
 use std::alloc::{AllocError, Global};
 use std::marker::Model;
 
-/// The busy condition of an end, as it reported it (Q.921 5.6.5).
+/// The busy condition that an end reported (Q.921 5.6.5).
 #[derive(Clone, Copy, Debug, PartialEq, Eq)]
 pub enum Busy {
     /// It takes I frames.
@@ -63,7 +63,7 @@ impl End {
         })
     }
 
-    /// It counts from 0 before its next I or S frame.
+    /// The end begins anew: its next I or S frame counts from 0.
     pub(crate) fn begin(&mut self)
         ensures { self.new ≡ begun self.old }
     {

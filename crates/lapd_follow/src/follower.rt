@@ -1,5 +1,5 @@
 ghost use Rattle.std.specs.Prelude.{◌≡◌, IfOk, OnOk, OnErr, option_copied, slice_get};
-ghost use Rattle.lapd_follow.specs.Link.{Sighting};
+ghost use Rattle.lapd_follow.specs.Link.{sighting};
 ghost use Rattle.lapd_follow.specs.Follower.{line_after, line_with_message, managed, new_line, place_of, said_on_line, seen_link};
 
 use crate::identity::identity_of;
@@ -49,38 +49,51 @@ impl Follower {
         sender: Side,
         frame: &Frame<'_>,
     ) -> Result<Remarks, AllocError>
-        ensures remarks { IfOk result (λ said. said ≡ said_on_line (record {
-          packet = packet;
-          sender = sender;
-          frame = frame.now;
-        }) self.old) }
-        ensures after { OnOk result (self.new ≡ line_after (record {
-          packet = packet;
-          sender = sender;
-          frame = frame.now;
-        }) self.old) }
+        ensures remarks { IfOk result (λ said.
+            said ≡ said_on_line (sighting packet sender frame.now) self.old) }
+        ensures after { OnOk result
+            (self.new ≡ line_after (sighting packet sender frame.now) self.old) }
         ensures unchanged { OnErr result (self.new ≡ self.old) }
     {
-        let said = self.links.frame(packet, sender, frame)?;
-        Ok(match identity_of(sender, frame) {
-            None => said,
-            Some(message) => self.manage(&message, &said),
-        })
+        let mut said = Remarks::none();
+        self.frame_into(packet, sender, frame, &mut said)?;
+        Ok(said)
+    }
+
+    /// Like [`Follower::frame`], but replaces `said` with the remarks. On error nothing changes.
+    pub fn frame_into(
+        &mut self,
+        packet: Packet,
+        sender: Side,
+        frame: &Frame<'_>,
+        said: &mut Remarks,
+    ) -> Result<(), AllocError>
+        ensures remarks { OnOk result
+            (said.new ≡ said_on_line (sighting packet sender frame.now) self.old) }
+        ensures after { OnOk result
+            (self.new ≡ line_after (sighting packet sender frame.now) self.old) }
+        ensures unchanged { OnErr result (self.new ≡ self.old) }
+        ensures no_remarks { OnErr result (said.new ≡ said.old) }
+    {
+        self.links.frame_into(packet, sender, frame, said)?;
+        match identity_of(sender, frame) {
+            None => Ok(()),
+            Some(message) => {
+                self.manage(&message, said);
+                Ok(())
+            }
+        }
     }
 
     /// Takes a message of TEI management, and adds the remarks on it to those on its frame.
-    fn manage(&mut self, message: &Identity, said: &Remarks) -> Remarks
-        ensures remarks { result ≡ managed message.now self.old.teis said.now }
+    fn manage(&mut self, message: &Identity, said: &mut Remarks)
+        ensures remarks { said.new ≡ managed message.now self.old.teis said.old }
         ensures after { self.new ≡ line_with_message message.now self.old }
     {
-        let conflict = self.teis.conflict(message);
+        said.identity = Some(Remark::Manages(*message));
+        said.conflict = self.teis.conflict(message);
         self.teis.take(message);
         self.links.forget(message.renewed());
-        Remarks {
-            identity: Some(Remark::Manages(*message)),
-            conflict,
-            ..*said
-        }
     }
 
     /// The link of frames with this address, if one was seen. A link whose TEI was assigned or

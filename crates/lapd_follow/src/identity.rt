@@ -53,7 +53,7 @@ impl Identity {
         }
     }
 
-    /// The TEI whose links begin anew: it is assigned or removed.
+    /// The TEI that the message assigns or removes: its links begin anew.
     pub(crate) fn renewed(&self) -> Option<Tei>
         ensures { result ≡ renewed self.now }
     {
@@ -213,7 +213,7 @@ fn network_identity(kind: u8, ri: u16, tei: Tei) -> Option<Identity>
     }
 }
 
-/// A message that must name the TEI of one terminal (Q.921 5.3.6.5).
+/// A message that is valid only with the TEI of one terminal (Q.921 5.3.6.5).
 fn of_one(tei: Tei, message: Identity) -> Option<Identity>
     ensures { result ≡ of_one tei message }
 {

@@ -4,8 +4,8 @@
 //! Begin with [`Follower`], or [`LinkFollower`] for one link: it takes frames in the order in which
 //! they are seen, at either end or between, and returns [`Remarks`] on each: a repeated I frame, an
 //! N(R) out of range, the poll that a response answers, a TEI that is assigned twice. Each
-//! [`Remark`] has a [`Class`]. A violation is a frame that no two ends send which follow the
-//! standard, whatever frames are lost, if T200 exceeds the time until an answer (Q.921 5.9.1), and
+//! [`Remark`] has a [`Class`]. A violation is a frame that two ends which follow the standard
+//! never send, whatever frames are lost, if T200 exceeds the time until an answer (Q.921 5.9.1), and
 //! if the listener sees one of two messages that free a TEI (Q.921 5.3.4). [`Tally`] counts the
 //! frames of one end. [`Listener`] follows all links of a line and counts their frames.
 #![tactic(auto)]

@@ -1,11 +1,12 @@
 ghost use Rattle.std.specs.Prelude.{◌≡◌, IfOk, OnOk, OnErr};
-ghost use Rattle.lapd_follow.specs.Link.{Sighting, new_link, end_of, said_of, link_after};
+ghost use Rattle.lapd_follow.specs.Exchange.{kept_octets};
+ghost use Rattle.lapd_follow.specs.Link.{sighting, new_link, end_of, said_of, link_after};
 
 use crate::dialogue::Dialogue;
 use crate::end::End;
-use crate::remarks::remarks_on;
+use crate::remarks::put_remarks;
 use crate::{Packet, Remarks};
-use lapd_frame::{Frame, Side};
+use lapd_frame::{Control, Frame, Side};
 use std::alloc::{AllocError, Global};
 use std::marker::Model;
 
@@ -27,7 +28,7 @@ impl Model for LinkFollower {
     ghost view = { λ l. with_exchange l.k l.sender l.dialogue };
 }
 
-#[tactic(auto, using(crate::proofs::Turned::seen_is_turned))]
+#[tactic(auto, using(crate::proofs::Turned::seen_is_turned, crate::proofs::Kept::kept_is_enough))]
 impl LinkFollower {
     /// A link of which nothing was seen. `k` is its window, 1 to 127, if it is known. It allocates
     /// the places for 127 I frames of each end.
@@ -56,25 +57,39 @@ impl LinkFollower {
         sender: Side,
         frame: &Frame<'_>,
     ) -> Result<Remarks, AllocError>
-        ensures remarks { IfOk result (λ said. said ≡ said_of (record {
-          packet = packet;
-          sender = sender;
-          frame = frame.now;
-        }) self.old) }
-        ensures after { OnOk result (self.new ≡ link_after (record {
-          packet = packet;
-          sender = sender;
-          frame = frame.now;
-        }) self.old) }
+        ensures remarks { IfOk result (λ said.
+            said ≡ said_of (sighting packet sender frame.now) self.old) }
+        ensures after { OnOk result
+            (self.new ≡ link_after (sighting packet sender frame.now) self.old) }
         ensures unchanged { OnErr result (self.new ≡ self.old) }
     {
-        let octets = frame.info().to_vec(self.alloc)?;
+        let mut said = Remarks::none();
+        self.frame_into(packet, sender, frame, &mut said)?;
+        Ok(said)
+    }
+
+    /// Like [`LinkFollower::frame`], but replaces `said` with the remarks. On error nothing changes.
+    pub fn frame_into(
+        &mut self,
+        packet: Packet,
+        sender: Side,
+        frame: &Frame<'_>,
+        said: &mut Remarks,
+    ) -> Result<(), AllocError>
+        ensures remarks { OnOk result
+            (said.new ≡ said_of (sighting packet sender frame.now) self.old) }
+        ensures after { OnOk result
+            (self.new ≡ link_after (sighting packet sender frame.now) self.old) }
+        ensures unchanged { OnErr result (self.new ≡ self.old) }
+        ensures no_remarks { OnErr result (said.new ≡ said.old) }
+    {
+        let octets = kept_octets(self.alloc, frame)?;
         self.dialogue.turn(self.sender, sender);
         self.sender = sender;
-        let said = remarks_on(self.k, packet, frame, &self.dialogue);
+        put_remarks(self.k, packet, frame, &self.dialogue, said);
         self.dialogue
             .take(&frame.control(), frame.address().role, octets, packet);
-        Ok(said)
+        Ok(())
     }
 
     /// How many establishments began.
@@ -106,5 +121,16 @@ impl LinkFollower {
             (Side::User, Side::User) | (Side::Network, Side::Network) => &self.dialogue.from,
             _ => &self.dialogue.to,
         }
+    }
+}
+
+/// The octets that are kept of a frame: the information of an I frame.
+fn kept_octets(alloc: Global, frame: &Frame<'_>) -> Result<Vec<u8>, AllocError>
+    ensures { IfOk result (λ octets.
+        octets.items ≡ kept_octets frame.now.control frame.now.info) }
+{
+    match frame.control() {
+        Control::I { .. } => Vec::from_slice(alloc, frame.info()),
+        _ => Ok(Vec::new(alloc)),
     }
 }

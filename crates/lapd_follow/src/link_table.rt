@@ -1,5 +1,5 @@
 ghost use Rattle.std.specs.Prelude.{◌≡◌, ◌<◌, ◌+◌, IfOk, OnOk, OnErr, replicate, None, length, map, option_copied, set, slice_get};
-ghost use Rattle.lapd_follow.specs.Link.{Sighting};
+ghost use Rattle.lapd_follow.specs.Link.{sighting};
 ghost use Rattle.lapd_follow.specs.Follower.{forgotten, new_links, no_link, place_of, said_on_links, links_after, seen_link, without_tei};
 
 use crate::{LinkFollower, Packet, Remarks};
@@ -41,38 +41,34 @@ impl LinkTable {
         })
     }
 
-    /// Takes the next frame on the line, and returns the remarks of its link.
+    /// Takes the next frame on the line, and replaces `said` with the remarks of its link.
     ///
     /// It fails if an allocation fails, and then nothing changes.
-    pub(crate) fn frame(
+    pub(crate) fn frame_into(
         &mut self,
         packet: Packet,
         sender: Side,
         frame: &Frame<'_>,
-    ) -> Result<Remarks, AllocError>
-        ensures remarks { IfOk result (λ said. said ≡ said_on_links (record {
-          packet = packet;
-          sender = sender;
-          frame = frame.now;
-        }) self.old) }
-        ensures after { OnOk result (self.new ≡ links_after (record {
-          packet = packet;
-          sender = sender;
-          frame = frame.now;
-        }) self.old) }
+        said: &mut Remarks,
+    ) -> Result<(), AllocError>
+        ensures remarks { OnOk result
+            (said.new ≡ said_on_links (sighting packet sender frame.now) self.old) }
+        ensures after { OnOk result
+            (self.new ≡ links_after (sighting packet sender frame.now) self.old) }
         ensures unchanged { OnErr result (self.new ≡ self.old) }
+        ensures no_remarks { OnErr result (said.new ≡ said.old) }
     {
         let place = place_of(&frame.address());
         let Some(slot) = self.links.get_mut(place) else {
             unreachable!()
         };
         match slot {
-            Some(link) => link.frame(packet, sender, frame),
+            Some(link) => link.frame_into(packet, sender, frame, said),
             None => {
                 let mut link = LinkFollower::new(self.alloc, self.k)?;
-                let said = link.frame(packet, sender, frame)?;
+                link.frame_into(packet, sender, frame, said)?;
                 *slot = Some(link);
-                Ok(said)
+                Ok(())
             }
         }
     }
@@ -88,7 +84,7 @@ impl LinkTable {
         }
     }
 
-    /// Forgets the links of this TEI, if there is one; of the group TEI all links.
+    /// Forgets the links of this TEI; for the group TEI all links, for `None` none.
     pub(crate) fn forget(&mut self, tei: Option<Tei>)
         ensures { self.new ≡ record self.old { links = forgotten tei self.old.links } }
     {

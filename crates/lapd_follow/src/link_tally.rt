@@ -7,9 +7,9 @@ use lapd_frame::{Address, Frame, Sapi, Side, Tei};
 /// The frames that both ends of one link sent.
 #[derive(Clone, Copy, Debug, PartialEq, Eq)]
 pub struct LinkTally {
-    /// The service access point of the link.
+    /// The SAPI of the link.
     pub sapi: Sapi,
-    /// The terminal endpoint of the link.
+    /// The TEI of the link.
     pub tei: Tei,
     /// How many establishments began.
     pub establishments: u64,

@@ -1,7 +1,7 @@
 ghost use Rattle.std.specs.Prelude.{◌≡◌, replicate, None, IfOk, OnOk, OnErr};
 ghost use Rattle.lapd_follow.specs.Follower.{said_on_line};
-ghost use Rattle.lapd_follow.specs.Link.{Sighting};
-ghost use Rattle.lapd_follow.specs.Listening.{listening_after, new_listening, no_remarks, said_of_octets, tallied_on_line, with_frame};
+ghost use Rattle.lapd_follow.specs.Link.{sighting};
+ghost use Rattle.lapd_follow.specs.Listening.{listening_after, new_listening, said_of_octets, tallied_on_line, with_frame};
 
 use crate::link_table::{LINKS, place_of};
 use crate::{Follower, LinkTally, Packet, Remarks};
@@ -38,11 +38,7 @@ impl Tallies {
 
     /// Counts a frame of its link.
     fn add(&mut self, packet: Packet, sender: Side, frame: &Frame<'_>, said: &Remarks)
-        ensures { self.new ≡ tallied_on_line (record {
-          packet = packet;
-          sender = sender;
-          frame = frame.now;
-        }) said.now self.old }
+        ensures { self.new ≡ tallied_on_line (sighting packet sender frame.now) said.now self.old }
     {
         let address = frame.address();
         let Some(slot) = self.links.get_mut(place_of(&address)) else {
@@ -107,35 +103,54 @@ impl Listener {
             (self.new ≡ listening_after packet sender octets.now self.old) }
         ensures unchanged { OnErr result (self.new ≡ self.old) }
     {
+        let mut said = Remarks::none();
+        self.octets_into(packet, sender, octets, &mut said)?;
+        Ok(said)
+    }
+
+    /// Like [`Listener::octets`], but replaces `said` with the remarks. On error nothing changes.
+    pub fn octets_into(
+        &mut self,
+        packet: Packet,
+        sender: Side,
+        octets: &[u8],
+        said: &mut Remarks,
+    ) -> Result<(), AllocError>
+        ensures remarks { OnOk result
+            (said.new ≡ said_of_octets packet sender octets.now self.old) }
+        ensures after { OnOk result
+            (self.new ≡ listening_after packet sender octets.now self.old) }
+        ensures unchanged { OnErr result (self.new ≡ self.old) }
+        ensures no_remarks { OnErr result (said.new ≡ said.old) }
+    {
         match read(octets, sender) {
-            Ok(frame) => self.frame(packet, sender, &frame),
-            Err(_) => Ok(no_remarks()),
+            Ok(frame) => self.frame_into(packet, sender, &frame, said),
+            Err(_) => {
+                *said = Remarks::none();
+                Ok(())
+            }
         }
     }
 
-    /// Takes the next frame.
-    fn frame(
+    /// Takes the next frame, and replaces `said` with the remarks on it.
+    fn frame_into(
         &mut self,
         packet: Packet,
         sender: Side,
         frame: &Frame<'_>,
-    ) -> Result<Remarks, AllocError>
-        ensures remarks { IfOk result (λ said. said ≡ said_on_line (record {
-          packet = packet;
-          sender = sender;
-          frame = frame.now;
-        }) self.old.line) }
-        ensures after { OnOk result (self.new ≡ with_frame (record {
-          packet = packet;
-          sender = sender;
-          frame = frame.now;
-        }) self.old) }
+        said: &mut Remarks,
+    ) -> Result<(), AllocError>
+        ensures remarks { OnOk result
+            (said.new ≡ said_on_line (sighting packet sender frame.now) self.old.line) }
+        ensures after { OnOk result
+            (self.new ≡ with_frame (sighting packet sender frame.now) self.old) }
         ensures unchanged { OnErr result (self.new ≡ self.old) }
+        ensures no_remarks { OnErr result (said.new ≡ said.old) }
     {
-        let said = self.follower.frame(packet, sender, frame)?;
-        self.tallies.add(packet, sender, frame, &said);
+        self.follower.frame_into(packet, sender, frame, said)?;
+        self.tallies.add(packet, sender, frame, said);
         self.is_violated = self.is_violated || said.has_violation();
-        Ok(said)
+        Ok(())
     }
 
     /// Whether one of the remarks so far is a violation.
@@ -145,8 +160,7 @@ impl Listener {
         self.is_violated
     }
 
-    /// The frames of each link, by SAPI and then by TEI; `None` of a link of which no frame was
-    /// seen.
+    /// The frames of each link, by SAPI and then by TEI; `None` if no frame of the link was seen.
     pub fn links(&self) -> &[Option<LinkTally>]
         ensures { result.now ≡ self.now.tallies }
     {
@@ -163,20 +177,4 @@ fn no_tallies(alloc: Global) -> Result<Vec<Option<LinkTally>>, AllocError>
         links.push(None)?;
     }
     Ok(links)
-}
-
-/// The remarks on octets that do not form a valid frame: none.
-fn no_remarks() -> Remarks
-    ensures { result ≡ no_remarks }
-{
-    Remarks {
-        establishment: None,
-        ns: None,
-        window: None,
-        busy: None,
-        nr: None,
-        answer: None,
-        identity: None,
-        conflict: None,
-    }
 }

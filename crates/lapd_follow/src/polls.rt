@@ -4,10 +4,10 @@ ghost use Rattle.lapd_follow.specs.Exchange.{is_only_poll};
 
 use crate::Packet;
 
-/// Commands of one kind that an end polled with, and their answers (Q.921 3.5.1).
+/// The commands of one kind by which an end polled, and their answers (Q.921 3.5.1).
 #[derive(Clone, Copy, Debug, PartialEq, Eq)]
 pub struct Polls {
-    /// The last one, if it is not answered.
+    /// The packet of the last one, if it is not answered.
     pub last: Option<Packet>,
     /// How many may still be answered; the count stops at 2^64 - 1.
     pub unanswered: u64,

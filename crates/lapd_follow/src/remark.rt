@@ -12,9 +12,9 @@ use std::fmt;
 pub enum Class {
     /// An undisturbed data link does it.
     Normal,
-    /// Also two ends that follow Q.921 do it, if frames are lost or late.
+    /// Two ends that follow Q.921 do it only if frames are lost or late.
     Recovery,
-    /// No two ends that follow Q.921 do it.
+    /// Two ends that follow Q.921 never do it.
     Violation,
 }
 
@@ -38,7 +38,7 @@ pub enum Remark {
     Begins(u64),
     /// The UA answers an earlier SABME or DISC, or one that was not seen.
     LateUa,
-    /// A UA, but every SABME and DISC is answered (Q.921 3.6.8).
+    /// The frame is a UA, but every SABME and DISC is answered (Q.921 3.6.8).
     UaWithoutCommand,
     /// The first N(S) of an establishment is this, and not 0 (Q.921 5.5.1.2).
     FirstNs(Seq),
@@ -83,7 +83,7 @@ pub enum Remark {
     NotAnswered(u64),
     /// The frame carries this message of TEI management (Q.921 5.3).
     Manages(Identity),
-    /// An assignment or a denial, but no known request has its reference (Q.921 5.3.2).
+    /// A TEI is assigned or denied, but no known request has the reference (Q.921 5.3.2).
     Unrequested,
     /// A TEI is assigned that was assigned before, and neither removed nor checked since (Q.921
     /// 5.3.2).

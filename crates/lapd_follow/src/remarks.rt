@@ -1,12 +1,14 @@
-ghost use Rattle.std.specs.Prelude.{◌≡◌, Option, Some};
+ghost use Rattle.std.specs.Prelude.{◌≡◌, ◌++◌, Option, Some};
+ghost use Rattle.std.specs.Fmt.{DisplaysOnOk};
 ghost use Rattle.lapd_frame.specs.Reading.{is_command};
 ghost use Rattle.lapd_follow.specs.Exchange.{Exchange};
+ghost use Rattle.lapd_follow.specs.Listening.{no_remarks};
 ghost use Rattle.lapd_follow.specs.Remarks.{unexpected_ua, ua_remark, establishment_remark, repeated, out_of_sequence, ns_remark, is_in_window, window_remark, sent_to_busy, nr_remark, time_from, answers_poll, answer_to, response_to, left_unanswered, supervisory_remark, answer_remark, ns_of, window_of, busy_of, nr_of, remarks_on, has_violation, is_violation};
-ghost use Rattle.lapd_follow.specs.Texts.{remarks_text};
+ghost use Rattle.lapd_follow.specs.Texts.{noted_text, remarks_text};
 
 use crate::dialogue::Dialogue;
 use crate::end::Busy;
-use crate::noted::Noted;
+use crate::noted::put_noted;
 use crate::numbering::counter;
 use crate::unacknowledged::Unacknowledged;
 use crate::{Class, Numbering, Packet, Polls, Remark};
@@ -17,25 +19,41 @@ use std::fmt;
 /// The remarks on one frame, at most one of each kind.
 #[derive(Clone, Copy, Debug, PartialEq, Eq)]
 pub struct Remarks {
-    /// Of a UA: whether it begins an establishment.
+    /// Whether a UA begins an establishment.
     pub establishment: Option<Remark>,
-    /// Of an I frame: its N(S).
+    /// On the N(S) of an I frame.
     pub ns: Option<Remark>,
-    /// Of an I frame: the window.
+    /// Whether an I frame exceeds the window.
     pub window: Option<Remark>,
-    /// Of an I frame: whether its receiver is busy.
+    /// Whether the receiver of an I frame is busy.
     pub busy: Option<Remark>,
-    /// Of an I or S frame: its N(R).
+    /// On the N(R) of an I or S frame.
     pub nr: Option<Remark>,
-    /// Of a poll or a response: what it answers, or what was not answered.
+    /// The poll that a response answers, or the poll before this one that was not answered.
     pub answer: Option<Remark>,
-    /// Of a message of TEI management: what it does.
+    /// The message of TEI management that the frame carries.
     pub identity: Option<Remark>,
-    /// Of such a message: how it conflicts with earlier ones.
+    /// How this message conflicts with earlier ones.
     pub conflict: Option<Remark>,
 }
 
 impl Remarks {
+    /// No remarks.
+    pub fn none() -> Remarks
+        ensures { result ≡ no_remarks }
+    {
+        Remarks {
+            establishment: None,
+            ns: None,
+            window: None,
+            busy: None,
+            nr: None,
+            answer: None,
+            identity: None,
+            conflict: None,
+        }
+    }
+
     /// Whether one of them is a violation.
     pub fn has_violation(&self) -> bool
         ensures { result ≡ has_violation self.now }
@@ -54,28 +72,35 @@ impl Remarks {
 impl fmt::Display for Remarks {
     ghost output = { λ remarks. Some (remarks_text remarks) };
 
-    /// Each remark in brackets, after a space; a violation is marked as such.
+    /// Each remark after a semicolon and a space; a violation is marked.
     fn fmt<W: fmt::Write>(&self, f: &mut fmt::Formatter<W>) -> fmt::Result {
-        let establishment = noted(self.establishment);
-        let ns = noted(self.ns);
-        let window = noted(self.window);
-        let busy = noted(self.busy);
-        let nr = noted(self.nr);
-        let answer = noted(self.answer);
-        let identity = noted(self.identity);
-        let conflict = noted(self.conflict);
-        write!(
-            f,
-            "{establishment}{ns}{window}{busy}{nr}{answer}{identity}{conflict}"
-        )
+        put_on_numbers(self, f)?;
+        put_on_polls(self, f)
     }
 }
 
-/// A remark behind the line of its frame.
-fn noted(remark: Option<Remark>) -> Noted
-    ensures { result.remark ≡ remark }
+/// Writes the remarks on the establishment, on N(S) and on the receiver of an I frame.
+fn put_on_numbers<W: fmt::Write>(said: &Remarks, f: &mut fmt::Formatter<W>) -> fmt::Result
+    ensures { DisplaysOnOk W.write_str_gives f.old result
+        (Some (noted_text said.now.establishment ++ (noted_text said.now.ns
+        ++ (noted_text said.now.window ++ noted_text said.now.busy)))) f.new }
 {
-    Noted { remark }
+    put_noted(&said.establishment, f)?;
+    put_noted(&said.ns, f)?;
+    put_noted(&said.window, f)?;
+    put_noted(&said.busy, f)
+}
+
+/// Writes the other remarks.
+fn put_on_polls<W: fmt::Write>(said: &Remarks, f: &mut fmt::Formatter<W>) -> fmt::Result
+    ensures { DisplaysOnOk W.write_str_gives f.old result
+        (Some (noted_text said.now.nr ++ (noted_text said.now.answer
+        ++ (noted_text said.now.identity ++ noted_text said.now.conflict)))) f.new }
+{
+    put_noted(&said.nr, f)?;
+    put_noted(&said.answer, f)?;
+    put_noted(&said.identity, f)?;
+    put_noted(&said.conflict, f)
 }
 
 /// Whether the remark is a violation.
@@ -88,29 +113,28 @@ fn is_violation(remark: &Option<Remark>) -> bool
     }
 }
 
-/// The remarks of its own link on a frame. `k` is the window, if it is known.
-pub(crate) fn remarks_on(
+/// Replaces `said` with the remarks of its own link on a frame. `k` is the window, if it is known.
+pub(crate) fn put_remarks(
     k: Option<u8>,
     packet: Packet,
     frame: &Frame<'_>,
     dialogue: &Dialogue,
-) -> Remarks
-    ensures { result ≡ remarks_on k packet frame.now dialogue.now }
+    said: &mut Remarks,
+)
+    ensures { said.new ≡ remarks_on k packet frame.now dialogue.now }
 {
     let control = frame.control();
-    Remarks {
-        establishment: establishment_remark(&control, dialogue),
-        ns: ns_of(&control, frame.info(), dialogue),
-        window: window_of(k, &control, dialogue),
-        busy: busy_of(&control, dialogue),
-        nr: nr_of(&control, dialogue),
-        answer: answer_remark(&control, frame.address().role, packet, dialogue),
-        identity: None,
-        conflict: None,
-    }
+    said.establishment = establishment_remark(&control, dialogue);
+    said.ns = ns_of(&control, frame.info(), dialogue);
+    said.window = window_of(k, &control, dialogue);
+    said.busy = busy_of(&control, dialogue);
+    said.nr = nr_of(&control, dialogue);
+    said.answer = answer_remark(&control, frame.address().role, packet, dialogue);
+    said.identity = None;
+    said.conflict = None;
 }
 
-/// Of a UA.
+/// The remark on establishment: only a UA has one.
 fn establishment_remark(control: &Control, dialogue: &Dialogue) -> Option<Remark>
     ensures { result ≡ establishment_remark control.now dialogue.now }
 {
@@ -142,7 +166,7 @@ fn unexpected_ua(commands: Polls) -> Remark
     }
 }
 
-/// Of an I frame: its N(S).
+/// The remark on the N(S) of an I frame.
 fn ns_of(control: &Control, octets: &[u8], dialogue: &Dialogue) -> Option<Remark>
     ensures { result ≡ ns_of control.now octets.now dialogue.now }
 {
@@ -202,7 +226,7 @@ fn out_of_sequence(
     }
 }
 
-/// Of an I frame: the window.
+/// The remark on the window of an I frame.
 fn window_of(k: Option<u8>, control: &Control, dialogue: &Dialogue) -> Option<Remark>
     ensures { result ≡ window_of k control.now dialogue.now }
 {
@@ -245,7 +269,7 @@ fn is_in_window(k: u8, ns: Seq, own: Numbering, peer: Numbering) -> bool
     Seq::distance(peer.nr, ns) < k || (0 < back && back <= k)
 }
 
-/// Of an I frame: whether its receiver is busy.
+/// The remark on the receiver of an I frame.
 fn busy_of(control: &Control, dialogue: &Dialogue) -> Option<Remark>
     ensures { result ≡ busy_of control.now dialogue.now }
 {
@@ -265,7 +289,7 @@ fn sent_to_busy(p: bool, busy: Busy) -> Option<Remark>
     }
 }
 
-/// Of an I or S frame: its N(R).
+/// The remark on the N(R) of an I or S frame.
 fn nr_of(control: &Control, dialogue: &Dialogue) -> Option<Remark>
     ensures { result ≡ nr_of control.now dialogue.now }
 {
@@ -301,7 +325,7 @@ fn nr_remark(nr: Seq, own: Option<Numbering>, peer: Option<Numbering>) -> Option
     }
 }
 
-/// The packet answers this poll.
+/// The remark on a packet that answers this poll.
 fn answers_poll(packet: Packet, poll: Packet) -> Remark
     ensures { result ≡ answers_poll packet poll }
 {
@@ -311,7 +335,7 @@ fn answers_poll(packet: Packet, poll: Packet) -> Remark
     }
 }
 
-/// The time from one moment to another.
+/// The time from one moment to another, in microseconds, if both are known.
 pub(crate) fn time_from(first: Option<u64>, last: Option<u64>) -> Option<u64>
     ensures { result ≡ time_from first last }
 {
@@ -354,7 +378,7 @@ fn left_unanswered(poll: Option<Packet>) -> Option<Remark>
     }
 }
 
-/// Of an S frame.
+/// The remark on the P or F bit of an S frame.
 fn supervisory_remark(role: Role, pf: bool, packet: Packet, dialogue: &Dialogue) -> Option<Remark>
     ensures { result ≡ supervisory_remark role pf packet dialogue.now }
 {
@@ -365,7 +389,7 @@ fn supervisory_remark(role: Role, pf: bool, packet: Packet, dialogue: &Dialogue)
     }
 }
 
-/// Of polls and responses.
+/// The remark on a poll or a response.
 fn answer_remark(
     control: &Control,
     role: Role,

@@ -1,4 +1,5 @@
-ghost use Rattle.std.specs.Prelude.{◌≡◌};
+ghost use Rattle.std.specs.Prelude.{◌≡◌, if◌then◌else◌};
+ghost use Rattle.lapd_follow.specs.Ends.{one_more};
 ghost use Rattle.lapd_follow.specs.Tallies.{answer_time, counted, greatest_with, is_poll, is_repeat, least_with, no_kinds, no_tally, no_times, poll_bit, tallied, with_time};
 
 use crate::busy_time::no_busy_time;
@@ -45,7 +46,7 @@ pub struct Tally {
     pub repeated: u64,
     /// The commands with P=1 that it sent: I, RR, RNR, REJ, SABME and DISC.
     pub polls: u64,
-    /// How soon it answered polls.
+    /// The times after which it answered polls.
     pub times: Times,
     /// How long it was busy.
     pub busy: BusyTime,
@@ -70,22 +71,13 @@ impl Tally {
     pub fn add(&mut self, packet: Packet, frame: &Frame<'_>, said: &Remarks)
         ensures { self.new ≡ tallied packet frame.now said.now self.old }
     {
-        *self = Tally {
-            kinds: counted(&frame.control(), self.kinds),
-            octets: self.octets.saturating_add(frame.info().len() as u64),
-            repeated: if is_repeat(&said.ns) {
-                self.repeated.saturating_add(1)
-            } else {
-                self.repeated
-            },
-            polls: if is_poll(frame.address().role, &frame.control()) {
-                self.polls.saturating_add(1)
-            } else {
-                self.polls
-            },
-            times: with_time(answer_time(&said.answer), self.times),
-            busy: self.busy.after(&frame.control(), packet.moment),
-        };
+        let control = frame.control();
+        self.kinds.count(&control);
+        self.octets = self.octets.saturating_add(frame.info().len() as u64);
+        self.repeated = increased(is_repeat(&said.ns), self.repeated);
+        self.polls = increased(is_poll(frame.address().role, &control), self.polls);
+        self.times.add(answer_time(&said.answer));
+        self.busy.take(&control, packet.moment);
     }
 }
 
@@ -145,55 +137,35 @@ fn poll_bit(control: &Control) -> bool
     }
 }
 
-/// The counts, with one more frame of this kind.
-fn counted(control: &Control, kinds: Kinds) -> Kinds
-    ensures { result ≡ counted control.now kinds }
+impl Kinds {
+    /// Counts one more frame of this kind.
+    fn count(&mut self, control: &Control)
+        ensures { self.new ≡ counted control.now self.old }
+    {
+        match *control {
+            Control::I { .. } => self.i = self.i.saturating_add(1),
+            Control::Rr { .. } => self.rr = self.rr.saturating_add(1),
+            Control::Rnr { .. } => self.rnr = self.rnr.saturating_add(1),
+            Control::Rej { .. } => self.rej = self.rej.saturating_add(1),
+            Control::Sabme { .. } => self.sabme = self.sabme.saturating_add(1),
+            Control::Dm { .. } => self.dm = self.dm.saturating_add(1),
+            Control::Ui { .. } => self.ui = self.ui.saturating_add(1),
+            Control::Disc { .. } => self.disc = self.disc.saturating_add(1),
+            Control::Ua { .. } => self.ua = self.ua.saturating_add(1),
+            Control::Frmr { .. } => self.frmr = self.frmr.saturating_add(1),
+            Control::Xid { .. } => self.xid = self.xid.saturating_add(1),
+        }
+    }
+}
+
+/// A count, with one more if this holds.
+fn increased(holds: bool, count: u64) -> u64
+    ensures { result ≡ (if holds then one_more count else count) }
 {
-    match *control {
-        Control::I { .. } => Kinds {
-            i: kinds.i.saturating_add(1),
-            ..kinds
-        },
-        Control::Rr { .. } => Kinds {
-            rr: kinds.rr.saturating_add(1),
-            ..kinds
-        },
-        Control::Rnr { .. } => Kinds {
-            rnr: kinds.rnr.saturating_add(1),
-            ..kinds
-        },
-        Control::Rej { .. } => Kinds {
-            rej: kinds.rej.saturating_add(1),
-            ..kinds
-        },
-        Control::Sabme { .. } => Kinds {
-            sabme: kinds.sabme.saturating_add(1),
-            ..kinds
-        },
-        Control::Dm { .. } => Kinds {
-            dm: kinds.dm.saturating_add(1),
-            ..kinds
-        },
-        Control::Ui { .. } => Kinds {
-            ui: kinds.ui.saturating_add(1),
-            ..kinds
-        },
-        Control::Disc { .. } => Kinds {
-            disc: kinds.disc.saturating_add(1),
-            ..kinds
-        },
-        Control::Ua { .. } => Kinds {
-            ua: kinds.ua.saturating_add(1),
-            ..kinds
-        },
-        Control::Frmr { .. } => Kinds {
-            frmr: kinds.frmr.saturating_add(1),
-            ..kinds
-        },
-        Control::Xid { .. } => Kinds {
-            xid: kinds.xid.saturating_add(1),
-            ..kinds
-        },
+    if holds {
+        count.saturating_add(1)
+    } else {
+        count
     }
 }
 
@@ -214,18 +186,20 @@ fn answer_time(remark: &Option<Remark>) -> Option<u64>
     }
 }
 
-/// The times, with one more, if there is one.
-fn with_time(time: Option<u64>, times: Times) -> Times
-    ensures { result ≡ with_time time times }
-{
-    match time {
-        None => times,
-        Some(time) => Times {
-            count: times.count.saturating_add(1),
-            least: Some(least_with(time, times.least)),
-            greatest: Some(greatest_with(time, times.greatest)),
-            total: times.total.saturating_add(time),
-        },
+impl Times {
+    /// Adds a time, if there is one.
+    fn add(&mut self, time: Option<u64>)
+        ensures { self.new ≡ with_time time self.old }
+    {
+        match time {
+            None => {}
+            Some(time) => {
+                self.count = self.count.saturating_add(1);
+                self.least = Some(least_with(time, self.least));
+                self.greatest = Some(greatest_with(time, self.greatest));
+                self.total = self.total.saturating_add(time);
+            }
+        }
     }
 }
 

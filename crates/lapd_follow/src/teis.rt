@@ -75,7 +75,7 @@ impl Teis {
     }
 }
 
-/// Conflicts.
+/// Conflicts with earlier messages.
 impl Teis {
     /// The knowledge about a TEI.
     fn holder(&self, tei: Tei) -> Holder
@@ -87,7 +87,7 @@ impl Teis {
         }
     }
 
-    /// Of an answer to a request: whether the request is known.
+    /// The conflict of an answer to a request: the request is not known.
     fn unrequested(&self, ri: u16) -> Option<Remark>
         ensures { result ≡ unrequested ri self.now.requests }
     {
@@ -98,7 +98,7 @@ impl Teis {
         }
     }
 
-    /// Of an assignment.
+    /// The conflict of an assignment.
     fn conflict_of_assignment(&self, tei: Tei, ri: u16) -> Option<Remark>
         ensures { result ≡ conflict_of_assignment tei ri (holder_at tei self.now.holders).assigned
             self.now }
@@ -115,7 +115,7 @@ impl Teis {
         }
     }
 
-    /// Of an assignment of a TEI that is not known to be assigned.
+    /// The conflict of an assignment of a TEI that is not known to be assigned.
     fn answered_check(&self, tei: Tei, ri: u16) -> Option<Remark>
         ensures { result ≡ answered_check tei ri (holder_at tei self.now.holders).answer
             self.now }
@@ -127,7 +127,7 @@ impl Teis {
     }
 }
 
-/// Of a response to a check, after this first one.
+/// The conflict of a response to a check, after this first one.
 fn conflict_of_response(tei: Tei, ri: u16, first: Option<u16>) -> Option<Remark>
     ensures { result ≡ conflict_of_response tei ri first }
 {
@@ -149,21 +149,21 @@ fn conflict_of_response(tei: Tei, ri: u16, first: Option<u16>) -> Option<Remark>
 
 /// Messages.
 impl Teis {
-    /// A request.
+    /// Takes a request.
     fn request(&mut self, ri: u16)
         ensures { self.new ≡ record self.old { requests = with_request ri self.old.requests } }
     {
         add_request(&mut self.requests, ri);
     }
 
-    /// A request is answered.
+    /// Removes a request that is answered.
     fn answer(&mut self, ri: u16)
         ensures { self.new ≡ record self.old { requests = without ri self.old.requests } }
     {
         remove_request(&mut self.requests, ri);
     }
 
-    /// A TEI is assigned.
+    /// Takes an assignment.
     fn assign(&mut self, tei: Tei, ri: u16)
         ensures { self.new ≡ teis_after (Identity.Assigned tei ri) self.old }
     {
@@ -171,7 +171,7 @@ impl Teis {
         self.holders[usize::from(tei.value())] = Holder::with_reference(ri);
     }
 
-    /// A TEI is checked or removed.
+    /// Takes the check or the removal of a TEI.
     fn forget(&mut self, tei: Tei)
         ensures { self.new ≡ record self.old { holders = forgotten_tei tei self.old.holders } }
     {
@@ -183,7 +183,7 @@ impl Teis {
         }
     }
 
-    /// A terminal responds to a check.
+    /// Takes a response to a check.
     fn respond(&mut self, tei: Tei, ri: u16)
         ensures { self.new ≡ teis_after (Identity.CheckResponse tei ri) self.old }
     {

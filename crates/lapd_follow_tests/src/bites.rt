@@ -1,11 +1,11 @@
-//! Dialogues by hand, with what is said of each frame. A line is the sender, the frame in
-//! hexadecimal and, after the colon, the remarks on it. A violation is marked by `!`. A line that
-//! begins with `#` names a dialogue, which begins with a new listener.
+//! Handwritten dialogues, with the remarks on each frame. A line is the sender, the frame in
+//! hexadecimal digits and, after the colon, the remarks on it. A violation is marked by `!`. A line
+//! that begins with `#` names a dialogue, which begins with a new listener.
 //!
 //! Frames have SAPI 0 and TEI 64: `0081` begins commands of the user and responses of the network,
-//! `0281` the others. `7f` is SABME, `73` UA, `53` DISC, `1f` DM; `01`, `05` and `09` with N(R) * 2
-//! + P/F are RR, RNR and REJ; an I frame is N(S) * 2, N(R) * 2 + P and its message. Each packet
-//! is 40 ms after the one before.
+//! `0281` the others. `7f` is SABME, `73` UA, `53` DISC, `1f` DM. RR, RNR and REJ are `01`, `05` and
+//! `09`, then N(R) * 2 + P/F. An I frame is N(S) * 2, N(R) * 2 + P and its message. Each packet is
+//! 40 ms after the one before.
 //!
 //! `fcff03` begins messages of TEI management of the user, `feff03` those of the network. Then `0f`,
 //! the reference, the type and Ai * 2 + 1 follow: `01ff` requests a TEI, `0281` assigns TEI 64,
@@ -163,13 +163,13 @@ two terminals answer the check of TEI 64, references 1 and 2;
 net feff030f00000681: removes TEI 64;
 net feff030f00000681: removes TEI 64;
 net feff030f000006ff: removes all TEIs;
-# a TEI is given twice
+# a TEI is assigned twice
 user fcff030f123401ff: requests a TEI, reference 4660;
 net feff030f12340281: assigns TEI 64 to reference 4660;
 user fcff030f567801ff: requests a TEI, reference 22136;
 net feff030f56780281: assigns TEI 64 to reference 22136; \
 !TEI 64 is already assigned to reference 4660;
-# a TEI is given again: to the same reference, after a check, and after removals
+# a TEI is assigned again: to the same reference, after a check, and after removals
 user fcff030f123401ff: requests a TEI, reference 4660;
 net feff030f12340281: assigns TEI 64 to reference 4660;
 net feff030f12340281: assigns TEI 64 to reference 4660; no known request has this reference;
@@ -210,7 +210,7 @@ user 00817f:
 net 008173: begins establishment 1; answers packet 10 after 0.040 s;
 ";
 
-/// A listener, with what it says of the last frame.
+/// A listener, with the text of its remarks on the last frame.
 #[derive(Drop)]
 struct Scene {
     line: Option<Follower>,

@@ -1,10 +1,7 @@
-//! Tests of a listener on the line: what it says of each frame of dialogues by hand, and of the
-//! messages of drawn buses.
+//! Tests of a listener on the line: its remarks on each frame of handwritten dialogues.
 //!
 //! A crate of their own keeps its check and that of the other tests short.
 #![tactic(auto)]
 
 #[cfg(test)]
 mod bites;
-#[cfg(test)]
-mod buses;

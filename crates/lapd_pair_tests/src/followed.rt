@@ -1,12 +1,13 @@
-//! Drawn runs of two ends, followed by listeners on the line: one that sees each frame as it is
-//! sent, one as it is delivered, one at the user's end and one at the network's. Both ends follow
-//! Q.921, so no frame is a violation, whatever frames are lost. The runs must be varied: every
-//! remark that a lossy line can bring is made.
+//! Drawn runs of two ends, followed by a listener on the line: one that sees each frame when it is
+//! sent, one that sees it when it is delivered, one at the user's end or one at the network's. Both
+//! ends follow Q.921, so no frame is a violation, whatever frames are lost. The runs must be varied:
+//! every remark that a lossy line can bring is made.
 
 use crate::draws::MoveDraws;
 use crate::made::new_pair;
-use lapd_follow::{LinkFollower, Packet, Remark, Remarks};
-use lapd_frame::{Side, read};
+use crate::watch::{Watch, verdict};
+use lapd_follow::{Remark, Remarks};
+use lapd_frame::Side;
 use lapd_link::Recovery;
 use lapd_link::Recovery::{Enquiry, LastMessage};
 use lapd_pair::{FrameOctets, Move, Pair};
@@ -32,6 +33,13 @@ struct Counts {
 }
 
 impl Counts {
+    fn take(&mut self, said: &Remarks) {
+        self.count(&said.establishment);
+        self.count(&said.ns);
+        self.count(&said.busy);
+        self.count(&said.answer);
+    }
+
     fn count(&mut self, remark: &Option<Remark>) {
         let counter = match remark {
             Some(Remark::Begins(_)) => &mut self.begins,
@@ -57,18 +65,15 @@ impl Counts {
     }
 }
 
-/// A listener on the line.
+/// A listener on the line, at some place.
 #[derive(Drop)]
 struct Listener {
-    link: LinkFollower,
-    /// Whether it sees frames to the user as they are sent, and those to the network; otherwise as
-    /// they are delivered.
+    watch: Watch,
+    /// Whether it sees frames to the user when they are sent, and not when they are delivered; and
+    /// the same of those to the network.
     sees_sent_to_user: bool,
     sees_sent_to_network: bool,
-    packets: u64,
     counts: Counts,
-    /// The first remarks with a violation, on the last packet.
-    wrong: Option<Remarks>,
 }
 
 impl Listener {
@@ -78,48 +83,24 @@ impl Listener {
             Side::User => self.sees_sent_to_user,
             Side::Network => self.sees_sent_to_network,
         };
-        if sees_sent == is_sent && self.wrong.is_none() {
-            self.follow(to.other(), octets);
-        }
-    }
-
-    fn follow(&mut self, sender: Side, octets: &[u8]) {
-        let Ok(frame) = read(octets, sender) else {
-            return;
-        };
-        self.packets = self.packets.wrapping_add(1);
-        let packet = Packet {
-            number: self.packets,
-            moment: None,
-        };
-        if let Ok(said) = self.link.frame(packet, sender, &frame) {
-            self.note(&said);
-        }
-    }
-
-    fn note(&mut self, said: &Remarks) {
-        self.counts.count(&said.establishment);
-        self.counts.count(&said.ns);
-        self.counts.count(&said.busy);
-        self.counts.count(&said.answer);
-        if said.has_violation() {
-            self.wrong = Some(*said);
+        if sees_sent == is_sent {
+            if let Some(said) = self.watch.take(to.other(), octets) {
+                self.counts.take(&said);
+            }
         }
     }
 }
 
 /// A listener that knows the window 7. `None` if an allocation fails.
 fn listener_at(alloc: Global, to_user: bool, to_network: bool) -> Option<Listener> {
-    match LinkFollower::new(alloc, Some(7)) {
-        Ok(link) => Some(Listener {
-            link,
+    match Watch::new(alloc, Some(7)) {
+        Some(watch) => Some(Listener {
+            watch,
             sees_sent_to_user: to_user,
             sees_sent_to_network: to_network,
-            packets: 0,
             counts: Counts::default(),
-            wrong: None,
         }),
-        Err(_) => None,
+        None => None,
     }
 }
 
@@ -200,19 +181,7 @@ fn is_right_run(
     listener.counts = *counts;
     let is_made = run(draws, pair, &mut listener);
     *counts = listener.counts;
-    is_made && is_sound(&listener, text)
-}
-
-/// Whether no frame was a violation. The first one that was is written down.
-fn is_sound(listener: &Listener, text: &mut Text) -> bool {
-    match &listener.wrong {
-        Some(said) => {
-            text.shown("packet ", &listener.packets);
-            text.shown("", said);
-            false
-        }
-        None => true,
-    }
+    is_made && listener.watch.is_sound(text)
 }
 
 fn right_with(alloc: Global, user: Recovery, network: Recovery) -> Result<(), Fail> {
@@ -223,13 +192,7 @@ fn right_with(alloc: Global, user: Recovery, network: Recovery) -> Result<(), Fa
         && is_right(alloc, both, (false, false), &mut counts, &mut text)
         && is_right(alloc, both, (true, false), &mut counts, &mut text)
         && is_right(alloc, both, (false, true), &mut counts, &mut text);
-    if all_hold && counts.are_varied() {
-        Ok(())
-    } else {
-        text.made(" with ", counts);
-        let printed = text.as_str();
-        Err(Fail::new(format_args!("{printed}")))
-    }
+    verdict(all_hold && counts.are_varied(), counts, &mut text)
 }
 
 #[test]

@@ -1,10 +1,13 @@
 //! Tests of two ends on a lossy line: moves of a `Pair` with the octets that they put on the line,
 //! refused moves, failed allocations, 10,000 random moves for each recovery at each side, how a line
-//! settles, and how both ends agree again; and what a listener on the line says of the frames.
+//! settles, and how both ends agree again. And tests of a listener on the line, and on a bus: it
+//! remarks no violation.
 //!
 //! A crate of their own keeps its check and that of the other tests short.
 #![tactic(auto)]
 
+#[cfg(test)]
+mod buses;
 #[cfg(test)]
 mod drawn;
 #[cfg(test)]
@@ -27,3 +30,5 @@ mod safe;
 mod steps;
 #[cfg(test)]
 mod text;
+#[cfg(test)]
+mod watch;

@@ -3,16 +3,17 @@
 //! runs must be varied: every remark that a lossy bus can bring is made.
 //!
 //! Only held TEIs are checked. The assigner may assign another TEI during its check, and frees it at
-//! the end of the check. Then it assigns it twice, which the listener calls a violation.
+//! the end of the check. Then it may assign it twice, which the listener calls a violation.
 
-use lapd_follow::{Follower, Identity, Packet, Remark, Remarks};
-use lapd_frame::{Side, Tei, read};
+use crate::watch::{Watch, verdict};
+use lapd_follow::{Identity, Remark, Remarks};
+use lapd_frame::{Side, Tei};
 use lapd_tei::{Bus, BusMove, TeiKind, TeiMessage, TeiOut};
 use lapd_testing::{Draws, Text};
 use std::alloc::Global;
 use std::test::Fail;
 
-/// The number of runs, of moves in each, and of terminals on the bus.
+/// How many runs are made, how many moves each has, and how many terminals the bus has.
 const RUNS: u32 = 100;
 
 const MOVES: u32 = 500;
@@ -31,6 +32,11 @@ struct Counts {
 }
 
 impl Counts {
+    fn take(&mut self, said: &Remarks) {
+        self.count(&said.identity);
+        self.count(&said.conflict);
+    }
+
     fn count(&mut self, remark: &Option<Remark>) {
         let counter = match remark {
             Some(Remark::Manages(Identity::Assigned { .. })) => &mut self.assigned,
@@ -57,41 +63,19 @@ impl Counts {
 /// A listener on the bus.
 #[derive(Drop)]
 struct Listener {
-    line: Follower,
-    packets: u64,
+    watch: Watch,
     counts: Counts,
-    /// The first remarks with a violation, or on a message that is not read as one.
-    wrong: Option<Remarks>,
 }
 
 impl Listener {
-    /// Takes a message that is sent.
+    /// Takes a message that is sent. The remarks are wrong if they do not name it.
     fn take(&mut self, message: &TeiMessage) {
-        if message.ai <= 127 && self.wrong.is_none() {
+        if message.ai <= 127 {
             let from = sender_of(message.kind);
-            self.follow(from, &message.frame(from));
-        }
-    }
-
-    fn follow(&mut self, from: Side, octets: &[u8]) {
-        let Ok(frame) = read(octets, from) else {
-            return;
-        };
-        self.packets = self.packets.wrapping_add(1);
-        let packet = Packet {
-            number: self.packets,
-            moment: None,
-        };
-        if let Ok(said) = self.line.frame(packet, from, &frame) {
-            self.note(&said);
-        }
-    }
-
-    fn note(&mut self, said: &Remarks) {
-        self.counts.count(&said.identity);
-        self.counts.count(&said.conflict);
-        if said.identity.is_none() || said.has_violation() {
-            self.wrong = Some(*said);
+            if let Some(said) = self.watch.take(from, &message.frame(from)) {
+                self.counts.take(&said);
+                self.watch.reject_if(said.identity.is_none(), &said);
+            }
         }
     }
 }
@@ -147,27 +131,13 @@ fn make(draws: &mut Draws, bus: &mut Bus, listener: &mut Listener) {
 fn run(alloc: Global, draws: &mut Draws, counts: Counts) -> Option<Listener> {
     let mut bus = Bus::new(alloc, TERMINALS as usize).ok()?;
     let mut listener = Listener {
-        line: Follower::new(alloc, None).ok()?,
-        packets: 0,
+        watch: Watch::new(alloc, None)?,
         counts,
-        wrong: None,
     };
     for _ in 0..MOVES {
         make(draws, &mut bus, &mut listener);
     }
     Some(listener)
-}
-
-/// Whether no message was a violation. The first one that was is written down.
-fn is_sound(listener: &Listener, text: &mut Text) -> bool {
-    match &listener.wrong {
-        Some(said) => {
-            text.shown("packet ", &listener.packets);
-            text.shown("", said);
-            false
-        }
-        None => true,
-    }
 }
 
 /// Makes all runs, and returns whether no message was a violation.
@@ -178,7 +148,7 @@ fn are_right(alloc: Global, counts: &mut Counts, text: &mut Text) -> bool {
             return false;
         };
         *counts = listener.counts;
-        if !is_sound(&listener, text) {
+        if !listener.watch.is_sound(text) {
             text.shown(" in run ", &number);
             return false;
         }
@@ -190,11 +160,6 @@ fn are_right(alloc: Global, counts: &mut Counts, text: &mut Text) -> bool {
 fn no_message_of_a_bus_is_a_violation(rt: HostRuntime) -> Result<(), Fail> {
     let mut text = Text::new();
     let mut counts = Counts::default();
-    if are_right(rt.alloc(), &mut counts, &mut text) && counts.are_varied() {
-        Ok(())
-    } else {
-        text.made(" with ", counts);
-        let printed = text.as_str();
-        Err(Fail::new(format_args!("{printed}")))
-    }
+    let are_right = are_right(rt.alloc(), &mut counts, &mut text);
+    verdict(are_right && counts.are_varied(), counts, &mut text)
 }
