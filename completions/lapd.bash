@@ -11,7 +11,8 @@ _lapd() {
         --sapi) [[ ${COMP_WORDS[1]} == decode ]] && return; offered="0 16" ;;
         --recovery | --recovery-user | --recovery-net) offered="enquiry last" ;;
         --clock) offered="script real" ;;
-        --kinds) offered="i,s,u i,s i,u s,u i s u" ;;
+        --kinds) offered="i s u" ;;
+        --color) offered="auto always never" ;;
         --time) [[ ${COMP_WORDS[1]} == decode ]] && offered="none absolute relative delta" ;;
         --pcap) mapfile -t COMPREPLY < <(compgen -f -- "$word"); return ;;
         --tei | --k | --n200 | --room | --terminals | --idle-limit | --t20? | --seed | --count) return ;;
@@ -34,7 +35,7 @@ _lapd() {
                     ;;
                 decode)
                     offered+=" --loose --sender --names --json --keep-going --pcap --follow --k"
-                    offered+=" --time --count --sapi --tei --kinds --no-polls"
+                    offered+=" --time --count --sapi --tei --kinds --no-polls --any-sapi --color"
                     ;;
                 help) offered=$commands ;;
                 *) return ;;

@@ -52,6 +52,8 @@ __lapd_option decode time -x -a "none absolute relative delta" -d "Time before e
 __lapd_option decode count -x -d "End after this many frames"
 __lapd_option decode sapi -x -d "Print frames with this SAPI, 0 to 63"
 __lapd_option decode tei -x -d "Print frames with this TEI, 0 to 127"
-__lapd_option decode kinds -x -a "i,s,u i,s i,u s,u i s u" -d "Print frames of these kinds"
+__lapd_option decode kinds -x -a "i s u" -d "Print frames of these kinds"
 __lapd_option decode no-polls -d "Leave out RR, RNR and REJ with P or F 1"
+__lapd_option decode any-sapi -d "Print frames of all SAPIs"
+__lapd_option decode color -x -a "auto always never" -d "Print lines in colors"
 functions -e __lapd_option

@@ -1,7 +1,7 @@
 -- The content of a packet of a capture, by the link type of its interface. All places are indices
 -- of the capture's octets. A part of a packet lies from `start` to `end`, and was captured up to
 -- `kept`, which may be before `end`. Lengths in the packet are compared with `end`.
-use Rattle.std.specs.Prelude.{ℕ, ◌+◌, ◌*◌, ◌/◌, ◌%◌, ◌-◌, ◌≤◌, ◌==◌, max, min, nat_lt, not, if◌then◌else◌, List, slice_index, Option, Some, None, ⊤}
+use Rattle.std.specs.Prelude.{ℕ, ◌+◌, ◌*◌, ◌/◌, ◌%◌, ◌-◌, ◌≤◌, ◌==◌, max, min, nat_lt, not, if◌then◌else◌, Bool, true, List, slice_index, Option, Some, None, ⊤}
 use Rattle.lapd_field.specs.declared.side.Side.{Side}
 use Rattle.lapd_field.specs.declared.side.Side.TheVariants.{Network, User}
 use Rattle.lapd_field.specs.Address.{other_side}
@@ -43,6 +43,7 @@ linux_lapd start kept end octets = if nat_lt (end - start) 16 then Unreadable Ba
     if number_at Big 2 (start + 14) octets == 0x0030 then Frame (record {
       from = sender_of (number_at Big 2 start octets)
           (capturing_side (slice_index octets (start + 6)));
+      is_sure = true;
       start = start + 16;
       end = kept;
       is_cut = nat_lt kept end;
@@ -50,16 +51,22 @@ linux_lapd start kept end octets = if nat_lt (end - start) 16 then Unreadable Ba
 
 -- ---- GSMTAP over UDP over IPv4.
 
--- who sent the frame: the user if the uplink bit of the channel number is set
-abbrev pub gsmtap_sender : ℕ → Side
-gsmtap_sender channel = if channel / 0x4000 % 2 == 1 then User else Network
+-- the uplink bit of the channel number
+abbrev pub is_uplink : ℕ → Bool
+is_uplink channel = channel / 0x4000 % 2 == 1
 
--- the frame after a GSMTAP header of this length in octets
+-- who sent the frame, by this bit
+abbrev pub gsmtap_sender : Bool → Side
+gsmtap_sender uplink = if uplink then User else Network
+
+-- the frame after a GSMTAP header of this length in octets; without the uplink bit its sender is
+-- not certain
 abbrev pub gsmtap_frame : ℕ → ℕ → ℕ → ℕ → List ℕ → CaptureItem
 gsmtap_frame header start kept end octets = if nat_lt header 16 then Unreadable BadLength else (
     if nat_lt (end - start) header then Unreadable BadLength else (
     if nat_lt (kept - start) header then Unreadable CutHeader else Frame (record {
-      from = Some (gsmtap_sender (number_at Big 2 (start + 4) octets));
+      from = Some (gsmtap_sender (is_uplink (number_at Big 2 (start + 4) octets)));
+      is_sure = is_uplink (number_at Big 2 (start + 4) octets);
       start = start + header;
       end = kept;
       is_cut = nat_lt kept end;
@@ -116,6 +123,7 @@ abbrev pub packet_at : LinkType → ℕ → ℕ → ℕ → List ℕ → Capture
 packet_at LinuxLapd start kept end octets = linux_lapd start kept end octets
 packet_at Lapd start kept end octets = Frame (record {
   from = None;
+  is_sure = true;
   start = start;
   end = kept;
   is_cut = nat_lt kept end;

@@ -77,9 +77,9 @@ impl<R: Read> CaptureReader<R> {
     ///
     /// # Errors
     ///
-    /// `NotACapture` and `Gzip`, after four octets; for a pcap file also `Cut` if it is shorter than its
-    /// header, and `LinkNotServed`; for a pcapng file the faults of its first block. `Device` if a
-    /// read fails, `Memory` if an allocation fails.
+    /// `NotACapture` and `Gzip`, after four octets; for a pcap file also `Cut` if it is shorter
+    /// than its header, and `LinkNotServed`; for a pcapng file the faults of its first block.
+    /// `Device` if a read fails, `Memory` if an allocation fails.
     pub fn new(alloc: Global, source: R) -> Result<CaptureReader<R>, ReadFault>
     where
         R: Drop,

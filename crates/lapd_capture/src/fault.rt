@@ -16,8 +16,8 @@ pub enum CaptureFault {
     /// It ends within a header, a packet or a block.
     #[error("cut short")]
     Cut,
-    /// An invalid length: of a packet above 262,144 octets in pcap; in pcapng below the least length
-    /// of the block, not a multiple of 4, or different at the end of the block.
+    /// An invalid length: of a packet above 262,144 octets in pcap; in pcapng below the least
+    /// length of the block, not a multiple of 4, or different at the end of the block.
     #[error("bad length")]
     BadLength,
     /// More than 64 interfaces in one section.

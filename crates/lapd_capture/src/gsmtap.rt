@@ -1,7 +1,7 @@
 //! GSMTAP over UDP over IPv4, with or without Ethernet.
 
 ghost use Rattle.std.specs.Prelude.{◌≡◌, ◌≤◌, ◌<◌, ◌+◌, length};
-ghost use Rattle.lapd_capture.specs.Packet.{ethernet, ip, ip_payload, udp, gsmtap, gsmtap_frame, gsmtap_sender, IsWithin};
+ghost use Rattle.lapd_capture.specs.Packet.{ethernet, ip, ip_payload, udp, gsmtap, gsmtap_frame, gsmtap_sender, is_uplink, IsWithin};
 
 use crate::item::{CaptureItem, PacketFault, Span};
 use crate::order::Order;
@@ -182,22 +182,26 @@ fn gsmtap_frame(header: usize, start: usize, kept: usize, end: usize, octets: &[
     if kept - start < header {
         return CUT;
     }
-    let channel = Order::Big.u16_at(start + 4, octets);
+    let uplink = is_uplink(Order::Big.u16_at(start + 4, octets));
     CaptureItem::Frame(Span {
-        from: Some(gsmtap_sender(channel)),
+        from: Some(gsmtap_sender(uplink)),
+        is_sure: uplink,
         start: start + header,
         end: kept,
         is_cut: kept < end,
     })
 }
 
-/// Who sent a frame, by the uplink bit of its channel number.
-fn gsmtap_sender(channel: usize) -> Side
-    ensures { result ≡ gsmtap_sender channel }
+/// Whether the uplink bit of a channel number is set.
+fn is_uplink(channel: usize) -> bool
+    ensures { result ≡ is_uplink channel }
 {
-    if channel / 0x4000 % 2 == 1 {
-        Side::User
-    } else {
-        Side::Network
-    }
+    channel / 0x4000 % 2 == 1
+}
+
+/// Who sent a frame, by this uplink bit.
+fn gsmtap_sender(uplink: bool) -> Side
+    ensures { result ≡ gsmtap_sender uplink }
+{
+    if uplink { Side::User } else { Side::Network }
 }

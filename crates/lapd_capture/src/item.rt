@@ -6,6 +6,9 @@ use thiserror::Error;
 pub struct Span {
     /// Who sent it, if the capture says so.
     pub from: Option<Side>,
+    /// Whether that is certain. A GSMTAP packet without the uplink bit names the network, but some
+    /// programs never set this bit.
+    pub is_sure: bool,
     /// The place of its first octet.
     pub start: usize,
     /// The place after its last octet that was captured.

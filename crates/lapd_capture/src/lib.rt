@@ -2,8 +2,8 @@
 //!
 //! Begin with [`CaptureReader`]: it reads the frames of a pcap or pcapng file from any reader,
 //! record by record, in either byte order. It supports the link types LINUX_LAPD (177) and LAPD
-//! (203), and GSMTAP over UDP in Ethernet (1) or in IPv4 (101 and 228). A [`CaptureWriter`] writes a
-//! pcap file of link type 177: a [`FILE_HEADER`], and a [`record_of`] each frame. [`gsmtap_of`]
+//! (203), and GSMTAP over UDP in Ethernet (1) or in IPv4 (101 and 228). A [`CaptureWriter`] writes
+//! a pcap file of link type 177: a [`FILE_HEADER`], and a [`record_of`] each frame. [`gsmtap_of`]
 //! makes the GSMTAP packet of a frame.
 //!
 //! No length in a capture is trusted: of one record or block at most 262,160 octets are kept. The

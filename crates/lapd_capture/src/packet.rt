@@ -46,6 +46,7 @@ fn packet_at(link: LinkType, start: usize, kept: usize, end: usize, octets: &[u8
         LinkType::LinuxLapd => linux_lapd(start, kept, end, octets),
         LinkType::Lapd => CaptureItem::Frame(Span {
             from: None,
+            is_sure: true,
             start,
             end: kept,
             is_cut: kept < end,
@@ -76,6 +77,7 @@ fn linux_lapd(start: usize, kept: usize, end: usize, octets: &[u8]) -> CaptureIt
     let side = capturing_side(octets[start + 6]);
     CaptureItem::Frame(Span {
         from: sender_of(Order::Big.u16_at(start, octets), side),
+        is_sure: true,
         start: start + LINUX_HEADER,
         end: kept,
         is_cut: kept < end,

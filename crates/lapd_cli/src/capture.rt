@@ -59,7 +59,7 @@ fn print_capture<R: Read>(
     strict: bool,
 ) -> ExitCode {
     let how = CaptureStyle {
-        frames: frames_of(options),
+        frames: frames_of(rt, options),
         sender: options.sender,
         keeps_going: options.keep_going,
     };

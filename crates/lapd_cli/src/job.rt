@@ -10,13 +10,13 @@ use lapd_cli_decode::{
 use lapd_cli_io::{Notes, connection};
 use lapd_cli_link_commands::{answer, bus, loop_over, pair};
 use lapd_cli_options::{
-    Clock, DecodeOptions, FrameOptions, Interface, Invocation, Job, LinkEnd, Params, PrintedTime,
-    Side,
+    Clock, Color, DecodeOptions, Interface, Invocation, Job, LinkEnd, Params, PrintedTime, Side,
 };
 use lapd_cli_script::ScriptFault;
 use lapd_cli_side_commands::{Config, FromRead, FromWrite, Port, SideRun, net, user};
 use lapd_cli_side_lines::LineStyle;
-use std::io::{Read, Write};
+use std::env;
+use std::io::{IsTerminal, Read, Write};
 
 /// The seed of reference numbers with the script's clock, if `--seed` is absent.
 const SCRIPT_SEED: u64 = 921;
@@ -130,8 +130,13 @@ fn do_decode<R: Read, W: Write>(
     strict: bool,
 ) -> Result<(), Stop> {
     let form = form_of(options);
-    let frames = frames_of(options);
-    if options.follow.is_some() || frames.filter.is_some() || frames.count.is_some() {
+    let frames = frames_of(rt, options);
+    if options.follow.is_some()
+        || frames.filter.is_some()
+        || frames.any_sapi
+        || frames.is_colored
+        || frames.count.is_some()
+    {
         let how = LinesStyle {
             form,
             frames,
@@ -166,19 +171,38 @@ fn do_lines<R: Read, W: Write>(
 // The form of the lines that `decode` reads.
 fn form_of(options: DecodeOptions) -> LineForm {
     if options.loose {
-        LineForm::Loose(options.sender)
+        LineForm::Loose(options.sender.unwrap_or(Side::Network))
     } else {
         LineForm::Strict
     }
 }
 
 /// How `decode` prints frames, and which.
-pub fn frames_of(options: DecodeOptions) -> FrameStyle {
+pub fn frames_of(rt: &HostRuntime, options: DecodeOptions) -> FrameStyle {
     FrameStyle {
         style: style_of(options),
         time: time_of(options.time),
         filter: filter_of(options.frames),
+        any_sapi: options.any_sapi,
+        is_colored: is_colored(rt, options.color),
         count: options.count,
+    }
+}
+
+// Whether lines are printed in colors.
+fn is_colored(rt: &HostRuntime, color: Color) -> bool {
+    match color {
+        Color::Always => true,
+        Color::Never => false,
+        Color::Auto => rt.stdout().is_terminal() && !has_no_color(rt),
+    }
+}
+
+// Whether the environment has the variable NO_COLOR with a text.
+fn has_no_color(rt: &HostRuntime) -> bool {
+    match env::var(rt, "NO_COLOR") {
+        Ok(text) => !text.is_empty(),
+        Err(_) => false,
     }
 }
 
@@ -203,26 +227,12 @@ fn time_of(time: PrintedTime) -> FrameTime {
 }
 
 // Which frames are printed, if not all are.
-fn filter_of(frames: FrameOptions) -> Option<Filter> {
-    if frames == FrameOptions::ALL {
-        return None;
+fn filter_of(frames: Filter) -> Option<Filter> {
+    if frames == Filter::ALL {
+        None
+    } else {
+        Some(frames)
     }
-    let FrameOptions {
-        sapi,
-        tei,
-        i,
-        s,
-        u,
-        polls,
-    } = frames;
-    Some(Filter {
-        sapi,
-        tei,
-        i,
-        s,
-        u,
-        polls,
-    })
 }
 
 /// How `decode` follows the links, if it does.

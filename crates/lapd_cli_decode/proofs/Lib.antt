@@ -1,3 +1,4 @@
+pub mod ByKind
 pub mod Closed
 pub mod Lines
 pub mod LooseLine

@@ -1,5 +1,5 @@
 -- Steps of the loops over a loose line.
-use Rattle.std.proofs.Common.{◌≡◌, ℕ, ◌+◌, ◌<◌, ◌≤◌, Bool, true, false, cond, nat_lt, nat_eq, List, [], ◌∷◌, ◌++◌, Option, Some, None, length, not, take, drop, get_or, unwrap_or, refl, sym, ap, ◌∙◌, subst, append_assoc, append-nil, arith}
+use Rattle.std.proofs.Common.{◌≡◌, ℕ, ◌+◌, ◌<◌, ◌≤◌, Bool, true, false, cond, nat_lt, nat_eq, List, [], ◌∷◌, ◌++◌, Some, None, length, not, take, drop, get_or, unwrap_or, refl, sym, ap, ◌∙◌, subst, append_assoc, append-nil, arith}
 use Rattle.std.specs.List.{flat_map, position, position_or_len, slice_split, starts_with}
 use Rattle.std.proofs.lemmas.Bool.{ltb-true, ltb-false}
 use Rattle.std.proofs.lemmas.Grind.{common_steps}
@@ -19,11 +19,11 @@ unwrap_place test xs = unwrap_cut (position_or_len test xs) (length xs) (prefix_
 
 -- ---- A line of a log.
 
-pub logged_passed : (printer : Side) (rest behind : List ℕ) (octet : ℕ) → rest ≡ octet ∷ behind → bracketed printer rest ≡ None → logged_line printer rest ≡ logged_line printer behind
-logged_passed printer rest behind octet e none = ap (logged_line printer) e ∙ (let here : bracketed printer (octet ∷ behind) ≡ None = ap (bracketed printer) (sym e) ∙ none in rw here refl)
+pub log_passed : (printer : Side) (rest behind : List ℕ) (octet : ℕ) → rest ≡ octet ∷ behind → bracketed printer rest ≡ None → logged_line printer rest ≡ logged_line printer behind
+log_passed printer rest behind octet e none = ap (logged_line printer) e ∙ (let here : bracketed printer (octet ∷ behind) ≡ None = ap (bracketed printer) (sym e) ∙ none in rw here refl)
 
-pub logged_found : (printer : Side) (rest behind : List ℕ) (octet : ℕ) (sent : Side × List ℕ) → rest ≡ octet ∷ behind → bracketed printer rest ≡ Some sent → logged_line printer rest ≡ Some sent
-logged_found printer rest behind octet sent e found = ap (logged_line printer) e ∙ (let here : bracketed printer (octet ∷ behind) ≡ Some sent = ap (bracketed printer) (sym e) ∙ found in rw here refl)
+pub log_found : (printer : Side) (rest behind : List ℕ) (octet : ℕ) (sent : Side × List ℕ) → rest ≡ octet ∷ behind → bracketed printer rest ≡ Some sent → logged_line printer rest ≡ Some sent
+log_found printer rest behind octet sent e found = ap (logged_line printer) e ∙ (let here : bracketed printer (octet ∷ behind) ≡ Some sent = ap (bracketed printer) (sym e) ∙ found in rw here refl)
 
 -- ---- The gap of a dump.
 

@@ -1,7 +1,8 @@
 -- The output of `decode` for a capture.
-use Rattle.std.specs.Prelude.{◌≡◌, ◌⊎◌, ℕ, ◌-◌, nat_lt, zero, suc, List, [], ◌++◌, take, drop, Option, Some, None, unwrap_or, Bool, true, false, Result, Ok, Err, ⊤}
+use Rattle.std.specs.Prelude.{◌≡◌, ◌⊎◌, ℕ, ◌-◌, ◌||◌, nat_lt, if◌then◌else◌, zero, suc, List, [], ◌++◌, take, drop, Option, Some, None, Bool, true, false, Result, Ok, Err, ⊤}
 use Rattle.std.specs.Io.KnownBytes.{Appends}
 use Rattle.lapd_frame.specs.declared.Side.{Side}
+use Rattle.lapd_frame.specs.declared.Side.TheVariants.{Network, User}
 use Rattle.lapd_capture.specs.declared.CaptureItem.{CaptureItem}
 use Rattle.lapd_capture.specs.declared.CaptureItem.TheVariants.{Frame, Other, Unreadable, End}
 use Rattle.lapd_capture.specs.declared.PacketFault.{PacketFault}
@@ -17,6 +18,7 @@ use Rattle.lapd_cli_decode.specs.declared.frame_printer.Follow.{Follow}
 use Rattle.lapd_cli_decode.specs.declared.frame_printer.Origin.TheVariants.{Capture as FromCapture}
 use Rattle.lapd_cli_render.specs.declared.Packet.{Packet as JsonPacket}
 use Rattle.lapd_cli_decode.specs.Frames.{Printing, after_frame, closing_text, frame_text, is_complete, is_violated_by, new_printing}
+use Rattle.lapd_cli_decode.specs.Senders.{named_or_by_kind}
 
 -- ---- A frame that was found; `behind` is the capture after it.
 
@@ -28,9 +30,29 @@ last_packet behind span = record {
   is_cut = span.is_cut;
 }
 
--- who sent it; if the capture does not say, the chosen sender did
-abbrev pub sender_of : CaptureStyle → Span → Side
-sender_of how span = unwrap_or span.from how.sender
+-- the sender that the capture names. A GSMTAP packet without the uplink bit names the network only
+-- if the user side's frames have this bit, of which one was seen.
+abbrev pub sender_in : Bool → Span → Option Side
+sender_in has_user span = if span.is_sure || has_user then span.from else None
+
+-- or else the chosen one
+abbrev pub named_sender : Option Side → Option Side → Option Side
+named_sender None chosen = chosen
+named_sender (Some from) chosen = Some from
+
+-- whether a frame so far is certainly the user side's
+abbrev pub is_user : Option Side → Bool
+is_user None = false
+is_user (Some User) = true
+is_user (Some Network) = false
+
+abbrev pub with_sender : Span → Printing → Printing
+with_sender span s = record s { has_user = s.has_user || is_user span.from }
+
+-- who sent it: the named side, or the one that its kind and C/R bit say
+abbrev pub sender_of : CaptureStyle → Bool → Span → List ℕ → Option Side
+sender_of how has_user span octets =
+    named_or_by_kind (named_sender (sender_in has_user span) how.sender) octets
 
 abbrev pub octets_of : Reading → Span → List ℕ
 octets_of behind span = take (span.end - span.start) (drop span.start behind.body)
@@ -39,16 +61,18 @@ octets_of behind span = take (span.end - span.start) (drop span.start behind.bod
 
 -- the text printed for it
 abbrev pub item_text : CaptureStyle → Reading → CaptureItem → Printing → List ℕ
-item_text how behind (Frame span) s =
-    frame_text (last_packet behind span) (sender_of how span) (octets_of behind span) s
+item_text how behind (Frame span) s = frame_text (last_packet behind span)
+    (sender_of how (with_sender span s).has_user span (octets_of behind span))
+    (octets_of behind span) (with_sender span s)
 item_text how behind (Unreadable fault) s = []
 item_text how behind Other s = []
 item_text how behind End s = []
 
 -- what is known of the frames after it
 abbrev pub after_item : CaptureStyle → Reading → CaptureItem → Printing → Printing
-after_item how behind (Frame span) s =
-    after_frame (last_packet behind span) (sender_of how span) (octets_of behind span) s
+after_item how behind (Frame span) s = after_frame (last_packet behind span)
+    (sender_of how (with_sender span s).has_user span (octets_of behind span))
+    (octets_of behind span) (with_sender span s)
 after_item how behind (Unreadable fault) s = s
 after_item how behind Other s = s
 after_item how behind End s = s

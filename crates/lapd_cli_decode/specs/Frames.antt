@@ -1,12 +1,14 @@
 -- The text that is printed for frames, and the state after them.
-use Rattle.std.specs.Prelude.{◌≡◌, ℕ, Bool, false, if◌then◌else◌, List, [], ◌++◌, Option, Some, None, Result, Ok, Err, ⊤}
+use Rattle.std.specs.Prelude.{◌≡◌, ℕ, Bool, true, false, if◌then◌else◌, List, [], ◌++◌, Option, Some, None, unwrap_or, Result, Ok, Err, ⊤}
 use Rattle.std.specs.Io.KnownBytes.{Appends, Keeps}
 use Rattle.lapd_frame.specs.declared.Side.{Side}
+use Rattle.lapd_frame.specs.declared.Side.TheVariants.{Network}
+use Rattle.lapd_frame.specs.Reading.{frame_at}
 use Rattle.lapd_cli_render.specs.declared.Packet.{Packet}
 use Rattle.lapd_follow.specs.declared.packet.Packet.{Packet as FollowedPacket}
 use Rattle.lapd_follow.specs.declared.remarks.Remarks.{Remarks}
 use Rattle.lapd_follow.specs.Ends.{one_more}
-use Rattle.lapd_follow.specs.Listening.{Listening, listening_after, new_listening, said_of_octets}
+use Rattle.lapd_follow.specs.Listening.{Listening, listening_after, new_listening, no_remarks, said_of_octets}
 use Rattle.lapd_cli_script.specs.Line.{text_line}
 use Rattle.lapd_cli_script.specs.declared.script.LineFault.{LineFault}
 use Rattle.lapd_cli_script.specs.declared.script.LineFault.TheVariants.{Bad, Device as LineDevice, Memory as LineMemory}
@@ -17,19 +19,23 @@ use Rattle.lapd_cli_decode.specs.declared.frame_printer.Origin.{Origin}
 use Rattle.lapd_cli_decode.specs.declared.frame_printer.Origin.TheVariants.{Script, Capture}
 use Rattle.lapd_cli_decode.specs.declared.frame_style.FrameStyle.{FrameStyle}
 use Rattle.lapd_cli_decode.specs.declared.style.Style.{Style}
+use Rattle.lapd_cli_decode.specs.AnySapi.{has_other_sapi, with_sapi_0}
+use Rattle.lapd_cli_decode.specs.Color.{color_of, colored}
 use Rattle.lapd_cli_decode.specs.Filter.{reaches, takes_by}
 use Rattle.lapd_cli_decode.specs.Remarked.{remarked}
+use Rattle.lapd_cli_decode.specs.ShownText.{shown_text}
 use Rattle.lapd_cli_decode.specs.Style.{styled_packet, styled_text}
 use Rattle.lapd_cli_decode.specs.Tables.{tables_text}
 use Rattle.lapd_cli_decode.specs.Time.{either, front_text, time_of}
 
--- how frames are printed, how many there were, how many of them were printed, when the first and
--- the last of these were captured, as far as known, and what a listener knows of the links, if they
--- are followed
+-- how frames are printed, how many there were, whether one of them is certainly the user side's,
+-- how many of them were printed, when the first and the last of these were captured, as far as
+-- known, and what a listener knows of the links, if they are followed
 pub record Printing : Type 0 where
   pub origin : Origin
   pub how : FrameStyle
   pub frames : ℕ
+  pub has_user : Bool
   pub printed : ℕ
   pub first : Option ℕ
   pub last : Option ℕ
@@ -45,6 +51,7 @@ new_printing origin how follow = record {
   origin = origin;
   how = how;
   frames = 0;
+  has_user = false;
   printed = 0;
   first = None;
   last = None;
@@ -55,7 +62,7 @@ new_printing origin how follow = record {
 abbrev pub is_complete : Printing → Bool
 is_complete s = reaches s.how.count s.printed
 
--- ---- One frame: its packet, the side that sent it, and its octets.
+-- ---- One frame: its packet, the side that sent it, if it is known, and its octets.
 
 -- the packet of the next line of a script: its number is its place among the frames
 abbrev pub line_packet : Printing → Packet
@@ -65,30 +72,48 @@ line_packet s = record { number = one_more s.frames; moment = None; is_cut = fal
 abbrev pub followed_packet : Packet → FollowedPacket
 followed_packet packet = record { number = packet.number; moment = packet.moment }
 
--- the remarks on a frame, if its link is followed
-abbrev pub said_by : FollowedPacket → Side → List ℕ → Option Listening → Option Remarks
+-- the remarks on a frame, if its link is followed; none if the sender is not known
+abbrev pub said_by : FollowedPacket → Option Side → List ℕ → Option Listening → Option Remarks
 said_by packet from octets None = None
-said_by packet from octets (Some l) = Some (said_of_octets packet from octets l)
+said_by packet None octets (Some l) = Some no_remarks
+said_by packet (Some from) octets (Some l) = Some (said_of_octets packet from octets l)
 
 -- these remarks, if links are followed
 abbrev pub said_if : Bool → Remarks → Option Remarks
 said_if is_followed said = if is_followed then Some said else None
 
--- what a listener knows after it
-abbrev pub heard_by : FollowedPacket → Side → List ℕ → Option Listening → Option Listening
+-- what a listener knows after it; a frame without a known sender is not followed
+abbrev pub heard_by : FollowedPacket → Option Side → List ℕ → Option Listening → Option Listening
 heard_by packet from octets None = None
-heard_by packet from octets (Some l) = Some (listening_after packet from octets l)
+heard_by packet None octets (Some l) = Some l
+heard_by packet (Some from) octets (Some l) = Some (listening_after packet from octets l)
 
--- the text of a frame without remarks
-abbrev pub bare_text : Origin → Style → Packet → Side → List ℕ → List ℕ
-bare_text Script style packet from octets = styled_text style from octets
-bare_text Capture style packet from octets = styled_packet style packet from octets
+-- the text of a frame without remarks, if its sender is known and its SAPI served
+abbrev pub sent_text : Origin → Style → Packet → Side → List ℕ → List ℕ
+sent_text Script style packet from octets = styled_text style from octets
+sent_text Capture style packet from octets = styled_packet style packet from octets
+
+-- only a packet of a capture is printed
+abbrev pub shown_packet : Origin → Packet → Option Packet
+shown_packet Script packet = None
+shown_packet Capture packet = Some packet
+
+-- the text of a frame without remarks, whose SAPI is another one if the first argument is true.
+-- Both sides read octets alike whose sender is not known, but for the role.
+abbrev pub bare_text : Bool → Origin → Style → Packet → Option Side → List ℕ → List ℕ
+bare_text true origin style packet from octets = shown_text style packet.is_cut
+    (shown_packet origin packet) from octets
+    (frame_at (unwrap_or from Network) (with_sapi_0 octets))
+bare_text false origin style packet None octets = shown_text style packet.is_cut
+    (shown_packet origin packet) None octets (frame_at Network octets)
+bare_text false origin style packet (Some from) octets = sent_text origin style packet from octets
 
 -- the line of a frame that is printed, with these remarks
-abbrev pub line_with : Option Remarks → Packet → Side → List ℕ → Printing → List ℕ
-line_with said packet from octets s = text_line (remarked s.how.style said
+abbrev pub line_with : Option Remarks → Packet → Option Side → List ℕ → Printing → List ℕ
+line_with said packet from octets s = text_line (colored s.how.is_colored s.how.style
+    (color_of from said) (remarked s.how.style said
     (front_text s.how.style s.how.time (time_of s.how.time s.first s.last packet.moment)
-    ++ bare_text s.origin s.how.style packet from octets))
+    ++ bare_text (has_other_sapi s.how.any_sapi octets) s.origin s.how.style packet from octets)))
 
 -- what is known after a frame that is printed and was captured at this moment
 abbrev pub after_shown : Option ℕ → Printing → Printing
@@ -99,20 +124,20 @@ after_shown moment s = record s {
 }
 
 -- what is known after a frame that is not printed
-abbrev pub after_heard : Packet → Side → List ℕ → Printing → Printing
+abbrev pub after_heard : Packet → Option Side → List ℕ → Printing → Printing
 after_heard packet from octets s = record s {
   frames = one_more s.frames;
   listening = heard_by (followed_packet packet) from octets s.listening;
 }
 
 -- the text of a frame: nothing if it is filtered out
-abbrev pub frame_text : Packet → Side → List ℕ → Printing → List ℕ
+abbrev pub frame_text : Packet → Option Side → List ℕ → Printing → List ℕ
 frame_text packet from octets s = if takes_by s.how.filter octets
     then line_with (said_by (followed_packet packet) from octets s.listening) packet from octets s
     else []
 
 -- what is known after it: each frame is followed
-abbrev pub after_frame : Packet → Side → List ℕ → Printing → Printing
+abbrev pub after_frame : Packet → Option Side → List ℕ → Printing → Printing
 after_frame packet from octets s = if takes_by s.how.filter octets
     then after_shown packet.moment (after_heard packet from octets s)
     else after_heard packet from octets s

@@ -6,6 +6,8 @@ use Rattle.lapd_frame.specs.declared.Side.{Side}
 use Rattle.lapd_frame.specs.declared.Side.TheVariants.{Network, User}
 use Rattle.lapd_field.specs.Address.{other_side}
 use Rattle.lapd_cli_script.specs.Line.{octets_of}
+use Rattle.lapd_cli_decode.specs.declared.loose.End.{End}
+use Rattle.lapd_cli_decode.specs.declared.loose.End.TheVariants.{Hex, Word}
 use Rattle.lapd_cli_decode.specs.Sent.{sent_by}
 
 -- ---- HEX in a loose line: separators among the digits are skipped, and `0x` before a part.
@@ -63,6 +65,11 @@ named_line printer line =
 -- a closing bracket ends HEX; a mark can't be in it
 abbrev pub ends_hex : ℕ → Bool
 ends_hex octet = (octet == 93) || ((octet == 62) || (octet == 60))
+
+-- the octets that end a part of a line: HEX in brackets, or a word
+abbrev pub ends : End → ℕ → Bool
+ends Hex = ends_hex
+ends Word = is_separator
 
 -- the octets before a closing bracket
 abbrev pub closed_octets : List ℕ → List ℕ → Option (List ℕ)

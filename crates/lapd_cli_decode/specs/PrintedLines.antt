@@ -28,14 +28,14 @@ before_lines how = record {
 -- the state after the octets that this side sent
 abbrev pub after_octets : PrintingLines → Side → List ℕ → PrintingLines
 after_octets s from octets = record s {
-  printing = after_frame (line_packet s.printing) from octets s.printing;
+  printing = after_frame (line_packet s.printing) (Some from) octets s.printing;
 }
 
 -- the result of a line that names a side and octets, or doesn't
 abbrev pub sent_outcome : PrintingLines → Option (Side × List ℕ) → LineOutcome PrintingLines
 sent_outcome s None = None
 sent_outcome s (Some sent) = Some (
-  frame_text (line_packet s.printing) sent.0 sent.1 s.printing,
+  frame_text (line_packet s.printing) (Some sent.0) sent.1 s.printing,
   after_octets s sent.0 sent.1,
 )
 

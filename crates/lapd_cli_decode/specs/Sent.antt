@@ -1,4 +1,4 @@
--- What a line says that a side sent.
+-- The octets of a line, and the side that sent them.
 use Rattle.std.specs.Prelude.{ℕ, List, Option, option_map}
 use Rattle.lapd_frame.specs.declared.Side.{Side}
 

@@ -25,17 +25,16 @@ time_of Absolute first last moment = moment
 time_of Relative first last moment = since first moment
 time_of Delta first last moment = since last moment
 
--- microseconds as seconds with six digits after the point, and a space
-abbrev pub seconds_text : ℕ → List ℕ
-seconds_text time = decimal (time / 1000000) ++ (codes "." ++ (decimal (time / 100000 % 10)
+-- microseconds as seconds with six digits after the point
+abbrev pub seconds_digits : ℕ → List ℕ
+seconds_digits time = decimal (time / 1000000) ++ (codes "." ++ (decimal (time / 100000 % 10)
     ++ (decimal (time / 10000 % 10) ++ (decimal (time / 1000 % 10)
-    ++ (decimal (time / 100 % 10) ++ (decimal (time / 10 % 10) ++ (decimal (time % 10)
-    ++ codes " ")))))))
+    ++ (decimal (time / 100 % 10) ++ (decimal (time / 10 % 10) ++ decimal (time % 10)))))))
 
--- `-` if it is not known
+-- and a space; `-` if the time is not known
 abbrev pub known_text : Option ℕ → List ℕ
 known_text None = codes "- "
-known_text (Some time) = seconds_text time
+known_text (Some time) = seconds_digits time ++ codes " "
 
 abbrev pub time_text : FrameTime → Option ℕ → List ℕ
 time_text Hidden time = []

@@ -4,10 +4,11 @@ ghost use Rattle.std.specs.Prelude.{◌≡◌, length, List, ℕ, None, Some, On
 ghost use Rattle.std.specs.Io.KnownBytes.{Appends, Keeps};
 ghost use Rattle.lapd_capture.specs.Packet.{IsWithin};
 ghost use Rattle.lapd_capture.specs.Reader.{reading_of, unread};
-ghost use Rattle.lapd_cli_decode.specs.Captured.{CaptureCloses, CaptureEnds, IsOtherStop, ItemsEnd, StepsFrom, after_item, begins_at, item_text, place_of};
+ghost use Rattle.lapd_cli_decode.specs.Captured.{CaptureCloses, CaptureEnds, IsOtherStop, ItemsEnd, StepsFrom, after_item, begins_at, is_user, item_text, named_sender, place_of, sender_in, with_sender};
 
 use crate::frame_printer::{Follow, FramePrinter, Origin};
 use crate::frame_style::FrameStyle;
+use crate::senders::named_or_by_kind;
 use lapd_capture::{CaptureFault, CaptureItem, CaptureReader, PacketFault, ReadFault, Span};
 use lapd_cli_render::Packet;
 use lapd_cli_script::{LineFault, ScriptFault};
@@ -37,13 +38,19 @@ pub enum CaptureStop {
     Memory,
 }
 
+/// The report that a capture does not name a sender.
+const UNNAMED: &str = "\
+the capture does not name each sender: it is taken from the kind and C/R bit of the frame, or \
+printed as ?; --sender names it";
+
 /// How to print the frames of a capture.
 #[derive(Clone, Copy)]
 pub struct CaptureStyle {
     /// How frames are printed, and which.
     pub frames: FrameStyle,
-    /// The assumed sender of frames whose capture does not name it.
-    pub sender: Side,
+    /// The sender of frames whose capture does not name it; if `None`, it is taken from their kind
+    /// and C/R bit (Q.921 3.3.2).
+    pub sender: Option<Side>,
     /// Whether unreadable packets are skipped.
     pub keeps_going: bool,
 }
@@ -60,12 +67,13 @@ pub struct Seen {
 /// Prints the requested frames of a capture from its current place. Reading stops at the end of the
 /// capture, or after as many printed frames as were requested. The writer is flushed before each
 /// read that may wait. If `keeps_going` is set, an unreadable packet is reported on the error
-/// writer and skipped; failures of the error writer are ignored.
+/// writer and skipped. If a capture does not name a sender, and
+/// `how` neither, this is reported there once. Failures of the error writer are ignored.
 ///
 /// # Errors
 ///
-/// `Capture` and `Packet` at a fault, with the requested frames before it printed; `Input` if a read
-/// fails; `Device` if a write fails; `Memory` if an allocation fails.
+/// `Capture` and `Packet` at a fault, with the requested frames before it printed; `Input` if a
+/// read fails; `Device` if a write fails; `Memory` if an allocation fails.
 pub fn decode_capture<R: Read, W: Write, E: Write>(
     alloc: Global,
     capture: &mut CaptureReader<R>,
@@ -85,8 +93,8 @@ pub fn decode_capture<R: Read, W: Write, E: Write>(
 ///
 /// # Errors
 ///
-/// `Capture` and `Packet` at a fault, with the requested frames before it printed; `Input` if a read
-/// fails; `Device` if a write fails; `Memory` if an allocation fails.
+/// `Capture` and `Packet` at a fault, with the requested frames before it printed; `Input` if a
+/// read fails; `Device` if a write fails; `Memory` if an allocation fails.
 pub fn follow_capture<R: Read, W: Write, E: Write>(
     alloc: Global,
     capture: &mut CaptureReader<R>,
@@ -227,7 +235,7 @@ fn print_item<R: Read, W: Write, E: Write>(
         Ok(CaptureItem::End) => Ok(true),
         Ok(CaptureItem::Other) => Ok(false),
         Ok(CaptureItem::Frame(frame)) => {
-            print_frame(capture, printer, frame, out, how)?;
+            print_frame(capture, printer, frame, out, errors, how)?;
             Ok(false)
         }
         Ok(CaptureItem::Unreadable(fault)) => {
@@ -245,11 +253,12 @@ fn print_item<R: Read, W: Write, E: Write>(
 }
 
 /// Prints a frame that was found.
-fn print_frame<R: Read, W: Write>(
+fn print_frame<R: Read, W: Write, E: Write>(
     capture: &CaptureReader<R>,
     printer: &mut FramePrinter,
     frame: Span,
     out: &mut W,
+    errors: &mut E,
     how: CaptureStyle,
 ) -> Result<(), CaptureStop>
     requires { IsWithin (length capture.now.body.items) (CaptureItem.Frame frame) }
@@ -260,15 +269,69 @@ fn print_frame<R: Read, W: Write>(
         (reading_of capture.now left) (CaptureItem.Frame frame) printer.old) }
     ensures fault { IsOtherStop result }
 {
-    let from = frame.from.unwrap_or(how.sender);
+    let octets = capture.octets_of(frame);
+    see_sender(printer, frame);
+    let named = named_sender(sender_in(printer.has_user(), frame), how.sender);
+    note_unnamed(printer, named, errors);
+    let from = named_or_by_kind(named, octets);
     let packet = Packet {
         number: capture.packets(),
         moment: capture.moment(),
         is_cut: frame.is_cut,
     };
-    match printer.print(packet, from, capture.octets_of(frame), out) {
+    match printer.print(packet, from, octets, out) {
         Ok(()) => Ok(()),
         Err(LineFault::Memory) => Err(CaptureStop::Memory),
         Err(_) => Err(CaptureStop::Device),
+    }
+}
+
+/// Remembers whether the capture names the user side as a sender.
+fn see_sender(printer: &mut FramePrinter, frame: Span)
+    ensures { printer.new ≡ with_sender frame printer.old }
+{
+    if is_user(frame.from) {
+        printer.see_user();
+    }
+}
+
+/// Whether the capture names the user side.
+fn is_user(from: Option<Side>) -> bool
+    ensures { result ≡ is_user from }
+{
+    match from {
+        Some(Side::User) => true,
+        Some(Side::Network) | None => false,
+    }
+}
+
+/// The sender that the capture names.
+fn sender_in(has_user: bool, frame: Span) -> Option<Side>
+    ensures { result ≡ sender_in has_user frame }
+{
+    if frame.is_sure || has_user {
+        frame.from
+    } else {
+        None
+    }
+}
+
+/// The sender that the capture names, or else the chosen one.
+fn named_sender(named: Option<Side>, chosen: Option<Side>) -> Option<Side>
+    ensures { result ≡ named_sender named chosen }
+{
+    match named {
+        None => chosen,
+        Some(from) => Some(from),
+    }
+}
+
+/// Reports once that neither the capture nor an option names a sender. A failure of the error
+/// writer is ignored.
+fn note_unnamed<E: Write>(printer: &mut FramePrinter, named: Option<Side>, errors: &mut E)
+    ensures { printer.new ≡ printer.old }
+{
+    if named.is_none() && printer.is_first_note() {
+        let _ = writeln!(errors, "{UNNAMED}");
     }
 }

@@ -1,12 +1,14 @@
 //! Printing frames one after the other, with the remarks on them if their links are followed.
 
-ghost use Rattle.std.specs.Prelude.{◌≡◌, nat_lt, IfOk, OnOk};
+ghost use Rattle.std.specs.Prelude.{◌≡◌, nat_lt, true, IfOk, OnOk};
 ghost use Rattle.std.specs.String.{string_bytes};
-ghost use Rattle.lapd_cli_decode.specs.Frames.{ClosingEnds, PrintEnds, after_frame, after_shown, bare_text, followed_packet, frame_text, heard_by, is_complete, line_packet, line_with, listening_by, new_printing, said_by, said_if};
+ghost use Rattle.lapd_cli_decode.specs.Frames.{ClosingEnds, PrintEnds, after_frame, after_shown, bare_text, followed_packet, frame_text, heard_by, is_complete, line_packet, line_with, listening_by, new_printing, said_by, said_if, sent_text, shown_packet};
 
+use crate::any_sapi::has_other_sapi;
+use crate::color::put_colored;
 use crate::frame_style::FrameStyle;
 use crate::frame_time::either;
-use crate::remarked::put_frame;
+use crate::shown_text::{write_other, write_unsent};
 use crate::style::Style;
 use crate::tables::put_tables;
 use lapd_cli_render::Packet;
@@ -41,6 +43,9 @@ pub(crate) struct FramePrinter {
     origin: Origin,
     how: FrameStyle,
     frames: u64,
+    has_user: bool,
+    /// Whether it was reported that a capture does not name a sender.
+    is_noted: bool,
     printed: u64,
     first: Option<u64>,
     last: Option<u64>,
@@ -57,6 +62,7 @@ impl Model for FramePrinter {
       origin = p.origin;
       how = p.how;
       frames = p.frames;
+      has_user = p.has_user;
       printed = p.printed;
       first = p.first;
       last = p.last;
@@ -84,6 +90,8 @@ impl FramePrinter {
             origin,
             how,
             frames: 0,
+            has_user: false,
+            is_noted: false,
             printed: 0,
             first: None,
             last: None,
@@ -117,8 +125,31 @@ impl FramePrinter {
         }
     }
 
-    /// Follows the octets that `from` sent next, if links are followed, and prints them with the
-    /// remarks on them, unless they are filtered out.
+    /// Whether a frame so far is certainly the user side's.
+    pub(crate) fn has_user(&self) -> bool
+        ensures { result ≡ self.now.has_user }
+    {
+        self.has_user
+    }
+
+    /// The capture names the user side as the sender of the next frame.
+    pub(crate) fn see_user(&mut self)
+        ensures { self.new ≡ record self.old { has_user = true } }
+    {
+        self.has_user = true;
+    }
+
+    /// Whether this is the first call, so that a note can be printed once.
+    pub(crate) fn is_first_note(&mut self) -> bool
+        ensures { self.new ≡ self.old }
+    {
+        let is_first = !self.is_noted;
+        self.is_noted = true;
+        is_first
+    }
+
+    /// Follows the next octets, if links are followed and their sender is known, and prints them
+    /// with the remarks on them, unless they are filtered out.
     ///
     /// # Errors
     ///
@@ -126,7 +157,7 @@ impl FramePrinter {
     pub(crate) fn print<W: Write>(
         &mut self,
         packet: Packet,
-        from: Side,
+        from: Option<Side>,
         octets: &[u8],
         out: &mut W,
     ) -> Result<(), LineFault>
@@ -158,7 +189,7 @@ impl FramePrinter {
         is_followed: bool,
         said: &Remarks,
         packet: Packet,
-        from: Side,
+        from: Option<Side>,
         octets: &[u8],
         out: &mut W,
     ) -> Result<(), LineFault>
@@ -167,8 +198,9 @@ impl FramePrinter {
             (W.contents out.new) }
     {
         let style = self.how.style;
-        let Ok(()) = write_text(
+        let Ok(()) = write_line(
             self.alloc,
+            has_other_sapi(self.how.any_sapi, octets),
             self.origin,
             style,
             packet,
@@ -189,7 +221,16 @@ impl FramePrinter {
         self.printed = self.printed.saturating_add(1);
         self.first = either(self.first, packet.moment);
         self.last = either(packet.moment, self.last);
-        put_frame(self.alloc, style, &mut self.text, is_followed, said, out)
+        put_colored(
+            self.alloc,
+            self.how.is_colored,
+            style,
+            from,
+            &mut self.text,
+            is_followed,
+            said,
+            out,
+        )
     }
 
     /// Prints the tables of the links, if these are followed. Returns whether a remark was a
@@ -219,12 +260,12 @@ fn listener_by(alloc: Global, follow: Option<Follow>) -> Result<Option<Listener>
     }
 }
 
-/// Passes octets to the listener, if there is one, and replaces `said` with its remarks. Returns
-/// whether there is one.
+/// Passes octets to the listener, if there is one and the sender is known, and replaces `said` with
+/// its remarks, none without a known sender. Returns whether there is a listener.
 fn listen(
     listener: &mut Option<Listener>,
     packet: lapd_follow::Packet,
-    from: Side,
+    from: Option<Side>,
     octets: &[u8],
     said: &mut Remarks,
 ) -> Result<bool, AllocError>
@@ -234,15 +275,55 @@ fn listen(
 {
     match listener {
         None => Ok(false),
-        Some(listener) => {
-            listener.octets_into(packet, from, octets, said)?;
-            Ok(true)
-        }
+        Some(listener) => match from {
+            None => {
+                *said = Remarks::none();
+                Ok(true)
+            }
+            Some(from) => {
+                listener.octets_into(packet, from, octets, said)?;
+                Ok(true)
+            }
+        },
     }
 }
 
-/// Replaces `line` with the text of a frame without remarks.
-fn write_text(
+/// Replaces `line` with the text of a frame without remarks, which has another SAPI if `is_other`.
+fn write_line(
+    alloc: Global,
+    is_other: bool,
+    origin: Origin,
+    style: Style,
+    packet: Packet,
+    from: Option<Side>,
+    octets: &[u8],
+    line: &mut String,
+) -> Result<(), AllocError>
+    ensures { OnOk result (string_bytes line.new
+        ≡ bare_text is_other origin style packet from octets.now) }
+{
+    let shown = shown_packet(origin, packet);
+    if is_other {
+        return write_other(alloc, style, packet.is_cut, shown, from, octets, line);
+    }
+    match from {
+        None => write_unsent(alloc, style, packet.is_cut, shown, octets, line),
+        Some(from) => write_sent(alloc, origin, style, packet, from, octets, line),
+    }
+}
+
+/// The packet that is printed: one of a capture.
+fn shown_packet(origin: Origin, packet: Packet) -> Option<Packet>
+    ensures { result ≡ shown_packet origin packet }
+{
+    match origin {
+        Origin::Script => None,
+        Origin::Capture => Some(packet),
+    }
+}
+
+/// Replaces `line` with the text of a frame without remarks, whose sender is known and SAPI served.
+fn write_sent(
     alloc: Global,
     origin: Origin,
     style: Style,
@@ -252,7 +333,7 @@ fn write_text(
     line: &mut String,
 ) -> Result<(), AllocError>
     ensures { OnOk result (string_bytes line.new
-        ≡ bare_text origin style packet from octets.now) }
+        ≡ sent_text origin style packet from octets.now) }
 {
     match origin {
         Origin::Script => style.write(alloc, from, octets, line),

@@ -1,9 +1,9 @@
 ghost use Rattle.std.specs.Prelude.{◌≡◌};
 ghost use Rattle.lapd_cli_decode.specs.Filter.{reaches, takes_by};
 
-use crate::filter::Filter;
 use crate::frame_time::FrameTime;
 use crate::style::Style;
+use lapd_cli_values::Filter;
 
 /// How frames are printed, and which.
 #[derive(Clone, Copy)]
@@ -14,6 +14,10 @@ pub struct FrameStyle {
     pub time: FrameTime,
     /// Which frames are printed; all if `None`.
     pub filter: Option<Filter>,
+    /// Whether octets with a SAPI other than 0, 16 and 63 are read as frames, and not as fault F3.
+    pub any_sapi: bool,
+    /// Whether trace lines are printed in the color of their sender, or of a violation.
+    pub is_colored: bool,
     /// After how many printed frames the output ends; never if `None`.
     pub count: Option<u64>,
 }
@@ -24,6 +28,8 @@ impl FrameStyle {
         style: Style::Plain,
         time: FrameTime::Hidden,
         filter: None,
+        any_sapi: false,
+        is_colored: false,
         count: None,
     };
 

@@ -1,11 +1,12 @@
 //! The time before a trace line.
 
-ghost use Rattle.std.specs.Prelude.{◌≡◌, ◌++◌, IfOk, OnOk};
+ghost use Rattle.std.specs.Prelude.{◌≡◌, ◌++◌, Some, IfOk, OnOk};
 ghost use Rattle.std.specs.String.{string_bytes};
-ghost use Rattle.lapd_cli_decode.specs.Time.{either, front_text, known_text, seconds_text, since, time_of, time_text};
+ghost use Rattle.lapd_cli_decode.specs.Time.{either, front_text, known_text, seconds_digits, since, time_of, time_text};
 
 use crate::style::Style;
 use std::alloc::{AllocError, Global};
+use std::fmt;
 
 /// The time before the trace line of a frame of a capture.
 #[derive(Clone, Copy, Debug, PartialEq, Eq)]
@@ -21,8 +22,8 @@ pub enum FrameTime {
 }
 
 impl FrameTime {
-    /// The time of a frame that was captured at this moment, in microseconds. `first` and `last` are
-    /// the moments of the first and the last frame that was printed.
+    /// The time of a frame that was captured at this moment, in microseconds. `first` and `last`
+    /// are the moments of the first and the last frame that was printed.
     pub(crate) fn of(
         self,
         first: Option<u64>,
@@ -113,20 +114,30 @@ fn known_text(alloc: Global, time: Option<u64>) -> Result<String, AllocError>
             text.push_str("- ")?;
             Ok(text)
         }
-        Some(time) => seconds_text(alloc, time),
+        Some(time) => {
+            let seconds = Seconds { time };
+            format!(in alloc; "{seconds} ")
+        }
     }
 }
 
-/// Microseconds as seconds with six digits after the point, and a space.
-fn seconds_text(alloc: Global, time: u64) -> Result<String, AllocError>
-    ensures { IfOk result (λ text. string_bytes text ≡ seconds_text time) }
-{
-    let seconds = time / 1_000_000;
-    let first = time / 100_000 % 10;
-    let second = time / 10_000 % 10;
-    let third = time / 1_000 % 10;
-    let fourth = time / 100 % 10;
-    let fifth = time / 10 % 10;
-    let sixth = time % 10;
-    format!(in alloc; "{seconds}.{first}{second}{third}{fourth}{fifth}{sixth} ")
+/// Microseconds, shown as seconds with six digits after the point.
+#[derive(Clone, Copy)]
+pub(crate) struct Seconds {
+    pub(crate) time: u64,
+}
+
+impl fmt::Display for Seconds {
+    ghost output = { λ shown. Some (seconds_digits shown.time) };
+
+    fn fmt<W: fmt::Write>(&self, f: &mut fmt::Formatter<W>) -> fmt::Result {
+        let seconds = self.time / 1_000_000;
+        let first = self.time / 100_000 % 10;
+        let second = self.time / 10_000 % 10;
+        let third = self.time / 1_000 % 10;
+        let fourth = self.time / 100 % 10;
+        let fifth = self.time / 10 % 10;
+        let sixth = self.time % 10;
+        write!(f, "{seconds}.{first}{second}{third}{fourth}{fifth}{sixth}")
+    }
 }

@@ -9,26 +9,34 @@
 //! end.
 #![tactic(auto)]
 
+mod any_sapi;
 mod capture_lines;
-mod filter;
+mod color;
 mod frame_printer;
 mod frame_style;
 mod frame_time;
+mod laws;
 mod line_decoder;
 mod line_form;
 mod loose;
+mod parts;
 mod printed_lines;
 mod remarked;
+mod senders;
+mod shown;
+mod shown_object;
+mod shown_text;
 mod style;
 mod tables;
 
 pub use capture_lines::{CaptureStop, CaptureStyle, Seen, decode_capture, follow_capture};
-pub use filter::Filter;
 pub use frame_printer::Follow;
 pub use frame_style::FrameStyle;
 pub use frame_time::FrameTime;
 pub use lapd_capture::{CaptureFault, CaptureReader, PacketFault, ReadFault};
+pub use lapd_cli_values::Filter;
 pub use lapd_frame::Side;
+pub use laws::{both_read_alike, sender_is_found};
 pub use line_decoder::{decode_good_lines, decode_lines};
 pub use line_form::LineForm;
 pub use printed_lines::{LinesStyle, print_lines};

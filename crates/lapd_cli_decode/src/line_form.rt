@@ -16,14 +16,14 @@ pub enum LineForm {
     Strict,
     /// Also lines of other programs: of libpri and of logs, such as `> [ 00 81 7f ]`, hex dumps of
     /// one line, and octets alone. This side printed them, so it sent the octets after `>` and
-    /// received those after `<`. It also sent octets without a sender. In HEX spaces, tabs, carriage
-    /// returns, colons and brackets are allowed, and `0x` before a part.
+    /// received those after `<`. It also sent octets without a sender. In HEX spaces, tabs,
+    /// carriage returns, colons and brackets are allowed, and `0x` before a part.
     Loose(Side),
 }
 
 impl LineForm {
-    /// Reads the octets of a line of this form into `octets`, which it clears first, and returns who
-    /// sent them.
+    /// Reads the octets of a line of this form into `octets`, which it clears first, and returns
+    /// who sent them.
     ///
     /// # Errors
     ///

@@ -4,19 +4,56 @@ ghost use Rattle.std.specs.Prelude.{◌≡◌, ◌==◌, ◌∷◌, ◌<◌, ◌
 ghost use Rattle.std.specs.List.{list_all, position, position_or_len, slice_split};
 ghost use Rattle.lapd_cli_script.specs.Line.{Reads, octets_of};
 ghost use Rattle.lapd_cli_decode.specs.Sent.{sent_by};
-ghost use Rattle.lapd_cli_decode.specs.Loose.{before_gap, bracketed, bracketed_octets, digits_in, dumped_octets, ends_hex, first_of, is_parted, is_separator, is_zero, logged_line, loose_behind, loose_line, loose_octets, named_line, octets_by_word, octets_or_none, printed_line, some_octets, unmarked_octets, without_0x, without_front};
+ghost use Rattle.lapd_cli_decode.specs.Loose.{before_gap, bracketed, bracketed_octets, digits_in, dumped_octets, ends, ends_hex, first_of, is_parted, is_separator, is_zero, logged_line, loose_behind, loose_line, loose_octets, named_line, octets_by_word, octets_or_none, printed_line, some_octets, unmarked_octets, without_0x, without_front};
 
 use lapd_cli_script::LineFault;
 use lapd_frame::Side;
 use std::alloc::{AllocError, Global};
 
-/// What a loose line says.
+/// The octets of a loose line, and their sender.
 #[derive(Drop)]
 pub(crate) struct Sent {
     /// The sender of the octets.
     pub(crate) from: Side,
     /// The octets.
     pub(crate) octets: Vec<u8>,
+}
+
+/// The octets that end a part of a line.
+#[derive(Clone, Copy)]
+enum End {
+    /// A closing bracket or a mark, which ends HEX in brackets.
+    Hex,
+    /// Separators, which end a word.
+    Word,
+}
+
+impl End {
+    /// The length of the text before the first of these octets; that of all of it if there is none.
+    #[tactic(auto, using(crate::proofs::LooseLine::unwrap_place))]
+    fn len_before(self, text: &[u8]) -> usize
+        ensures value { result ≡ position_or_len (ends self) text.now }
+        ensures within { result ≤ length text.now }
+    {
+        self.first_in(text).unwrap_or(text.len())
+    }
+
+    /// The place of the first of these octets.
+    fn first_in(self, text: &[u8]) -> Option<usize>
+        ensures { result ≡ position (ends self) text.now }
+    {
+        text.iter().position(|octet| self.has(*octet))
+    }
+
+    /// Whether this octet is one of them.
+    fn has(self, octet: u8) -> bool
+        ensures { result ≡ ends self octet }
+    {
+        match self {
+            End::Hex => ends_hex(octet),
+            End::Word => is_separator(octet),
+        }
+    }
 }
 
 /// Reads a loose line that side `printer` printed.
@@ -96,7 +133,7 @@ fn is_parted(rest: &[u8]) -> bool
 // ---- 2. Lines of a log.
 
 /// Reads the first `> [ HEX ]` or `< [ HEX ]` of a line that side `printer` printed.
-#[tactic(auto, using(crate::proofs::LooseLine::logged_found, crate::proofs::LooseLine::logged_passed))]
+#[tactic(auto, using(crate::proofs::LooseLine::log_found, crate::proofs::LooseLine::log_passed))]
 fn logged_line(alloc: Global, printer: Side, line: &[u8]) -> Result<Sent, LineFault>
     ensures { Reads (λ sent. (sent.from, sent.octets.items)) result
         (logged_line printer line.now) }
@@ -138,27 +175,11 @@ fn sent_in_brackets(alloc: Global, from: Side, text: &[u8]) -> Result<Sent, Line
 fn bracketed_octets(alloc: Global, text: &[u8]) -> Result<Vec<u8>, LineFault>
     ensures { Reads (λ octets. octets.items) result (bracketed_octets text.now) }
 {
-    let (front, behind) = text.split_at(hex_len(text));
+    let (front, behind) = text.split_at(End::Hex.len_before(text));
     match behind {
         [b']', ..] => some_octets(alloc, front),
         _ => Err(LineFault::Bad),
     }
-}
-
-/// How many octets are before the end of HEX in brackets.
-#[tactic(auto, using(crate::proofs::LooseLine::unwrap_place))]
-fn hex_len(text: &[u8]) -> usize
-    ensures value { result ≡ position_or_len ends_hex text.now }
-    ensures within { result ≤ length text.now }
-{
-    first_end(text).unwrap_or(text.len())
-}
-
-/// The place of the first octet that ends HEX in brackets.
-fn first_end(text: &[u8]) -> Option<usize>
-    ensures { result ≡ position ends_hex text.now }
-{
-    text.iter().position(|octet| ends_hex(*octet))
 }
 
 /// Whether this octet ends HEX in brackets.
@@ -186,7 +207,7 @@ fn unmarked_line(alloc: Global, printer: Side, line: &[u8]) -> Result<Sent, Line
 fn unmarked_octets(alloc: Global, text: &[u8]) -> Result<Vec<u8>, LineFault>
     ensures { Reads (λ octets. octets.items) result (unmarked_octets text.now) }
 {
-    let (word, behind) = text.split_at(word_len(text));
+    let (word, behind) = text.split_at(End::Word.len_before(text));
     octets_by_word(alloc, text, word, behind)
 }
 
@@ -342,24 +363,8 @@ fn cut_at_separator(text: &[u8]) -> Option<(&[u8], &[u8])>
         ≡ parts.0.now ∷ slice_split is_separator parts.1.now) }
     ensures shorter { IfSome result (λ parts. length parts.1.now < length text.now) }
 {
-    let end = first_separator(text)?;
+    let end = End::Word.first_in(text)?;
     Some((&text[..end], &text[end + 1..]))
-}
-
-/// The length of the first word, which a separator or the end ends.
-#[tactic(auto, using(crate::proofs::LooseLine::unwrap_place))]
-fn word_len(text: &[u8]) -> usize
-    ensures value { result ≡ position_or_len is_separator text.now }
-    ensures within { result ≤ length text.now }
-{
-    first_separator(text).unwrap_or(text.len())
-}
-
-/// The place of the first separator.
-fn first_separator(text: &[u8]) -> Option<usize>
-    ensures { result ≡ position is_separator text.now }
-{
-    text.iter().position(|octet| is_separator(*octet))
 }
 
 /// A part without a leading `0x` or `0X`.

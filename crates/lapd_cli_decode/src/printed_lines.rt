@@ -39,10 +39,10 @@ struct PrintedLines<E> {
 }
 
 /// Like [`crate::decode_lines`], but prints only the requested frames, and may follow the link of
-/// each frame, printed or not: the remarks on a frame are printed behind it, and after the last line
-/// a table of each link. Returns whether a remark was a violation. If `keeps_going` is set, each
-/// line that does not have this form is reported on the error writer and skipped; failures of the
-/// error writer are ignored. Lines after the last requested frame are skipped.
+/// each frame, printed or not: the remarks on a frame are printed behind it, and after the last
+/// line a table of each link. Returns whether a remark was a violation. If `keeps_going` is set,
+/// each line that does not have this form is reported on the error writer and skipped; failures of
+/// the error writer are ignored. Lines after the last requested frame are skipped.
 ///
 /// # Errors
 ///
@@ -137,7 +137,7 @@ impl<E: Write> PrintedLines<E> {
     {
         let packet = self.printer.line_packet();
         self.printer
-            .print(packet, from, self.octets.as_slice(), out)
+            .print(packet, Some(from), self.octets.as_slice(), out)
     }
 }
 

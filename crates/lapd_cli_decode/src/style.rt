@@ -36,7 +36,8 @@ impl Style {
         }
     }
 
-    /// Replaces `line` with the text for octets that `from` sent, so that one text serves many lines.
+    /// Replaces `line` with the text for octets that `from` sent, so that one text serves many
+    /// lines.
     ///
     /// # Errors
     ///
@@ -97,7 +98,11 @@ impl Style {
 }
 
 /// Appends a mark to a line if only the first of its octets were captured.
-fn mark_cut(line: &mut String, is_cut: bool) -> Result<(), AllocError>
+///
+/// # Errors
+///
+/// `AllocError` if an allocation fails.
+pub(crate) fn mark_cut(line: &mut String, is_cut: bool) -> Result<(), AllocError>
     ensures { OnOk result (string_bytes line.new ≡ marked is_cut (string_bytes line.old)) }
 {
     if is_cut {

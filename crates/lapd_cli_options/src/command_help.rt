@@ -622,6 +622,11 @@ before the program waits for the next packet, so FILE may be a pipe. A fault is 
 place of its packet or block in the file, in octets from 0, and the exit status is 1. The line of a
 packet that was not captured to its end ends with [cut].
 
+If the capture does not name the sender of a frame, and --sender is absent, it is taken from the
+kind of the frame and its C/R bit. Of RR, RNR, REJ and XID frames these do not say it: the line
+begins with ?>?, its role is ? and its last bit P/F. An object lacks direction and role, and has pf.
+--follow leaves such a frame out.
+
 Output for a frame, in one line:
   U>N or N>U    the user side, or the network side, sent it
   SAPI n TEI n  its address
@@ -642,7 +647,8 @@ HEX. With --names a message of TEI management or of Q.931 follows, in words:
 With --time a trace line begins with the time of its packet, in seconds with six digits after a
 point, or with - if the capture does not have it. --sapi, --tei, --kinds and --no-polls choose the
 frames that are printed, by their octets; octets that lack what is requested are left out. --count
-ends the output after so many printed frames: no more packets are read, and lines are skipped.
+ends the output after so many printed frames: no more packets are read, and lines are skipped. With
+--any-sapi octets with a SAPI other than 0, 16 and 63 are read as if it were 0, and printed with it.
 
 With --follow the remarks on a frame are last, each after `; `. Frames that are not printed are
 followed too, up to the last one that --count allows. A frame that is simply the next one
@@ -652,12 +658,12 @@ messages, their octets, the repeated I frames, the polls, the times of answers a
 end was busy. Messages of TEI management have remarks too.
 
 With --json a line is an object with these members, in the order of their names:
-  direction        \"U>N\" or \"N>U\"
+  direction        \"U>N\" or \"N>U\", if the sender is known
   sapi, tei        numbers
   role             \"command\" or \"response\"
   frame            its name
   ns, nr           numbers, if the frame has them
-  p or f           0 or 1
+  p, f or pf       0 or 1
   info             \"HEX\", if it has octets
   message          with --names, the words above
   fault, octets    instead of all members but direction: \"F1 TooShort\" and \"HEX\"

@@ -13,6 +13,10 @@ pub(crate) enum CommandOption {
     File(&'static str, &'static str),
     /// An option with one of a few words.
     Word(WordOption),
+    /// An option with one of a few words and no default.
+    BareWord(WordOption),
+    /// An option with several of a few words, with commas between. The parser accepts any text.
+    Words(WordOption),
     /// An option with a number.
     Number(NumberOption),
     /// An option with a number and no default.
@@ -25,7 +29,7 @@ pub(crate) enum CommandOption {
     RequiredAddress(AddressOption),
 }
 
-/// An option whose value is one of a few words.
+/// An option whose value is one of a few words, or several.
 #[derive(Clone, Copy)]
 pub(crate) struct WordOption {
     /// The long name, without the hyphens.
@@ -40,13 +44,15 @@ pub(crate) struct WordOption {
     pub default: &'static str,
 }
 
-/// The option as an argument of the parser. The parser accepts any text for a number or an address;
-/// a bad one is reported later, in this crate's own words.
+/// The option as an argument of the parser. The parser accepts any text for a number, an address or
+/// several words; a bad one is reported later, in this crate's own words.
 pub(crate) fn arg_of<'a>(alloc: Global, option: &CommandOption) -> Arg<'a> {
     match option {
         CommandOption::Flag(name, help) => flag(alloc, name, help),
         CommandOption::File(name, help) => value_arg(alloc, name, "FILE", help),
         CommandOption::Word(option) => word_arg(alloc, option),
+        CommandOption::BareWord(option) => bare_word_arg(alloc, option),
+        CommandOption::Words(option) => words_arg(alloc, option),
         CommandOption::Number(option) => number_arg(alloc, option),
         CommandOption::BareNumber(option) => bare_number_arg(alloc, option),
         CommandOption::Numbers(option) => numbers_arg(alloc, option),
@@ -78,9 +84,15 @@ fn named_arg<'a>(alloc: Global, name: &'static str, help: &'static str) -> Arg<'
 }
 
 fn word_arg<'a>(alloc: Global, option: &WordOption) -> Arg<'a> {
-    value_arg(alloc, option.name, option.value_name, option.help)
-        .value_parser(option.words)
-        .default_value(option.default)
+    bare_word_arg(alloc, option).default_value(option.default)
+}
+
+fn bare_word_arg<'a>(alloc: Global, option: &WordOption) -> Arg<'a> {
+    value_arg(alloc, option.name, option.value_name, option.help).value_parser(option.words)
+}
+
+fn words_arg<'a>(alloc: Global, option: &WordOption) -> Arg<'a> {
+    value_arg(alloc, option.name, option.value_name, option.help).default_value(option.default)
 }
 
 fn number_arg<'a>(alloc: Global, option: &NumberOption) -> Arg<'a> {

@@ -1,11 +1,13 @@
 //! The options of `decode`.
 
 use crate::command_options::side_named;
-use crate::invocation::{DecodeOptions, FollowOptions, FrameOptions, PrintedTime};
+use crate::invocation::{Color, DecodeOptions, FollowOptions, PrintedTime};
 use crate::no_invocation::NoInvocation;
+use crate::option_tables::KINDS;
 use clap::ArgMatches;
 use lapd_cli_values::{
-    COUNT, FOLLOWED_K, NumberOption, PRINTED_SAPI, PRINTED_TEI, number_written, window_written,
+    COUNT, FOLLOWED_K, Filter, NumberOption, PRINTED_SAPI, PRINTED_TEI, Side, number_written,
+    window_written,
 };
 
 /// The options of `decode` among these.
@@ -16,7 +18,7 @@ pub(crate) fn decode_of<'a>(given: &ArgMatches<'a>) -> Result<DecodeOptions, NoI
     let frames = frames_of(given)?;
     Ok(DecodeOptions {
         loose: given.get_flag("loose"),
-        sender: side_named(given, "sender"),
+        sender: sender_of(given),
         names: given.get_flag("names"),
         json: given.get_flag("json"),
         keep_going: given.get_flag("keep-going"),
@@ -24,7 +26,25 @@ pub(crate) fn decode_of<'a>(given: &ArgMatches<'a>) -> Result<DecodeOptions, NoI
         time,
         count,
         frames,
+        any_sapi: given.get_flag("any-sapi"),
+        color: color_of(given),
     })
+}
+
+// When lines are printed in colors.
+fn color_of(given: &ArgMatches<'_>) -> Color {
+    match given.get_str("color") {
+        Some("always") => Color::Always,
+        Some("never") => Color::Never,
+        _ => Color::Auto,
+    }
+}
+
+// The chosen sender, if there is one.
+fn sender_of(given: &ArgMatches<'_>) -> Option<Side> {
+    given
+        .get_str("sender")
+        .map(|_side| side_named(given, "sender"))
 }
 
 // How the links are followed. An option of `--follow` is refused without it.
@@ -62,11 +82,11 @@ fn time_of<'a>(given: &ArgMatches<'a>) -> Result<PrintedTime, NoInvocation<'a>> 
 }
 
 // Which frames are printed.
-fn frames_of<'a>(given: &ArgMatches<'a>) -> Result<FrameOptions, NoInvocation<'a>> {
+fn frames_of<'a>(given: &ArgMatches<'a>) -> Result<Filter, NoInvocation<'a>> {
     let sapi = octet_of(given, PRINTED_SAPI)?;
     let tei = octet_of(given, PRINTED_TEI)?;
-    let kinds = given.get_str("kinds").unwrap_or("i,s,u");
-    Ok(FrameOptions {
+    let kinds = kinds_of(given)?;
+    Ok(Filter {
         sapi,
         tei,
         i: kinds.contains('i'),
@@ -74,6 +94,17 @@ fn frames_of<'a>(given: &ArgMatches<'a>) -> Result<FrameOptions, NoInvocation<'a
         u: kinds.contains('u'),
         polls: !given.get_flag("no-polls"),
     })
+}
+
+// The kinds of frames that are printed: each is one of three letters.
+fn kinds_of<'a>(given: &ArgMatches<'a>) -> Result<&'a str, NoInvocation<'a>> {
+    let kinds = given.get_str(KINDS.name).unwrap_or(KINDS.default);
+    for kind in kinds.split(',') {
+        if !matches!(kind, "i" | "s" | "u") {
+            return Err(NoInvocation::NotKinds(kinds));
+        }
+    }
+    Ok(kinds)
 }
 
 // The number of this option, if it is present and below 256.

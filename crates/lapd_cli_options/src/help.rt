@@ -58,8 +58,9 @@ Allows spaces, colons, brackets and 0x in HEX, and lines of libpri and of logs, 
 line, and HEX alone";
 
 pub const SENDER: &str = "\
-The side that printed the lines of libpri and of logs, and that sent the octets of a line or a \
-capture that does not name it";
+The side that printed the lines of libpri and of logs, and that sent the octets of a line that \
+does not name it [default: net]. Also the sender of frames whose capture does not name it; by \
+default it is taken from their kind and C/R bit";
 
 pub const NAMES: &str = "Adds the message of TEI management or of Q.931 to the line, in words";
 
@@ -67,20 +68,28 @@ pub const JSON: &str = "Prints each frame as a JSON object, one per line";
 
 pub const KEEP_GOING: &str = "Reports a bad line or packet on standard error, and skips it";
 
-pub const PCAP: &str =
-    "Prints the frames of this pcap or pcapng file as they arrive, - for standard input; no script is read";
+pub const PCAP: &str = "\
+Prints the frames of this pcap or pcapng file as they arrive, - for standard input; no script is \
+read";
 
 pub const FOLLOW: &str = "\
-Adds remarks on what each frame means for its link, and prints a table of each link at the end; with \
---strict also ends with exit status 5 if a frame violates Q.921";
+Adds remarks on what each frame means for its link, and prints a table of each link at the end; \
+with --strict also ends with exit status 5 if a frame violates Q.921";
 
 pub const FRAME_TIME: &str = "\
 With --pcap, begins each trace line with the time in seconds: since 1970, since the first printed \
 frame, or since the printed frame before";
 
-pub const KINDS: &str = "Prints only frames of these kinds: I, supervisory, unnumbered";
+pub const KINDS: &str = "\
+Prints only frames of these kinds, with commas between: i (I), s (supervisory), u (unnumbered)";
 
 pub const NO_POLLS: &str = "Leaves out supervisory frames with P or F 1";
+
+pub const COLOR: &str = "\
+Prints trace lines in a color for each sender, and violations in red; auto: if standard output is a \
+terminal and NO_COLOR is not set";
+
+pub const ANY_SAPI: &str = "Prints frames of all SAPIs, not only of 0, 16 and 63";
 
 /// The help of `--json`, of `net` and `user`.
 pub const SIDE_JSON: &str = "Prints each line as a JSON object";

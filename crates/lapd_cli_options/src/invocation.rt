@@ -1,6 +1,6 @@
 ghost use Rattle.lapd_cli_options.specs.CommandLine.{IsDefault};
 
-use lapd_cli_values::{Interface, LinkEnd, Params, Sapi, Side, Tei};
+use lapd_cli_values::{Filter, Interface, LinkEnd, Params, Sapi, Side, Tei};
 
 /// The meaning of the program's words.
 #[derive(Drop)]
@@ -76,8 +76,9 @@ pub struct DecodeOptions {
     /// Whether lines may have more forms, such as those of libpri, of logs and of hex dumps.
     pub loose: bool,
     /// The sender of what libpri prints after `>`, and of octets whose line or capture does not
-    /// name the sender.
-    pub sender: Side,
+    /// name the sender. If `None`, it is the network for lines, and for captures the side that the
+    /// kind and C/R bit of the frame name (Q.921 3.3.2).
+    pub sender: Option<Side>,
     /// Whether the message in a frame is named.
     pub names: bool,
     /// Whether each frame is printed as a JSON object.
@@ -91,7 +92,22 @@ pub struct DecodeOptions {
     /// After how many printed frames the output ends, at least 1; never if `None`.
     pub count: Option<u64>,
     /// Which frames are printed.
-    pub frames: FrameOptions,
+    pub frames: Filter,
+    /// Whether octets with a SAPI other than 0, 16 and 63 are printed as frames.
+    pub any_sapi: bool,
+    /// When trace lines are printed in colors.
+    pub color: Color,
+}
+
+/// When lines are printed in colors.
+#[derive(Clone, Copy)]
+pub enum Color {
+    /// If standard output is a terminal and the variable `NO_COLOR` is not set, or empty.
+    Auto,
+    /// Always.
+    Always,
+    /// Never.
+    Never,
 }
 
 /// The time before each trace line of a capture.
@@ -105,35 +121,6 @@ pub enum PrintedTime {
     Relative,
     /// The seconds since the printed frame before.
     Delta,
-}
-
-/// Which frames `decode` prints.
-#[derive(Clone, Copy, PartialEq, Eq)]
-pub struct FrameOptions {
-    /// Their SAPI, 0 to 63; any if `None`.
-    pub sapi: Option<u8>,
-    /// Their TEI, 0 to 127; any if `None`.
-    pub tei: Option<u8>,
-    /// Whether I frames are printed.
-    pub i: bool,
-    /// Whether supervisory frames are printed.
-    pub s: bool,
-    /// Whether unnumbered frames are printed.
-    pub u: bool,
-    /// Whether supervisory frames with P or F 1 are printed.
-    pub polls: bool,
-}
-
-impl FrameOptions {
-    /// All frames.
-    pub const ALL: FrameOptions = FrameOptions {
-        sapi: None,
-        tei: None,
-        i: true,
-        s: true,
-        u: true,
-        polls: true,
-    };
 }
 
 /// The options of `decode --follow`.

@@ -24,10 +24,10 @@ use clap::{ArgMatches, Command};
 use clock_options::clock_of;
 use command_options::{address_of, job_of, pcap_of, prints_json};
 pub use invocation::{
-    Clock, DecodeOptions, FollowOptions, FrameOptions, Invocation, Job, LiveOptions, PrintedTime,
+    Clock, Color, DecodeOptions, FollowOptions, Invocation, Job, LiveOptions, PrintedTime,
 };
 pub use lapd_cli_values::{
-    Durations, Interface, LinkEnd, NoAddress, OutOfRange, Params, Recovery, Sapi, Side, Tei,
+    Durations, Filter, Interface, LinkEnd, NoAddress, OutOfRange, Params, Recovery, Sapi, Side, Tei,
 };
 pub use no_invocation::NoInvocation;
 use no_invocation::refused_by_parser;
@@ -44,8 +44,8 @@ use std::convert::AsStr;
 /// # Errors
 ///
 /// - `Shown` if the words request help or the version;
-/// - `Refused`, `OutOfRange`, `NoAddress`, `NotReal`, `NotFollowed`, `NotCaptured` or `OneTerminal`
-///   if they are not valid;
+/// - `Refused`, `OutOfRange`, `NoAddress`, `NotReal`, `NotFollowed`, `NotCaptured`, `NotKinds` or
+///   `OneTerminal` if they are not valid;
 /// - `Memory` if an allocation fails.
 pub fn parse_words<'a, S: AsStr>(
     alloc: Global,

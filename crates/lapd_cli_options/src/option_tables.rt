@@ -67,7 +67,7 @@ pub(crate) const DECODE: &[&[CommandOption]] = &[
     EACH,
     &[
         CommandOption::Flag("loose", help::LOOSE),
-        CommandOption::Word(SENDER),
+        CommandOption::BareWord(SENDER),
         CommandOption::Flag("names", help::NAMES),
         CommandOption::Flag("json", help::JSON),
         CommandOption::Flag("keep-going", help::KEEP_GOING),
@@ -78,8 +78,10 @@ pub(crate) const DECODE: &[&[CommandOption]] = &[
         CommandOption::BareNumber(COUNT),
         CommandOption::BareNumber(PRINTED_SAPI),
         CommandOption::BareNumber(PRINTED_TEI),
-        CommandOption::Word(KINDS),
+        CommandOption::Words(KINDS),
         CommandOption::Flag("no-polls", help::NO_POLLS),
+        CommandOption::Flag("any-sapi", help::ANY_SAPI),
+        CommandOption::Word(COLOR),
     ],
 ];
 
@@ -128,7 +130,7 @@ const SIDE: WordOption = WordOption {
     default: "net",
 };
 
-/// The sender that `decode` assumes.
+/// The sender that `decode` assumes. For lines it is the default.
 const SENDER: WordOption = WordOption {
     name: "sender",
     help: help::SENDER,
@@ -145,12 +147,21 @@ const FRAME_TIME: WordOption = WordOption {
 };
 
 /// The kinds of the frames that `decode` prints.
-const KINDS: WordOption = WordOption {
+pub(crate) const KINDS: WordOption = WordOption {
     name: "kinds",
     value_name: "KINDS",
     help: help::KINDS,
-    words: &["i,s,u", "i,s", "i,u", "s,u", "i", "s", "u"],
+    words: &["i", "s", "u"],
     default: "i,s,u",
+};
+
+/// Whether `decode` prints lines in colors.
+const COLOR: WordOption = WordOption {
+    name: "color",
+    value_name: "WHEN",
+    help: help::COLOR,
+    words: &["auto", "always", "never"],
+    default: "auto",
 };
 
 /// The SAPI of a link.

@@ -2,9 +2,11 @@
 //! Wireshark's programs.
 
 mod chosen;
+mod colors;
 mod followed;
 mod lines;
 mod names;
 mod objects;
 mod read;
+mod senders;
 mod written;

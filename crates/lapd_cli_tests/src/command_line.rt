@@ -4,7 +4,7 @@ mod words;
 
 use crate::scenarios::words_of;
 use lapd_cli_options::{
-    Clock, DecodeOptions, Durations, FollowOptions, FrameOptions, Interface, Invocation, Job,
+    Clock, Color, DecodeOptions, Durations, Filter, FollowOptions, Interface, Invocation, Job,
     NoInvocation, Params, PrintedTime, Recovery, Side, help, parse_words,
 };
 use lapd_cli_script::{PortFault, ScriptFault};
@@ -18,8 +18,8 @@ use std::test::Fail;
 /// - for a link: the window, N200, the capacity of the I queue and the recovery;
 /// - for an interface: the same for SAPI 0 and for SAPI 16, T200 to T203, whether SAPI 16 is
 ///   served, the seed (`-` without one), and the TEIs;
-/// - for `decode`: whether links are followed and their window, the time, the count, and the frames
-///   that are printed if not all are;
+/// - for `decode`: whether links are followed and their window, the time, the count, the sender,
+///   whether SAPIs are not checked, the colors, and the frames that are printed if not all are;
 /// - for the real clock: the number of terminals, the file, the address of GSMTAP and the other
 ///   flags.
 const ROWS: &str = "\
@@ -72,6 +72,14 @@ lapd decode --sapi 63 --tei 127 => decode sapi 63 tei 127 isu polls
 lapd decode --sapi=0 --kinds=s => decode sapi 0 s polls
 lapd decode --tei=0 --kinds i,u --no-polls => decode tei 0 iu
 lapd decode --kinds i,s --follow => decode follow is polls
+lapd decode --kinds u,s,s,i => decode
+lapd decode --kinds=u,i,u => decode iu polls
+lapd decode --any-sapi => decode any-sapi
+lapd decode --color auto => decode
+lapd decode --color=always --follow => decode follow always
+lapd decode --color never => decode never
+lapd decode --sender net => decode from net
+lapd decode --sender=user --any-sapi => decode from user any-sapi
 lapd net --listen 127.0.0.1:4000 => net 1 3 512 enquiry 3 3 512 enquiry 1000 1000 2000 10000 with-16 - at 127.0.0.1:4000
 lapd user --connect 127.0.0.1:4000 => user 1 3 512 enquiry 3 3 512 enquiry 1000 1000 2000 10000 with-16 - at 127.0.0.1:4000
 lapd net --listen 127.0.0.1:4000 --pri => net 7 3 512 enquiry 7 3 512 enquiry 1000 1000 2000 10000 without-16 - 0 at 127.0.0.1:4000
@@ -129,7 +137,9 @@ lapd decode --follow --follow => refused
 lapd decode more => refused
 lapd decode --time now => refused
 lapd decode --time => refused
-lapd decode --kinds s,i => refused
+lapd decode --sender both => refused
+lapd decode --color no => refused
+lapd decode --any-sapi --any-sapi => refused
 lapd decode --kinds => refused
 lapd decode --no-polls --no-polls => refused
 lapd decode --count 1 --count 1 => refused
@@ -188,6 +198,9 @@ lapd decode --count 0 => error: invalid value '0' for '--count <FRAMES>': not a 
 lapd decode --count 18446744073709551616 => error: invalid value '18446744073709551616' for '--count <FRAMES>': not a number from 1 to 18446744073709551615 in decimal digits~
 lapd decode --sapi 64 => error: invalid value '64' for '--sapi <SAPI>': not a number from 0 to 63 in decimal digits~
 lapd decode --tei 128 => error: invalid value '128' for '--tei <TEI>': not a number from 0 to 127 in decimal digits~
+lapd decode --kinds s,i,x => error: invalid value 's,i,x' for '--kinds <KINDS>': not a list of i, s and u~
+lapd decode --kinds su => error: invalid value 'su' for '--kinds <KINDS>': not a list of i, s and u~
+lapd decode --kinds i, => error: invalid value 'i,' for '--kinds <KINDS>': not a list of i, s and u~
 lapd decode --follow --k 128 => error: invalid value '128' for '--k <FRAMES>': not a number from 1 to 127 in decimal digits~
 lapd user --connect=a:1 --time => error: --time requires --clock real~
 lapd net --listen=a:1 --clock=script --quiet => error: --quiet requires --clock real~
@@ -326,10 +339,21 @@ fn show_output(text: &mut String, options: &DecodeOptions) {
     if let Some(count) = options.count {
         let _ = write!(text, " count {count}");
     }
+    let _ = text.push_str(match options.sender {
+        None => "",
+        Some(Side::Network) => " from net",
+        Some(Side::User) => " from user",
+    });
+    let _ = text.push_str(if options.any_sapi { " any-sapi" } else { "" });
+    let _ = text.push_str(match options.color {
+        Color::Auto => "",
+        Color::Always => " always",
+        Color::Never => " never",
+    });
 }
 
-fn show_frames(text: &mut String, frames: &FrameOptions) {
-    if *frames == FrameOptions::ALL {
+fn show_frames(text: &mut String, frames: &Filter) {
+    if *frames == Filter::ALL {
         return;
     }
     if let Some(sapi) = frames.sapi {

@@ -4,7 +4,7 @@
 use crate::run::run;
 use crate::scenario::{Console, Line, Scenario, mark_of};
 use lapd_cli_options::{
-    Clock, DecodeOptions, Durations, FollowOptions, FrameOptions, Interface, Invocation, Job,
+    Clock, Color, DecodeOptions, Durations, Filter, FollowOptions, Interface, Invocation, Job,
     LinkEnd, Params, PrintedTime, Recovery, Sapi, Side, Tei,
 };
 use lapd_cli_script::ScriptFault;
@@ -169,14 +169,16 @@ fn follows_while_there_is_memory(rt: HostRuntime) -> Result<(), Fail> {
 /// `decode` without options.
 const DECODE: DecodeOptions = DecodeOptions {
     loose: false,
-    sender: Side::User,
+    sender: Some(Side::User),
     names: false,
     json: false,
     keep_going: false,
     follow: None,
     time: PrintedTime::Hidden,
     count: None,
-    frames: FrameOptions::ALL,
+    frames: Filter::ALL,
+    any_sapi: false,
+    color: Color::Never,
 };
 
 const FOLLOWED: &str = "\

@@ -4,7 +4,7 @@ use lapd_cli_decode::{
     Filter, Follow, FrameStyle, FrameTime, LineForm, LinesStyle, Style, decode_lines, print_lines,
 };
 use lapd_cli_link_commands::{answer, bus, loop_over, pair};
-use lapd_cli_options::{DecodeOptions, FrameOptions, Interface, Invocation, Job, LinkEnd};
+use lapd_cli_options::{DecodeOptions, Interface, Invocation, Job, LinkEnd};
 use lapd_cli_script::ScriptFault;
 use lapd_cli_side_commands::{Config, Port, SideRun, Sink, Source, net, user};
 use lapd_cli_side_lines::LineStyle;
@@ -65,7 +65,11 @@ fn do_decode<R: Read, W: Write>(
     } else {
         Style::Plain
     };
-    if options.follow.is_none() && options.count.is_none() && options.frames == FrameOptions::ALL {
+    if options.follow.is_none()
+        && options.count.is_none()
+        && options.frames == Filter::ALL
+        && !options.any_sapi
+    {
         return decode_lines(alloc, script, out, form, style);
     }
     let how = LinesStyle {
@@ -73,7 +77,9 @@ fn do_decode<R: Read, W: Write>(
         frames: FrameStyle {
             style,
             time: FrameTime::Hidden,
-            filter: Some(filter_of(options.frames)),
+            filter: Some(options.frames),
+            any_sapi: options.any_sapi,
+            is_colored: false,
             count: options.count,
         },
         keeps_going: false,
@@ -81,25 +87,6 @@ fn do_decode<R: Read, W: Write>(
     };
     let _is_violated = print_lines(alloc, script, out, how, io::sink())?;
     Ok(())
-}
-
-fn filter_of(frames: FrameOptions) -> Filter {
-    let FrameOptions {
-        sapi,
-        tei,
-        i,
-        s,
-        u,
-        polls,
-    } = frames;
-    Filter {
-        sapi,
-        tei,
-        i,
-        s,
-        u,
-        polls,
-    }
 }
 
 fn do_net<R: Read, W: Write, S: Source, K: Sink>(

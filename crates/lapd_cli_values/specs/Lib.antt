@@ -1,3 +1,4 @@
+pub mod Filter
 pub mod Options
 pub mod Numerals
 pub mod Interfaces

@@ -40,7 +40,7 @@ fn row_holds(alloc: Global, row: &str) -> bool {
     let (words, lines) = row.split_once('|').unwrap_or((row, ""));
     let how = CaptureStyle {
         frames: style_of(words),
-        sender: Side::User,
+        sender: Some(Side::User),
         keeps_going: false,
     };
     result_is(alloc, CAPTURE, how, "", lines)
@@ -67,6 +67,8 @@ fn style_of(words: &str) -> FrameStyle {
             u: kinds.contains('u'),
             polls: true,
         }),
+        any_sapi: false,
+        is_colored: false,
         count: words.next().unwrap_or("").parse().ok(),
     }
 }

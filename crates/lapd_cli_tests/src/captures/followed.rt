@@ -97,7 +97,7 @@ fn print_capture(
             style,
             ..FrameStyle::PLAIN
         },
-        sender: Side::User,
+        sender: Some(Side::User),
         keeps_going: false,
     };
     let mut reported = Vec::new(alloc);

@@ -91,7 +91,7 @@ const NAMED: FrameStyle = FrameStyle {
 
 const HOW: CaptureStyle = CaptureStyle {
     frames: NAMED,
-    sender: Side::User,
+    sender: Some(Side::User),
     keeps_going: false,
 };
 
@@ -202,11 +202,16 @@ fn ends_by(alloc: Global, ended: Result<Seen, CaptureStop>, fault: &str) -> bool
 
 /// Whether these lines were printed, here separated by slashes.
 pub(crate) fn are_lines(printed: &[u8], lines: &str) -> bool {
+    are_separated(printed, lines, '/')
+}
+
+/// Whether these lines were printed, here separated by this mark.
+pub(crate) fn are_separated(printed: &[u8], lines: &str, mark: char) -> bool {
     let mut rest = printed;
     if lines.is_empty() {
         return rest.is_empty();
     }
-    for line in lines.split('/') {
+    for line in lines.split(mark) {
         let Some(behind) = rest.strip_prefix(line.as_bytes()) else {
             return false;
         };

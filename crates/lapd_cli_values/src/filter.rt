@@ -1,5 +1,5 @@
 ghost use Rattle.std.specs.Prelude.{◌≡◌};
-ghost use Rattle.lapd_cli_decode.specs.Filter.{is_kind_requested, is_poll, is_requested, sapi_in, takes, tei_in};
+ghost use Rattle.lapd_cli_values.specs.Filter.{is_kind_requested, is_poll, is_requested, sapi_in, takes, tei_in};
 
 /// Which frames are printed, by their address (Q.921 3.3) and control field (3.4).
 #[derive(Clone, Copy, Debug, PartialEq, Eq)]
@@ -19,9 +19,19 @@ pub struct Filter {
 }
 
 impl Filter {
+    /// All frames.
+    pub const ALL: Filter = Filter {
+        sapi: None,
+        tei: None,
+        i: true,
+        s: true,
+        u: true,
+        polls: true,
+    };
+
     /// Whether a frame of these octets is printed. Octets that are too short for what is requested
     /// are not.
-    pub(crate) fn takes(&self, octets: &[u8]) -> bool
+    pub fn takes(&self, octets: &[u8]) -> bool
         ensures { result ≡ takes self.now octets.now }
     {
         is_requested(self.sapi, sapi_in(octets))

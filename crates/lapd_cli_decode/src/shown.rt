@@ -1,0 +1,154 @@
+//! The line of a frame whose sender is not known, or whose SAPI is not served.
+
+ghost use Rattle.std.specs.Prelude.{◌≡◌, ◌++◌, OnOk};
+ghost use Rattle.std.specs.String.{string_bytes};
+ghost use Rattle.lapd_cli_decode.specs.Shown.{address_words, control_words, direction_words, frame_words, known_role, number_words, poll_words, reading_words, role_words, shown_line};
+
+use crate::any_sapi::sapi_of;
+use crate::parts::{name_of, nr_of, ns_of};
+use lapd_frame::{Control, Frame, FrameFault, Number, Role, Side};
+use std::alloc::{AllocError, Global};
+
+/// Appends the line of these octets, which were read as this frame or fault. If the sender is not
+/// known, `?` replaces what depends on it.
+///
+/// ```text
+/// ?>? SAPI 0 TEI 64 ? RR N(R)=1 P/F=0
+/// U>N SAPI 1 TEI 64 C SABME P=1
+/// ```
+///
+/// # Errors
+///
+/// `AllocError` if an allocation fails. A part of the line may have been appended.
+pub(crate) fn push_shown(
+    alloc: Global,
+    text: &mut String,
+    from: Option<Side>,
+    octets: &[u8],
+    reading: &Result<Frame<'_>, FrameFault>,
+) -> Result<(), AllocError>
+    ensures { OnOk result (string_bytes text.new
+        ≡ string_bytes text.old ++ shown_line from octets.now reading.now) }
+{
+    text.push_str(direction_words(from))?;
+    push_reading(alloc, text, from, octets, reading)
+}
+
+/// Appends the frame in these octets, or their first fault.
+fn push_reading(
+    alloc: Global,
+    text: &mut String,
+    from: Option<Side>,
+    octets: &[u8],
+    reading: &Result<Frame<'_>, FrameFault>,
+) -> Result<(), AllocError>
+    ensures { OnOk result (string_bytes text.new
+        ≡ string_bytes text.old ++ reading_words from octets.now reading.now) }
+{
+    match reading {
+        Ok(frame) => {
+            let role = known_role(from, frame.address().role);
+            push_frame(alloc, text, sapi_of(octets), role, frame)
+        }
+        Err(fault) => {
+            text.push_str(fault.kind.name())?;
+            lapd_trace::push_octets(alloc, text, " ", octets)
+        }
+    }
+}
+
+/// Appends a frame of this SAPI.
+fn push_frame(
+    alloc: Global,
+    text: &mut String,
+    sapi: u8,
+    role: Option<Role>,
+    frame: &Frame<'_>,
+) -> Result<(), AllocError>
+    ensures { OnOk result (string_bytes text.new
+        ≡ string_bytes text.old ++ frame_words sapi role frame.now) }
+{
+    push_address(text, sapi, frame.address().tei.value(), role)?;
+    push_control(text, role, frame.control())?;
+    lapd_trace::push_octets(alloc, text, " info=", frame.info())
+}
+
+/// Appends SAPI, TEI and role.
+fn push_address(text: &mut String, sapi: u8, tei: u8, role: Option<Role>) -> Result<(), AllocError>
+    ensures { OnOk result (string_bytes text.new
+        ≡ string_bytes text.old ++ address_words sapi tei role) }
+{
+    write!(text, "SAPI {sapi} TEI {tei}")?;
+    text.push_str(role_words(role))
+}
+
+/// Appends the name of the frame, its numbers and its P/F bit.
+fn push_control(text: &mut String, role: Option<Role>, control: Control) -> Result<(), AllocError>
+    ensures { OnOk result (string_bytes text.new
+        ≡ string_bytes text.old ++ control_words role control) }
+{
+    text.push_str(name_of(control))?;
+    push_number(text, " N(S)=", ns_of(control))?;
+    push_number(text, " N(R)=", nr_of(control))?;
+    text.push_str(poll_words(role, control.poll_final()))
+}
+
+/// Appends words and a number, if there is one.
+fn push_number(text: &mut String, words: &str, number: Option<Number>) -> Result<(), AllocError>
+    ensures { OnOk result (string_bytes text.new
+        ≡ string_bytes text.old ++ number_words words.now number) }
+{
+    match number {
+        None => Ok(()),
+        Some(number) => {
+            let value = number.value();
+            write!(text, "{words}{value}")
+        }
+    }
+}
+
+/// The direction of a frame, from this sender.
+fn direction_words(from: Option<Side>) -> &'static str
+    ensures { result.now ≡ direction_words from }
+{
+    match from {
+        None => "?>? ",
+        Some(Side::User) => "U>N ",
+        Some(Side::Network) => "N>U ",
+    }
+}
+
+/// The role, if the sender is known.
+pub(crate) fn known_role(from: Option<Side>, role: Role) -> Option<Role>
+    ensures { result ≡ known_role from role }
+{
+    match from {
+        None => None,
+        Some(_) => Some(role),
+    }
+}
+
+/// Command or response.
+fn role_words(role: Option<Role>) -> &'static str
+    ensures { result.now ≡ role_words role }
+{
+    match role {
+        None => " ? ",
+        Some(Role::Command) => " C ",
+        Some(Role::Answer) => " R ",
+    }
+}
+
+/// The P/F bit.
+fn poll_words(role: Option<Role>, pf: bool) -> &'static str
+    ensures { result.now ≡ poll_words role pf }
+{
+    match (role, pf) {
+        (None, false) => " P/F=0",
+        (None, true) => " P/F=1",
+        (Some(Role::Command), false) => " P=0",
+        (Some(Role::Command), true) => " P=1",
+        (Some(Role::Answer), false) => " F=0",
+        (Some(Role::Answer), true) => " F=1",
+    }
+}
