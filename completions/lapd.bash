@@ -33,7 +33,7 @@ _lapd() {
                     offered+=" --json --clock --time --quiet --serve --keep --pcap --gsmtap"
                     ;;
                 decode)
-                    offered+=" --loose --sender --names --json --keep-going --pcap --follow --k"
+                    offered+=" --loose --sender --names --json --keep-going --pcap --follow --ladder --k"
                     offered+=" --time --count --sapi --tei --kinds --no-polls"
                     ;;
                 help) offered=$commands ;;

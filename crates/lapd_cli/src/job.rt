@@ -4,7 +4,7 @@ use crate::ending::Stop;
 use crate::live::do_live;
 use lapd_cli_console::Script;
 use lapd_cli_decode::{
-    Filter, Follow, FrameStyle, FrameTime, LineForm, LinesStyle, Style, decode_good_lines,
+    Filter, Follow, FrameStyle, FrameTime, Layout, LineForm, LinesStyle, Style, decode_good_lines,
     decode_lines, print_lines,
 };
 use lapd_cli_io::{Notes, connection};
@@ -175,10 +175,20 @@ fn form_of(options: DecodeOptions) -> LineForm {
 /// How `decode` prints frames, and which.
 pub fn frames_of(options: DecodeOptions) -> FrameStyle {
     FrameStyle {
+        layout: layout_of(options),
         style: style_of(options),
         time: time_of(options.time),
         filter: filter_of(options.frames),
         count: options.count,
+    }
+}
+
+// The layout in which `decode` prints frames.
+fn layout_of(options: DecodeOptions) -> Layout {
+    if options.ladder {
+        Layout::Ladder
+    } else {
+        Layout::Lines
     }
 }
 

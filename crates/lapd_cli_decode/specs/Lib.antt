@@ -1,5 +1,6 @@
 pub mod Captured
 pub mod Decoder
+pub mod Drawn
 pub mod Filter
 pub mod Frames
 pub mod Lines

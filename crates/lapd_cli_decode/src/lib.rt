@@ -6,10 +6,11 @@
 //! frames that a [`FrameStyle`] requests, and [`decode_capture`] those of a capture of
 //! `lapd_capture`. If links are followed, which [`follow_capture`] does for a capture, the remarks
 //! of a listener of `lapd_follow` are printed behind each frame, and a table of each link at the
-//! end.
+//! end. With [`Layout::Ladder`] the frames are drawn as a ladder.
 #![tactic(auto)]
 
 mod capture_lines;
+mod drawn;
 mod filter;
 mod frame_printer;
 mod frame_style;
@@ -25,7 +26,7 @@ mod tables;
 pub use capture_lines::{CaptureStop, CaptureStyle, Seen, decode_capture, follow_capture};
 pub use filter::Filter;
 pub use frame_printer::Follow;
-pub use frame_style::FrameStyle;
+pub use frame_style::{FrameStyle, Layout};
 pub use frame_time::FrameTime;
 pub use lapd_capture::{CaptureFault, CaptureReader, PacketFault, ReadFault};
 pub use lapd_frame::Side;

@@ -10,6 +10,7 @@ use lapd_cli_values::{
 
 /// The options of `decode` among these.
 pub(crate) fn decode_of<'a>(given: &ArgMatches<'a>) -> Result<DecodeOptions, NoInvocation<'a>> {
+    let ladder = ladder_of(given)?;
     let follow = follow_of(given)?;
     let time = time_of(given)?;
     let count = number_of(given, COUNT)?;
@@ -19,6 +20,7 @@ pub(crate) fn decode_of<'a>(given: &ArgMatches<'a>) -> Result<DecodeOptions, NoI
         sender: side_named(given, "sender"),
         names: given.get_flag("names"),
         json: given.get_flag("json"),
+        ladder,
         keep_going: given.get_flag("keep-going"),
         follow,
         time,
@@ -27,10 +29,19 @@ pub(crate) fn decode_of<'a>(given: &ArgMatches<'a>) -> Result<DecodeOptions, NoI
     })
 }
 
-// How the links are followed. An option of `--follow` is refused without it.
+// Whether the frames are drawn. Objects can't be.
+fn ladder_of<'a>(given: &ArgMatches<'a>) -> Result<bool, NoInvocation<'a>> {
+    if given.get_flag("ladder") && given.get_flag("json") {
+        return Err(NoInvocation::NotDrawn("json"));
+    }
+    Ok(given.get_flag("ladder"))
+}
+
+// How the links are followed: for a ladder they always are. An option of `--follow` is refused
+// without it.
 fn follow_of<'a>(given: &ArgMatches<'a>) -> Result<Option<FollowOptions>, NoInvocation<'a>> {
     let k = window_of(given)?;
-    if given.get_flag("follow") {
+    if given.get_flag("follow") || given.get_flag("ladder") {
         return Ok(Some(FollowOptions { k }));
     }
     match k {
@@ -47,17 +58,27 @@ fn window_of<'a>(given: &ArgMatches<'a>) -> Result<Option<u8>, NoInvocation<'a>>
     }
 }
 
-// The time before each trace line. Without a capture there is none, and the option is refused.
+// The time of each frame. Without a capture there is none, and the option is refused. In a ladder of
+// a capture it is relative, unless another is requested.
 fn time_of<'a>(given: &ArgMatches<'a>) -> Result<PrintedTime, NoInvocation<'a>> {
     let time = match given.get_str("time") {
         Some("absolute") => PrintedTime::Absolute,
         Some("relative") => PrintedTime::Relative,
         Some("delta") => PrintedTime::Delta,
-        _ => return Ok(PrintedTime::Hidden),
+        _ => return Ok(hidden_or_relative(given)),
     };
     match given.get_str("pcap") {
         Some(_) => Ok(time),
         None => Err(NoInvocation::NotCaptured("time")),
+    }
+}
+
+// The time if none is requested.
+fn hidden_or_relative(given: &ArgMatches<'_>) -> PrintedTime {
+    if given.get_flag("ladder") && given.get_str("pcap").is_some() {
+        PrintedTime::Relative
+    } else {
+        PrintedTime::Hidden
     }
 }
 

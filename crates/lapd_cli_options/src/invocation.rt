@@ -82,6 +82,9 @@ pub struct DecodeOptions {
     pub names: bool,
     /// Whether each frame is printed as a JSON object.
     pub json: bool,
+    /// Whether the frames are drawn as a ladder. Then their links are followed, and frames of a
+    /// capture have times.
+    pub ladder: bool,
     /// Whether bad lines and packets are reported and skipped.
     pub keep_going: bool,
     /// How the links are followed; `None` if they are not.

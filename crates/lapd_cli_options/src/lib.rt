@@ -44,8 +44,8 @@ use std::convert::AsStr;
 /// # Errors
 ///
 /// - `Shown` if the words request help or the version;
-/// - `Refused`, `OutOfRange`, `NoAddress`, `NotReal`, `NotFollowed`, `NotCaptured` or `OneTerminal`
-///   if they are not valid;
+/// - `Refused`, `OutOfRange`, `NoAddress`, `NotReal`, `NotFollowed`, `NotCaptured`, `NotDrawn` or
+///   `OneTerminal` if they are not valid;
 /// - `Memory` if an allocation fails.
 pub fn parse_words<'a, S: AsStr>(
     alloc: Global,

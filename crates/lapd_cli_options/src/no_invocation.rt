@@ -12,7 +12,7 @@ pub enum NoInvocation<'a> {
     Shown(String),
     /// The parser refuses them, for the reason in this text. The text is for standard error, and
     /// the exit status is 2, as for `OutOfRange`, `NoAddress`, `NotReal`, `NotFollowed`,
-    /// `NotCaptured` and `OneTerminal`.
+    /// `NotCaptured`, `NotDrawn` and `OneTerminal`.
     Refused(String),
     /// A number that is not in the range of its option.
     OutOfRange(OutOfRange<'a>),
@@ -25,6 +25,8 @@ pub enum NoInvocation<'a> {
     NotFollowed(&'static str),
     /// The option with this name, without the hyphens, requires `--pcap`, which is absent.
     NotCaptured(&'static str),
+    /// The option with this name, without the hyphens, excludes `--ladder`, which is present.
+    NotDrawn(&'static str),
     /// `--idle-limit` is present, but the side accepts only one connection.
     OneTerminal,
     /// An allocation failed.
@@ -46,6 +48,9 @@ impl fmt::Display for NoInvocation<'_> {
             }
             NoInvocation::NotCaptured(option) => {
                 writeln!(f, "error: --{option} requires --pcap")
+            }
+            NoInvocation::NotDrawn(option) => {
+                writeln!(f, "error: --ladder cannot be used with --{option}")
             }
             NoInvocation::OneTerminal => {
                 f.write_str("error: --idle-limit requires --terminals above 1\n")

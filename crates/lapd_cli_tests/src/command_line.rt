@@ -63,6 +63,10 @@ lapd decode --json => decode
 lapd decode --follow => decode follow
 lapd decode --follow --strict => decode follow strict
 lapd decode --k 127 --follow => decode follow 127
+lapd decode --ladder => decode follow ladder
+lapd decode --ladder --follow --k 7 => decode follow 7 ladder
+lapd decode --ladder --pcap a => decode follow ladder relative
+lapd decode --ladder --pcap a --time absolute => decode follow ladder absolute
 lapd decode --time none --kinds i,s,u => decode
 lapd decode --time absolute --pcap a => decode absolute
 lapd decode --time=relative --pcap=a => decode relative
@@ -184,6 +188,7 @@ lapd bus --terminals 0 => error: invalid value '0' for '--terminals <TERMINALS>'
 lapd bus --terminals 128 => error: invalid value '128' for '--terminals <TERMINALS>': not a number from 1 to 127 in decimal digits~
 lapd decode --k 3 => error: --k requires --follow~
 lapd decode --time delta => error: --time requires --pcap~
+lapd decode --ladder --json => error: --ladder cannot be used with --json~
 lapd decode --count 0 => error: invalid value '0' for '--count <FRAMES>': not a number from 1 to 18446744073709551615 in decimal digits~
 lapd decode --count 18446744073709551616 => error: invalid value '18446744073709551616' for '--count <FRAMES>': not a number from 1 to 18446744073709551615 in decimal digits~
 lapd decode --sapi 64 => error: invalid value '64' for '--sapi <SAPI>': not a number from 0 to 63 in decimal digits~
@@ -317,6 +322,7 @@ fn show_follow(text: &mut String, follow: Option<FollowOptions>) {
 }
 
 fn show_output(text: &mut String, options: &DecodeOptions) {
+    let _ = text.push_str(if options.ladder { " ladder" } else { "" });
     let _ = text.push_str(match options.time {
         PrintedTime::Hidden => "",
         PrintedTime::Absolute => " absolute",

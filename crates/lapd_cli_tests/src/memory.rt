@@ -172,12 +172,31 @@ const DECODE: DecodeOptions = DecodeOptions {
     sender: Side::User,
     names: false,
     json: false,
+    ladder: false,
     keep_going: false,
     follow: None,
     time: PrintedTime::Hidden,
     count: None,
     frames: FrameOptions::ALL,
 };
+
+#[test]
+fn draws_while_there_is_memory(rt: HostRuntime) -> Result<(), Fail> {
+    let options = DecodeOptions {
+        follow: Some(FollowOptions { k: None }),
+        ladder: true,
+        ..DECODE
+    };
+    preserves(&rt, Job::Decode(options), DRAWN)
+}
+
+const DRAWN: &str = "\
+user
+    packet           user |                                                | network
+         1                |-- F1 TooShort -------------------------------->|
+net 02817f
+         2              - |<-- 0 64 SABME P=1 -----------------------------| SABME sent
+";
 
 const FOLLOWED: &str = "\
 user

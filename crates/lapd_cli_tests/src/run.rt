@@ -1,7 +1,8 @@
 //! Running a command over any reader, writer and port.
 
 use lapd_cli_decode::{
-    Filter, Follow, FrameStyle, FrameTime, LineForm, LinesStyle, Style, decode_lines, print_lines,
+    Filter, Follow, FrameStyle, FrameTime, Layout, LineForm, LinesStyle, Style, decode_lines,
+    print_lines,
 };
 use lapd_cli_link_commands::{answer, bus, loop_over, pair};
 use lapd_cli_options::{DecodeOptions, FrameOptions, Interface, Invocation, Job, LinkEnd};
@@ -60,10 +61,10 @@ fn do_decode<R: Read, W: Write>(
     options: DecodeOptions,
 ) -> Result<(), ScriptFault> {
     let form = LineForm::Strict;
-    let style = if options.json {
-        Style::Json
-    } else {
-        Style::Plain
+    let style = match (options.json, options.names) {
+        (true, _) => Style::Json,
+        (false, true) => Style::Named,
+        (false, false) => Style::Plain,
     };
     if options.follow.is_none() && options.count.is_none() && options.frames == FrameOptions::ALL {
         return decode_lines(alloc, script, out, form, style);
@@ -71,6 +72,11 @@ fn do_decode<R: Read, W: Write>(
     let how = LinesStyle {
         form,
         frames: FrameStyle {
+            layout: if options.ladder {
+                Layout::Ladder
+            } else {
+                Layout::Lines
+            },
             style,
             time: FrameTime::Hidden,
             filter: Some(filter_of(options.frames)),
