@@ -13,7 +13,7 @@ _lapd() {
         --clock) offered="script real" ;;
         --kinds) offered="i,s,u i,s i,u s,u i s u" ;;
         --time) [[ ${COMP_WORDS[1]} == decode ]] && offered="none absolute relative delta" ;;
-        --pcap) mapfile -t COMPREPLY < <(compgen -f -- "$word"); return ;;
+        --pcap | --svg) mapfile -t COMPREPLY < <(compgen -f -- "$word"); return ;;
         --tei | --k | --n200 | --room | --terminals | --idle-limit | --t20? | --seed | --count) return ;;
         --listen | --connect | --gsmtap) return ;;
     esac
@@ -33,7 +33,7 @@ _lapd() {
                     offered+=" --json --clock --time --quiet --serve --keep --pcap --gsmtap"
                     ;;
                 decode)
-                    offered+=" --loose --sender --names --json --keep-going --pcap --follow --ladder --k"
+                    offered+=" --loose --sender --names --json --keep-going --pcap --follow --ladder --svg --k"
                     offered+=" --time --count --sapi --tei --kinds --no-polls"
                     ;;
                 help) offered=$commands ;;

@@ -10,8 +10,8 @@ use lapd_cli_decode::{
 use lapd_cli_io::{Notes, connection};
 use lapd_cli_link_commands::{answer, bus, loop_over, pair};
 use lapd_cli_options::{
-    Clock, DecodeOptions, FrameOptions, Interface, Invocation, Job, LinkEnd, Params, PrintedTime,
-    Side,
+    Clock, DecodeOptions, FrameOptions, Interface, Invocation, Job, LinkEnd, Params, PrintedLayout,
+    PrintedTime, Side,
 };
 use lapd_cli_script::ScriptFault;
 use lapd_cli_side_commands::{Config, FromRead, FromWrite, Port, SideRun, net, user};
@@ -185,10 +185,10 @@ pub fn frames_of(options: DecodeOptions) -> FrameStyle {
 
 // The layout in which `decode` prints frames.
 fn layout_of(options: DecodeOptions) -> Layout {
-    if options.ladder {
-        Layout::Ladder
-    } else {
-        Layout::Lines
+    match options.layout {
+        PrintedLayout::Lines => Layout::Lines,
+        PrintedLayout::Ladder => Layout::Ladder,
+        PrintedLayout::Picture => Layout::Picture,
     }
 }
 

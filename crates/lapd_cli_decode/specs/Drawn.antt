@@ -6,6 +6,7 @@ use Rattle.lapd_follow.specs.Listening.{Listening}
 use Rattle.lapd_cli_render.specs.declared.Packet.{Packet}
 use Rattle.lapd_cli_ladder.specs.declared.ladder.LadderStyle.{LadderStyle}
 use Rattle.lapd_cli_ladder.specs.Ladder.{frame_lines, head_line}
+use Rattle.lapd_cli_ladder.specs.Picture.{picture_part}
 use Rattle.lapd_cli_decode.specs.declared.frame_style.FrameStyle.{FrameStyle}
 use Rattle.lapd_cli_decode.specs.Style.{has_names}
 use Rattle.lapd_cli_decode.specs.Time.{time_text, time_width}
@@ -23,3 +24,9 @@ abbrev pub drawn_frame : FrameStyle → ℕ → Packet → Option ℕ → Side �
 drawn_frame how printed packet time from octets said listening =
     head_before (ladder_of how) printed
     ++ frame_lines (ladder_of how) packet (time_text how.time time) from octets said listening
+
+-- its part of a picture
+abbrev pub pictured_frame : FrameStyle → ℕ → Packet → Option ℕ → Side → List ℕ → Option Remarks
+    → Option Listening → List ℕ
+pictured_frame how printed packet time from octets said listening = picture_part
+    (has_names how.style) printed packet (time_text how.time time) from octets said listening

@@ -17,9 +17,9 @@ use Rattle.lapd_cli_decode.specs.declared.frame_printer.Origin.{Origin}
 use Rattle.lapd_cli_decode.specs.declared.frame_printer.Origin.TheVariants.{Script, Capture}
 use Rattle.lapd_cli_decode.specs.declared.frame_style.FrameStyle.{FrameStyle}
 use Rattle.lapd_cli_decode.specs.declared.frame_style.Layout.{Layout}
-use Rattle.lapd_cli_decode.specs.declared.frame_style.Layout.TheVariants.{Lines, Ladder}
+use Rattle.lapd_cli_decode.specs.declared.frame_style.Layout.TheVariants.{Lines, Ladder, Picture}
 use Rattle.lapd_cli_decode.specs.declared.style.Style.{Style}
-use Rattle.lapd_cli_decode.specs.Drawn.{drawn_frame}
+use Rattle.lapd_cli_decode.specs.Drawn.{drawn_frame, pictured_frame}
 use Rattle.lapd_cli_decode.specs.Filter.{reaches, takes_by}
 use Rattle.lapd_cli_decode.specs.Remarked.{remarked}
 use Rattle.lapd_cli_decode.specs.Style.{styled_packet, styled_text}
@@ -89,10 +89,12 @@ line_with said packet from octets s = text_line (remarked s.how.style said
     (front_text s.how.style s.how.time (time_of s.how.time s.first s.last packet.moment)
     ++ bare_text s.origin s.how.style packet from octets))
 
--- the text of a frame that is printed, in this layout: a line, or its part of a ladder
+-- the text of a frame that is printed, in this layout: a line, or its part of a ladder or picture
 abbrev pub text_by : Layout → Option Remarks → Packet → Side → List ℕ → Printing → List ℕ
 text_by Lines said packet from octets s = line_with said packet from octets s
 text_by Ladder said packet from octets s = drawn_frame s.how s.printed packet
+    (time_of s.how.time s.first s.last packet.moment) from octets said s.listening
+text_by Picture said packet from octets s = pictured_frame s.how s.printed packet
     (time_of s.how.time s.first s.last packet.moment) from octets said s.listening
 
 abbrev pub text_with : Option Remarks → Packet → Side → List ℕ → Printing → List ℕ
@@ -141,10 +143,11 @@ abbrev pub tables_of : Style → Option Listening → List ℕ
 tables_of style None = []
 tables_of style (Some l) = tables_text style l.tallies
 
--- a ladder has none
+-- a ladder or a picture has none
 abbrev pub closing_by : Layout → Style → Option Listening → List ℕ
 closing_by Lines style listening = tables_of style listening
 closing_by Ladder style listening = []
+closing_by Picture style listening = []
 
 abbrev pub closing_text : Printing → List ℕ
 closing_text s = closing_by s.how.layout s.how.style s.listening

@@ -1,11 +1,11 @@
 //! The part of a ladder for a frame.
 
 ghost use Rattle.std.specs.Prelude.{◌≡◌, ◌++◌, IfOk, OnOk};
-ghost use Rattle.lapd_cli_decode.specs.Drawn.{drawn_frame, head_before};
+ghost use Rattle.lapd_cli_decode.specs.Drawn.{drawn_frame, head_before, pictured_frame};
 ghost use Rattle.lapd_cli_decode.specs.Remarked.{RemarkedEnds};
 
 use crate::frame_style::FrameStyle;
-use lapd_cli_ladder::{LadderStyle, push_head, push_notes, push_rung};
+use lapd_cli_ladder::{LadderStyle, push_head, push_notes, push_picture_part, push_rung};
 use lapd_cli_render::Packet;
 use lapd_cli_script::LineFault;
 use lapd_follow::{Listener, Remarks};
@@ -35,7 +35,7 @@ pub(crate) fn drawn_frame(
     let style = how.ladder();
     let time = how.time.words(alloc, time)?;
     let mut text = Vec::new(alloc);
-    push_head_before(alloc, &mut text, style, printed)?;
+    push_head_before(&mut text, style, printed)?;
     push_rung(
         alloc,
         &mut text,
@@ -50,9 +50,44 @@ pub(crate) fn drawn_frame(
     Ok(text)
 }
 
+/// The part of a picture for the octets that `from` sent, after so many printed frames.
+///
+/// # Errors
+///
+/// `AllocError` if an allocation fails.
+pub(crate) fn pictured_frame(
+    alloc: Global,
+    how: &FrameStyle,
+    printed: u64,
+    packet: Packet,
+    time: Option<u64>,
+    from: Side,
+    octets: &[u8],
+    said: &Option<Remarks>,
+    listener: &Option<Listener>,
+) -> Result<Vec<u8>, AllocError>
+    ensures { IfOk result (λ text. text.items ≡ pictured_frame how.now printed packet time from
+        octets.now said.now listener.now) }
+{
+    let time = how.time.words(alloc, time)?;
+    let mut text = Vec::new(alloc);
+    push_picture_part(
+        alloc,
+        &mut text,
+        how.style.has_names(),
+        printed,
+        packet,
+        time.as_bytes(),
+        from,
+        octets,
+        said,
+        listener,
+    )?;
+    Ok(text)
+}
+
 /// Appends the line above the first of the printed frames.
 fn push_head_before(
-    alloc: Global,
     text: &mut Vec<u8>,
     style: LadderStyle,
     printed: u64,
@@ -60,7 +95,7 @@ fn push_head_before(
     ensures { OnOk result (text.new.items ≡ text.old.items ++ head_before style printed) }
 {
     if printed == 0 {
-        push_head(alloc, text, style)
+        push_head(text, style)
     } else {
         Ok(())
     }

@@ -4,7 +4,7 @@ ghost use Rattle.std.specs.Prelude.{◌≡◌, nat_lt, IfOk, OnOk};
 ghost use Rattle.std.specs.String.{string_bytes};
 ghost use Rattle.lapd_cli_decode.specs.Frames.{ClosingEnds, PrintEnds, after_frame, after_shown, bare_text, closing_text, followed_packet, frame_text, heard_by, is_complete, is_violated_by, line_packet, line_with, listening_by, new_printing, said_by, tables_of, text_by, text_with};
 
-use crate::drawn::{drawn_frame, put_text};
+use crate::drawn::{drawn_frame, pictured_frame, put_text};
 use crate::frame_style::{FrameStyle, Layout};
 use crate::frame_time::either;
 use crate::remarked::put_frame;
@@ -162,6 +162,7 @@ impl FramePrinter {
         match self.how.layout {
             Layout::Lines => self.show_line(said, packet, from, octets, out),
             Layout::Ladder => self.show_rung(said, packet, from, octets, out),
+            Layout::Picture => self.show_element(said, packet, from, octets, out),
         }
     }
 
@@ -180,6 +181,37 @@ impl FramePrinter {
     {
         let time = self.how.time.of(self.first, self.last, packet.moment);
         let Ok(text) = drawn_frame(
+            self.alloc,
+            &self.how,
+            self.printed,
+            packet,
+            time,
+            from,
+            octets,
+            said,
+            &self.listener,
+        ) else {
+            return Err(LineFault::Memory);
+        };
+        self.count(packet.moment);
+        put_text(text.as_slice(), out)
+    }
+
+    /// Prints octets with these remarks as a part of a picture.
+    fn show_element<W: Write>(
+        &mut self,
+        said: &Option<Remarks>,
+        packet: Packet,
+        from: Side,
+        octets: &[u8],
+        out: &mut W,
+    ) -> Result<(), LineFault>
+        ensures { PrintEnds (text_by Layout.Picture said.now packet from octets.now self.old)
+            (after_shown packet.moment self.old) result self.new (W.contents out.old)
+            (W.contents out.new) }
+    {
+        let time = self.how.time.of(self.first, self.last, packet.moment);
+        let Ok(text) = pictured_frame(
             self.alloc,
             &self.how,
             self.printed,
@@ -256,7 +288,7 @@ impl FramePrinter {
     {
         match self.how.layout {
             Layout::Lines => close_links(self.alloc, self.how.style, &self.listener, out),
-            Layout::Ladder => Ok(is_violated_by(&self.listener)),
+            Layout::Ladder | Layout::Picture => Ok(is_violated_by(&self.listener)),
         }
     }
 }

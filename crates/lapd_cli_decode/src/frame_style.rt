@@ -14,6 +14,8 @@ pub enum Layout {
     Lines,
     /// A ladder. Of the style only the names count, and there are no tables.
     Ladder,
+    /// The same as a picture (SVG), without its beginning and its end.
+    Picture,
 }
 
 /// How frames are printed, and which.

@@ -6,7 +6,8 @@
 //! frames that a [`FrameStyle`] requests, and [`decode_capture`] those of a capture of
 //! `lapd_capture`. If links are followed, which [`follow_capture`] does for a capture, the remarks
 //! of a listener of `lapd_follow` are printed behind each frame, and a table of each link at the
-//! end. With [`Layout::Ladder`] the frames are drawn as a ladder.
+//! end. With [`Layout::Ladder`] the frames are drawn as a ladder, with [`Layout::Picture`] as a
+//! picture between [`PICTURE_BEGIN`] and [`PICTURE_END`].
 #![tactic(auto)]
 
 mod capture_lines;
@@ -29,6 +30,7 @@ pub use frame_printer::Follow;
 pub use frame_style::{FrameStyle, Layout};
 pub use frame_time::FrameTime;
 pub use lapd_capture::{CaptureFault, CaptureReader, PacketFault, ReadFault};
+pub use lapd_cli_ladder::{PICTURE_BEGIN, PICTURE_END};
 pub use lapd_frame::Side;
 pub use line_decoder::{decode_good_lines, decode_lines};
 pub use line_form::LineForm;

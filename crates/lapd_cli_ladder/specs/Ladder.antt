@@ -21,10 +21,16 @@ beside [] = []
 beside (octet ∷ words) = 32 ∷ octet ∷ words
 
 -- a line: the packet, its time, the user's end, what is between the upright lines, the network's end
+abbrev pub line_front : ℕ → List ℕ → List ℕ → List ℕ → List ℕ
+line_front width packet time user = at_right 6 packet ++ (codes " " ++ (at_right width time
+    ++ (at_right 14 user ++ codes " |")))
+
+abbrev pub line_back : List ℕ → List ℕ → List ℕ
+line_back between network = between ++ (codes "|" ++ (beside network ++ codes "\n"))
+
 abbrev pub ladder_line : ℕ → List ℕ → List ℕ → List ℕ → List ℕ → List ℕ → List ℕ
-ladder_line width packet time user between network = at_right 6 packet ++ (codes " "
-    ++ (at_right width time ++ (at_right 14 user ++ (codes " |" ++ (between
-    ++ (codes "|" ++ (beside network ++ codes "\n")))))))
+ladder_line width packet time user between network =
+    line_front width packet time user ++ line_back between network
 
 -- the line above the first frame; without times their column has no width
 abbrev pub time_heading : ℕ → List ℕ
@@ -32,7 +38,7 @@ time_heading width = if width == 0 then [] else codes "time "
 
 abbrev pub head_line : ℕ → List ℕ
 head_line width = ladder_line width (codes "packet") (time_heading width) (codes "user")
-    (at_left 48 []) (codes "network")
+    (codes "                                                ") (codes "network")
 
 -- ---- A frame.
 
@@ -44,6 +50,24 @@ labelled words = filled 45 44 (shortened 42 words ++ codes " ")
 abbrev pub arrow : Side → List ℕ → List ℕ
 arrow User words = codes "-- " ++ (labelled words ++ codes ">")
 arrow Network words = codes "<-- " ++ labelled words
+
+-- the arrow of a frame that is lost: it ends before the other end
+abbrev pub lost_label : List ℕ → List ℕ
+lost_label words = filled 45 34 (shortened 32 words ++ codes " ")
+
+abbrev pub lost_arrow : Side → List ℕ → List ℕ
+lost_arrow User words = codes "-- " ++ (lost_label words ++ codes "X          ")
+lost_arrow Network words = codes "          X-- " ++ lost_label words
+
+abbrev pub arrow_or_lost : Bool → Side → List ℕ → List ℕ
+arrow_or_lost false from words = arrow from words
+arrow_or_lost true from words = lost_arrow from words
+
+-- the line of the octets that this side sent, and that arrive or are lost; beside it these words of
+-- both ends
+abbrev pub arrival_line : Bool → Side → List ℕ → List ℕ → List ℕ → List ℕ
+arrival_line is_lost from octets user network = ladder_line 0 [] [] user
+    (arrow_or_lost is_lost from (frame_words octets (frame_at from octets))) network
 
 -- the line of the octets that this side sent; the ends are as they are known after it
 abbrev pub rung_line : LadderStyle → Packet → List ℕ → Side → List ℕ → Option Listening → List ℕ
@@ -78,12 +102,17 @@ remark_line width None = []
 remark_line width (Some r) = note_line width (remark_words r)
 
 -- the remarks, in the order of their kinds
+abbrev pub first_remarks : ℕ → Remarks → List ℕ
+first_remarks width r = remark_line width r.establishment ++ (remark_line width r.ns
+    ++ (remark_line width r.window ++ remark_line width r.busy))
+
+abbrev pub last_remarks : ℕ → Remarks → List ℕ
+last_remarks width r = remark_line width r.nr ++ (remark_line width r.answer
+    ++ (remark_line width r.identity ++ remark_line width r.conflict))
+
 abbrev pub remark_lines : ℕ → Option Remarks → List ℕ
 remark_lines width None = []
-remark_lines width (Some r) = remark_line width r.establishment ++ (remark_line width r.ns
-    ++ (remark_line width r.window ++ (remark_line width r.busy ++ (remark_line width r.nr
-    ++ (remark_line width r.answer ++ (remark_line width r.identity
-    ++ remark_line width r.conflict))))))
+remark_lines width (Some r) = first_remarks width r ++ last_remarks width r
 
 abbrev pub note_lines : LadderStyle → Packet → Side → List ℕ → Option Remarks → List ℕ
 note_lines style packet from octets said = cut_line style.time_width packet.is_cut

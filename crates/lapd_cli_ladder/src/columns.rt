@@ -6,22 +6,14 @@ ghost use Rattle.lapd_cli_ladder.specs.Columns.{at_left, at_right, filled, short
 use std::alloc::AllocError;
 
 /// Appends words at the left of a column of this width.
-pub(crate) fn push_left(
-    text: &mut Vec<u8>,
-    width: usize,
-    words: &[u8],
-) -> Result<(), AllocError>
+pub(crate) fn push_left(text: &mut Vec<u8>, width: usize, words: &[u8]) -> Result<(), AllocError>
     ensures { OnOk result (text.new.items ≡ text.old.items ++ at_left width words.now) }
 {
     push_filled(text, b' ', width, words)
 }
 
 /// Appends words at the right of a column of this width.
-pub(crate) fn push_right(
-    text: &mut Vec<u8>,
-    width: usize,
-    words: &[u8],
-) -> Result<(), AllocError>
+pub(crate) fn push_right(text: &mut Vec<u8>, width: usize, words: &[u8]) -> Result<(), AllocError>
     ensures { OnOk result (text.new.items ≡ text.old.items ++ at_right width words.now) }
 {
     push_many(text, b' ', width.saturating_sub(words.len()))?;

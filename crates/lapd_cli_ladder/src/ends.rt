@@ -21,10 +21,26 @@ pub(crate) fn known_words(
         ≡ known_words side frame.now listener.now) }
 {
     let mut text = String::new(alloc);
-    if let (Ok(frame), Some(listener)) = (frame, listener) {
-        push_known(&mut text, side, &frame.address(), listener)?;
-    }
+    push_words(&mut text, side, frame, listener)?;
     Ok(text)
+}
+
+fn push_words(
+    text: &mut String,
+    side: Side,
+    frame: &Result<Frame<'_>, FrameFault>,
+    listener: &Option<Listener>,
+) -> Result<(), AllocError>
+    ensures { OnOk result (string_bytes text.new
+        ≡ string_bytes text.old ++ known_words side frame.now listener.now) }
+{
+    match frame {
+        Err(_) => Ok(()),
+        Ok(frame) => match listener {
+            None => Ok(()),
+            Some(listener) => push_known(text, side, &frame.address(), listener),
+        },
+    }
 }
 
 /// Appends the words of the end of this side, of the link with this address.

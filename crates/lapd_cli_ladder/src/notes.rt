@@ -3,7 +3,7 @@
 ghost use Rattle.std.specs.Prelude.{◌≡◌, ◌++◌, drop, IfOk, OnOk};
 ghost use Rattle.std.specs.String.{string_bytes};
 ghost use Rattle.lapd_cli_render.specs.Names.{names_text};
-ghost use Rattle.lapd_cli_ladder.specs.Ladder.{cut_line, line_of_words, names_line, note_line, note_lines, remark_line, remark_lines};
+ghost use Rattle.lapd_cli_ladder.specs.Ladder.{cut_line, first_remarks, last_remarks, line_of_words, names_line, note_line, note_lines, remark_line, remark_lines};
 ghost use Rattle.lapd_cli_ladder.specs.Words.{class_mark, remark_words};
 
 use crate::LadderStyle;
@@ -41,12 +41,7 @@ pub fn push_notes(
 }
 
 /// Appends a line if the capture has only the first octets of a frame.
-fn push_cut(
-    alloc: Global,
-    text: &mut Vec<u8>,
-    width: usize,
-    is_cut: bool,
-) -> Result<(), AllocError>
+fn push_cut(alloc: Global, text: &mut Vec<u8>, width: usize, is_cut: bool) -> Result<(), AllocError>
     ensures { OnOk result (text.new.items ≡ text.old.items ++ cut_line width is_cut) }
 {
     if is_cut {
@@ -71,7 +66,12 @@ fn push_message(
     }
     let mut names = String::new(alloc);
     push_names(&mut names, from, octets)?;
-    push_words(alloc, text, style.time_width, without_first(names.as_bytes()))
+    push_words(
+        alloc,
+        text,
+        style.time_width,
+        without_first(names.as_bytes()),
+    )
 }
 
 /// The octets after the first.
@@ -108,13 +108,39 @@ fn push_remarks(
 ) -> Result<(), AllocError>
     ensures { OnOk result (text.new.items ≡ text.old.items ++ remark_lines width said.now) }
 {
-    let Some(said) = said else {
-        return Ok(());
-    };
+    match said {
+        None => Ok(()),
+        Some(said) => {
+            push_first_remarks(alloc, text, width, said)?;
+            push_last_remarks(alloc, text, width, said)
+        }
+    }
+}
+
+/// Appends the remarks on establishment, N(S), the window and a busy end.
+fn push_first_remarks(
+    alloc: Global,
+    text: &mut Vec<u8>,
+    width: usize,
+    said: &Remarks,
+) -> Result<(), AllocError>
+    ensures { OnOk result (text.new.items ≡ text.old.items ++ first_remarks width said.now) }
+{
     push_remark(alloc, text, width, said.establishment)?;
     push_remark(alloc, text, width, said.ns)?;
     push_remark(alloc, text, width, said.window)?;
-    push_remark(alloc, text, width, said.busy)?;
+    push_remark(alloc, text, width, said.busy)
+}
+
+/// Appends the remarks on N(R), an answer, and messages of TEI management.
+fn push_last_remarks(
+    alloc: Global,
+    text: &mut Vec<u8>,
+    width: usize,
+    said: &Remarks,
+) -> Result<(), AllocError>
+    ensures { OnOk result (text.new.items ≡ text.old.items ++ last_remarks width said.now) }
+{
     push_remark(alloc, text, width, said.nr)?;
     push_remark(alloc, text, width, said.answer)?;
     push_remark(alloc, text, width, said.identity)?;
@@ -157,8 +183,12 @@ fn class_mark(class: Class) -> &'static str
     }
 }
 
-/// Appends a line with a note.
-fn push_note(
+/// Appends a line with a note. `width` is that of the times.
+///
+/// # Errors
+///
+/// `AllocError` if an allocation fails. A part of the line may have been appended.
+pub fn push_note(
     alloc: Global,
     text: &mut Vec<u8>,
     width: usize,

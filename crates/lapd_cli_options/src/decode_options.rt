@@ -1,7 +1,9 @@
 //! The options of `decode`.
 
 use crate::command_options::side_named;
-use crate::invocation::{DecodeOptions, FollowOptions, FrameOptions, PrintedTime};
+use crate::invocation::{
+    DecodeOptions, FollowOptions, FrameOptions, PrintedLayout, PrintedTime,
+};
 use crate::no_invocation::NoInvocation;
 use clap::ArgMatches;
 use lapd_cli_values::{
@@ -10,7 +12,7 @@ use lapd_cli_values::{
 
 /// The options of `decode` among these.
 pub(crate) fn decode_of<'a>(given: &ArgMatches<'a>) -> Result<DecodeOptions, NoInvocation<'a>> {
-    let ladder = ladder_of(given)?;
+    let layout = layout_of(given)?;
     let follow = follow_of(given)?;
     let time = time_of(given)?;
     let count = number_of(given, COUNT)?;
@@ -20,7 +22,7 @@ pub(crate) fn decode_of<'a>(given: &ArgMatches<'a>) -> Result<DecodeOptions, NoI
         sender: side_named(given, "sender"),
         names: given.get_flag("names"),
         json: given.get_flag("json"),
-        ladder,
+        layout,
         keep_going: given.get_flag("keep-going"),
         follow,
         time,
@@ -29,19 +31,38 @@ pub(crate) fn decode_of<'a>(given: &ArgMatches<'a>) -> Result<DecodeOptions, NoI
     })
 }
 
-// Whether the frames are drawn. Objects can't be.
-fn ladder_of<'a>(given: &ArgMatches<'a>) -> Result<bool, NoInvocation<'a>> {
-    if given.get_flag("ladder") && given.get_flag("json") {
-        return Err(NoInvocation::NotDrawn("json"));
+// The layout of the frames. They are printed, drawn or pictured, and objects are not drawn.
+fn layout_of<'a>(given: &ArgMatches<'a>) -> Result<PrintedLayout, NoInvocation<'a>> {
+    let layout = match (given.get_flag("ladder"), given.get_str("svg")) {
+        (false, None) => return Ok(PrintedLayout::Lines),
+        (true, Some(_)) => return Err(NoInvocation::NotBoth("ladder", "svg")),
+        (true, None) => PrintedLayout::Ladder,
+        (false, Some(_)) => PrintedLayout::Picture,
+    };
+    if given.get_flag("json") {
+        return Err(NoInvocation::NotBoth(option_of(layout), "json"));
     }
-    Ok(given.get_flag("ladder"))
+    Ok(layout)
 }
 
-// How the links are followed: for a ladder they always are. An option of `--follow` is refused
+// The option of a drawing.
+fn option_of(layout: PrintedLayout) -> &'static str {
+    match layout {
+        PrintedLayout::Picture => "svg",
+        PrintedLayout::Lines | PrintedLayout::Ladder => "ladder",
+    }
+}
+
+// Whether the frames are drawn.
+fn is_drawn(given: &ArgMatches<'_>) -> bool {
+    given.get_flag("ladder") || given.get_str("svg").is_some()
+}
+
+// How the links are followed: for a drawing they always are. An option of `--follow` is refused
 // without it.
 fn follow_of<'a>(given: &ArgMatches<'a>) -> Result<Option<FollowOptions>, NoInvocation<'a>> {
     let k = window_of(given)?;
-    if given.get_flag("follow") || given.get_flag("ladder") {
+    if given.get_flag("follow") || is_drawn(given) {
         return Ok(Some(FollowOptions { k }));
     }
     match k {
@@ -58,8 +79,8 @@ fn window_of<'a>(given: &ArgMatches<'a>) -> Result<Option<u8>, NoInvocation<'a>>
     }
 }
 
-// The time of each frame. Without a capture there is none, and the option is refused. In a ladder of
-// a capture it is relative, unless another is requested.
+// The time of each frame. Without a capture there is none, and the option is refused. In a drawing
+// of a capture it is relative, unless another is requested.
 fn time_of<'a>(given: &ArgMatches<'a>) -> Result<PrintedTime, NoInvocation<'a>> {
     let time = match given.get_str("time") {
         Some("absolute") => PrintedTime::Absolute,
@@ -75,7 +96,7 @@ fn time_of<'a>(given: &ArgMatches<'a>) -> Result<PrintedTime, NoInvocation<'a>> 
 
 // The time if none is requested.
 fn hidden_or_relative(given: &ArgMatches<'_>) -> PrintedTime {
-    if given.get_flag("ladder") && given.get_str("pcap").is_some() {
+    if is_drawn(given) && given.get_str("pcap").is_some() {
         PrintedTime::Relative
     } else {
         PrintedTime::Hidden

@@ -12,7 +12,7 @@ pub enum NoInvocation<'a> {
     Shown(String),
     /// The parser refuses them, for the reason in this text. The text is for standard error, and
     /// the exit status is 2, as for `OutOfRange`, `NoAddress`, `NotReal`, `NotFollowed`,
-    /// `NotCaptured`, `NotDrawn` and `OneTerminal`.
+    /// `NotCaptured`, `NotBoth` and `OneTerminal`.
     Refused(String),
     /// A number that is not in the range of its option.
     OutOfRange(OutOfRange<'a>),
@@ -25,8 +25,8 @@ pub enum NoInvocation<'a> {
     NotFollowed(&'static str),
     /// The option with this name, without the hyphens, requires `--pcap`, which is absent.
     NotCaptured(&'static str),
-    /// The option with this name, without the hyphens, excludes `--ladder`, which is present.
-    NotDrawn(&'static str),
+    /// The options with these names, without the hyphens, exclude each other.
+    NotBoth(&'static str, &'static str),
     /// `--idle-limit` is present, but the side accepts only one connection.
     OneTerminal,
     /// An allocation failed.
@@ -49,8 +49,8 @@ impl fmt::Display for NoInvocation<'_> {
             NoInvocation::NotCaptured(option) => {
                 writeln!(f, "error: --{option} requires --pcap")
             }
-            NoInvocation::NotDrawn(option) => {
-                writeln!(f, "error: --ladder cannot be used with --{option}")
+            NoInvocation::NotBoth(option, other) => {
+                writeln!(f, "error: --{option} cannot be used with --{other}")
             }
             NoInvocation::OneTerminal => {
                 f.write_str("error: --idle-limit requires --terminals above 1\n")

@@ -74,6 +74,7 @@ pub(crate) const DECODE: &[&[CommandOption]] = &[
         CommandOption::File("pcap", help::PCAP),
         CommandOption::Flag("follow", help::FOLLOW),
         CommandOption::Flag("ladder", help::LADDER),
+        CommandOption::File("svg", help::SVG),
         CommandOption::BareNumber(FOLLOWED_K),
         CommandOption::Word(FRAME_TIME),
         CommandOption::BareNumber(COUNT),

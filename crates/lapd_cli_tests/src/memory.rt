@@ -5,7 +5,7 @@ use crate::run::run;
 use crate::scenario::{Console, Line, Scenario, mark_of};
 use lapd_cli_options::{
     Clock, DecodeOptions, Durations, FollowOptions, FrameOptions, Interface, Invocation, Job,
-    LinkEnd, Params, PrintedTime, Recovery, Sapi, Side, Tei,
+    LinkEnd, Params, PrintedLayout, PrintedTime, Recovery, Sapi, Side, Tei,
 };
 use lapd_cli_script::ScriptFault;
 use lapd_cli_side_commands::{FromRead, FromWrite, Port};
@@ -172,7 +172,7 @@ const DECODE: DecodeOptions = DecodeOptions {
     sender: Side::User,
     names: false,
     json: false,
-    ladder: false,
+    layout: PrintedLayout::Lines,
     keep_going: false,
     follow: None,
     time: PrintedTime::Hidden,
@@ -184,7 +184,7 @@ const DECODE: DecodeOptions = DecodeOptions {
 fn draws_while_there_is_memory(rt: HostRuntime) -> Result<(), Fail> {
     let options = DecodeOptions {
         follow: Some(FollowOptions { k: None }),
-        ladder: true,
+        layout: PrintedLayout::Ladder,
         ..DECODE
     };
     preserves(&rt, Job::Decode(options), DRAWN)

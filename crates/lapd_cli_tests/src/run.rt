@@ -5,7 +5,9 @@ use lapd_cli_decode::{
     print_lines,
 };
 use lapd_cli_link_commands::{answer, bus, loop_over, pair};
-use lapd_cli_options::{DecodeOptions, FrameOptions, Interface, Invocation, Job, LinkEnd};
+use lapd_cli_options::{
+    DecodeOptions, FrameOptions, Interface, Invocation, Job, LinkEnd, PrintedLayout,
+};
 use lapd_cli_script::ScriptFault;
 use lapd_cli_side_commands::{Config, Port, SideRun, Sink, Source, net, user};
 use lapd_cli_side_lines::LineStyle;
@@ -72,10 +74,10 @@ fn do_decode<R: Read, W: Write>(
     let how = LinesStyle {
         form,
         frames: FrameStyle {
-            layout: if options.ladder {
-                Layout::Ladder
-            } else {
-                Layout::Lines
+            layout: match options.layout {
+                PrintedLayout::Lines => Layout::Lines,
+                PrintedLayout::Ladder => Layout::Ladder,
+                PrintedLayout::Picture => Layout::Picture,
             },
             style,
             time: FrameTime::Hidden,

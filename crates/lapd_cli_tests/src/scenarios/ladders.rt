@@ -1,8 +1,7 @@
-//! Scenarios of `decode --ladder`.
+//! Scenarios of `decode --ladder` and `decode --svg`.
 
-/// Sent octets, and their parts of the ladder.
-pub(crate) const SCENARIOS: &str = "\
-lapd decode --ladder
+/// Sent octets, and their parts of the ladder or picture.
+pub(crate) const SCENARIOS: &str = r##"lapd decode --ladder
 user
     packet           user |                                                | network
          1                |-- F1 TooShort -------------------------------->|
@@ -79,4 +78,20 @@ net feff030f56780281
                           |  violation: TEI 64 is already assigned to reference 4660 |
 net feff030f000006ff
          5              - |<-- 63 127 UI P=0 info=0f000006ff --------------| -
-                          |  removes all TEIs                              |";
+                          |  removes all TEIs                              |
+
+lapd decode --svg picture --names
+# a picture without its beginning and its end
+user
+    <style>svg{height:1000px}</style><g transform="translate(0 0000)"><path d="M0 0H940V1000H0Z" class="page"/><text x="60" y="40" class="end">packet</text><text x="190" y="40" class="end">time</text><text x="310" y="40" class="middle">user</text><text x="810" y="40" class="middle">network</text><text x="470" y="990" class="middle">1</text></g>
+    <g transform="translate(0 0000)"><g transform="translate(0 80)"><path d="M310-20v36M810-20v36"/><path d="M310 0H810" marker-end="url(#head)"/><text x="60" class="end">1</text><text x="190" class="end"></text><text x="300" class="end"></text><text x="820"></text><text x="560" y="-5" class="middle">F1 TooShort</text><text x="560" y="12" class="middle note"></text></g></g>
+user 00817f
+    <g transform="translate(0 0000)"><g transform="translate(0 116)"><path d="M310-20v36M810-20v36"/><path d="M310 0H810" marker-end="url(#head)"/><text x="60" class="end">2</text><text x="190" class="end"></text><text x="300" class="end">SABME sent</text><text x="820">-</text><text x="560" y="-5" class="middle">0 64 SABME P=1</text><text x="560" y="12" class="middle note"></text></g></g>
+net 008173
+    <g transform="translate(0 0000)"><g transform="translate(0 152)"><path d="M310-20v36M810-20v36"/><path d="M810 0H310" marker-end="url(#head)"/><text x="60" class="end">3</text><text x="190" class="end"></text><text x="300" class="end">S0 R0</text><text x="820">S0 R0</text><text x="560" y="-5" class="middle">0 64 UA F=1</text><text x="560" y="12" class="middle note">begins establishment 1; answers packet 2</text></g></g>
+user 0081000008010105700380263c
+    <g transform="translate(0 0000)"><g transform="translate(0 188)"><path d="M310-20v36M810-20v36"/><path d="M310 0H810" marker-end="url(#head)"/><text x="60" class="end">4</text><text x="190" class="end"></text><text x="300" class="end">S1 R0</text><text x="820">S0 R0</text><text x="560" y="-5" class="middle">0 64 I N(S)=0 N(R)=0 P=0 info=08010105700380263c</text><text x="560" y="12" class="middle note">SETUP cr=1 from origin called=&amp;&lt;</text></g></g>
+net 008173
+    <g transform="translate(0 0000)"><g transform="translate(0 224)"><path d="M310-20v36M810-20v36"/><path d="M810 0H310" marker-end="url(#head)"/><text x="60" class="end">5</text><text x="190" class="end"></text><text x="300" class="end">-</text><text x="820">S0 R0</text><text x="560" y="-5" class="middle">0 64 UA F=1</text><text x="560" y="12" class="middle note">violation: UA without SABME or DISC</text></g></g>
+user 0081000000000000000000000000000000000000000000000000000000000000000000000000000000000000
+    <g transform="translate(0 0000)"><g transform="translate(0 260)"><path d="M310-20v36M810-20v36"/><path d="M310 0H810" marker-end="url(#head)"/><text x="60" class="end">6</text><text x="190" class="end"></text><text x="300" class="end">-</text><text x="820">S0 R0</text><text x="560" y="-5" class="middle">0 64 I N(S)=0 N(R)=0 P=0 info=0000000000000000000000000000000000..</text><text x="560" y="12" class="middle note"></text></g></g>"##;
