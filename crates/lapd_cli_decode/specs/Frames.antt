@@ -119,7 +119,7 @@ after_heard packet from octets s = record s {
 abbrev pub frame_text : Packet → Side → List ℕ → Printing → List ℕ
 frame_text packet from octets s = if takes_by s.how.filter octets
     then text_with (said_by (followed_packet packet) from octets s.listening) packet from octets
-        (after_heard packet from octets s)
+    (after_heard packet from octets s)
     else []
 
 -- what is known after it: each frame is followed

@@ -87,11 +87,7 @@ pub(crate) fn pictured_frame(
 }
 
 /// Appends the line above the first of the printed frames.
-fn push_head_before(
-    text: &mut Vec<u8>,
-    style: LadderStyle,
-    printed: u64,
-) -> Result<(), AllocError>
+fn push_head_before(text: &mut Vec<u8>, style: LadderStyle, printed: u64) -> Result<(), AllocError>
     ensures { OnOk result (text.new.items ≡ text.old.items ++ head_before style printed) }
 {
     if printed == 0 {

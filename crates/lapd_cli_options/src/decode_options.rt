@@ -1,9 +1,7 @@
 //! The options of `decode`.
 
 use crate::command_options::side_named;
-use crate::invocation::{
-    DecodeOptions, FollowOptions, FrameOptions, PrintedLayout, PrintedTime,
-};
+use crate::invocation::{DecodeOptions, FollowOptions, FrameOptions, PrintedLayout, PrintedTime};
 use crate::no_invocation::NoInvocation;
 use clap::ArgMatches;
 use lapd_cli_values::{

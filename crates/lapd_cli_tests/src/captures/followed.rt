@@ -79,8 +79,16 @@ fn captures_are_followed(rt: HostRuntime) -> Result<(), Fail> {
             OBJECTS,
             "its end, or its lines",
         ),
-        (draws(alloc, FrameTime::Relative, LADDER), LADDER, "its end, or its lines"),
-        (draws(alloc, FrameTime::Absolute, WIDE_LADDER), WIDE_LADDER, "its end, or its lines"),
+        (
+            draws(alloc, FrameTime::Relative, LADDER),
+            LADDER,
+            "its end, or its lines",
+        ),
+        (
+            draws(alloc, FrameTime::Absolute, WIDE_LADDER),
+            WIDE_LADDER,
+            "its end, or its lines",
+        ),
     ])
 }
 
