@@ -21,6 +21,7 @@ fn preserves(rt: &HostRuntime, job: Job, text: &str) -> Result<(), Fail> {
         job,
         address: None,
         pcap: None,
+        svg: None,
         clock: Clock::Script,
         json: false,
         strict: false,
