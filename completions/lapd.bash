@@ -14,7 +14,7 @@ _lapd() {
         --kinds) offered="i s u" ;;
         --color) offered="auto always never" ;;
         --time) [[ ${COMP_WORDS[1]} == decode ]] && offered="none absolute relative delta" ;;
-        --pcap) mapfile -t COMPREPLY < <(compgen -f -- "$word"); return ;;
+        --pcap | --svg) mapfile -t COMPREPLY < <(compgen -f -- "$word"); return ;;
         --tei | --k | --n200 | --room | --terminals | --idle-limit | --t20? | --seed | --count) return ;;
         --listen | --connect | --gsmtap) return ;;
     esac
@@ -34,7 +34,7 @@ _lapd() {
                     offered+=" --json --clock --time --quiet --serve --keep --pcap --gsmtap"
                     ;;
                 decode)
-                    offered+=" --loose --sender --names --json --keep-going --pcap --follow --k"
+                    offered+=" --loose --sender --names --json --keep-going --pcap --follow --ladder --svg --k"
                     offered+=" --time --count --sapi --tei --kinds --no-polls --any-sapi --color"
                     ;;
                 help) offered=$commands ;;

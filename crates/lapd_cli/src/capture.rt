@@ -2,6 +2,7 @@
 
 use crate::ending::{print_memory, print_violation};
 use crate::job::{follow_of, frames_of};
+use crate::picture::{Output, begin_picture, end_picture};
 use lapd_cli_console::Watched;
 use lapd_cli_decode::{
     CaptureReader, CaptureStop, CaptureStyle, Follow, ReadFault, Seen, decode_capture,
@@ -22,28 +23,35 @@ const UNREADABLE: u8 = 1;
 const STANDARD_INPUT: &str = "-";
 
 /// Prints the frames of the capture in this file, or of standard input, and reports how that ended.
-pub fn do_capture(rt: &HostRuntime, file: &str, options: DecodeOptions, strict: bool) -> ExitCode {
+pub fn do_capture<O: Write + Drop>(
+    rt: &HostRuntime,
+    file: &str,
+    options: DecodeOptions,
+    strict: bool,
+    output: Output<'_, O>,
+) -> ExitCode {
     if file == STANDARD_INPUT {
-        return read_capture(rt, "standard input", rt.stdin(), options, strict);
+        return read_capture(rt, "standard input", rt.stdin(), options, strict, output);
     }
     match File::open(rt, file) {
-        Ok(source) => read_capture(rt, file, source, options, strict),
+        Ok(source) => read_capture(rt, file, source, options, strict, output),
         Err(error) => print_no_file(rt, file, &Reason(&error)),
     }
 }
 
 // Prints the frames of the capture in this reader.
-fn read_capture<R: Read + Drop>(
+fn read_capture<R: Read + Drop, O: Write + Drop>(
     rt: &HostRuntime,
     file: &str,
     source: R,
     options: DecodeOptions,
     strict: bool,
+    output: Output<'_, O>,
 ) -> ExitCode {
     match CaptureReader::new(rt.alloc(), source) {
-        Ok(mut capture) => print_capture(rt, file, &mut capture, options, strict),
+        Ok(mut capture) => print_capture(rt, file, &mut capture, options, strict, output),
         Err(ReadFault::Capture(fault)) => {
-            print_stop(rt, file, CaptureStop::Capture(fault, 0), None)
+            print_stop(rt, file, CaptureStop::Capture(fault, 0), None, output.name)
         }
         Err(ReadFault::Device(kind)) => print_no_file(rt, file, &KindReason(kind)),
         Err(ReadFault::Memory) => print_memory(rt),
@@ -51,23 +59,31 @@ fn read_capture<R: Read + Drop>(
 }
 
 // Prints the frames of a capture.
-fn print_capture<R: Read>(
+fn print_capture<R: Read, O: Write + Drop>(
     rt: &HostRuntime,
     file: &str,
     capture: &mut CaptureReader<R>,
     options: DecodeOptions,
     strict: bool,
+    output: Output<'_, O>,
 ) -> ExitCode {
+    let Output {
+        writer,
+        name,
+        is_picture,
+    } = output;
     let how = CaptureStyle {
         frames: frames_of(rt, options),
         sender: options.sender,
         keeps_going: options.keep_going,
     };
-    let Ok(mut out) = BufWriter::new(rt.alloc(), Watched::new(rt.stdout())) else {
+    let Ok(mut out) = BufWriter::new(rt.alloc(), Watched::new(writer)) else {
         return print_memory(rt);
     };
+    let is_begun = begin_picture(is_picture, &mut out);
     let ended = print_frames(rt, capture, &mut out, how, follow_of(options));
-    let is_written = out.flush().is_ok();
+    let is_ended = end_picture(is_picture, &mut out);
+    let is_written = out.flush().is_ok() && is_begun && is_ended;
     // Text that a failed writer did not accept is dropped.
     let (watched, _left) = out.into_parts();
     match ended {
@@ -79,8 +95,8 @@ fn print_capture<R: Read>(
                 ExitCode::SUCCESS
             }
         }
-        Ok(_) => print_stop(rt, file, CaptureStop::Device, watched.fault()),
-        Err(stop) => print_stop(rt, file, stop, watched.fault()),
+        Ok(_) => print_stop(rt, file, CaptureStop::Device, watched.fault(), name),
+        Err(stop) => print_stop(rt, file, stop, watched.fault(), name),
     }
 }
 
@@ -105,8 +121,8 @@ fn print_none(rt: &HostRuntime, seen: Seen, packets: u64) {
     }
 }
 
-// Reports why a file could not be read.
-fn print_no_file<D: Display>(rt: &HostRuntime, file: &str, reason: &D) -> ExitCode {
+/// Reports why a file could not be read or created.
+pub fn print_no_file<D: Display>(rt: &HostRuntime, file: &str, reason: &D) -> ExitCode {
     let _ = eprintln!(rt; "{}", ScriptFault::Device);
     let _ = eprintln!(rt; "{file}: {reason}");
     ExitCode::from(ScriptFault::Device.status())
@@ -119,6 +135,7 @@ fn print_stop(
     file: &str,
     stop: CaptureStop,
     output: Option<ErrorKind>,
+    output_name: &str,
 ) -> ExitCode {
     match (stop, output) {
         (CaptureStop::Memory, _) => return print_memory(rt),
@@ -130,7 +147,7 @@ fn print_stop(
         (CaptureStop::Device, Some(ErrorKind::BrokenPipe)) => {}
         (CaptureStop::Device, Some(kind)) => {
             let _ = eprintln!(rt; "{stop}");
-            let _ = eprintln!(rt; "standard output: {}", KindReason(kind));
+            let _ = eprintln!(rt; "{output_name}: {}", KindReason(kind));
         }
         (CaptureStop::Device, None) => {
             let _ = eprintln!(rt; "{stop}");

@@ -53,6 +53,8 @@ pub struct Ending<'a> {
     pub input: Option<ErrorKind>,
     /// Why the last failed write failed.
     pub output: Option<ErrorKind>,
+    /// What the output is written to.
+    pub output_name: &'a str,
 }
 
 /// Reports how a script ended, and returns the exit status.
@@ -174,11 +176,11 @@ fn print_reason(rt: &HostRuntime, script: Script, line: &[u8]) {
     };
 }
 
-// Reports which standard stream failed, and why.
+// Reports which stream failed, and why.
 fn print_device(rt: &HostRuntime, ending: &Ending<'_>) {
     let _ = match (ending.input, ending.output, ending.script) {
         (Some(kind), _, _) => eprintln!(rt; "standard input: {}", KindReason(kind)),
-        (None, Some(kind), _) => eprintln!(rt; "standard output: {}", KindReason(kind)),
+        (None, Some(kind), _) => eprintln!(rt; "{}: {}", ending.output_name, KindReason(kind)),
         (None, None, Script::Loop) => eprintln!(rt;
             "a frame did not return over the program's connection to itself, or 1,000,000 reads did not reach the script's end"
         ),

@@ -4,13 +4,14 @@ use crate::ending::Stop;
 use crate::live::do_live;
 use lapd_cli_console::Script;
 use lapd_cli_decode::{
-    Filter, Follow, FrameStyle, FrameTime, LineForm, LinesStyle, Style, decode_good_lines,
+    Filter, Follow, FrameStyle, FrameTime, Layout, LineForm, LinesStyle, Style, decode_good_lines,
     decode_lines, print_lines,
 };
 use lapd_cli_io::{Notes, connection};
 use lapd_cli_link_commands::{answer, bus, loop_over, pair};
 use lapd_cli_options::{
-    Clock, Color, DecodeOptions, Interface, Invocation, Job, LinkEnd, Params, PrintedTime, Side,
+    Clock, Color, DecodeOptions, Interface, Invocation, Job, LinkEnd, Params, PrintedLayout,
+    PrintedTime, Side,
 };
 use lapd_cli_script::ScriptFault;
 use lapd_cli_side_commands::{Config, FromRead, FromWrite, Port, SideRun, net, user};
@@ -180,6 +181,7 @@ fn form_of(options: DecodeOptions) -> LineForm {
 /// How `decode` prints frames, and which.
 pub fn frames_of(rt: &HostRuntime, options: DecodeOptions) -> FrameStyle {
     FrameStyle {
+        layout: layout_of(options),
         style: style_of(options),
         time: time_of(options.time),
         filter: filter_of(options.frames),
@@ -203,6 +205,15 @@ fn has_no_color(rt: &HostRuntime) -> bool {
     match env::var(rt, "NO_COLOR") {
         Ok(text) => !text.is_empty(),
         Err(_) => false,
+    }
+}
+
+// The layout in which `decode` prints frames.
+fn layout_of(options: DecodeOptions) -> Layout {
+    match options.layout {
+        PrintedLayout::Lines => Layout::Lines,
+        PrintedLayout::Ladder => Layout::Ladder,
+        PrintedLayout::Picture => Layout::Picture,
     }
 }
 

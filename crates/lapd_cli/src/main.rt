@@ -18,15 +18,19 @@ mod greeting;
 mod job;
 mod live;
 mod person;
+mod picture;
 
-use capture::do_capture;
+use capture::{do_capture, print_no_file};
 use ending::{Ending, Stop, print_ending, print_memory, print_no_invocation, print_words_fault};
 use greeting::Greeting;
 use job::{do_job, script_of};
 use lapd_cli_console::{RecentLines, Refusals, Session, Watched};
+use lapd_cli_io::Reason;
 use lapd_cli_options::{Clock, Invocation, Job, parse_words, words};
 use lapd_cli_script::ScriptFault;
-use std::io::{BufWriter, IsTerminal, Read};
+use picture::{Output, begin_picture, end_picture};
+use std::fs::File;
+use std::io::{BufWriter, IsTerminal, Read, Write};
 use std::process::ExitCode;
 
 fn main(rt: HostRuntime) -> ExitCode {
@@ -40,23 +44,60 @@ fn main(rt: HostRuntime) -> ExitCode {
     }
 }
 
-// Runs the chosen job.
+// Runs the chosen job. Its output is written to standard output, or to the file of its picture.
 fn do_chosen(rt: &HostRuntime, chosen: &Invocation<'_>) -> ExitCode {
-    match (&chosen.job, chosen.pcap) {
-        (Job::Decode(options), Some(file)) => do_capture(rt, file, *options, chosen.strict),
-        _ => do_lines(rt, chosen),
+    let Some(name) = chosen.svg else {
+        return do_output(
+            rt,
+            chosen,
+            Output {
+                writer: rt.stdout(),
+                name: "standard output",
+                is_picture: false,
+            },
+        );
+    };
+    match File::create(rt, name) {
+        Ok(writer) => do_output(
+            rt,
+            chosen,
+            Output {
+                writer,
+                name,
+                is_picture: true,
+            },
+        ),
+        Err(error) => print_no_file(rt, name, &Reason(&error)),
     }
 }
 
-// Runs the chosen job over standard input and output. At a terminal, a bad line is reported and the
-// next one awaited.
-fn do_lines(rt: &HostRuntime, chosen: &Invocation<'_>) -> ExitCode {
+// Runs the chosen job with this output.
+fn do_output<O: Write + Drop>(
+    rt: &HostRuntime,
+    chosen: &Invocation<'_>,
+    output: Output<'_, O>,
+) -> ExitCode {
+    match (&chosen.job, chosen.pcap) {
+        (Job::Decode(options), Some(file)) => {
+            do_capture(rt, file, *options, chosen.strict, output)
+        }
+        _ => do_lines(rt, chosen, output),
+    }
+}
+
+// Runs the chosen job over standard input. At a terminal, a bad line is reported and the next one
+// awaited.
+fn do_lines<O: Write + Drop>(
+    rt: &HostRuntime,
+    chosen: &Invocation<'_>,
+    output: Output<'_, O>,
+) -> ExitCode {
     if rt.stdin().is_terminal() && has_forms(chosen) {
         let script = script_of(&chosen.job, &chosen.clock);
         let session = Session::new(rt.alloc(), script, rt.reader(), rt.stderr());
-        do_script(rt, chosen, Greeting::new(session, rt.stderr()))
+        do_script(rt, chosen, Greeting::new(session, rt.stderr()), output)
     } else {
-        do_script(rt, chosen, rt.stdin())
+        do_script(rt, chosen, rt.stdin(), output)
     }
 }
 
@@ -70,13 +111,23 @@ fn has_forms(chosen: &Invocation<'_>) -> bool {
 }
 
 // Runs the chosen job over a script from this reader, and reports how it ended.
-fn do_script<R: Read + Drop>(rt: &HostRuntime, chosen: &Invocation<'_>, reader: R) -> ExitCode {
+fn do_script<R: Read + Drop, O: Write + Drop>(
+    rt: &HostRuntime,
+    chosen: &Invocation<'_>,
+    reader: R,
+    destination: Output<'_, O>,
+) -> ExitCode {
+    let Output {
+        writer,
+        name,
+        is_picture,
+    } = destination;
     let mut recent = RecentLines::new(reader);
-    let watched = Watched::new(Refusals::new(rt.stdout(), chosen.strict));
+    let watched = Watched::new(Refusals::new(writer, chosen.strict));
     let Ok(mut out) = BufWriter::new(rt.alloc(), watched) else {
         return print_memory(rt);
     };
-    let ended = do_job(rt, chosen, &mut recent, &mut out);
+    let ended = do_framed(rt, chosen, is_picture, &mut recent, &mut out);
     // Text that a failed writer did not accept is dropped.
     let (watched, _left) = out.into_parts();
     let output = watched.fault();
@@ -90,8 +141,27 @@ fn do_script<R: Read + Drop>(rt: &HostRuntime, chosen: &Invocation<'_>, reader: 
         refusal: refusals.first().unwrap_or(&[]),
         input: recent.fault(),
         output,
+        output_name: name,
     };
     print_ending(rt, &ending, &ended)
+}
+
+// Runs the chosen job, between the beginning and the end of a picture if it draws one.
+fn do_framed<R: Read, W: Write>(
+    rt: &HostRuntime,
+    chosen: &Invocation<'_>,
+    is_picture: bool,
+    script: &mut R,
+    out: &mut W,
+) -> Result<(), Stop> {
+    if !begin_picture(is_picture, out) {
+        return Err(Stop::Script(ScriptFault::Device));
+    }
+    let ended = do_job(rt, chosen, script, out);
+    if !end_picture(is_picture, out) && ended.is_ok() {
+        return Err(Stop::Script(ScriptFault::Device));
+    }
+    ended
 }
 
 // The bad line; empty if no line was bad, or if it is no longer kept.

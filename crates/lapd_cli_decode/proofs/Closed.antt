@@ -14,7 +14,7 @@ use Rattle.lapd_cli_decode.specs.declared.capture_lines.CaptureStop.TheVariants 
 use Rattle.lapd_cli_decode.specs.declared.capture_lines.Seen.{Seen}
 
 ended : (s v : PrintingLines) (result : Result Bool ScriptFault) (lines : List (List ℕ)) (old mid new : Option (List ℕ))
-    → state_after print_step s lines ≡ v → EndsAs print_step s (Ok tt) lines old mid → ClosingEnds v.printing.how.style v.printing.listening result mid new
+    → state_after print_step s lines ≡ v → EndsAs print_step s (Ok tt) lines old mid → ClosingEnds (closing_text v.printing) v.printing.listening result mid new
     → LinesEnd s result lines old new
 ended s v (Ok is_violated) lines old mid new is walked close = (
   walked.0,
@@ -30,7 +30,7 @@ ended s v (Err (Port fault)) lines old mid new is walked close = absurd close
 pub lines_closed : (known : Option (List ℕ)) (s v : PrintingLines) (result : Result Bool ScriptFault) (old mid new : Option (List ℕ))
     → IfSome known (λ octets. EndsAs print_step s (Ok tt) (lines_of octets) old mid)
     → IfSome known (λ octets. state_after print_step s (lines_of octets) ≡ v)
-    → ClosingEnds v.printing.how.style v.printing.listening result mid new
+    → ClosingEnds (closing_text v.printing) v.printing.listening result mid new
     → IfSome known (λ octets. LinesEnd s result (lines_of octets) old new)
 lines_closed None s v result old mid new walked is close = tt
 lines_closed (Some octets) s v result old mid new walked is close = ended s v result (lines_of octets) old mid new is walked close

@@ -18,9 +18,12 @@ use Rattle.lapd_cli_decode.specs.declared.frame_printer.Follow.{Follow}
 use Rattle.lapd_cli_decode.specs.declared.frame_printer.Origin.{Origin}
 use Rattle.lapd_cli_decode.specs.declared.frame_printer.Origin.TheVariants.{Script, Capture}
 use Rattle.lapd_cli_decode.specs.declared.frame_style.FrameStyle.{FrameStyle}
+use Rattle.lapd_cli_decode.specs.declared.frame_style.Layout.{Layout}
+use Rattle.lapd_cli_decode.specs.declared.frame_style.Layout.TheVariants.{Lines, Ladder, Picture}
 use Rattle.lapd_cli_decode.specs.declared.style.Style.{Style}
 use Rattle.lapd_cli_decode.specs.AnySapi.{has_other_sapi, with_sapi_0}
 use Rattle.lapd_cli_decode.specs.Color.{color_of, colored}
+use Rattle.lapd_cli_decode.specs.Drawn.{drawn_frame, pictured_frame}
 use Rattle.lapd_cli_decode.specs.Filter.{reaches, takes_by}
 use Rattle.lapd_cli_decode.specs.Remarked.{remarked}
 use Rattle.lapd_cli_decode.specs.ShownText.{shown_text}
@@ -115,6 +118,20 @@ line_with said packet from octets s = text_line (colored s.how.is_colored s.how.
     (front_text s.how.style s.how.time (time_of s.how.time s.first s.last packet.moment)
     ++ bare_text (has_other_sapi s.how.any_sapi octets) s.origin s.how.style packet from octets)))
 
+-- the text of a frame that is printed, in this layout: a line, or its part of a ladder or picture.
+-- In these a frame without a known sender is the network's.
+abbrev pub text_by : Layout → Option Remarks → Packet → Option Side → List ℕ → Printing → List ℕ
+text_by Lines said packet from octets s = line_with said packet from octets s
+text_by Ladder said packet from octets s = drawn_frame s.how s.printed packet
+    (time_of s.how.time s.first s.last packet.moment) (unwrap_or from Network) octets said
+    s.listening
+text_by Picture said packet from octets s = pictured_frame s.how s.printed packet
+    (time_of s.how.time s.first s.last packet.moment) (unwrap_or from Network) octets said
+    s.listening
+
+abbrev pub text_with : Option Remarks → Packet → Option Side → List ℕ → Printing → List ℕ
+text_with said packet from octets s = text_by s.how.layout said packet from octets s
+
 -- what is known after a frame that is printed and was captured at this moment
 abbrev pub after_shown : Option ℕ → Printing → Printing
 after_shown moment s = record s {
@@ -130,10 +147,11 @@ after_heard packet from octets s = record s {
   listening = heard_by (followed_packet packet) from octets s.listening;
 }
 
--- the text of a frame: nothing if it is filtered out
+-- the text of a frame: nothing if it is filtered out; a ladder shows what is known after it
 abbrev pub frame_text : Packet → Option Side → List ℕ → Printing → List ℕ
 frame_text packet from octets s = if takes_by s.how.filter octets
-    then line_with (said_by (followed_packet packet) from octets s.listening) packet from octets s
+    then text_with (said_by (followed_packet packet) from octets s.listening) packet from octets
+    (after_heard packet from octets s)
     else []
 
 -- what is known after it: each frame is followed
@@ -157,20 +175,26 @@ abbrev pub tables_of : Style → Option Listening → List ℕ
 tables_of style None = []
 tables_of style (Some l) = tables_text style l.tallies
 
+-- a ladder or a picture has none
+abbrev pub closing_by : Layout → Style → Option Listening → List ℕ
+closing_by Lines style listening = tables_of style listening
+closing_by Ladder style listening = []
+closing_by Picture style listening = []
+
 abbrev pub closing_text : Printing → List ℕ
-closing_text s = tables_of s.how.style s.listening
+closing_text s = closing_by s.how.layout s.how.style s.listening
 
 -- whether a remark was a violation
 abbrev pub is_violated_by : Option Listening → Bool
 is_violated_by None = false
 is_violated_by (Some l) = l.is_violated
 
--- how printing the tables ends
-abbrev pub ClosingEnds : Style → Option Listening → Result Bool ScriptFault → Option (List ℕ)
+-- how printing this text at the end ends
+abbrev pub ClosingEnds : List ℕ → Option Listening → Result Bool ScriptFault → Option (List ℕ)
     → Option (List ℕ) → Type 0
-ClosingEnds style listening (Ok is_violated) old new =
-    Appends old new (tables_of style listening) × (is_violated ≡ is_violated_by listening)
-ClosingEnds style listening (Err Memory) old new = Keeps old new
-ClosingEnds style listening (Err Device) old new = ⊤
-ClosingEnds style listening (Err (BadLine number)) old new = ⊥
-ClosingEnds style listening (Err (Port fault)) old new = ⊥
+ClosingEnds text listening (Ok is_violated) old new =
+    Appends old new text × (is_violated ≡ is_violated_by listening)
+ClosingEnds text listening (Err Memory) old new = Keeps old new
+ClosingEnds text listening (Err Device) old new = ⊤
+ClosingEnds text listening (Err (BadLine number)) old new = ⊥
+ClosingEnds text listening (Err (Port fault)) old new = ⊥

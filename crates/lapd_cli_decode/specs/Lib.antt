@@ -2,6 +2,7 @@ pub mod AnySapi
 pub mod Captured
 pub mod Color
 pub mod Decoder
+pub mod Drawn
 pub mod Filter
 pub mod Frames
 pub mod Lines

@@ -16,6 +16,13 @@ styled_text Named from octets = trace_line from octets ++ names_text from octets
 styled_text Json from octets = object_text (frame_members from octets)
 styled_text NamedJson from octets = object_text (named_members from octets)
 
+-- whether the message in a frame is named
+abbrev pub has_names : Style → Bool
+has_names Plain = false
+has_names Named = true
+has_names Json = false
+has_names NamedJson = true
+
 -- a mark behind a line if the capture has only the first of its octets
 abbrev pub marked : Bool → List ℕ → List ℕ
 marked false text = text

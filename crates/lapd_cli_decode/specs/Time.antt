@@ -48,3 +48,10 @@ front_text Plain time moment = time_text time moment
 front_text Named time moment = time_text time moment
 front_text Json time moment = []
 front_text NamedJson time moment = []
+
+-- the columns of these times in a ladder, with the space behind them
+abbrev pub time_width : FrameTime → ℕ
+time_width Hidden = 0
+time_width Absolute = 18
+time_width Relative = 13
+time_width Delta = 13

@@ -80,7 +80,7 @@ fn line_in_color(
 ) -> Result<String, AllocError>
     ensures { IfOk result (λ line. string_bytes line
         ≡ color_of from (said_if is_followed said.now)
-            ++ (remarked Plain (said_if is_followed said.now) text.now ++ color_end)) }
+        ++ (remarked Plain (said_if is_followed said.now) text.now ++ color_end)) }
 {
     let mut line = String::new(alloc);
     line.push_str(color_of(from, is_followed, said))?;

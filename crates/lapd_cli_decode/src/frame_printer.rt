@@ -2,11 +2,12 @@
 
 ghost use Rattle.std.specs.Prelude.{◌≡◌, nat_lt, true, IfOk, OnOk};
 ghost use Rattle.std.specs.String.{string_bytes};
-ghost use Rattle.lapd_cli_decode.specs.Frames.{ClosingEnds, PrintEnds, after_frame, after_shown, bare_text, followed_packet, frame_text, heard_by, is_complete, line_packet, line_with, listening_by, new_printing, said_by, said_if, sent_text, shown_packet};
+ghost use Rattle.lapd_cli_decode.specs.Frames.{ClosingEnds, PrintEnds, after_frame, after_shown, bare_text, closing_text, followed_packet, frame_text, heard_by, is_complete, is_violated_by, line_packet, line_with, listening_by, new_printing, said_by, said_if, sent_text, shown_packet, tables_of, text_by, text_with};
 
 use crate::any_sapi::has_other_sapi;
 use crate::color::put_colored;
-use crate::frame_style::FrameStyle;
+use crate::drawn::{drawn_frame, pictured_frame, put_text};
+use crate::frame_style::{FrameStyle, Layout};
 use crate::frame_time::either;
 use crate::shown_text::{write_other, write_unsent};
 use crate::style::Style;
@@ -183,8 +184,102 @@ impl FramePrinter {
         }
     }
 
-    /// Prints octets, with these remarks if links are followed.
+    /// Prints octets, with these remarks if links are followed, in the layout that was requested.
     fn show<W: Write>(
+        &mut self,
+        is_followed: bool,
+        said: &Remarks,
+        packet: Packet,
+        from: Option<Side>,
+        octets: &[u8],
+        out: &mut W,
+    ) -> Result<(), LineFault>
+        ensures { PrintEnds (text_with (said_if is_followed said.now) packet from octets.now
+            self.old) (after_shown packet.moment self.old) result self.new (W.contents out.old)
+            (W.contents out.new) }
+    {
+        match self.how.layout {
+            Layout::Lines => self.show_line(is_followed, said, packet, from, octets, out),
+            Layout::Ladder => self.show_rung(is_followed, said, packet, from, octets, out),
+            Layout::Picture => self.show_element(is_followed, said, packet, from, octets, out),
+        }
+    }
+
+    /// Prints octets, with these remarks if links are followed, as a part of a ladder.
+    fn show_rung<W: Write>(
+        &mut self,
+        is_followed: bool,
+        said: &Remarks,
+        packet: Packet,
+        from: Option<Side>,
+        octets: &[u8],
+        out: &mut W,
+    ) -> Result<(), LineFault>
+        ensures { PrintEnds (text_by Layout.Ladder (said_if is_followed said.now) packet from
+            octets.now self.old) (after_shown packet.moment self.old) result self.new
+            (W.contents out.old) (W.contents out.new) }
+    {
+        let time = self.how.time.of(self.first, self.last, packet.moment);
+        let Ok(text) = drawn_frame(
+            self.alloc,
+            &self.how,
+            self.printed,
+            packet,
+            time,
+            from.unwrap_or(Side::Network),
+            octets,
+            &said_if(is_followed, said),
+            &self.listener,
+        ) else {
+            return Err(LineFault::Memory);
+        };
+        self.count(packet.moment);
+        put_text(text.as_slice(), out)
+    }
+
+    /// Prints octets, with these remarks if links are followed, as a part of a picture.
+    fn show_element<W: Write>(
+        &mut self,
+        is_followed: bool,
+        said: &Remarks,
+        packet: Packet,
+        from: Option<Side>,
+        octets: &[u8],
+        out: &mut W,
+    ) -> Result<(), LineFault>
+        ensures { PrintEnds (text_by Layout.Picture (said_if is_followed said.now) packet from
+            octets.now self.old) (after_shown packet.moment self.old) result self.new
+            (W.contents out.old) (W.contents out.new) }
+    {
+        let time = self.how.time.of(self.first, self.last, packet.moment);
+        let Ok(text) = pictured_frame(
+            self.alloc,
+            &self.how,
+            self.printed,
+            packet,
+            time,
+            from.unwrap_or(Side::Network),
+            octets,
+            &said_if(is_followed, said),
+            &self.listener,
+        ) else {
+            return Err(LineFault::Memory);
+        };
+        self.count(packet.moment);
+        put_text(text.as_slice(), out)
+    }
+
+    /// Counts a printed frame that was captured at this moment.
+    fn count(&mut self, moment: Option<u64>)
+        ensures { self.new ≡ after_shown moment self.old }
+    {
+        self.printed = self.printed.saturating_add(1);
+        self.first = either(self.first, moment);
+        self.last = either(moment, self.last);
+    }
+
+    /// Prints octets as a line, with these remarks if links are followed.
+    fn show_line<W: Write>(
         &mut self,
         is_followed: bool,
         said: &Remarks,
@@ -233,17 +328,20 @@ impl FramePrinter {
         )
     }
 
-    /// Prints the tables of the links, if these are followed. Returns whether a remark was a
-    /// violation.
+    /// Prints the tables of the links, if these are followed and the frames are not drawn. Returns
+    /// whether a remark was a violation.
     ///
     /// # Errors
     ///
     /// `Memory` if an allocation fails, before anything is printed; `Device` if the writer fails.
     pub(crate) fn close<W: Write>(&self, out: &mut W) -> Result<bool, ScriptFault>
-        ensures { ClosingEnds self.now.how.style self.now.listening result (W.contents out.old)
-            (W.contents out.new) }
+        ensures { ClosingEnds (closing_text self.now) self.now.listening result
+            (W.contents out.old) (W.contents out.new) }
     {
-        close_links(self.alloc, self.how.style, &self.listener, out)
+        match self.how.layout {
+            Layout::Lines => close_links(self.alloc, self.how.style, &self.listener, out),
+            Layout::Ladder | Layout::Picture => Ok(is_violated_by(&self.listener)),
+        }
     }
 }
 
@@ -258,6 +356,13 @@ fn listener_by(alloc: Global, follow: Option<Follow>) -> Result<Option<Listener>
             Ok(Some(listener))
         }
     }
+}
+
+/// These remarks, if links are followed.
+fn said_if(is_followed: bool, said: &Remarks) -> Option<Remarks>
+    ensures { result ≡ said_if is_followed said.now }
+{
+    if is_followed { Some(*said) } else { None }
 }
 
 /// Passes octets to the listener, if there is one and the sender is known, and replaces `said` with
@@ -359,7 +464,8 @@ fn close_links<W: Write>(
     listener: &Option<Listener>,
     out: &mut W,
 ) -> Result<bool, ScriptFault>
-    ensures { ClosingEnds style listener.now result (W.contents out.old) (W.contents out.new) }
+    ensures { ClosingEnds (tables_of style listener.now) listener.now result
+        (W.contents out.old) (W.contents out.new) }
 {
     match listener {
         None => Ok(false),
@@ -368,5 +474,15 @@ fn close_links<W: Write>(
             Err(ScriptFault::Memory) => Err(ScriptFault::Memory),
             Err(_) => Err(ScriptFault::Device),
         },
+    }
+}
+
+/// Whether a listener found a violation.
+fn is_violated_by(listener: &Option<Listener>) -> bool
+    ensures { result ≡ is_violated_by listener.now }
+{
+    match listener {
+        None => false,
+        Some(listener) => listener.has_violation(),
     }
 }

@@ -1,13 +1,28 @@
 ghost use Rattle.std.specs.Prelude.{◌≡◌};
+ghost use Rattle.lapd_cli_decode.specs.Drawn.{ladder_of};
 ghost use Rattle.lapd_cli_decode.specs.Filter.{reaches, takes_by};
 
 use crate::frame_time::FrameTime;
 use crate::style::Style;
+use lapd_cli_ladder::LadderStyle;
 use lapd_cli_values::Filter;
+
+/// The layout of the output.
+#[derive(Clone, Copy, Debug, PartialEq, Eq)]
+pub enum Layout {
+    /// A line for each frame.
+    Lines,
+    /// A ladder. Of the style only the names count, and there are no tables.
+    Ladder,
+    /// The same as a picture (SVG), without its beginning and its end.
+    Picture,
+}
 
 /// How frames are printed, and which.
 #[derive(Clone, Copy)]
 pub struct FrameStyle {
+    /// The layout of all frames.
+    pub layout: Layout,
     /// The style of each line.
     pub style: Style,
     /// The time before a trace line. The lines of a script have no time, so there it is `-`.
@@ -25,6 +40,7 @@ pub struct FrameStyle {
 impl FrameStyle {
     /// All frames as their trace lines.
     pub const PLAIN: FrameStyle = FrameStyle {
+        layout: Layout::Lines,
         style: Style::Plain,
         time: FrameTime::Hidden,
         filter: None,
@@ -32,6 +48,16 @@ impl FrameStyle {
         is_colored: false,
         count: None,
     };
+
+    /// How a ladder is drawn.
+    pub(crate) fn ladder(&self) -> LadderStyle
+        ensures { result ≡ ladder_of self.now }
+    {
+        LadderStyle {
+            time_width: self.time.width(),
+            names: self.style.has_names(),
+        }
+    }
 
     /// Whether a frame of these octets is printed.
     pub(crate) fn takes(&self, octets: &[u8]) -> bool

@@ -2,7 +2,7 @@
 
 ghost use Rattle.std.specs.Prelude.{◌≡◌, ◌++◌, Some, IfOk, OnOk};
 ghost use Rattle.std.specs.String.{string_bytes};
-ghost use Rattle.lapd_cli_decode.specs.Time.{either, front_text, known_text, seconds_digits, since, time_of, time_text};
+ghost use Rattle.lapd_cli_decode.specs.Time.{either, front_text, known_text, seconds_digits, since, time_of, time_text, time_width};
 
 use crate::style::Style;
 use std::alloc::{AllocError, Global};
@@ -58,6 +58,33 @@ impl FrameTime {
         match style {
             Style::Plain | Style::Named => self.put_before_trace(alloc, time, line),
             Style::Json | Style::NamedJson => Ok(()),
+        }
+    }
+
+    /// The columns of these times in a ladder, with the space behind them.
+    pub(crate) fn width(self) -> usize
+        ensures { result ≡ time_width self }
+    {
+        match self {
+            FrameTime::Hidden => 0,
+            FrameTime::Absolute => 18,
+            FrameTime::Relative | FrameTime::Delta => 13,
+        }
+    }
+
+    /// A time and a space; nothing if times are hidden.
+    ///
+    /// # Errors
+    ///
+    /// `AllocError` if an allocation fails.
+    pub(crate) fn words(self, alloc: Global, time: Option<u64>) -> Result<String, AllocError>
+        ensures { IfOk result (λ text. string_bytes text ≡ time_text self time) }
+    {
+        match self {
+            FrameTime::Hidden => Ok(String::new(alloc)),
+            FrameTime::Absolute | FrameTime::Relative | FrameTime::Delta => {
+                known_text(alloc, time)
+            }
         }
     }
 

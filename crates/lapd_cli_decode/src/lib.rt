@@ -6,12 +6,14 @@
 //! frames that a [`FrameStyle`] requests, and [`decode_capture`] those of a capture of
 //! `lapd_capture`. If links are followed, which [`follow_capture`] does for a capture, the remarks
 //! of a listener of `lapd_follow` are printed behind each frame, and a table of each link at the
-//! end.
+//! end. With [`Layout::Ladder`] the frames are drawn as a ladder, with [`Layout::Picture`] as a
+//! picture between [`PICTURE_BEGIN`] and [`PICTURE_END`].
 #![tactic(auto)]
 
 mod any_sapi;
 mod capture_lines;
 mod color;
+mod drawn;
 mod frame_printer;
 mod frame_style;
 mod frame_time;
@@ -31,9 +33,10 @@ mod tables;
 
 pub use capture_lines::{CaptureStop, CaptureStyle, Seen, decode_capture, follow_capture};
 pub use frame_printer::Follow;
-pub use frame_style::FrameStyle;
+pub use frame_style::{FrameStyle, Layout};
 pub use frame_time::FrameTime;
 pub use lapd_capture::{CaptureFault, CaptureReader, PacketFault, ReadFault};
+pub use lapd_cli_ladder::{PICTURE_BEGIN, PICTURE_END};
 pub use lapd_cli_values::Filter;
 pub use lapd_frame::Side;
 pub use laws::{both_read_alike, sender_is_found};

@@ -1,6 +1,6 @@
 ghost use Rattle.std.specs.Prelude.{◌≡◌, ◌++◌, IfOk, OnOk};
 ghost use Rattle.std.specs.String.{string_bytes};
-ghost use Rattle.lapd_cli_decode.specs.Style.{marked, styled_packet, styled_text};
+ghost use Rattle.lapd_cli_decode.specs.Style.{has_names, marked, styled_packet, styled_text};
 
 use lapd_cli_render::Packet;
 use lapd_frame::Side;
@@ -20,6 +20,16 @@ pub enum Style {
 }
 
 impl Style {
+    /// Whether the message in a frame is named.
+    pub(crate) fn has_names(self) -> bool
+        ensures { result ≡ has_names self }
+    {
+        match self {
+            Style::Plain | Style::Json => false,
+            Style::Named | Style::NamedJson => true,
+        }
+    }
+
     /// The line for octets that `from` sent.
     ///
     /// # Errors

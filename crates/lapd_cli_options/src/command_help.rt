@@ -657,6 +657,12 @@ input a table of each link has its establishments and, of each direction, the fr
 messages, their octets, the repeated I frames, the polls, the times of answers and the time that an
 end was busy. Messages of TEI management have remarks too.
 
+With --ladder each frame is an arrow between the user at the left and the network at the right, with
+the number of its packet, its time, and what the frames show of both ends: S and the next N(S), R
+and the last N(R), poll if a poll is not answered, busy, or SABME sent or DISC sent if that is not
+answered. In the arrow are SAPI, TEI and the fields; below it are the remarks. There are no tables.
+--svg draws the same into a file, on pages of 25 frames.
+
 With --json a line is an object with these members, in the order of their names:
   direction        \"U>N\" or \"N>U\", if the sender is known
   sapi, tei        numbers

@@ -67,6 +67,14 @@ pub(crate) fn pcap_of<'a>(command: ScriptCommand, given: &ArgMatches<'a>) -> Opt
     }
 }
 
+/// The file of the picture that this command draws, if the option is present.
+pub(crate) fn svg_of<'a>(command: ScriptCommand, given: &ArgMatches<'a>) -> Option<&'a str> {
+    match command {
+        ScriptCommand::Decode => given.get_str("svg"),
+        _ => None,
+    }
+}
+
 /// Whether this command prints each line of a side as a JSON object.
 pub(crate) fn prints_json(command: ScriptCommand, given: &ArgMatches<'_>) -> bool {
     match command {

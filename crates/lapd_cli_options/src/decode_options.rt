@@ -1,7 +1,7 @@
 //! The options of `decode`.
 
 use crate::command_options::side_named;
-use crate::invocation::{Color, DecodeOptions, FollowOptions, PrintedTime};
+use crate::invocation::{Color, DecodeOptions, FollowOptions, PrintedLayout, PrintedTime};
 use crate::no_invocation::NoInvocation;
 use crate::option_tables::KINDS;
 use clap::ArgMatches;
@@ -12,6 +12,7 @@ use lapd_cli_values::{
 
 /// The options of `decode` among these.
 pub(crate) fn decode_of<'a>(given: &ArgMatches<'a>) -> Result<DecodeOptions, NoInvocation<'a>> {
+    let layout = layout_of(given)?;
     let follow = follow_of(given)?;
     let time = time_of(given)?;
     let count = number_of(given, COUNT)?;
@@ -21,6 +22,7 @@ pub(crate) fn decode_of<'a>(given: &ArgMatches<'a>) -> Result<DecodeOptions, NoI
         sender: sender_of(given),
         names: given.get_flag("names"),
         json: given.get_flag("json"),
+        layout,
         keep_going: given.get_flag("keep-going"),
         follow,
         time,
@@ -40,17 +42,51 @@ fn color_of(given: &ArgMatches<'_>) -> Color {
     }
 }
 
-// The chosen sender, if there is one.
+// The chosen sender, if there is one. In a drawing it is the network if none is chosen, since each
+// arrow needs a sender.
 fn sender_of(given: &ArgMatches<'_>) -> Option<Side> {
-    given
-        .get_str("sender")
-        .map(|_side| side_named(given, "sender"))
+    match given.get_str("sender") {
+        Some(_) => Some(side_named(given, "sender")),
+        None => is_drawn(given).then_some(Side::Network),
+    }
 }
 
-// How the links are followed. An option of `--follow` is refused without it.
+// The layout of the frames. They are printed, drawn or pictured. Objects and frames of other SAPIs
+// are not drawn.
+fn layout_of<'a>(given: &ArgMatches<'a>) -> Result<PrintedLayout, NoInvocation<'a>> {
+    let layout = match (given.get_flag("ladder"), given.get_str("svg")) {
+        (false, None) => return Ok(PrintedLayout::Lines),
+        (true, Some(_)) => return Err(NoInvocation::NotBoth("ladder", "svg")),
+        (true, None) => PrintedLayout::Ladder,
+        (false, Some(_)) => PrintedLayout::Picture,
+    };
+    if given.get_flag("json") {
+        return Err(NoInvocation::NotBoth(option_of(layout), "json"));
+    }
+    if given.get_flag("any-sapi") {
+        return Err(NoInvocation::NotBoth(option_of(layout), "any-sapi"));
+    }
+    Ok(layout)
+}
+
+// The option of a drawing.
+fn option_of(layout: PrintedLayout) -> &'static str {
+    match layout {
+        PrintedLayout::Picture => "svg",
+        PrintedLayout::Lines | PrintedLayout::Ladder => "ladder",
+    }
+}
+
+// Whether the frames are drawn.
+fn is_drawn(given: &ArgMatches<'_>) -> bool {
+    given.get_flag("ladder") || given.get_str("svg").is_some()
+}
+
+// How the links are followed: for a drawing they always are. An option of `--follow` is refused
+// without it.
 fn follow_of<'a>(given: &ArgMatches<'a>) -> Result<Option<FollowOptions>, NoInvocation<'a>> {
     let k = window_of(given)?;
-    if given.get_flag("follow") {
+    if given.get_flag("follow") || is_drawn(given) {
         return Ok(Some(FollowOptions { k }));
     }
     match k {
@@ -67,17 +103,27 @@ fn window_of<'a>(given: &ArgMatches<'a>) -> Result<Option<u8>, NoInvocation<'a>>
     }
 }
 
-// The time before each trace line. Without a capture there is none, and the option is refused.
+// The time of each frame. Without a capture there is none, and the option is refused. In a drawing
+// of a capture it is relative, unless another is requested.
 fn time_of<'a>(given: &ArgMatches<'a>) -> Result<PrintedTime, NoInvocation<'a>> {
     let time = match given.get_str("time") {
         Some("absolute") => PrintedTime::Absolute,
         Some("relative") => PrintedTime::Relative,
         Some("delta") => PrintedTime::Delta,
-        _ => return Ok(PrintedTime::Hidden),
+        _ => return Ok(hidden_or_relative(given)),
     };
     match given.get_str("pcap") {
         Some(_) => Ok(time),
         None => Err(NoInvocation::NotCaptured("time")),
+    }
+}
+
+// The time if none is requested.
+fn hidden_or_relative(given: &ArgMatches<'_>) -> PrintedTime {
+    if is_drawn(given) && given.get_str("pcap").is_some() {
+        PrintedTime::Relative
+    } else {
+        PrintedTime::Hidden
     }
 }
 

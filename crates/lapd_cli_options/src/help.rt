@@ -76,6 +76,12 @@ pub const FOLLOW: &str = "\
 Adds remarks on what each frame means for its link, and prints a table of each link at the end; \
 with --strict also ends with exit status 5 if a frame violates Q.921";
 
+pub const LADDER: &str = "\
+Draws the frames as arrows between the user and the network, with what is known of both ends and the \
+remarks of --follow";
+
+pub const SVG: &str = "Draws the same into this file, as a picture (SVG) that a browser shows";
+
 pub const FRAME_TIME: &str = "\
 With --pcap, begins each trace line with the time in seconds: since 1970, since the first printed \
 frame, or since the printed frame before";

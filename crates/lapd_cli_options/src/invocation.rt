@@ -11,6 +11,8 @@ pub struct Invocation<'a> {
     pub address: Option<&'a str>,
     /// The file of `decode --pcap`, unchanged from the command line.
     pub pcap: Option<&'a str>,
+    /// The file of `decode --svg`, unchanged from the command line.
+    pub svg: Option<&'a str>,
     /// The clock of `net` or `user`.
     pub clock: Clock<'a>,
     /// Whether `net` or `user` prints each line as a JSON object. `decode` has a field of its own.
@@ -83,6 +85,8 @@ pub struct DecodeOptions {
     pub names: bool,
     /// Whether each frame is printed as a JSON object.
     pub json: bool,
+    /// The layout of the frames.
+    pub layout: PrintedLayout,
     /// Whether bad lines and packets are reported and skipped.
     pub keep_going: bool,
     /// How the links are followed; `None` if they are not.
@@ -108,6 +112,18 @@ pub enum Color {
     Always,
     /// Never.
     Never,
+}
+
+/// The layout of the frames that `decode` prints. If they are drawn, their links are followed, and
+/// frames of a capture have times.
+#[derive(Clone, Copy, PartialEq, Eq)]
+pub enum PrintedLayout {
+    /// A line each.
+    Lines,
+    /// A ladder.
+    Ladder,
+    /// A ladder as a picture, in the file of `--svg`.
+    Picture,
 }
 
 /// The time before each trace line of a capture.
@@ -145,6 +161,7 @@ impl Invocation<'_> {
             job: Job::Answer(end),
             address: None,
             pcap: None,
+            svg: None,
             clock: Clock::Script,
             json: false,
             strict: false,

@@ -22,9 +22,10 @@ mod script_command;
 
 use clap::{ArgMatches, Command};
 use clock_options::clock_of;
-use command_options::{address_of, job_of, pcap_of, prints_json};
+use command_options::{address_of, job_of, pcap_of, prints_json, svg_of};
 pub use invocation::{
-    Clock, Color, DecodeOptions, FollowOptions, Invocation, Job, LiveOptions, PrintedTime,
+    Clock, Color, DecodeOptions, FollowOptions, Invocation, Job, LiveOptions, PrintedLayout,
+    PrintedTime,
 };
 pub use lapd_cli_values::{
     Durations, Filter, Interface, LinkEnd, NoAddress, OutOfRange, Params, Recovery, Sapi, Side, Tei,
@@ -44,7 +45,8 @@ use std::convert::AsStr;
 /// # Errors
 ///
 /// - `Shown` if the words request help or the version;
-/// - `Refused`, `OutOfRange`, `NoAddress`, `NotReal`, `NotFollowed`, `NotCaptured`, `NotKinds` or
+/// - `Refused`, `OutOfRange`, `NoAddress`, `NotReal`, `NotFollowed`, `NotCaptured`, `NotBoth`,
+///   `NotKinds` or
 ///   `OneTerminal` if they are not valid;
 /// - `Memory` if an allocation fails.
 pub fn parse_words<'a, S: AsStr>(
@@ -101,6 +103,7 @@ fn invocation_with<'a>(
         job,
         address,
         pcap: pcap_of(command, given),
+        svg: svg_of(command, given),
         clock,
         json: prints_json(command, given),
         strict: is_strict(given),

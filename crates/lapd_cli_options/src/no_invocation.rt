@@ -12,7 +12,7 @@ pub enum NoInvocation<'a> {
     Shown(String),
     /// The parser refuses them, for the reason in this text. The text is for standard error, and
     /// the exit status is 2, as for `OutOfRange`, `NoAddress`, `NotReal`, `NotFollowed`,
-    /// `NotCaptured`, `NotKinds` and `OneTerminal`.
+    /// `NotCaptured`, `NotBoth`, `NotKinds` and `OneTerminal`.
     Refused(String),
     /// A number that is not in the range of its option.
     OutOfRange(OutOfRange<'a>),
@@ -27,6 +27,8 @@ pub enum NoInvocation<'a> {
     NotCaptured(&'static str),
     /// The value of `--kinds` is not a list of `i`, `s` and `u`.
     NotKinds(&'a str),
+    /// The options with these names, without the hyphens, exclude each other.
+    NotBoth(&'static str, &'static str),
     /// `--idle-limit` is present, but the side accepts only one connection.
     OneTerminal,
     /// An allocation failed.
@@ -53,6 +55,9 @@ impl fmt::Display for NoInvocation<'_> {
                 f,
                 "error: invalid value '{kinds}' for '--kinds <KINDS>': not a list of i, s and u"
             ),
+            NoInvocation::NotBoth(option, other) => {
+                writeln!(f, "error: --{option} cannot be used with --{other}")
+            }
             NoInvocation::OneTerminal => {
                 f.write_str("error: --idle-limit requires --terminals above 1\n")
             }

@@ -73,6 +73,8 @@ pub(crate) const DECODE: &[&[CommandOption]] = &[
         CommandOption::Flag("keep-going", help::KEEP_GOING),
         CommandOption::File("pcap", help::PCAP),
         CommandOption::Flag("follow", help::FOLLOW),
+        CommandOption::Flag("ladder", help::LADDER),
+        CommandOption::File("svg", help::SVG),
         CommandOption::BareNumber(FOLLOWED_K),
         CommandOption::Word(FRAME_TIME),
         CommandOption::BareNumber(COUNT),

@@ -5,7 +5,7 @@ mod words;
 use crate::scenarios::words_of;
 use lapd_cli_options::{
     Clock, Color, DecodeOptions, Durations, Filter, FollowOptions, Interface, Invocation, Job,
-    NoInvocation, Params, PrintedTime, Recovery, Side, help, parse_words,
+    NoInvocation, Params, PrintedLayout, PrintedTime, Recovery, Side, help, parse_words,
 };
 use lapd_cli_script::{PortFault, ScriptFault};
 use lapd_timers::Timer;
@@ -63,6 +63,12 @@ lapd decode --json => decode
 lapd decode --follow => decode follow
 lapd decode --follow --strict => decode follow strict
 lapd decode --k 127 --follow => decode follow 127
+lapd decode --ladder => decode follow ladder from net
+lapd decode --ladder --follow --k 7 => decode follow 7 ladder from net
+lapd decode --ladder --pcap a --sender user => decode follow ladder relative from user
+lapd decode --ladder --pcap a --time absolute => decode follow ladder absolute from net
+lapd decode --svg b => decode follow picture from net
+lapd decode --pcap a --svg=b --count 2 => decode follow picture relative count 2 from net
 lapd decode --time none --kinds i,s,u => decode
 lapd decode --time absolute --pcap a => decode absolute
 lapd decode --time=relative --pcap=a => decode relative
@@ -194,6 +200,10 @@ lapd bus --terminals 0 => error: invalid value '0' for '--terminals <TERMINALS>'
 lapd bus --terminals 128 => error: invalid value '128' for '--terminals <TERMINALS>': not a number from 1 to 127 in decimal digits~
 lapd decode --k 3 => error: --k requires --follow~
 lapd decode --time delta => error: --time requires --pcap~
+lapd decode --ladder --json => error: --ladder cannot be used with --json~
+lapd decode --svg a --json => error: --svg cannot be used with --json~
+lapd decode --ladder --any-sapi => error: --ladder cannot be used with --any-sapi~
+lapd decode --svg a --ladder => error: --ladder cannot be used with --svg~
 lapd decode --count 0 => error: invalid value '0' for '--count <FRAMES>': not a number from 1 to 18446744073709551615 in decimal digits~
 lapd decode --count 18446744073709551616 => error: invalid value '18446744073709551616' for '--count <FRAMES>': not a number from 1 to 18446744073709551615 in decimal digits~
 lapd decode --sapi 64 => error: invalid value '64' for '--sapi <SAPI>': not a number from 0 to 63 in decimal digits~
@@ -330,6 +340,11 @@ fn show_follow(text: &mut String, follow: Option<FollowOptions>) {
 }
 
 fn show_output(text: &mut String, options: &DecodeOptions) {
+    let _ = text.push_str(match options.layout {
+        PrintedLayout::Lines => "",
+        PrintedLayout::Ladder => " ladder",
+        PrintedLayout::Picture => " picture",
+    });
     let _ = text.push_str(match options.time {
         PrintedTime::Hidden => "",
         PrintedTime::Absolute => " absolute",

@@ -5,7 +5,7 @@ use crate::run::run;
 use crate::scenario::{Console, Line, Scenario, mark_of};
 use lapd_cli_options::{
     Clock, Color, DecodeOptions, Durations, Filter, FollowOptions, Interface, Invocation, Job,
-    LinkEnd, Params, PrintedTime, Recovery, Sapi, Side, Tei,
+    LinkEnd, Params, PrintedLayout, PrintedTime, Recovery, Sapi, Side, Tei,
 };
 use lapd_cli_script::ScriptFault;
 use lapd_cli_side_commands::{FromRead, FromWrite, Port};
@@ -21,6 +21,7 @@ fn preserves(rt: &HostRuntime, job: Job, text: &str) -> Result<(), Fail> {
         job,
         address: None,
         pcap: None,
+        svg: None,
         clock: Clock::Script,
         json: false,
         strict: false,
@@ -172,6 +173,7 @@ const DECODE: DecodeOptions = DecodeOptions {
     sender: Some(Side::User),
     names: false,
     json: false,
+    layout: PrintedLayout::Lines,
     keep_going: false,
     follow: None,
     time: PrintedTime::Hidden,
@@ -180,6 +182,24 @@ const DECODE: DecodeOptions = DecodeOptions {
     any_sapi: false,
     color: Color::Never,
 };
+
+#[test]
+fn draws_while_there_is_memory(rt: HostRuntime) -> Result<(), Fail> {
+    let options = DecodeOptions {
+        follow: Some(FollowOptions { k: None }),
+        layout: PrintedLayout::Ladder,
+        ..DECODE
+    };
+    preserves(&rt, Job::Decode(options), DRAWN)
+}
+
+const DRAWN: &str = "\
+user
+    packet           user |                                                | network
+         1                |-- F1 TooShort -------------------------------->|
+net 02817f
+         2              - |<-- 0 64 SABME P=1 -----------------------------| SABME sent
+";
 
 const FOLLOWED: &str = "\
 user

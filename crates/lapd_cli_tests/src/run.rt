@@ -1,10 +1,11 @@
 //! Running a command over any reader, writer and port.
 
 use lapd_cli_decode::{
-    Filter, Follow, FrameStyle, FrameTime, LineForm, LinesStyle, Style, decode_lines, print_lines,
+    Filter, Follow, FrameStyle, FrameTime, Layout, LineForm, LinesStyle, Style, decode_lines,
+    print_lines,
 };
 use lapd_cli_link_commands::{answer, bus, loop_over, pair};
-use lapd_cli_options::{DecodeOptions, Interface, Invocation, Job, LinkEnd};
+use lapd_cli_options::{DecodeOptions, Interface, Invocation, Job, LinkEnd, PrintedLayout};
 use lapd_cli_script::ScriptFault;
 use lapd_cli_side_commands::{Config, Port, SideRun, Sink, Source, net, user};
 use lapd_cli_side_lines::LineStyle;
@@ -60,10 +61,10 @@ fn do_decode<R: Read, W: Write>(
     options: DecodeOptions,
 ) -> Result<(), ScriptFault> {
     let form = LineForm::Strict;
-    let style = if options.json {
-        Style::Json
-    } else {
-        Style::Plain
+    let style = match (options.json, options.names) {
+        (true, _) => Style::Json,
+        (false, true) => Style::Named,
+        (false, false) => Style::Plain,
     };
     if options.follow.is_none()
         && options.count.is_none()
@@ -75,6 +76,11 @@ fn do_decode<R: Read, W: Write>(
     let how = LinesStyle {
         form,
         frames: FrameStyle {
+            layout: match options.layout {
+                PrintedLayout::Lines => Layout::Lines,
+                PrintedLayout::Ladder => Layout::Ladder,
+                PrintedLayout::Picture => Layout::Picture,
+            },
             style,
             time: FrameTime::Hidden,
             filter: Some(options.frames),

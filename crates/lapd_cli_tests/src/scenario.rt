@@ -91,7 +91,12 @@ impl<'a> Scenario<'a> {
             return Err(self.wrong());
         }
         let left = self.left.get();
-        let left = left.strip_prefix(mark).unwrap_or(left);
+        // A printed line may continue with the spaces that mark its beginning.
+        let left = if mark == b"    ".as_slice() && self.is_within_line() {
+            left
+        } else {
+            left.strip_prefix(mark).unwrap_or(left)
+        };
         self.left.set(left);
         match left {
             [b'*', ..] => Err(self.failure(stop)),

@@ -7,6 +7,7 @@ pub(crate) mod answers;
 pub(crate) mod buses;
 pub(crate) mod decodes;
 pub(crate) mod follows;
+pub(crate) mod ladders;
 pub(crate) mod pairs;
 pub(crate) mod ports;
 pub(crate) mod sides;
@@ -39,6 +40,7 @@ const TABLES: &[&str] = &[
     buses::SCENARIOS,
     decodes::SCENARIOS,
     follows::SCENARIOS,
+    ladders::SCENARIOS,
     pairs::PAIRS,
     pairs::LOOPS,
     sides::SCENARIOS,

@@ -5,7 +5,7 @@ ghost use Rattle.lapd_follow.specs.Link.{sighting, new_link, end_of, said_of, li
 use crate::dialogue::Dialogue;
 use crate::end::End;
 use crate::remarks::put_remarks;
-use crate::{Packet, Remarks};
+use crate::{Busy, Numbering, Packet, Remarks};
 use lapd_frame::{Control, Frame, Side};
 use std::alloc::{AllocError, Global};
 use std::marker::Model;
@@ -111,6 +111,27 @@ impl LinkFollower {
         ensures { result ≡ (end_of side self.now).commands.last }
     {
         self.end(side).commands.last
+    }
+
+    /// The numbers of this side's frames, if they are known.
+    pub fn numbering(&self, side: Side) -> Option<Numbering>
+        ensures { result ≡ (end_of side self.now).numbering }
+    {
+        self.end(side).numbering
+    }
+
+    /// The busy condition of this side, as it reported it.
+    pub fn busy(&self, side: Side) -> Busy
+        ensures { result ≡ (end_of side self.now).busy }
+    {
+        self.end(side).busy
+    }
+
+    /// Whether the last SABME or DISC of this side is a SABME.
+    pub fn is_establishing(&self, side: Side) -> bool
+        ensures { result ≡ (end_of side self.now).is_establishing }
+    {
+        self.end(side).is_establishing
     }
 
     /// The end of this side.

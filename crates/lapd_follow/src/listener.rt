@@ -1,11 +1,11 @@
-ghost use Rattle.std.specs.Prelude.{◌≡◌, replicate, None, IfOk, OnOk, OnErr};
-ghost use Rattle.lapd_follow.specs.Follower.{said_on_line};
+ghost use Rattle.std.specs.Prelude.{◌≡◌, replicate, None, IfOk, OnOk, OnErr, option_copied, slice_get};
+ghost use Rattle.lapd_follow.specs.Follower.{place_of, said_on_line, seen_link};
 ghost use Rattle.lapd_follow.specs.Link.{sighting};
 ghost use Rattle.lapd_follow.specs.Listening.{listening_after, new_listening, said_of_octets, tallied_on_line, with_frame};
 
 use crate::link_table::{LINKS, place_of};
-use crate::{Follower, LinkTally, Packet, Remarks};
-use lapd_frame::{Frame, Side, read};
+use crate::{Follower, LinkFollower, LinkTally, Packet, Remarks};
+use lapd_frame::{Address, Frame, Side, read};
 use std::alloc::{AllocError, Global};
 use std::marker::Model;
 
@@ -158,6 +158,14 @@ impl Listener {
         ensures { result ≡ self.now.is_violated }
     {
         self.is_violated
+    }
+
+    /// The link of frames with this address, as [`Follower::link`] returns it.
+    pub fn link(&self, address: &Address) -> Option<&LinkFollower>
+        ensures { option_copied result ≡ seen_link
+            (slice_get self.now.line.links.links (place_of address.now)) }
+    {
+        self.follower.link(address)
     }
 
     /// The frames of each link, by SAPI and then by TEI; `None` if no frame of the link was seen.

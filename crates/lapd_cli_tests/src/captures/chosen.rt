@@ -2,7 +2,7 @@
 
 use crate::captures::read::result_is;
 use crate::wants::wants;
-use lapd_cli_decode::{CaptureStyle, Filter, FrameStyle, FrameTime, Side, Style};
+use lapd_cli_decode::{CaptureStyle, Filter, FrameStyle, FrameTime, Layout, Side, Style};
 use std::alloc::Global;
 use std::test::Fail;
 
@@ -57,6 +57,7 @@ fn style_of(words: &str) -> FrameStyle {
     };
     let kinds = words.next().unwrap_or("");
     FrameStyle {
+        layout: Layout::Lines,
         style: Style::Plain,
         time,
         filter: Some(Filter {

@@ -3,8 +3,8 @@
 use crate::captures::read::{are_lines, parts_of};
 use crate::wants::all_hold;
 use lapd_cli_decode::{
-    CaptureReader, CaptureStop, CaptureStyle, Follow, FrameStyle, LineForm, LinesStyle, ReadFault,
-    Seen, Side, Style, follow_capture, print_lines,
+    CaptureReader, CaptureStop, CaptureStyle, Follow, FrameStyle, FrameTime, Layout, LineForm,
+    LinesStyle, ReadFault, Seen, Side, Style, follow_capture, print_lines,
 };
 use lapd_cli_script::ScriptFault;
 use std::alloc::Global;
@@ -41,6 +41,22 @@ U>N SAPI 0 TEI 64 C SABME P=1/N>U SAPI 0 TEI 64 R UA F=1 [cut]; begins establish
 /  N>U I 0, RR 0, RNR 0, REJ 0, SABME 0, DISC 0, UA 1, DM 0, UI 0, FRMR 0, XID 0\
 /  N>U messages 0, octets 0, repeated 0, polls 0, answers 1 after 0.023 to 0.023 s, mean 0.023 s";
 
+const LADDER: &str = "\
+packet         time           user |                                                | network\
+/     1     0.000000     SABME sent |-- 0 64 SABME P=1 ----------------------------->| -\
+/     2     0.023000          S0 R0 |<-- 0 64 UA F=1 --------------------------------| S0 R0\
+/                                   |  [cut]                                         |\
+/                                   |  begins establishment 1                        |\
+/                                   |  answers packet 1 after 0.023 s                |";
+
+const WIDE_LADDER: &str = "\
+packet              time           user |                                                | network\
+/     1          1.002000     SABME sent |-- 0 64 SABME P=1 ----------------------------->| -\
+/     2          1.025000          S0 R0 |<-- 0 64 UA F=1 --------------------------------| S0 R0\
+/                                        |  [cut]                                         |\
+/                                        |  begins establishment 1                        |\
+/                                        |  answers packet 1 after 0.023 s                |";
+
 const OBJECTS: &str =
     r#"{"direction":"U>N","frame":"SABME","p":1,"packet":1,"role":"command","sapi":0,"tei":64,"time":"1.002000","remarks":[]}/{"direction":"N>U","f":1,"frame":"UA","packet":2,"role":"response","sapi":0,"tei":64,"time":"1.025000","remarks":[{"class":"normal","clause":"5.5.1.2","text":"begins establishment 1"},{"class":"normal","clause":"3.5.1","text":"answers packet 1 after 0.023 s"}]}/{"direction":"N>U","f":0,"frame":"RNR","nr":0,"packet":3,"role":"response","sapi":0,"tei":64,"time":"1.030000","remarks":[]}/{"direction":"N>U","f":0,"frame":"RR","nr":0,"packet":4,"role":"response","sapi":0,"tei":64,"time":"2.280000","remarks":[]}/{"establishments":1,"network":{"answers":{"count":1,"greatest":23000,"least":23000,"mean":23000},"busy":1250000,"disc":0,"dm":0,"frmr":0,"i":0,"messages":0,"octets":0,"polls":0,"rej":0,"repeated":0,"rnr":1,"rr":1,"sabme":0,"ua":1,"ui":0,"xid":0},"sapi":0,"tei":64,"user":{"disc":0,"dm":0,"frmr":0,"i":0,"messages":0,"octets":0,"polls":1,"rej":0,"repeated":0,"rnr":0,"rr":0,"sabme":1,"ua":0,"ui":0,"xid":0}}"#;
 
@@ -63,15 +79,44 @@ fn captures_are_followed(rt: HostRuntime) -> Result<(), Fail> {
             OBJECTS,
             "its end, or its lines",
         ),
+        (
+            draws(alloc, FrameTime::Relative, LADDER),
+            LADDER,
+            "its end, or its lines",
+        ),
+        (
+            draws(alloc, FrameTime::Absolute, WIDE_LADDER),
+            WIDE_LADDER,
+            "its end, or its lines",
+        ),
     ])
 }
 
 // Whether a capture is printed so in this style.
 fn prints(alloc: Global, capture: &str, style: Style, lines: &str) -> bool {
+    let frames = FrameStyle {
+        style,
+        ..FrameStyle::PLAIN
+    };
+    prints_so(alloc, capture, frames, lines)
+}
+
+// Whether the cut capture is drawn so, with these times.
+fn draws(alloc: Global, time: FrameTime, lines: &str) -> bool {
+    let frames = FrameStyle {
+        layout: Layout::Ladder,
+        time,
+        ..FrameStyle::PLAIN
+    };
+    prints_so(alloc, CUT_CAPTURE, frames, lines)
+}
+
+// Whether a capture is printed so.
+fn prints_so(alloc: Global, capture: &str, frames: FrameStyle, lines: &str) -> bool {
     match hex::decode(alloc, capture.as_bytes()) {
         Ok(octets) => {
             let mut printed = Vec::new(alloc);
-            let ended = print_capture(alloc, octets.as_slice(), &mut printed, style);
+            let ended = print_capture(alloc, octets.as_slice(), &mut printed, frames);
             is_heard(&ended) && are_lines(printed.as_slice(), lines)
         }
         Err(_) => false,
@@ -90,13 +135,10 @@ fn print_capture(
     alloc: Global,
     octets: &[u8],
     printed: &mut Vec<u8>,
-    style: Style,
+    frames: FrameStyle,
 ) -> Result<Seen, CaptureStop> {
     let how = CaptureStyle {
-        frames: FrameStyle {
-            style,
-            ..FrameStyle::PLAIN
-        },
+        frames,
         sender: Some(Side::User),
         keeps_going: false,
     };

@@ -1,0 +1,4 @@
+pub mod Columns
+pub mod Ladder
+pub mod Picture
+pub mod Words

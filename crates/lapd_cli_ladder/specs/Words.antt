@@ -1,0 +1,83 @@
+-- The words of a ladder: of a frame, of what is known of an end, and of the remarks on a frame.
+use Rattle.std.specs.Prelude.{ℕ, if◌then◌else◌, Bool, true, false, List, [], ◌∷◌, ◌++◌, codes, slice_get, Option, Some, None, is_some, Result, Ok, Err}
+use Rattle.std.specs.Fmt.{decimal}
+use Rattle.lapd_frame.specs.declared.Side.{Side}
+use Rattle.lapd_frame.specs.declared.FrameFault.{FrameFault}
+use Rattle.lapd_frame.specs.Address.{sapi_value}
+use Rattle.lapd_frame.specs.Fault.{fault_name}
+use Rattle.lapd_frame.specs.Frame.{Fields}
+use Rattle.lapd_trace.specs.Trace.{control_text, octets_text}
+use Rattle.lapd_follow.specs.declared.end.Busy.{Busy}
+use Rattle.lapd_follow.specs.declared.end.Busy.TheVariants.{Free, Reported, Answered}
+use Rattle.lapd_follow.specs.declared.numbering.Numbering.{Numbering}
+use Rattle.lapd_follow.specs.declared.remark.Class.{Class}
+use Rattle.lapd_follow.specs.declared.remark.Class.TheVariants.{Normal, Recovery, Violation}
+use Rattle.lapd_follow.specs.declared.remark.Remark.{Remark}
+use Rattle.lapd_follow.specs.Ends.{EndKnown}
+use Rattle.lapd_follow.specs.Follower.{place_of, seen_link}
+use Rattle.lapd_follow.specs.Link.{LinkKnown, end_of}
+use Rattle.lapd_follow.specs.Listening.{Listening}
+use Rattle.lapd_follow.specs.Remarks.{class_of}
+use Rattle.lapd_follow.specs.Texts.{remark_text}
+
+-- ---- A frame.
+
+-- its SAPI and TEI, and then as in a trace line
+abbrev pub fields_words : Fields → List ℕ
+fields_words f = decimal (sapi_value f.address.sapi) ++ (codes " " ++ (decimal f.address.tei
+    ++ (codes " " ++ (control_text f.address.role f.control ++ octets_text (codes " info=") f.info))))
+
+-- octets that do not form a valid frame: their first fault, and the octets
+abbrev pub frame_words : List ℕ → Result Fields FrameFault → List ℕ
+frame_words octets (Ok f) = fields_words f
+frame_words octets (Err fault) = fault_name fault.kind ++ octets_text (codes " ") octets
+
+-- ---- An end of its link, as far as the frames up to this one show it.
+
+-- its last SABME or DISC is not answered
+abbrev pub command_words : Bool → List ℕ
+command_words true = codes "SABME sent"
+command_words false = codes "DISC sent"
+
+-- its next N(S), and the last N(R) that it sent; a hyphen if they are not known
+abbrev pub numbers_words : Option Numbering → List ℕ
+numbers_words None = codes "-"
+numbers_words (Some own) = codes "S" ++ (decimal own.next ++ (codes " R" ++ decimal own.nr))
+
+-- whether its last poll is not answered
+abbrev pub poll_words : Bool → List ℕ
+poll_words false = []
+poll_words true = codes " poll"
+
+-- it reported that it is busy
+abbrev pub busy_words : Busy → List ℕ
+busy_words Free = []
+busy_words Reported = codes " busy"
+busy_words Answered = codes " busy"
+
+abbrev pub end_words : EndKnown → List ℕ
+end_words e = if is_some e.commands.last then command_words e.is_establishing
+    else (numbers_words e.numbering ++ (poll_words (is_some e.polls.last) ++ busy_words e.busy))
+
+-- a hyphen if the link is not known, since its TEI was just assigned or removed
+abbrev pub link_words : Side → Option LinkKnown → List ℕ
+link_words side None = codes "-"
+link_words side (Some l) = end_words (end_of side l)
+
+-- the end of this side of a frame's link; nothing for octets that do not form a valid frame, and if
+-- links are not followed
+abbrev pub known_words : Side → Result Fields FrameFault → Option Listening → List ℕ
+known_words side (Err fault) listening = []
+known_words side (Ok f) None = []
+known_words side (Ok f) (Some l) =
+    link_words side (seen_link (slice_get l.line.links.links (place_of f.address)))
+
+-- ---- A remark; a violation is marked.
+
+abbrev pub class_mark : Class → List ℕ
+class_mark Normal = []
+class_mark Recovery = []
+class_mark Violation = codes "violation: "
+
+abbrev pub remark_words : Remark → List ℕ
+remark_words r = class_mark (class_of r) ++ remark_text r

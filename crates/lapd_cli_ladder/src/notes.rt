@@ -1,0 +1,204 @@
+//! The lines below a frame.
+
+ghost use Rattle.std.specs.Prelude.{◌≡◌, ◌++◌, drop, IfOk, OnOk};
+ghost use Rattle.std.specs.String.{string_bytes};
+ghost use Rattle.lapd_cli_render.specs.Names.{names_text};
+ghost use Rattle.lapd_cli_ladder.specs.Ladder.{cut_line, first_remarks, last_remarks, line_of_words, names_line, note_line, note_lines, remark_line, remark_lines};
+ghost use Rattle.lapd_cli_ladder.specs.Words.{class_mark, remark_words};
+
+use crate::LadderStyle;
+use crate::columns::push_left;
+use crate::ladder::push_line;
+use lapd_cli_render::{Packet, push_names};
+use lapd_follow::{Class, Remark, Remarks};
+use lapd_frame::Side;
+use std::alloc::{AllocError, Global};
+
+/// The columns of the words of a note.
+const NOTE_WIDTH: usize = 45;
+
+/// Appends the lines below that of the octets that `from` sent in this packet: a mark if the packet
+/// was cut, the name of the message if that is requested, and the remarks.
+///
+/// # Errors
+///
+/// `AllocError` if an allocation fails. A part of the lines may have been appended.
+pub fn push_notes(
+    alloc: Global,
+    text: &mut Vec<u8>,
+    style: LadderStyle,
+    packet: Packet,
+    from: Side,
+    octets: &[u8],
+    said: &Option<Remarks>,
+) -> Result<(), AllocError>
+    ensures { OnOk result (text.new.items ≡ text.old.items
+        ++ note_lines style packet from octets.now said.now) }
+{
+    push_cut(alloc, text, style.time_width, packet.is_cut)?;
+    push_message(alloc, text, style, from, octets)?;
+    push_remarks(alloc, text, style.time_width, said)
+}
+
+/// Appends a line if the capture has only the first octets of a frame.
+fn push_cut(alloc: Global, text: &mut Vec<u8>, width: usize, is_cut: bool) -> Result<(), AllocError>
+    ensures { OnOk result (text.new.items ≡ text.old.items ++ cut_line width is_cut) }
+{
+    if is_cut {
+        push_note(alloc, text, width, b"[cut]")
+    } else {
+        Ok(())
+    }
+}
+
+/// Appends the name of the message in a frame, if that is requested and there is one.
+fn push_message(
+    alloc: Global,
+    text: &mut Vec<u8>,
+    style: LadderStyle,
+    from: Side,
+    octets: &[u8],
+) -> Result<(), AllocError>
+    ensures { OnOk result (text.new.items ≡ text.old.items ++ names_line style from octets.now) }
+{
+    if !style.names {
+        return Ok(());
+    }
+    let mut names = String::new(alloc);
+    push_names(&mut names, from, octets)?;
+    push_words(
+        alloc,
+        text,
+        style.time_width,
+        without_first(names.as_bytes()),
+    )
+}
+
+/// The octets after the first.
+fn without_first(octets: &[u8]) -> &[u8]
+    ensures { result.now ≡ drop 1 octets.now }
+{
+    match octets {
+        [_, rest @ ..] => rest,
+        [] => &[],
+    }
+}
+
+/// Appends a line with these words, if there are any.
+fn push_words(
+    alloc: Global,
+    text: &mut Vec<u8>,
+    width: usize,
+    words: &[u8],
+) -> Result<(), AllocError>
+    ensures { OnOk result (text.new.items ≡ text.old.items ++ line_of_words width words.now) }
+{
+    if words.is_empty() {
+        return Ok(());
+    }
+    push_note(alloc, text, width, words)
+}
+
+/// Appends the remarks on a frame, a line each.
+fn push_remarks(
+    alloc: Global,
+    text: &mut Vec<u8>,
+    width: usize,
+    said: &Option<Remarks>,
+) -> Result<(), AllocError>
+    ensures { OnOk result (text.new.items ≡ text.old.items ++ remark_lines width said.now) }
+{
+    match said {
+        None => Ok(()),
+        Some(said) => {
+            push_first_remarks(alloc, text, width, said)?;
+            push_last_remarks(alloc, text, width, said)
+        }
+    }
+}
+
+/// Appends the remarks on establishment, N(S), the window and a busy end.
+fn push_first_remarks(
+    alloc: Global,
+    text: &mut Vec<u8>,
+    width: usize,
+    said: &Remarks,
+) -> Result<(), AllocError>
+    ensures { OnOk result (text.new.items ≡ text.old.items ++ first_remarks width said.now) }
+{
+    push_remark(alloc, text, width, said.establishment)?;
+    push_remark(alloc, text, width, said.ns)?;
+    push_remark(alloc, text, width, said.window)?;
+    push_remark(alloc, text, width, said.busy)
+}
+
+/// Appends the remarks on N(R), an answer, and messages of TEI management.
+fn push_last_remarks(
+    alloc: Global,
+    text: &mut Vec<u8>,
+    width: usize,
+    said: &Remarks,
+) -> Result<(), AllocError>
+    ensures { OnOk result (text.new.items ≡ text.old.items ++ last_remarks width said.now) }
+{
+    push_remark(alloc, text, width, said.nr)?;
+    push_remark(alloc, text, width, said.answer)?;
+    push_remark(alloc, text, width, said.identity)?;
+    push_remark(alloc, text, width, said.conflict)
+}
+
+/// Appends the line of a remark, if there is one.
+fn push_remark(
+    alloc: Global,
+    text: &mut Vec<u8>,
+    width: usize,
+    remark: Option<Remark>,
+) -> Result<(), AllocError>
+    ensures { OnOk result (text.new.items ≡ text.old.items ++ remark_line width remark) }
+{
+    match remark {
+        None => Ok(()),
+        Some(remark) => {
+            let words = remark_words(alloc, remark)?;
+            push_note(alloc, text, width, words.as_bytes())
+        }
+    }
+}
+
+/// The words of a remark; a violation is marked.
+fn remark_words(alloc: Global, remark: Remark) -> Result<String, AllocError>
+    ensures { IfOk result (λ text. string_bytes text ≡ remark_words remark) }
+{
+    let mark = class_mark(remark.class());
+    format!(in alloc; "{mark}{remark}")
+}
+
+/// The mark of a violation.
+fn class_mark(class: Class) -> &'static str
+    ensures { result.now ≡ class_mark class }
+{
+    match class {
+        Class::Normal | Class::Recovery => "",
+        Class::Violation => "violation: ",
+    }
+}
+
+/// Appends a line with a note. `width` is that of the times.
+///
+/// # Errors
+///
+/// `AllocError` if an allocation fails. A part of the line may have been appended.
+pub fn push_note(
+    alloc: Global,
+    text: &mut Vec<u8>,
+    width: usize,
+    words: &[u8],
+) -> Result<(), AllocError>
+    ensures { OnOk result (text.new.items ≡ text.old.items ++ note_line width words.now) }
+{
+    let mut between = Vec::new(alloc);
+    between.extend_from_slice(b"  ")?;
+    push_left(&mut between, NOTE_WIDTH, words)?;
+    between.extend_from_slice(b" ")?;
+    push_line(text, width, b"", b"", b"", between.as_slice(), b"")
+}
