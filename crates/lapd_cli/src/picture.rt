@@ -3,7 +3,7 @@
 use lapd_cli_decode::{PICTURE_BEGIN, PICTURE_END};
 use std::io::Write;
 
-/// Where the text of a job is written, and its name in messages.
+/// The destination of a job's text, and its name in messages.
 #[derive(Drop)]
 pub struct Output<'a, O> {
     /// The writer.

@@ -1,7 +1,7 @@
 -- Words in columns of fixed width.
 use Rattle.std.specs.Prelude.{ℕ, ◌-◌, nat_le, if◌then◌else◌, List, ◌++◌, codes, length, replicate, take}
 
--- words, and behind them this octet up to this width; longer words stay as they are
+-- words, and behind them this octet up to this width; longer words are unchanged
 abbrev pub filled : ℕ → ℕ → List ℕ → List ℕ
 filled octet width words = words ++ replicate (width - length words) octet
 

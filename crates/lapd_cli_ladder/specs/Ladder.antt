@@ -69,7 +69,7 @@ abbrev pub arrival_line : Bool → Side → List ℕ → List ℕ → List ℕ �
 arrival_line is_lost from octets user network = ladder_line 0 [] [] user
     (arrow_or_lost is_lost from (frame_words octets (frame_at from octets))) network
 
--- the line of the octets that this side sent; the ends are as they are known after it
+-- the line of the octets that this side sent; beside it is what is known of both ends after it
 abbrev pub rung_line : LadderStyle → Packet → List ℕ → Side → List ℕ → Option Listening → List ℕ
 rung_line style packet time from octets listening = ladder_line style.time_width
     (decimal packet.number) time (known_words User (frame_at from octets) listening)

@@ -103,7 +103,8 @@ notes_element names packet from octets said =
     text_element (codes "x=\"560\" y=\"12\" class=\"middle note\"")
     (shortened 110 (note_words names packet from octets said))
 
--- the octets that this side sent, after so many drawn frames; the ends are as they are known after it
+-- the octets that this side sent, after so many drawn frames, with what is known of both ends
+-- after it
 abbrev pub frame_element : Bool → ℕ → Packet → List ℕ → Side → List ℕ → Option Remarks
     → Option Listening → List ℕ
 frame_element names place packet time from octets said listening =

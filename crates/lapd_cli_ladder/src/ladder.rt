@@ -19,7 +19,7 @@ const NUMBER_WIDTH: usize = 6;
 /// The width of the words of the user's end.
 const END_WIDTH: usize = 14;
 
-/// What is between the upright lines where there is no arrow.
+/// The columns between the upright lines if there is no arrow.
 const BLANKS: &[u8] = b"                                                ";
 
 /// The most columns of the words in an arrow.
