@@ -53,7 +53,7 @@ pub struct Ending<'a> {
     pub input: Option<ErrorKind>,
     /// Why the last failed write failed.
     pub output: Option<ErrorKind>,
-    /// What the output is written to.
+    /// The name of the output, for messages.
     pub output_name: &'a str,
 }
 
