@@ -130,15 +130,15 @@ DoesLine octets a b = ObeysUnless (is_passed_over octets) octets a b
 -- executed. Its number counts from the lines before all of these.
 pub record StopsAt (why : Obeyed) (number count : ℕ) (lines : List (List ℕ))
     (a b : LiveState) : Type 0 where
-    pub before : List (List ℕ)
-    pub stopping : List ℕ
-    pub behind : List (List ℕ)
-    pub are : lines ≡ before ++ stopping ∷ behind
-    pub number_is : number ≡ count + length before + 1
-    pub met : LiveState
-    pub done : InOrder Awaits DoesLine before a met
-    pub not_passed : is_passed_over stopping ≡ false
-    pub stops : ObeysAs why stopping Ignored met b
+  pub before : List (List ℕ)
+  pub stopping : List ℕ
+  pub behind : List (List ℕ)
+  pub are : lines ≡ before ++ stopping ∷ behind
+  pub number_is : number ≡ count + length before + 1
+  pub met : LiveState
+  pub done : InOrder Awaits DoesLine before a met
+  pub not_passed : is_passed_over stopping ≡ false
+  pub stops : ObeysAs why stopping Ignored met b
 
 -- a fault of the surroundings may stop it anywhere
 abbrev pub StopsBy : LiveStop → ℕ → List (List ℕ) → LiveState → LiveState → Type 0

@@ -162,7 +162,7 @@ fn run_script<R: Read, O: Outside, W: Write>(
 ) -> Result<(), LiveStop>
     ensures { IfSome (R.remaining script.old) (λ octets.
         Between O.io_events W.contents live.old live.new
-            (ScriptEnds serve_on result (lines_of octets))) }
+        (ScriptEnds serve_on result (lines_of octets))) }
 {
     let mut lines = TypedLines::new(alloc);
     let mut number: u64 = 0;

@@ -435,7 +435,7 @@ impl<W: Write> Printer<W> {
         }) }
         ensures lines { OnOk result (recent_lines self.new.unseen
             ≡ with_line self.old.unseen.is_retained (string_bytes self.old.line)
-                (recent_lines self.old.unseen)) }
+            (recent_lines self.old.unseen)) }
         ensures preserved { OnOk result
             (self.new.unseen.is_retained ≡ self.old.unseen.is_retained) }
     {

@@ -71,7 +71,7 @@ abbrev pub expect_request : List (List ℕ) → Option LiveRequest
 expect_request [] = None
 expect_request (word ∷ words) =
     option_and_then (expected (join_with_byte 32 (words_before word words)))
-        (parsed_span (last_word word words))
+    (parsed_span (last_word word words))
 
 -- ---- Links. A line of the user side names the SAPI alone: its links have the side's own TEI.
 
@@ -158,7 +158,7 @@ live_request_of_word side own word behind =
     if bytes_eq word (codes "read") then option_map Read (span_left behind) else (
     if bytes_eq word (codes "run") then option_map Run (span_left behind) else (
     if bytes_eq word (codes "wait")
-        then option_map (λ ms. Run (Some ms)) (span_behind behind) else (
+    then option_map (λ ms. Run (Some ms)) (span_behind behind) else (
     if bytes_eq word (codes "state") then state_request side own behind else (
     if bytes_eq word (codes "stats") then bare_live_request Stats behind else (
     if bytes_eq word (codes "impair") then impair_request behind else (
