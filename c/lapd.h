@@ -72,7 +72,8 @@ typedef struct lapd_side {
  *   3. LAPD_NO_SIDE;
  *   4. LAPD_PENDING;
  *   5. LAPD_CHECK_RUNS;
- *   6. LAPD_NO_MEMORY: what the last call left to be fetched cannot be queued;
+ *   6. LAPD_NO_MEMORY: what the last call left to be fetched cannot be queued, or the counters of
+ *      lapd_side_count cannot be allocated;
  *   7. the other codes, and LAPD_OUT_OF_RANGE for a buffer that is too small. */
 enum lapd_code {
 	LAPD_DONE = 0,
@@ -80,6 +81,7 @@ enum lapd_code {
 	LAPD_PENDING = 2,              /* at least most_waiting frames or primitives wait */
 	LAPD_OUT_OF_RANGE = 3,         /* a number is out of range, or the buffer is too small */
 	LAPD_CHECK_RUNS = 4,           /* another check of a TEI is in progress */
+	LAPD_NOT_COUNTING = 5,         /* counters are requested of a side that does not count */
 	LAPD_NO_LINK = 11,             /* B1: no link with this SAPI and TEI exists */
 	LAPD_NO_MEMORY = 13,           /* B3: an allocation failed; try again, or first fetch all */
 	LAPD_NOT_ESTABLISHED = 21,     /* L1: a message for a link that is not established */
@@ -115,8 +117,8 @@ enum lapd_kind {
 	LAPD_TEI_GONE = 17,         /* user side: it no longer has tei; its links are removed */
 	LAPD_TEI_FAILED = 18,       /* user side: it got no TEI, and stopped requesting one */
 	LAPD_TEI_GIVEN = 19,        /* network side: it has assigned tei to a terminal */
-	LAPD_TEI_FREE = 20,         /* network side: no terminal answered the check of tei; its links
-	                             * are removed */
+	LAPD_TEI_FREE = 20,         /* network side: tei is free, since no terminal answered its check,
+	                             * or lapd_side_remove_tei removed it; its links are removed */
 	LAPD_TEI_IN_USE = 21,       /* network side: one terminal answered the check of tei */
 	LAPD_TEI_DOUBLED = 22,      /* network side: several terminals answered; tei and its links are
 	                             * removed */
@@ -170,6 +172,26 @@ typedef struct lapd_link_state {
 	uint8_t rejecting;  /* 1 if a message is missing and REJ has requested it, else 0 */
 	uint16_t waiting;   /* messages neither acknowledged nor dropped, 0 to 1024 */
 } lapd_link_state;
+
+/* The counters of a link since lapd_side_count. Each stops at UINT64_MAX.
+ *
+ * A frame is counted for the SAPI and TEI in its address, by the call that sends or receives it,
+ * whether the link exists or not. Octets that do not form a valid frame are not counted. A user
+ * side receives the frames for all terminals of its bus, so it counts those of other TEIs too. */
+typedef struct lapd_link_counters {
+	/* I frames sent for the first time, and sent again. A frame is sent for the first time if its
+	 * N(S) is one greater, modulo 128, than the highest N(S) that was counted since this end last
+	 * sent SABME or UA, or if none was. So if the side begins to count while a link is established,
+	 * the next I frame of the link counts as sent for the first time. */
+	uint64_t sent;
+	uint64_t again;
+	uint64_t received;     /* I frames received, also those that the link discards */
+	uint64_t rej_sent;     /* REJ sent: a message was missing */
+	uint64_t rej_received;
+	uint64_t rnr_sent;     /* RNR sent: this end is receiver busy */
+	uint64_t rnr_received;
+	uint64_t reports;      /* LAPD_MDL_ERROR */
+} lapd_link_counters;
 
 #define LAPD_NO_TEI 255          /* for lapd_side_user: no fixed TEI; from lapd_side_tei: no TEI */
 #define LAPD_GROUP_TEI 127       /* all terminals */
@@ -228,6 +250,15 @@ uint32_t lapd_side_ask_tei(lapd_side *side, uint64_t now);
  * LAPD_TEI_FREE, LAPD_TEI_IN_USE or LAPD_TEI_DOUBLED. */
 uint32_t lapd_side_check_tei(lapd_side *side, uint8_t tei, uint64_t now);
 
+/* Removes this TEI, 0 to 126 (MDL-REMOVE request, Q.921 5.3.4), and its links. A network side sends
+ * Identity remove twice and reports LAPD_TEI_FREE, whether it has assigned the TEI or not; a check
+ * of the TEI ends without its own outcome. From then on the TEI may be assigned to another
+ * terminal: one that receives neither message keeps it, so check the TEI before you rely on it. A
+ * TEI below 64 is not assigned again. A user side gives up its TEI and reports LAPD_TEI_GONE; it
+ * sends nothing. LAPD_NO_LINK: the TEI is not that of this user side. LAPD_OUT_OF_RANGE: tei is
+ * above 126. */
+uint32_t lapd_side_remove_tei(lapd_side *side, uint8_t tei, uint64_t now);
+
 /* Sets T200 to T203 in milliseconds, each 1 to 3600000, for timers that are started from then on,
  * also those of links that are added later. A running timer keeps its deadline. Never returns
  * LAPD_PENDING. LAPD_OUT_OF_RANGE: nothing is changed. */
@@ -251,6 +282,17 @@ uint32_t lapd_side_discarded(lapd_side *side, uint64_t *count);
 /* The state of the link with a SAPI, 0, 16 or 63, and a TEI, 0 to 127. A user side uses only the
  * SAPI, as for requests. LAPD_OUT_OF_RANGE, LAPD_NO_SIDE, LAPD_NO_LINK: all of *state is 0. */
 uint32_t lapd_side_state(lapd_side *side, uint8_t sapi, uint8_t tei, lapd_link_state *state);
+
+/* Begins to count the I frames, REJ, RNR and reports of each link, from 0; if the side counts
+ * already, it counts from 0 again. It allocates about 28000 octets, until the side is freed. A new
+ * side does not count. LAPD_NO_MEMORY: nothing is changed. */
+uint32_t lapd_side_count(lapd_side *side);
+
+/* The counters of the link with a SAPI, 0, 16 or 63, and a TEI, 0 to 127. A user side uses the TEI
+ * too: after it lost its TEI, the counters can still be read. A call counts its frames and reports
+ * when it is made, even if they are not fetched yet. LAPD_OUT_OF_RANGE, LAPD_NO_SIDE,
+ * LAPD_NOT_COUNTING: all of *counters is 0. */
+uint32_t lapd_side_counters(lapd_side *side, uint8_t sapi, uint8_t tei, lapd_link_counters *counters);
 
 /* The state of a user side's terminal (Q.921 Annex B): 1 TEI unassigned, 2 assign awaiting TEI,
  * 3 establish awaiting TEI, 4 TEI assigned; and its TEI in state 4, else LAPD_NO_TEI. For a network

@@ -13,7 +13,14 @@ import sys
 NUMBERS = {
     "u8": "uint8_t", "u16": "uint16_t", "u32": "uint32_t", "u64": "uint64_t", "usize": "size_t", "bool": "bool",
 }
-STRUCTS = {"Handle": "lapd_side", "Settings": "lapd_settings", "FlatPrimitive": "lapd_primitive", "LinkState": "lapd_link_state"}
+STRUCTS = {
+    "Handle": "lapd_side", "Settings": "lapd_settings", "FlatPrimitive": "lapd_primitive", "LinkState": "lapd_link_state",
+    "LinkCounters": "lapd_link_counters",
+}
+# The struct of each of these files of the crate.
+FILES = {
+    "settings": "Settings", "flat_primitive": "FlatPrimitive", "link_state": "LinkState", "link_counters": "LinkCounters",
+}
 # Parameters with another name in C, because the crate's name would be less clear.
 NAMES = {"handle": "side", "known": "teis", "fixed": "tei", "delivered": "primitive"}
 # The symbols that the archive may require of the program that it is linked into.
@@ -122,7 +129,7 @@ def main():
     for name in sorted(set(exports) | set(prototypes)):
         if not agree(exports.get(name), prototypes.get(name)):
             wrong.append(f"{name}: the crate has {exports.get(name)}, the header {prototypes.get(name)}")
-    for file, name in (("settings", "Settings"), ("flat_primitive", "FlatPrimitive"), ("link_state", "LinkState")):
+    for file, name in FILES.items():
         rattle, c = fields_of_rattle(source(file), name), fields_of_c(text, STRUCTS[name])
         if rattle != c:
             wrong.append(f"{name}: the crate has {rattle}, the header {c}")

@@ -20,6 +20,7 @@ static void all_return(lapd_side *side, uint32_t code)
 	WANT_CODE(lapd_side_busy(side, 0, 64, 1, 0), code);
 	WANT_CODE(lapd_side_ask_tei(side, 0), code);
 	WANT_CODE(lapd_side_check_tei(side, 64, 0), code);
+	WANT_CODE(lapd_side_remove_tei(side, 64, 0), code);
 	WANT_CODE(lapd_side_tick(side, 0, &expired), code);
 	WANT(expired == 0);
 }
@@ -28,6 +29,7 @@ static void all_return(lapd_side *side, uint32_t code)
 static void all_are_out_of_range(lapd_side *side)
 {
 	lapd_link_state state;
+	lapd_link_counters counters;
 
 	WANT_CODE(lapd_side_establish(side, 1, 64, 0), LAPD_OUT_OF_RANGE);
 	WANT_CODE(lapd_side_establish(side, 0, 128, 0), LAPD_OUT_OF_RANGE);
@@ -37,15 +39,21 @@ static void all_are_out_of_range(lapd_side *side)
 	WANT_CODE(lapd_side_busy(side, 0, 255, 1, 0), LAPD_OUT_OF_RANGE);
 	WANT_CODE(lapd_side_check_tei(side, LAPD_GROUP_TEI, 0), LAPD_OUT_OF_RANGE);
 	WANT_CODE(lapd_side_check_tei(side, 128, 0), LAPD_OUT_OF_RANGE);
+	WANT_CODE(lapd_side_remove_tei(side, LAPD_GROUP_TEI, 0), LAPD_OUT_OF_RANGE);
+	WANT_CODE(lapd_side_remove_tei(side, 255, 0), LAPD_OUT_OF_RANGE);
 	memset(&state, 1, sizeof state);
 	WANT_CODE(lapd_side_state(side, 2, 64, &state), LAPD_OUT_OF_RANGE);
 	WANT(state.state == 0 && state.waiting == 0);
+	memset(&counters, 1, sizeof counters);
+	WANT_CODE(lapd_side_counters(side, 0, 128, &counters), LAPD_OUT_OF_RANGE);
+	WANT(counters.sent == 0 && counters.reports == 0);
 }
 
 static void no_side(lapd_side *side)
 {
 	lapd_primitive delivered;
 	lapd_link_state state;
+	lapd_link_counters counters;
 	uint64_t moment = 0, count = 1;
 	size_t length = 1, left = 1;
 	uint8_t phase = 1, tei = 1;
@@ -60,6 +68,10 @@ static void no_side(lapd_side *side)
 	WANT(count == 0);
 	WANT_CODE(lapd_side_state(side, 0, 64, &state), LAPD_NO_SIDE);
 	WANT(state.state == 0 && state.rc == 0 && state.waiting == 0);
+	WANT_CODE(lapd_side_count(side), LAPD_NO_SIDE);
+	memset(&counters, 1, sizeof counters);
+	WANT_CODE(lapd_side_counters(side, 0, 64, &counters), LAPD_NO_SIDE);
+	WANT(counters.sent == 0 && counters.reports == 0);
 	WANT_CODE(lapd_side_frame(side, buffer, sizeof buffer, &length), LAPD_NO_SIDE);
 	WANT(length == 0);
 	WANT_CODE(lapd_side_primitive(side, &delivered, buffer, sizeof buffer), LAPD_NO_SIDE);
@@ -357,6 +369,92 @@ static void terminals(lapd_side *side)
 	WANT_CODE(lapd_side_state(side, 16, 70, &link), LAPD_NO_LINK);
 }
 
+/* The counters of a link of TEI 64, in the order of their fields. */
+static void wants_counters(lapd_side *side, uint8_t sapi, const char *wanted)
+{
+	lapd_link_counters c;
+	char text[128];
+
+	DONE(lapd_side_counters(side, sapi, 64, &c));
+	sprintf(text, "%u %u %u %u %u %u %u %u", (unsigned)c.sent, (unsigned)c.again, (unsigned)c.received,
+	    (unsigned)c.rej_sent, (unsigned)c.rej_received, (unsigned)c.rnr_sent, (unsigned)c.rnr_received,
+	    (unsigned)c.reports);
+	if (strcmp(text, wanted) != 0) {
+		fprintf(stderr, "counters of SAPI %u: wanted %s, given %s\n", sapi, wanted, text);
+		exit(1);
+	}
+}
+
+static void take(lapd_side *side, const char *octets, size_t count)
+{
+	DONE(lapd_side_take(side, (const uint8_t *)octets, count, 0));
+}
+
+/* Frames and reports are counted by the call that sends, receives or makes them, each for its link.
+ * Nothing is fetched. */
+static void counters(lapd_side *side)
+{
+	const lapd_settings primary = LAPD_PRIMARY;
+	const uint8_t tei = 64;
+	lapd_link_counters none;
+	uint64_t moment = 0;
+	uint8_t expired = 0;
+
+	DONE(lapd_side_network(side, &primary, &tei, 1));
+	memset(&none, 1, sizeof none);
+	WANT_CODE(lapd_side_counters(side, 0, 64, &none), LAPD_NOT_COUNTING);
+	WANT(none.sent == 0 && none.again == 0 && none.received == 0 && none.rej_sent == 0);
+	WANT(none.rej_received == 0 && none.rnr_sent == 0 && none.rnr_received == 0 && none.reports == 0);
+	DONE(lapd_side_count(side));
+	take(side, "\x00\x81\x7f", 3); /* SABME */
+	wants_counters(side, 0, "0 0 0 0 0 0 0 0");
+	DONE(lapd_side_give(side, 0, 64, message, sizeof message, 0));
+	DONE(lapd_side_give(side, 0, 64, message, sizeof message, 0));
+	wants_counters(side, 0, "2 0 0 0 0 0 0 0");
+	take(side, "\x02\x81\x09\x00", 4); /* REJ N(R)=0: both are sent again */
+	wants_counters(side, 0, "2 2 0 0 1 0 0 0");
+	take(side, "\x02\x81\x05\x04", 4); /* RNR N(R)=2 */
+	wants_counters(side, 0, "2 2 0 0 1 0 1 0");
+	take(side, "\x00\x81\x02\x04\x08", 5); /* I N(S)=1: N(S)=0 is missing */
+	wants_counters(side, 0, "2 2 1 1 1 0 1 0");
+	DONE(lapd_side_busy(side, 0, 64, 1, 0));
+	wants_counters(side, 0, "2 2 1 1 1 1 1 0");
+	DONE(lapd_side_deadline(side, &moment));
+	DONE(lapd_side_tick(side, moment - 1, &expired));
+	WANT(expired == 0);
+	DONE(lapd_side_tick(side, moment, &expired));
+	WANT(expired == 1);
+	wants_counters(side, 0, "2 2 1 1 1 2 1 0");
+	take(side, "\x02\x81\x01\x05", 4); /* RR N(R)=2 F=1 */
+	DONE(lapd_side_busy(side, 0, 64, 0, 0));
+	take(side, "\x02\x81\x73", 3); /* an unsolicited UA begins no establishment */
+	wants_counters(side, 0, "2 2 1 1 1 2 1 1");
+	DONE(lapd_side_give(side, 0, 64, message, sizeof message, 0));
+	wants_counters(side, 0, "3 2 1 1 1 2 1 1");
+	take(side, "\x00\x81\x7f", 3); /* SABME: I frames begin at N(S)=0 again */
+	DONE(lapd_side_give(side, 0, 64, message, sizeof message, 0));
+	wants_counters(side, 0, "4 2 1 1 1 2 1 2");
+	take(side, "\x40\x81\x00\x00", 4); /* the link of SAPI 16 does not exist */
+	take(side, "\x40\x81\x00", 3);
+	take(side, "\x40\x83\x09\x00", 4);
+	wants_counters(side, 16, "0 0 1 0 0 0 0 0");
+	wants_counters(side, 63, "0 0 0 0 0 0 0 0");
+	wants_counters(side, 0, "4 2 1 1 1 2 1 2");
+	WANT_CODE(lapd_side_release(side, 16, 64, 0), LAPD_NO_LINK);
+	wants_counters(side, 16, "0 0 1 0 0 0 0 0");
+	DONE(lapd_side_count(side));
+	wants_counters(side, 0, "0 0 0 0 0 0 0 0");
+	DONE(lapd_side_user(side, &primary, 64));
+	WANT_CODE(lapd_side_counters(side, 0, 64, &none), LAPD_NOT_COUNTING);
+	DONE(lapd_side_count(side));
+	take(side, "\x02\x81\x7f", 3);
+	take(side, "\x02\x81\x00\x00", 4); /* I N(S)=0, from the network */
+	DONE(lapd_side_give(side, 0, 0, message, sizeof message, 0));
+	wants_counters(side, 0, "1 0 1 0 0 0 0 0");
+	DONE(lapd_side_remove_tei(side, 64, 0));
+	wants_counters(side, 0, "1 0 1 0 0 0 0 0");
+}
+
 /* A line of text, with a buffer that just fits, one that is too small, and one with room for a 0. */
 static void a_text(const char *octets, size_t count, uint8_t network, const char *wanted)
 {
@@ -394,7 +492,8 @@ static void names(void)
 	a_name(LAPD_DONE, false, "LAPD_DONE");
 	a_name(LAPD_CHECK_RUNS, false, "LAPD_CHECK_RUNS");
 	a_name(LAPD_LAYER_3_ESTABLISHING, false, "LAPD_LAYER_3_ESTABLISHING");
-	a_name(5, false, "");
+	a_name(LAPD_NOT_COUNTING, false, "LAPD_NOT_COUNTING");
+	a_name(6, false, "");
 	a_name(UINT32_MAX, false, "");
 	a_name(LAPD_NOTHING, true, "LAPD_NOTHING");
 	a_name(LAPD_TEI_DOUBLED, true, "LAPD_TEI_DOUBLED");
@@ -420,6 +519,7 @@ int main(void)
 	a_check(&side);
 	durations(&side);
 	terminals(&side);
+	counters(&side);
 	lapd_side_free(&side);
 	lapd_side_free(&side);
 	no_side(&side);
@@ -427,6 +527,6 @@ int main(void)
 	a_text("\x02\x81\x01\x01", 4, 1, "N>U SAPI 0 TEI 64 C RR N(R)=0 P=1");
 	a_text("\x00\x81\x02\x04\x08\x02", 6, 0, "U>N SAPI 0 TEI 64 C I N(S)=1 N(R)=2 P=0 info=0802");
 	a_text("\x04\x81\x7f", 3, 0, "U>N F3 SapiNotServed 04817f");
-	printf("codes: of handles, buffers, settings, links, checks, durations, terminals, names and text\n");
+	printf("codes: of handles, buffers, settings, links, checks, durations, terminals, counters, names and text\n");
 	return 0;
 }

@@ -125,6 +125,23 @@ static void append_refusal(uint32_t code)
 	append(words);
 }
 
+/* The counters that are not 0, in words. */
+static void append_counters(const lapd_link_counters *counters)
+{
+	static const char *names[] = { "sent", "again", "received", "rej-sent", "rej-received", "rnr-sent", "rnr-received", "reports" };
+	const uint64_t numbers[] = { counters->sent, counters->again, counters->received, counters->rej_sent,
+		counters->rej_received, counters->rnr_sent, counters->rnr_received, counters->reports };
+	char words[64];
+	int at;
+
+	for (at = 0; at < 8; at++) {
+		if (numbers[at] > 0) {
+			sprintf(words, "%s %llu;", names[at], (unsigned long long)numbers[at]);
+			append(words);
+		}
+	}
+}
+
 static void make(const char *kind, const char *tei, const char *sapi16)
 {
 	lapd_settings settings = LAPD_BASIC;
@@ -144,6 +161,7 @@ static bool called(const char *line)
 {
 	char name[32] = "", a[32] = "", b[32] = "", c[ROOM] = "", d[ROOM] = "";
 	uint8_t octets[ROOM];
+	lapd_link_counters counters;
 	uint64_t now, number;
 	uint32_t code;
 	uint8_t expired = 1;
@@ -170,6 +188,14 @@ static bool called(const char *line)
 		code = lapd_side_ask_tei(&side, now);
 	} else if (strcmp(name, "check-tei") == 0) {
 		code = lapd_side_check_tei(&side, (uint8_t)atoi(b), now);
+	} else if (strcmp(name, "remove-tei") == 0) {
+		code = lapd_side_remove_tei(&side, (uint8_t)atoi(b), now);
+	} else if (strcmp(name, "count") == 0) {
+		code = lapd_side_count(&side);
+	} else if (strcmp(name, "counters") == 0) {
+		code = lapd_side_counters(&side, (uint8_t)atoi(a), (uint8_t)atoi(b), &counters);
+		if (code == LAPD_DONE)
+			append_counters(&counters);
 	} else if (strcmp(name, "deadline") == 0) {
 		code = lapd_side_deadline(&side, &number);
 		sprintf(given, number == LAPD_NEVER ? "never;" : "%llu;", (unsigned long long)number);

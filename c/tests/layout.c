@@ -42,4 +42,14 @@ AT(lapd_link_state, own_busy, 6, 1);
 AT(lapd_link_state, rejecting, 7, 1);
 AT(lapd_link_state, waiting, 8, 2);
 
+SIZE(lapd_link_counters, 64);
+AT(lapd_link_counters, sent, 0, 8);
+AT(lapd_link_counters, again, 8, 8);
+AT(lapd_link_counters, received, 16, 8);
+AT(lapd_link_counters, rej_sent, 24, 8);
+AT(lapd_link_counters, rej_received, 32, 8);
+AT(lapd_link_counters, rnr_sent, 40, 8);
+AT(lapd_link_counters, rnr_received, 48, 8);
+AT(lapd_link_counters, reports, 56, 8);
+
 SIZE(size_t, 8);

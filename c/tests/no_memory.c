@@ -109,6 +109,7 @@ static void pile(lapd_side *side)
 static void converse(void)
 {
 	static const uint8_t message[] = "a message of some length";
+	lapd_link_counters counters;
 	lapd_side network = LAPD_SIDE_INIT, user = LAPD_SIDE_INIT;
 	lapd_settings settings = LAPD_BASIC;
 	const uint8_t tei = 3;
@@ -117,12 +118,15 @@ static void converse(void)
 	settings.sapi16 = 1;
 	TWICE(lapd_side_network(&network, &settings, &tei, 1));
 	TWICE(lapd_side_user(&user, &settings, LAPD_NO_TEI));
+	TWICE(lapd_side_count(&user));
 	DONE(lapd_side_establish(&user, 0, 0, 0));
 	carry(&user, &network);
 	for (at = 0; at < MESSAGES; at++) {
 		TWICE(lapd_side_give(&user, 0, 0, message, sizeof message, 0));
 		carry(&user, &network);
 	}
+	DONE(lapd_side_counters(&user, 0, 64, &counters));
+	WANT(counters.sent == MESSAGES && counters.again == 0 && counters.received == 0);
 	TWICE(lapd_side_unit(&network, 0, LAPD_GROUP_TEI, message, sizeof message, 0));
 	carry(&network, &user);
 	pile(&network);

@@ -1,5 +1,5 @@
 -- The codes of calls are in order: no result of a side has the code 1, 2 or 3.
-use Rattle.std.proofs.Common.{◌≡◌, inl, inr, ℕ, Bool, true, false, List, Option, Some, None, Result, Ok, Err, refl, subst, sym, ◌∙◌}
+use Rattle.std.proofs.Common.{◌≡◌, inl, inr, ℕ, Bool, true, false, List, [], Option, Some, None, Result, Ok, Err, refl, subst, sym, ◌∙◌}
 use Rattle.std.specs.Prelude.{nat_eq, is_some, ⊤}
 use Rattle.lapd_link_definition.specs.declared.event.LinkFault.TheVariants as link
 use Rattle.lapd_table.specs.declared.link_id.LinkId.{LinkId}
@@ -9,7 +9,7 @@ use Rattle.lapd_sides_links.specs.declared.side_fault.SideKind.TheVariants.{NoLi
 use Rattle.lapd_sides.specs.declared.request.Request.TheVariants as request
 use Rattle.lapd_sides.specs.Either.{Answers}
 use Rattle.lapd_c.specs.declared.held_side.HeldSide.{HeldSide}
-use Rattle.lapd_c.specs.ThroughHandle.{AsksSide, AsksCheck, AsksLink, AsksLinkWith, Message, Through}
+use Rattle.lapd_c.specs.ThroughHandle.{AsksSide, AsksCheck, AsksTei, AsksLink, AsksLinkWith, Message, Through}
 use Rattle.lapd_c.specs.Calls.{Asks, Call, Checks, ChecksUnless, Ticks, is_full}
 use Rattle.lapd_c.specs.CodeOrder.{ReturnsInOrder}
 use Rattle.lapd_c.specs.Codes.{code_of, code_of_kind, memory, no_side, out_of_range, pending}
@@ -47,8 +47,8 @@ without code is = subst (λ c. ReturnsInOrder true None c) (sym is) (record { ra
 out : (old : Held) (code : ℕ) → code ≡ out_of_range → ReturnsInOrder false old code
 out old code is = subst (λ c. ReturnsInOrder false old c) (sym is) (record { range = refl; side = refl; room = refl })
 
-asked : (call : Call) (old new : HeldSide) (code : ℕ) → Asks call old new code → ReturnsInOrder true (Some old) code
-asked call old new code h = by_room (is_full old) refl
+asked : (call : Call) (octets : List ℕ) (old new : HeldSide) (code : ℕ) → Asks call octets old new code → ReturnsInOrder true (Some old) code
+asked call octets old new code h = by_room (is_full old) refl
   where
     by_room : (full : Bool) → is_full old ≡ full → ReturnsInOrder true (Some old) code
     by_room true e = refused old code e (h.refused e).0
@@ -61,7 +61,7 @@ checked : (tei now : ℕ) (old new : HeldSide) (code : ℕ) → Checks tei now o
 checked tei now old new code h = by_room (is_full old) refl
   where
     by_check : (check : Option ℕ) → is_full old ≡ false → ChecksUnless check tei now old new code → ReturnsInOrder true (Some old) code
-    by_check None e begins = asked (Answers (request.Check tei) now) old new code begins
+    by_check None e begins = asked (Answers (request.Check tei) now) [] old new code begins
     by_check (Some other) e runs = reached old code e (subst IsOther (sym runs.0) (refl, refl, refl))
 
     by_room : (full : Bool) → is_full old ≡ full → ReturnsInOrder true (Some old) code
@@ -78,15 +78,15 @@ ticked now expired old new code h = by_room (is_full old) refl
       | inr done ↦ reached old code e (subst IsOther (sym done.done) (refl, refl, refl))
     ]
 
-pub of_side : (call : Call) (code : ℕ) (old new : Held) → AsksSide call code old new → ReturnsInOrder true old code
-of_side call code (Some old) (Some new) h = asked call old new code h
-of_side call code (Some old) None h = absurd h
-of_side call code None (Some new) h = absurd h
-of_side call code None None h = without code h
+pub of_side : (call : Call) (octets : List ℕ) (code : ℕ) (old new : Held) → AsksSide call octets code old new → ReturnsInOrder true old code
+of_side call octets code (Some old) (Some new) h = asked call octets old new code h
+of_side call octets code (Some old) None h = absurd h
+of_side call octets code None (Some new) h = absurd h
+of_side call octets code None None h = without code h
 
 pub of_link : (call : LinkId → Call) (code : ℕ) (old new : Held) (id : Option LinkId) → AsksLink call code old new id → ReturnsInOrder (is_some id) old code
 of_link call code old new None h = out old code h.0
-of_link call code old new (Some id) h = of_side (call id) code old new h
+of_link call code old new (Some id) h = of_side (call id) [] code old new h
 
 pub of_check : (now code : ℕ) (old new : Held) (tei : Option ℕ) → AsksCheck now code old new tei → ReturnsInOrder (is_some tei) old code
 of_check now code old new None h = out old code h.0
@@ -95,11 +95,15 @@ of_check now code (Some old) None (Some tei) h = absurd h
 of_check now code None (Some new) (Some tei) h = absurd h
 of_check now code None None (Some tei) h = without code h
 
+pub of_tei : (call : ℕ → Call) (code : ℕ) (old new : Held) (tei : Option ℕ) → AsksTei call code old new tei → ReturnsInOrder (is_some tei) old code
+of_tei call code old new None h = out old code h.0
+of_tei call code old new (Some tei) h = of_side (call tei) [] code old new h
+
 pub of_message : (call : LinkId → Message → Call) (octets : List ℕ) (code : ℕ) (old new : Held) (id : Option LinkId) → AsksLinkWith call octets code old new id
     → (code ≡ memory → ⊥) → ReturnsInOrder (is_some id) old code
 of_message call octets code old new None h copied = out old code h.0
 of_message call octets code old new (Some id) (inl none) copied = absurd (copied none.refused)
-of_message call octets code old new (Some id) (inr with_message) copied = of_side (call id with_message.message) code old new with_message.asks
+of_message call octets code old new (Some id) (inr with_message) copied = of_side (call id with_message.message) [] code old new with_message.asks
 
 pub of_tick : (now expired code : ℕ) (old new : Held) → Through (λ o n. Ticks now expired o n code) ((code ≡ no_side) × (expired ≡ 0)) old new → ReturnsInOrder true old code
 of_tick now expired code (Some old) (Some new) h = ticked now expired old new code h

@@ -1,6 +1,6 @@
 -- The effect of a call on a held side: that of the side's own call, and the results that are
 -- fetched.
-use Rattle.std.specs.Prelude.{◌≡◌, ◌≤◌, ◌⊎◌, ℕ, ◌+◌, ◌-◌, ◌^◌, min, ◌++◌, ◌||◌, ◌&&◌, nat_eq, nat_lt, nat_le, Bool, true, false, List, length, drop, set, slice_get, Option, Some, None, Result, ⊤}
+use Rattle.std.specs.Prelude.{◌≡◌, ◌≤◌, ◌⊎◌, ℕ, ◌+◌, ◌-◌, ◌^◌, min, ◌++◌, ◌||◌, ◌&&◌, nat_eq, nat_lt, nat_le, Bool, true, false, List, [], length, drop, set, slice_get, Option, Some, None, option_map, Result, ⊤}
 use Rattle.lapd_timers.specs.Durations.{Lengths}
 use Rattle.lapd_link.specs.Link.{LinkRepresents}
 use Rattle.lapd_link.specs.declared.link.Link.{Link}
@@ -13,12 +13,15 @@ use Rattle.lapd_sides_links.specs.declared.side_fault.SideFault.{SideFault}
 use Rattle.lapd_sides_links.specs.Effects.{Effects, and_then, no_effects}
 use Rattle.lapd_sides.specs.declared.either_side.EitherSide.{EitherSide}
 use Rattle.lapd_sides.specs.declared.request.Request.TheVariants as request
-use Rattle.lapd_sides.specs.Either.{Answers, Expires, StaysIdle, SetsDurations, HasNextDeadline, HasDiscarded, HasTable}
+use Rattle.lapd_sides.specs.Either.{side_of, Answers, Expires, StaysIdle, SetsDurations, HasNextDeadline, HasDiscarded, HasTable}
 use Rattle.lapd_tei.specs.declared.phase.Phase.{Phase}
 use Rattle.lapd_c.specs.declared.flat_primitive.FlatPrimitive.{FlatPrimitive}
 use Rattle.lapd_c.specs.declared.held_side.HeldSide.{HeldSide}
+use Rattle.lapd_c.specs.declared.link_counters.LinkCounters.{LinkCounters}
+use Rattle.lapd_c.specs.declared.link_counters.LinkCount.{LinkCount}
 use Rattle.lapd_c.specs.declared.link_state.LinkState.{LinkState}
-use Rattle.lapd_c.specs.Codes.{done, pending, out_of_range, check_runs, memory, code_of, code_of_kind}
+use Rattle.lapd_c.specs.Codes.{done, pending, out_of_range, check_runs, not_counting, memory, code_of, code_of_kind}
+use Rattle.lapd_c.specs.Counters.{call_counted, counters_of, no_counters, nothing_counted}
 use Rattle.lapd_c.specs.FlatPrimitives.{flat, flat_frame, nothing, octets_of}
 use Rattle.lapd_c.specs.LinkStates.{state_of, no_state}
 use Rattle.lapd_c.specs.SideQueries.{HasCheck, HasTerminal, link_meant, meant, state_of_terminal, tei_of_terminal}
@@ -44,15 +47,22 @@ is_full held = nat_le held.most_waiting (length (waiting held).frames)
 abbrev pub Call : Type 1
 Call = Result ⊤ SideFault → EitherSide → EitherSide → Effects → Type 0
 
--- the call is made, its effects are appended to the waiting ones, and C receives the code of its
--- result
-pub record HasCalled (call : Call) (old new : HeldSide) (code : ℕ) : Type 0 where
+-- If the side counts: the counters after a call by which it receives these octets, or none, and
+-- which has these effects.
+abbrev pub counts_after : HeldSide → List ℕ → Effects → EitherSide → Option (List LinkCount)
+counts_after old octets given side =
+    option_map (call_counted (side_of side) octets given) old.counts
+
+-- The call is made, its effects are appended to the waiting ones, and C receives the code of its
+-- result. The octets are those that C passes in from the line, none for a request.
+pub record HasCalled (call : Call) (octets : List ℕ) (old new : HeldSide) (code : ℕ) : Type 0 where
   pub result : Result ⊤ SideFault
   pub coded : code ≡ code_of result
   pub given : Effects
   pub called : call result old.side new.side given
   pub waits : waiting new ≡ and_then (waiting old) given
   pub most : new.most_waiting ≡ old.most_waiting
+  pub counts : new.counts ≡ counts_after old octets given new.side
 
 -- the waiting results of the last call cannot be set aside, because an allocation fails
 pub record HasNoMemory (old new : HeldSide) (code : ℕ) : Type 0 where
@@ -62,13 +72,14 @@ pub record HasNoMemory (old new : HeldSide) (code : ℕ) : Type 0 where
 
 -- The call is made, or an allocation fails; if too many results wait, the call is refused. In the
 -- last two cases nothing changes.
-pub record Asks (call : Call) (old new : HeldSide) (code : ℕ) : Type 0 where
+pub record Asks (call : Call) (octets : List ℕ) (old new : HeldSide) (code : ℕ) : Type 0 where
   pub refused : is_full old ≡ true → (code ≡ pending) × (new ≡ old)
-  pub called : is_full old ≡ false → HasNoMemory old new code ⊎ HasCalled call old new code
+  pub called : is_full old ≡ false
+      → HasNoMemory old new code ⊎ HasCalled call octets old new code
 
 -- a check of this TEI begins, unless another check is in progress: then nothing changes
 abbrev pub ChecksUnless : Option ℕ → ℕ → ℕ → HeldSide → HeldSide → ℕ → Type 0
-ChecksUnless None tei now old new code = Asks (Answers (request.Check tei) now) old new code
+ChecksUnless None tei now old new code = Asks (Answers (request.Check tei) now) [] old new code
 ChecksUnless (Some other) tei now old new code = (code ≡ check_runs) × (new ≡ old)
 
 pub record HasRoomToCheck (tei now : ℕ) (old new : HeldSide) (code : ℕ) : Type 0 where
@@ -90,6 +101,7 @@ pub record HasTicked (now expired : ℕ) (old new : HeldSide) (code : ℕ) : Typ
   pub none : expired ≡ 0 → StaysIdle now old.side new.side × (given ≡ no_effects)
   pub waits : waiting new ≡ and_then (waiting old) given
   pub most : new.most_waiting ≡ old.most_waiting
+  pub counts : new.counts ≡ counts_after old [] given new.side
 
 -- no timer has expired, and nothing changes
 pub record HasNotTicked (expired : ℕ) (old new : HeldSide) : Type 0 where
@@ -109,6 +121,33 @@ pub record HasSetTimers (durations : Lengths) (old new : HeldSide) (code : ℕ) 
   pub set : SetsDurations durations old.side new.side
   pub waits : waiting new ≡ waiting old
   pub most : new.most_waiting ≡ old.most_waiting
+  pub counts : new.counts ≡ old.counts
+
+-- ---- Counters.
+
+-- the side counts from 0, and nothing else changes
+pub record HasBegunCounting (old new : HeldSide) (code : ℕ) : Type 0 where
+  pub done : code ≡ done
+  pub begun : new ≡ record old { counts = Some nothing_counted }
+
+-- the counters cannot be allocated, and nothing changes
+pub record HasNotBegunCounting (old new : HeldSide) (code : ℕ) : Type 0 where
+  pub refused : code ≡ memory
+  pub same : new ≡ old
+
+abbrev pub BeginsCounting : HeldSide → HeldSide → ℕ → Type 0
+BeginsCounting old new code = HasNotBegunCounting old new code ⊎ HasBegunCounting old new code
+
+-- the counters of a link; all are 0 if the side does not count
+abbrev pub ReturnsCountersOf : Option (List LinkCount) → LinkId → LinkCounters → ℕ → Type 0
+ReturnsCountersOf None id delivered code = (code ≡ not_counting) × (delivered ≡ no_counters)
+ReturnsCountersOf (Some counts) id delivered code =
+    (code ≡ done) × (delivered ≡ counters_of id counts)
+
+pub record ReturnsCounters (id : LinkId) (delivered : LinkCounters) (old new : HeldSide)
+    (code : ℕ) : Type 0 where
+  pub same : new ≡ old
+  pub counters : ReturnsCountersOf old.counts id delivered code
 
 -- ---- Queries.
 
@@ -184,6 +223,7 @@ pub record HasFetched (octets : List ℕ) (left : Effects) (old new : HeldSide) 
   pub waits : waiting new ≡ left
   pub side : new.side ≡ old.side
   pub most : new.most_waiting ≡ old.most_waiting
+  pub counts : new.counts ≡ old.counts
 
 -- these octets are fetched if the buffer has room for them, and still wait otherwise
 pub record Fetches (octets : List ℕ) (left : Effects) (old new : HeldSide) (code : ℕ)

@@ -26,6 +26,10 @@ out_of_range = 3
 abbrev pub check_runs : ℕ
 check_runs = 4
 
+-- counters are requested of a side that does not count
+abbrev pub not_counting : ℕ
+not_counting = 5
+
 -- B3: an allocation failed
 abbrev pub memory : ℕ
 memory = 13

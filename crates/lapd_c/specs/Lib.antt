@@ -1,6 +1,8 @@
 pub mod Calls
 pub mod CodeOrder
 pub mod Codes
+pub mod CountedCalls
+pub mod Counters
 pub mod FlatPrimitives
 pub mod Lent
 pub mod LinkStates

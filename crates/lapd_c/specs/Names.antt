@@ -8,13 +8,14 @@ code_name code =
     if code == 2 then codes "LAPD_PENDING" else (
     if code == 3 then codes "LAPD_OUT_OF_RANGE" else (
     if code == 4 then codes "LAPD_CHECK_RUNS" else (
+    if code == 5 then codes "LAPD_NOT_COUNTING" else (
     if code == 11 then codes "LAPD_NO_LINK" else (
     if code == 13 then codes "LAPD_NO_MEMORY" else (
     if code == 21 then codes "LAPD_NOT_ESTABLISHED" else (
     if code == 22 then codes "LAPD_QUEUE_FULL" else (
     if code == 23 then codes "LAPD_TOO_LONG" else (
     if code == 24 then codes "LAPD_RELEASING" else (
-    if code == 25 then codes "LAPD_LAYER_3_ESTABLISHING" else codes "")))))))))))
+    if code == 25 then codes "LAPD_LAYER_3_ESTABLISHING" else codes ""))))))))))))
 
 abbrev pub kind_name : ℕ → List ℕ
 kind_name kind =

@@ -67,9 +67,10 @@ IsNewUser tei config (either.Network side) = ⊥
 IsNewUser tei config (either.User side) =
     ShowUser side config (new_user config (fixed_tei tei) (seeded config.seed))
 
--- the side is new, without results, and has this limit for waiting results
+-- the side is new, without results, has this limit for waiting results, and does not count
 pub record IsNew (config : Config) (IsMade : Config → EitherSide → Type 0) (most : ℕ)
     (held : HeldSide) : Type 0 where
   pub side : IsMade config held.side
   pub waits : waiting held ≡ no_effects
   pub limit : held.most_waiting ≡ most
+  pub counts : held.counts ≡ None

@@ -1,14 +1,16 @@
 -- The effect of a call through a handle, which may own no side.
-use Rattle.std.specs.Prelude.{◌≡◌, ◌⊎◌, ℕ, List, Option, Some, None, Vec}
+use Rattle.std.specs.Prelude.{◌≡◌, ◌⊎◌, ℕ, List, [], Option, Some, None, Vec}
 use Rattle.std.specs.declared.alloc.Global.{Global}
 use Rattle.lapd_timers.specs.Durations.{Lengths}
 use Rattle.lapd_table.specs.declared.link_id.LinkId.{LinkId}
 use Rattle.lapd_sides_links.specs.declared.config.Config.{Config}
 use Rattle.lapd_sides.specs.declared.either_side.EitherSide.{EitherSide}
 use Rattle.lapd_c.specs.declared.held_side.HeldSide.{HeldSide}
+use Rattle.lapd_c.specs.declared.link_counters.LinkCounters.{LinkCounters}
 use Rattle.lapd_c.specs.declared.link_state.LinkState.{LinkState}
+use Rattle.lapd_c.specs.Counters.{no_counters}
 use Rattle.lapd_c.specs.LinkStates.{no_state}
-use Rattle.lapd_c.specs.Calls.{Call, Asks, Checks, HasSetTimers, ReturnsState}
+use Rattle.lapd_c.specs.Calls.{Call, Asks, Checks, HasSetTimers, ReturnsCounters, ReturnsState}
 use Rattle.lapd_c.specs.Codes.{done, no_side, out_of_range, memory}
 use Rattle.lapd_c.specs.Owned.{Held}
 use Rattle.lapd_c.specs.Settings.{IsNew}
@@ -21,15 +23,16 @@ Through Does Without (Some old) None = ⊥
 Through Does Without None (Some new) = ⊥
 Through Does Without None None = Without
 
--- a call that may add results
-abbrev pub AsksSide : Call → ℕ → Held → Held → Type 0
-AsksSide call code old new = Through (λ o n. Asks call o n code) (code ≡ no_side) old new
+-- a call that may add results; the octets are those that it passes in from the line
+abbrev pub AsksSide : Call → List ℕ → ℕ → Held → Held → Type 0
+AsksSide call octets code old new =
+    Through (λ o n. Asks call octets o n code) (code ≡ no_side) old new
 
 -- a call for a link with this SAPI and TEI; if they are not valid, it is refused, and nothing
 -- changes
 abbrev pub AsksLink : (LinkId → Call) → ℕ → Held → Held → Option LinkId → Type 0
 AsksLink call code old new None = (code ≡ out_of_range) × (new ≡ old)
-AsksLink call code old new (Some id) = AsksSide (call id) code old new
+AsksLink call code old new (Some id) = AsksSide (call id) [] code old new
 
 -- a query of the state of a link
 abbrev pub ReturnsStateOf : LinkState → ℕ → Held → Held → Option LinkId → Type 0
@@ -39,11 +42,24 @@ ReturnsStateOf delivered code old new (Some id) =
     Through (λ o n. ReturnsState id delivered o n code)
     ((code ≡ no_side) × (delivered ≡ no_state)) old new
 
+-- a query of the counters of a link
+abbrev pub ReturnsCountersThrough : LinkCounters → ℕ → Held → Held → Option LinkId → Type 0
+ReturnsCountersThrough delivered code old new None = (code ≡ out_of_range)
+    × (delivered ≡ no_counters) × (new ≡ old)
+ReturnsCountersThrough delivered code old new (Some id) =
+    Through (λ o n. ReturnsCounters id delivered o n code)
+    ((code ≡ no_side) × (delivered ≡ no_counters)) old new
+
 -- a check of a TEI; if it is not valid, it is refused, and nothing changes
 abbrev pub AsksCheck : ℕ → ℕ → Held → Held → Option ℕ → Type 0
 AsksCheck now code old new None = (code ≡ out_of_range) × (new ≡ old)
 AsksCheck now code old new (Some tei) =
     Through (λ o n. Checks tei now o n code) (code ≡ no_side) old new
+
+-- a call for a TEI; if it is not valid, the call is refused, and nothing changes
+abbrev pub AsksTei : (ℕ → Call) → ℕ → Held → Held → Option ℕ → Type 0
+AsksTei call code old new None = (code ≡ out_of_range) × (new ≡ old)
+AsksTei call code old new (Some tei) = AsksSide (call tei) [] code old new
 
 -- the durations of timers are set, if each is in its range
 abbrev pub SetsTimers : ℕ → Held → Held → Option Lengths → Type 0
@@ -65,7 +81,7 @@ pub record AsksWithMessage (call : Message → Call) (octets : List ℕ) (code :
     Type 0 where
   pub message : Message
   pub items : message.items ≡ octets
-  pub asks : AsksSide (call message) code old new
+  pub asks : AsksSide (call message) [] code old new
 
 -- a call for a link with octets, whose copy may fail to be allocated
 abbrev pub AsksLinkWith : (LinkId → Message → Call) → List ℕ → ℕ → Held → Held → Option LinkId

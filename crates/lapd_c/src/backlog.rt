@@ -1,9 +1,7 @@
 ghost use Rattle.std.specs.Prelude.{◌≡◌, ◌<◌, ◌≤◌, length, drop, map, OnOk, OnErr};
 ghost use Rattle.lapd_sides_links.specs.Effects.{and_then, no_effects};
 
-use arrayvec::ArrayVec;
-use lapd_frame::MOST_OCTETS;
-use lapd_sides::{Acts, Primitive};
+use lapd_sides::{Acts, FrameOctets, Primitive};
 use std::alloc::{AllocError, Global};
 use std::marker::Model;
 
@@ -12,7 +10,7 @@ use std::marker::Model;
 /// appended, so that removing one moves no other.
 #[derive(Drop)]
 pub struct Backlog {
-    frames: Vec<ArrayVec<u8, MOST_OCTETS>>,
+    frames: Vec<FrameOctets>,
     /// The number of frames at the front that are removed.
     removed_frames: usize,
     primitives: Vec<Primitive>,
@@ -74,7 +72,7 @@ impl Backlog {
     }
 
     /// The frames to send, as octets, in order.
-    pub fn frames(&self) -> &[ArrayVec<u8, MOST_OCTETS>]
+    pub fn frames(&self) -> &[FrameOctets]
         ensures { map (λ f. f.items) result.now ≡ self.now.frames }
     {
         &self.frames[self.removed_frames..]

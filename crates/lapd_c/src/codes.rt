@@ -1,5 +1,5 @@
-//! The codes that calls return to C, as in c/lapd.h: 0 to 4 of the call itself, 11 and 13 for B1 and
-//! B3, and 21 to 25 for L1 to L5.
+//! The codes that calls return to C, as in c/lapd.h: 0 to 5 of the call itself, 11 and 13 for B1
+//! and B3, and 21 to 25 for L1 to L5.
 
 ghost use Rattle.std.specs.Prelude.{◌≡◌};
 ghost use Rattle.lapd_c.specs.Codes.{code_of, code_of_kind, code_of_link_fault};
@@ -20,6 +20,9 @@ pub(crate) const OUT_OF_RANGE: u32 = 3;
 
 /// A TEI is to be checked while another check is in progress.
 pub(crate) const CHECK_RUNS: u32 = 4;
+
+/// Counters are requested of a side that does not count.
+pub(crate) const NOT_COUNTING: u32 = 5;
 
 /// B1: the link does not exist.
 pub(crate) const NO_LINK: u32 = 11;

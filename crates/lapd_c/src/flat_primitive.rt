@@ -2,6 +2,7 @@
 
 ghost use Rattle.std.specs.Prelude.{◌≡◌};
 ghost use Rattle.lapd_c.specs.FlatPrimitives.{flat, flat_frame, nothing, octets_of, octets_up, kind_of_link, count_of, letter_of, kind_of_outcome, tei_of_outcome, link_of};
+ghost use Rattle.lapd_frame.specs.Address.{sapi_value};
 ghost use Rattle.lapd_link_definition.specs.Out.{letter_code};
 
 use lapd_sides::{Letter, LinkId, Primitive, Sapi, Tei, TeiOut, What};
@@ -23,6 +24,12 @@ pub struct FlatPrimitive {
     /// The number of octets for layer 3, or of the frame.
     pub octets: usize,
 }
+
+/// The kind of a received message.
+const MESSAGE: u8 = 1;
+
+/// The kind of an acknowledgement.
+const ACKNOWLEDGED: u8 = 7;
 
 /// The kind of a frame to send.
 const FRAME: u8 = 32;
@@ -56,8 +63,30 @@ impl FlatPrimitive {
         }
     }
 
+    /// A primitive of a link that has no letter.
+    #[inline(always)]
+    fn of_link(id: &LinkId, kind: u8, count: u16, octets: usize) -> FlatPrimitive
+        ensures { result ≡ record {
+          kind = kind;
+          sapi = sapi_value id.now.sapi;
+          tei = id.now.tei;
+          letter = 0;
+          count = count;
+          octets = octets;
+        } }
+    {
+        FlatPrimitive {
+            kind,
+            sapi: id.sapi.value(),
+            tei: id.tei.value(),
+            letter: 0,
+            count,
+            octets,
+        }
+    }
+
     /// Converts a primitive.
-    pub(crate) fn of(primitive: &Primitive) -> FlatPrimitive
+    fn of(primitive: &Primitive) -> FlatPrimitive
         ensures { result ≡ flat primitive.now }
     {
         match primitive {
@@ -81,8 +110,27 @@ impl FlatPrimitive {
     }
 }
 
+/// Converts a primitive, and returns its octets for layer 3.
+// Messages and acknowledgements are most primitives: they have arms of their own.
+#[inline(always)]
+pub(crate) fn flatten(primitive: &Primitive) -> (FlatPrimitive, &[u8])
+    ensures form { result.0 ≡ flat primitive.now }
+    ensures octets { result.1.now ≡ octets_of primitive.now }
+{
+    match primitive {
+        Primitive::Of(id, What::Up(octets)) => {
+            let octets = octets.as_slice();
+            (FlatPrimitive::of_link(id, MESSAGE, 0, octets.len()), octets)
+        }
+        Primitive::Of(id, What::Acknowledged(count)) => {
+            (FlatPrimitive::of_link(id, ACKNOWLEDGED, *count, 0), &[])
+        }
+        _ => (FlatPrimitive::of(primitive), octets_of(primitive)),
+    }
+}
+
 /// The octets of a primitive for layer 3.
-pub(crate) fn octets_of(primitive: &Primitive) -> &[u8]
+fn octets_of(primitive: &Primitive) -> &[u8]
     ensures { result.now ≡ octets_of primitive.now }
 {
     match primitive {
@@ -107,13 +155,13 @@ fn kind_of_link(what: &What) -> u8
     ensures { result ≡ kind_of_link what.now }
 {
     match what {
-        What::Up(_) => 1,
+        What::Up(_) => MESSAGE,
         What::UnitUp(_) => 2,
         What::Established => 3,
         What::Confirmed => 4,
         What::Released => 5,
         What::ReleaseConfirm => 6,
-        What::Acknowledged(_) => 7,
+        What::Acknowledged(_) => ACKNOWLEDGED,
         What::Dropped(_) => 8,
         What::Report(_) => 9,
     }

@@ -1,14 +1,18 @@
 //! A side together with its results that wait to be fetched.
 
-ghost use Rattle.std.specs.Prelude.{◌≡◌, ◌<◌, ◌≤◌, length, slice_get, option_copied, IfOk, OnOk, OnErr, false};
+ghost use Rattle.std.specs.Prelude.{◌≡◌, ◌<◌, ◌≤◌, [], length, slice_get, option_copied, None, IfOk, OnOk, OnErr, false};
 ghost use Rattle.lapd_sides_links.specs.Effects.{no_effects};
 ghost use Rattle.lapd_sides.specs.Either.{Takes, Answers};
-ghost use Rattle.lapd_c.specs.Calls.{or_never, waiting, items_waiting, gives_nothing, is_full, without_first_frame, without_first_primitive, Asks, Checks, HasSetTimers, Ticks, ReturnsDeadline, ReturnsDiscarded, ReturnsState, ReturnsTerminal, FetchesFrame, FetchesItem, FetchesNext, FetchesPrimitive, overwritten};
+ghost use Rattle.lapd_c.specs.Calls.{or_never, waiting, items_waiting, gives_nothing, is_full, without_first_frame, without_first_primitive, Asks, BeginsCounting, Checks, HasSetTimers, Ticks, ReturnsCounters, ReturnsDeadline, ReturnsDiscarded, ReturnsState, ReturnsTerminal, FetchesFrame, FetchesItem, FetchesNext, FetchesPrimitive, overwritten};
 ghost use Rattle.lapd_c.specs.SideQueries.{HasCheck, HasTerminal, link_meant, meant, or_no_tei, state_of_terminal, tei_of_terminal, with_own_tei};
 
 use crate::backlog::Backlog;
-use crate::codes::{CHECK_RUNS, DONE, MEMORY, NO_LINK, OUT_OF_RANGE, PENDING, code_of};
-use crate::flat_primitive::{FlatPrimitive, octets_of};
+use crate::codes::{
+    CHECK_RUNS, DONE, MEMORY, NO_LINK, NOT_COUNTING, OUT_OF_RANGE, PENDING, code_of,
+};
+use crate::flat_primitive::{FlatPrimitive, flatten};
+use crate::link_counters::LinkCounters;
+use crate::link_counts::{LinkCounts, count_received, count_results};
 use crate::link_state::LinkState;
 use lapd_link::Link;
 use lapd_sides::{
@@ -25,6 +29,8 @@ pub struct HeldSide {
     backlog: Backlog,
     /// If this many frames or primitives wait, calls that could add more are refused.
     most_waiting: u16,
+    /// The counters of the links, if the side counts.
+    counts: Option<LinkCounts>,
 }
 
 /// The number for no TEI, which is LAPD_NO_TEI in C.
@@ -43,6 +49,7 @@ impl HeldSide {
           acts = no_effects;
           backlog = no_effects;
           most_waiting = most_waiting;
+          counts = None;
         }) }
     {
         Ok(HeldSide {
@@ -50,6 +57,7 @@ impl HeldSide {
             acts: Acts::new(alloc)?,
             backlog: Backlog::new(alloc),
             most_waiting,
+            counts: None,
         })
     }
 
@@ -84,26 +92,35 @@ impl HeldSide {
 
     /// Processes octets received from the line at the time `now`.
     pub(crate) fn take(&mut self, octets: &[u8], now: u64) -> u32
-        ensures { Asks (Takes octets.now now) self.old self.new result }
+        ensures { Asks (Takes octets.now now) octets.now self.old self.new result }
     {
         if self.is_full() {
             return PENDING;
         }
         match self.set_aside() {
-            Ok(()) => code_of(self.side.take(octets, now, &mut self.acts)),
+            Ok(()) => {
+                count_received(&mut self.counts, &self.side, octets);
+                let result = self.side.take(octets, now, &mut self.acts);
+                count_results(&mut self.counts, &self.side, &self.acts);
+                code_of(result)
+            }
             Err(_) => MEMORY,
         }
     }
 
     /// Executes a request at the time `now`.
     pub(crate) fn request(&mut self, request: Request, now: u64) -> u32
-        ensures { Asks (Answers request now) self.old self.new result }
+        ensures { Asks (Answers request now) [] self.old self.new result }
     {
         if self.is_full() {
             return PENDING;
         }
         match self.set_aside() {
-            Ok(()) => code_of(self.side.request(request, now, &mut self.acts)),
+            Ok(()) => {
+                let result = self.side.request(request, now, &mut self.acts);
+                count_results(&mut self.counts, &self.side, &self.acts);
+                code_of(result)
+            }
             Err(_) => MEMORY,
         }
     }
@@ -142,7 +159,9 @@ impl HeldSide {
         }
         match self.set_aside() {
             Ok(()) => {
-                if self.side.tick(now, &mut self.acts) {
+                let is_due = self.side.tick(now, &mut self.acts);
+                count_results(&mut self.counts, &self.side, &self.acts);
+                if is_due {
                     *expired = 1;
                 }
                 DONE
@@ -157,6 +176,35 @@ impl HeldSide {
     {
         self.side.set_durations(durations);
         DONE
+    }
+
+    /// Begins to count, from 0.
+    pub(crate) fn begin_counting(&mut self, alloc: Global) -> u32
+        ensures { BeginsCounting self.old self.new result }
+    {
+        match LinkCounts::new(alloc) {
+            Ok(counts) => {
+                self.counts = Some(counts);
+                DONE
+            }
+            Err(_) => MEMORY,
+        }
+    }
+
+    /// Sets `counters` to those of the link with this id, or to 0 if the side does not count.
+    pub(crate) fn counters(&self, id: LinkId, counters: &mut LinkCounters) -> u32
+        ensures { ReturnsCounters id counters.new self.now self.now result }
+    {
+        match &self.counts {
+            Some(counts) => {
+                *counters = counts.counters(id);
+                DONE
+            }
+            None => {
+                *counters = LinkCounters::nothing();
+                NOT_COUNTING
+            }
+        }
     }
 
     /// Sets `moment` to the next moment at which something is due, in milliseconds, or to the
@@ -241,6 +289,7 @@ impl HeldSide {
         ensures waits { waiting self.new ≡ without_first_frame (waiting self.old) }
         ensures side { self.new.side ≡ self.old.side }
         ensures most { self.new.most_waiting ≡ self.old.most_waiting }
+        ensures counts { self.new.counts ≡ self.old.counts }
     {
         if self.backlog.frames().is_empty() {
             self.acts.remove_frame();
@@ -255,6 +304,7 @@ impl HeldSide {
         ensures waits { waiting self.new ≡ without_first_primitive (waiting self.old) }
         ensures side { self.new.side ≡ self.old.side }
         ensures most { self.new.most_waiting ≡ self.old.most_waiting }
+        ensures counts { self.new.counts ≡ self.old.counts }
     {
         if self.backlog.primitives().is_empty() {
             self.acts.remove_primitive();
@@ -335,8 +385,8 @@ impl HeldSide {
             *delivered = FlatPrimitive::nothing();
             return DONE;
         };
-        *delivered = FlatPrimitive::of(primitive);
-        let octets = octets_of(primitive);
+        let (form, octets) = flatten(primitive);
+        *delivered = form;
         if buffer.len() < octets.len() {
             return OUT_OF_RANGE;
         }
@@ -417,9 +467,16 @@ fn link_meant(table: &LinkTable, id: Option<LinkId>) -> Option<&Link>
 }
 
 /// Overwrites the beginning of a buffer with these octets.
+// Most primitives have none, and a frame without information has four: neither is worth a call of
+// the C library.
+#[inline(always)]
 pub(crate) fn overwrite(buffer: &mut [u8], octets: &[u8])
     requires { length octets.now ≤ length buffer.old }
     ensures { buffer.new ≡ overwritten octets.now buffer.old }
 {
-    buffer[..octets.len()].copy_from_slice(octets);
+    match octets.len() {
+        0 => {}
+        4 => buffer[..4].copy_from_slice(&octets[..4]),
+        len => buffer[..len].copy_from_slice(octets),
+    }
 }

@@ -2,17 +2,17 @@
 //! word.
 //!
 //! Each exported function calls the function of [`lapd_sides::EitherSide`] that it is named after,
-//! and repeats its contract. It returns a code of `codes`: 3 if a number is out of range, otherwise 1
-//! if the handle owns no side, otherwise 2 if too many results wait
-//! ([`codes_are_in_order`]). The results of calls wait, in order, until [`lapd_side_next`], or
-//! [`lapd_side_frame`] and [`lapd_side_primitive`], fetch them. `c/lapd.h` is the header, and
-//! docs/C.md lists the duties of a program.
+//! and repeats its contract. It returns a code of `codes`: 3 if a number is out of range, otherwise
+//! 1 if the handle owns no side, otherwise 2 if too many results wait ([`codes_are_in_order`]). The
+//! results of calls wait, in order, until [`lapd_side_next`], or [`lapd_side_frame`] and
+//! [`lapd_side_primitive`], fetch them. `c/lapd.h` is the header, and docs/C.md lists the duties of
+//! a program.
 #![tactic(auto)]
 
-ghost use Rattle.std.specs.Prelude.{◌≡◌, ◌==◌, Some, None, not};
+ghost use Rattle.std.specs.Prelude.{◌≡◌, ◌==◌, [], Some, None, not};
 ghost use Rattle.lapd_sides.specs.Either.{Takes, Answers};
-ghost use Rattle.lapd_c.specs.ThroughHandle.{AsksSide, AsksCheck, AsksLink, AsksLinkWith, Makes, ReturnsStateOf, SetsTimers, Through};
-ghost use Rattle.lapd_c.specs.Calls.{or_never, Checks, HasSetTimers, Ticks, ReturnsDeadline, ReturnsDiscarded, ReturnsTerminal, FetchesFrame, FetchesNext, FetchesPrimitive, ReturnsText, ReturnsTextOrNothing};
+ghost use Rattle.lapd_c.specs.ThroughHandle.{AsksSide, AsksCheck, AsksTei, AsksLink, AsksLinkWith, Makes, ReturnsCountersThrough, ReturnsStateOf, SetsTimers, Through};
+ghost use Rattle.lapd_c.specs.Calls.{or_never, BeginsCounting, Checks, HasSetTimers, Ticks, ReturnsDeadline, ReturnsDiscarded, ReturnsTerminal, FetchesFrame, FetchesNext, FetchesPrimitive, ReturnsText, ReturnsTextOrNothing};
 ghost use Rattle.lapd_timers.specs.Durations.{lengths_of};
 ghost use Rattle.lapd_trace.specs.Trace.{trace_line};
 ghost use Rattle.lapd_c.specs.FlatPrimitives.{link_of, nothing, sender};
@@ -27,6 +27,8 @@ mod flat_primitive;
 mod handle;
 mod held_side;
 mod laws;
+mod link_counters;
+mod link_counts;
 mod link_state;
 mod making;
 mod names;
@@ -38,7 +40,8 @@ use handle::{Handle, opened, shut};
 use held_side::HeldSide;
 use lapd_sides::{Durations, Request, Side, Tei};
 use lapd_trace::line;
-pub use laws::codes_are_in_order;
+pub use laws::{codes_are_in_order, counters_are_sums};
+use link_counters::LinkCounters;
 use link_state::LinkState;
 use making::{make_network, make_user};
 use names::{code_name, kind_name, write_text};
@@ -118,7 +121,7 @@ pub extern "C" fn lapd_side_free(handle: &mut Handle, alloc: Global)
 /// time `now`.
 #[unsafe(no_mangle)]
 pub extern "C" fn lapd_side_take(handle: &mut Handle, octets: &[u8], now: u64) -> u32
-    ensures { AsksSide (Takes octets.now now) result handle.old.held handle.new.held }
+    ensures { AsksSide (Takes octets.now now) octets.now result handle.old.held handle.new.held }
 {
     let Some(side) = handle.side() else {
         return NO_SIDE;
@@ -128,7 +131,7 @@ pub extern "C" fn lapd_side_take(handle: &mut Handle, octets: &[u8], now: u64) -
 
 /// Executes a request.
 fn ask(handle: &mut Handle, request: Request, now: u64) -> u32
-    ensures { AsksSide (Answers request now) result handle.old.held handle.new.held }
+    ensures { AsksSide (Answers request now) [] result handle.old.held handle.new.held }
 {
     let Some(side) = handle.side() else {
         return NO_SIDE;
@@ -220,7 +223,7 @@ pub extern "C" fn lapd_side_unit(
 /// Requests a TEI. A network side ignores it.
 #[unsafe(no_mangle)]
 pub extern "C" fn lapd_side_ask_tei(handle: &mut Handle, now: u64) -> u32
-    ensures { AsksSide (Answers Request.AskTei now) result handle.old.held handle.new.held }
+    ensures { AsksSide (Answers Request.AskTei now) [] result handle.old.held handle.new.held }
 {
     ask(handle, Request::AskTei, now)
 }
@@ -245,6 +248,19 @@ fn check(handle: &mut Handle, tei: Tei, now: u64) -> u32
         return NO_SIDE;
     };
     side.check(tei, now)
+}
+
+/// Removes a TEI, 0 to 126 (MDL-REMOVE request, Q.921 5.3.4). A network side sends Identity remove
+/// twice, and removes the TEI's links. A user side gives up its TEI if it is this one.
+#[unsafe(no_mangle)]
+pub extern "C" fn lapd_side_remove_tei(handle: &mut Handle, tei: u8, now: u64) -> u32
+    ensures { AsksTei (λ tei. Answers (Request.Remove tei) now) result handle.old.held
+        handle.new.held (own_tei tei) }
+{
+    match own_tei(tei) {
+        Some(tei) => ask(handle, Request::Remove(tei), now),
+        None => OUT_OF_RANGE,
+    }
 }
 
 /// Sets T200 to T203, each 1 to 3,600,000 ms, for timers that are started from then on, also those
@@ -353,6 +369,40 @@ pub extern "C" fn lapd_side_state(
         return NO_SIDE;
     };
     side.state(id, state)
+}
+
+/// Begins to count the I frames, REJ, RNR and reports of each link, from 0.
+#[unsafe(no_mangle)]
+pub extern "C" fn lapd_side_count(handle: &mut Handle, alloc: Global) -> u32
+    ensures { Through (λ old new. BeginsCounting old new result) (result ≡ 1)
+        handle.old.held handle.new.held }
+{
+    let Some(side) = handle.side() else {
+        return NO_SIDE;
+    };
+    side.begin_counting(alloc)
+}
+
+/// Sets `counters` to those of a link since [`lapd_side_count`], whether the link exists or not.
+/// All are 0 if the side does not count.
+#[unsafe(no_mangle)]
+pub extern "C" fn lapd_side_counters(
+    handle: &mut Handle,
+    sapi: u8,
+    tei: u8,
+    counters: &mut LinkCounters,
+) -> u32
+    ensures { ReturnsCountersThrough counters.new result handle.old.held handle.new.held
+        (link_of sapi tei) }
+{
+    *counters = LinkCounters::nothing();
+    let Some(id) = link_of(sapi, tei) else {
+        return OUT_OF_RANGE;
+    };
+    let Some(side) = handle.side() else {
+        return NO_SIDE;
+    };
+    side.counters(id, counters)
 }
 
 /// Writes a line of text for the octets of a frame, sent by a network side if `network` is not 0,

@@ -1,6 +1,6 @@
 //! Creates sides.
 
-ghost use Rattle.std.specs.Prelude.{◌≡◌, ◌<◌, true, IfOk, IfSome};
+ghost use Rattle.std.specs.Prelude.{◌≡◌, ◌<◌, true, None, IfOk, IfSome};
 ghost use Rattle.std.specs.List.{list_all};
 ghost use Rattle.lapd_sides_links.specs.Effects.{no_effects};
 ghost use Rattle.lapd_c.specs.Settings.{IsNew, IsNewNetwork, IsNewUser, is_own_tei, is_fixed_tei};
@@ -54,6 +54,7 @@ fn boxed(alloc: Global, side: EitherSide, most_waiting: u16) -> Result<Box<HeldS
       acts = no_effects;
       backlog = no_effects;
       most_waiting = most_waiting;
+      counts = None;
     }) }
 {
     match Box::new(alloc, HeldSide::new(alloc, side, most_waiting)?) {

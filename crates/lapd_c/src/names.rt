@@ -17,6 +17,7 @@ pub(crate) fn code_name(code: u32) -> &'static str
         2 => "LAPD_PENDING",
         3 => "LAPD_OUT_OF_RANGE",
         4 => "LAPD_CHECK_RUNS",
+        5 => "LAPD_NOT_COUNTING",
         11 => "LAPD_NO_LINK",
         13 => "LAPD_NO_MEMORY",
         21 => "LAPD_NOT_ESTABLISHED",

@@ -47,7 +47,7 @@ use Rattle.lapd_sides.specs.declared.request.Request.{Request}
 use Rattle.lapd_sides.specs.declared.request.Request.TheVariants as request
 use Rattle.lapd_sides.specs.Management.{carries_message, links_with, removal_primitives, manages}
 use Rattle.lapd_sides.specs.User as user
-use Rattle.lapd_sides.specs.User.{User, nothing_pending, next_reference, drawn, with_links, among_links, link_of_user, or_discarded, establishes, establishes_pending, primitive_of_group, primitive_of_sapi, gives_up_pending, pending_after, terminal_acts, message_received, unit_from_group, for_layer_3, data_received, fault_received, received, user_takes, user_expires, with_tei_or, is_pending, with_pending, wants, forgets, user_requested}
+use Rattle.lapd_sides.specs.User.{User, nothing_pending, next_reference, drawn, with_links, among_links, link_of_user, or_discarded, establishes, establishes_pending, primitive_of_group, primitive_of_sapi, gives_up_pending, pending_after, terminal_acts, message_received, unit_from_group, for_layer_3, data_received, fault_received, received, user_takes, user_expires, with_tei_or, is_pending, with_pending, wants, forgets, has_tei, user_requested}
 use Rattle.lapd_sides_laws.specs.Interface.{user_behaviour}
 use Rattle.lapd_sides_laws.specs.SideView.{SideEvent, Take, Lose, Expire, Ask, SideView, unmoved, takes_first, may_expire, or_unmoved, reaction, does}
 use Rattle.lapd_cli_side_laws.specs.Transcripts.{own_tei, tei_after}
@@ -301,6 +301,10 @@ wanting : (config : Config) (s : User) (now : ℕ) (at : Sapi) (a : Reaction Use
 wanting config s now at a true is = subst (States s) (same_user config s (terminal_acts config now event.Want (record s { pending = with_pending at true s.pending })) a is) (acting config (record s { pending = with_pending at true s.pending }) now event.Want)
 wanting config s now at a false is = cc
 
+giving_up : (config : Config) (s : User) (now : ℕ) (a : Reaction User) (is_its : Bool) → (if is_its then Ok (terminal_acts config now (λ ri. event.Leave) s) else Err NoLink) ≡ Ok a → States s a
+giving_up config s now a true is = subst (States s) (same_user config s (terminal_acts config now (λ ri. event.Leave) s) a is) (acting config s now (λ ri. event.Leave))
+giving_up config s now a false is = cc
+
 granted : (config : Config) (s : User) (request : Request) (now : ℕ) (a : Reaction User) → user_requested config request now s ≡ Ok a → States s a
 unfolding user_requested
 granted config s (request.Establish other) now a is = with_own config s now s.terminal other.sapi Establish [] (wants config now other.sapi s) a (wanting config s now other.sapi a (is_served config other.sapi)) is
@@ -311,6 +315,7 @@ granted config s (request.Busy other true) now a is = with_own config s now s.te
 granted config s (request.Busy other false) now a is = with_own config s now s.terminal other.sapi input.BusyOff [] (Err NoLink) a (refused config s NoLink a) is
 granted config s request.AskTei now a is = subst (States s) (same_user config s (terminal_acts config now event.Ask s) a is) (acting config s now event.Ask)
 granted config s (request.Check tei) now a is = subst (States s) (same_user config s (user.unmoved s) a is) refl
+granted config s (request.Remove tei) now a is = giving_up config s now a (has_tei tei (tei_of s.terminal)) is
 
 expires : (config : Config) (s : User) (now : ℕ) (timer : Timer) (of : Option LinkId) → States s (user_expires config now timer of s)
 unfolding user_expires

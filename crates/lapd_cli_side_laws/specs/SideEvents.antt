@@ -1,5 +1,5 @@
--- The events (`SideEvent`) that `net` and `user` perform on a side: the side receives the frames that
--- they read from the source, and they write the frames that it sends to the sink.
+-- The events (`SideEvent`) that `net` and `user` perform on a side: the side receives the frames
+-- that they read from the source, and they write the frames that it sends to the sink.
 use Rattle.std.specs.Prelude.{◌≡◌, ◌⊎◌, ℕ, ◌+◌, List, [], ◌∷◌, ◌++◌, map, Option}
 use Rattle.std.specs.List.{AllByRecursion}
 use Rattle.std.specs.Io.KnownBytes.{Appends, Consumes}

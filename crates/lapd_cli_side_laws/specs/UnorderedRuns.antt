@@ -1,5 +1,6 @@
 -- A worked run of `net` and `user` in which `net` reads what was not yet written. Each source has
--- the octets that the other's sink gets, but no order of the lines exists. So `net` prints an error.
+-- the octets that the other's sink gets, but no order of the lines exists. So `net` prints an
+-- error.
 use Rattle.std.specs.Prelude.{◌≡◌, ℕ, List, [], ◌∷◌, Some}
 use Rattle.lapd_frame.specs.declared.Side.{Side}
 use Rattle.lapd_port.specs.SocketText.{socket_text}

@@ -74,9 +74,9 @@ pub fn lines_are_printed()
 /// other program writes, and each program reads only what was written. So each link of the
 /// interface is safe if these moves keep the premises of that link.
 ///
-/// `run_together`: from any interface that both represent. `safe`: from two new sides, the user with
-/// or without a fixed TEI, the network with any known TEIs. `network_lines`, `user_lines`: for each
-/// program, this is what `net` and `user` promise.
+/// `run_together`: from any interface that both represent. `safe`: from two new sides, the user
+/// with or without a fixed TEI, the network with any known TEIs. `network_lines`, `user_lines`: for
+/// each program, this is what `net` and `user` promise.
 pub fn joined_programs_are_safe()
     ensures run_together { (c : Configs) (lines : List ProgramLine) (a b : Programs) (i : Interface)
         → AreAt c a i → ProgramsDo lines a b → AreRun c lines a b i }

@@ -15,8 +15,8 @@ use Rattle.lapd_cli_side_lines.specs.declared.side_lines.SideLine.{SideLine}
 use Rattle.lapd_cli_side_lines.specs.declared.side_lines.SideLine.TheVariants as line
 
 -- The request of a line: read one frame; advance the clock by some milliseconds; establish or
--- release a link; send a message or unit data on a link; assign a TEI to this terminal, or check
--- one.
+-- release a link; send a message or unit data on a link; assign a TEI to this terminal; check or
+-- remove a TEI.
 pub data LineRequest : Type 0 where
   Read : LineRequest
   Tick : (ms : ℕ) → LineRequest
@@ -27,6 +27,7 @@ pub data LineRequest : Type 0 where
   Busy : LineRequest
   AskTei : LineRequest
   Check : (tei : ℕ) → LineRequest
+  Remove : (tei : ℕ) → LineRequest
 
 -- ---- Numbers.
 
@@ -126,6 +127,7 @@ line_request_of (request.Give id message) = Give id message.items
 line_request_of (request.Busy id on) = Busy
 line_request_of request.AskTei = AskTei
 line_request_of (request.Check tei) = Check tei
+line_request_of (request.Remove tei) = Remove tei
 
 abbrev pub request_of : SideLine → LineRequest
 request_of line.Read = Read

@@ -1,4 +1,5 @@
-//! A TCP connection in place of a D channel and its driver. Each frame follows its length: two octets, high first.
+//! A TCP connection in place of a D channel and its driver. Each frame follows its length: two
+//! octets, high first.
 
 use anyhow::Result;
 use std::io::{ErrorKind, Read, Write};
@@ -20,7 +21,8 @@ impl<'s> Line<'s> {
         Ok(Line { stream, received })
     }
 
-    /// Takes the next frame that has arrived whole, without waiting. `None`: none had arrived when the call looked.
+    /// Takes the next frame that has arrived whole, without waiting. `None`: none had arrived when
+    /// the call looked.
     pub fn next_frame(&mut self, rt: &HostRuntime) -> Result<Option<Vec<u8>>> {
         for _ in 0..u64::MAX {
             if let Some((length, behind)) = self.received.as_slice().split_first_chunk::<2>() {

@@ -1,6 +1,7 @@
-//! One side of a primary rate interface over TCP, with the real clock: one link, SAPI 0 and TEI 0, with k = 7 (Q.921 5.9).
-//! `lapd_example net 127.0.0.1:4000` waits for a connection. `lapd_example user 127.0.0.1:4000` makes one, establishes the link,
-//! and sends a message once that is confirmed. Both print what is reported to layer 3, until the other side hangs up.
+//! One side of a primary rate interface over TCP, with the real clock: one link, SAPI 0 and TEI 0,
+//! with k = 7 (Q.921 5.9). `lapd_example net 127.0.0.1:4000` waits for a connection. `lapd_example
+//! user 127.0.0.1:4000` makes one, establishes the link, and sends a message once that is
+//! confirmed. Both print what is reported to layer 3, until the other side hangs up.
 #![tactic(auto)]
 
 mod line;
@@ -14,7 +15,8 @@ use std::io;
 use std::net::{TcpListener, TcpStream};
 use std::time::{Duration, Instant};
 
-/// How many frames are received before timers get their turn, so that a flood of frames can't stop them.
+/// How many frames are received before timers get their turn, so that a flood of frames can't stop
+/// them.
 const MOST_FRAMES: u32 = 4096;
 
 fn main(rt: HostRuntime) -> Result<()> {
@@ -86,7 +88,8 @@ impl Endpoint<'_> {
         Ok(())
     }
 
-    /// Passes in every frame that has arrived. Returns a moment for which timers may expire: no other frame had arrived by then.
+    /// Passes in every frame that has arrived. Returns a moment for which timers may expire: no
+    /// other frame had arrived by then.
     fn receive(&mut self, rt: &HostRuntime) -> Result<u64> {
         let mut now = self.now(rt)?;
         for _ in 0..MOST_FRAMES {

@@ -32,8 +32,8 @@ link_parts setup role control info = record {
 }
 
 -- The frame of each output that is sent, and `None` for any other output. `messages` are those that
--- are neither acknowledged nor dropped after the step, and `input_octets` are the octets of the unit data
--- of the step.
+-- are neither acknowledged nor dropped after the step, and `input_octets` are the octets of the
+-- unit data of the step.
 abbrev pub sent_frame : Setup → List (List ℕ) → List ℕ → Out → Option Fields
 sent_frame setup messages input_octets (out.Send role control) = Some
     (link_parts setup role control [])

@@ -3,7 +3,7 @@ ghost use Rattle.lapd_link_machine.specs.Sent.{IsBetweenSteps};
 
 use lapd_frame::{Address, Control, Role, Sapi, Side, Tei};
 use lapd_link_definition::{Event, LinkFault, Params, Refused, State};
-use lapd_link_machine::{Machine, Outs, UsualOuts};
+use lapd_link_machine::{GivenOuts, Machine, Outs, UsualOuts};
 use lapd_queue::IQueue;
 use lapd_supervision::Window;
 use lapd_timers::Timer;
@@ -41,6 +41,7 @@ impl Link {
     ghost use Rattle.lapd_link.specs.Link.{LinkRepresents, Setup, setup_of, Steps, Refuses, IsForLink, is_address_of};
     ghost use Rattle.lapd_link.specs.SentFrame.{HasFramesOf};
     ghost use Rattle.lapd_link_machine.specs.Bounds.{IsBounded};
+    ghost use Rattle.lapd_link_machine.specs.Given.{given_outs};
     ghost use Rattle.lapd_link_machine.specs.Usual.{usual_outs};
 
     /// Makes a link in state 4, of this side, for `sapi` (not management) and `tei` (not the group
@@ -186,6 +187,23 @@ impl Link {
                 fault: LinkFault::QueueFull,
                 message,
             }),
+        }
+    }
+
+    /// Queues a message of layer 3, if it is sent at once ([`Machine::give_at_once`]). The step is
+    /// that of [`Link::give`], and its outputs are returned as values. Otherwise the message is
+    /// returned, and the link is unchanged.
+    #[inline(always)]
+    pub fn give_at_once(&mut self, message: Vec<u8>) -> Result<GivenOuts, Vec<u8>>
+        ensures ok { IfOk result (λ outs. Steps self.old self.new (Give message.items)
+            (given_outs outs)) }
+        ensures returned { IfErr result (λ back. back ≡ message) }
+        ensures unchanged { OnErr result (self.new ≡ self.old) }
+        ensures setup { setup_of self.new ≡ setup_of self.old }
+    {
+        match self.machine.refuses_message(message.len()) {
+            Some(_) => Err(message),
+            None => self.machine.give_at_once(message),
         }
     }
 

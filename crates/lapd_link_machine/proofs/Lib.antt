@@ -5,3 +5,4 @@ pub mod Outstanding
 pub mod Rows
 pub mod Tails
 pub mod Usual
+pub mod Given

@@ -23,7 +23,7 @@ use Rattle.lapd_link_machine.specs.Usual.{IsIdle, usual_outs}
 use Rattle.lapd_link_machine.proofs.BetweenSteps.{end_of, shows_end, stays_between, step_done}
 use Rattle.lapd_link_machine.proofs.Tails.{tail_waiting}
 
-neither : (a b : Bool) → (a && (b && false)) ≡ false
+pub neither : (a b : Bool) → (a && (b && false)) ≡ false
 neither true true = refl
 neither true false = refl
 neither false b = refl

@@ -16,3 +16,4 @@ pub mod Sent
 pub mod Represents
 pub mod Tail
 pub mod Usual
+pub mod Given

@@ -8,4 +8,4 @@
 
 mod machine;
 
-pub use machine::{MOST_OUTPUTS, Machine, NrEffect, Outs, UsualOuts};
+pub use machine::{GivenOuts, MOST_OUTPUTS, Machine, NrEffect, Outs, SendEffect, UsualOuts};

@@ -14,6 +14,7 @@ mod begins;
 mod dispatcher;
 mod end_of_step;
 mod established;
+mod given;
 mod outs;
 mod procedures;
 mod refusals;
@@ -22,6 +23,7 @@ mod tei_assigned;
 mod timer_recovery;
 mod usual;
 
+pub use given::{GivenOuts, SendEffect};
 pub use outs::Outs;
 pub use usual::{NrEffect, UsualOuts};
 

@@ -3,7 +3,7 @@
 use crate::rows::condition_of;
 use crate::text::number_of;
 use lapd_frame::{Control, Number, Role, Sapi, Side, Tei, write};
-use lapd_link::{Event, Link, LinkFault, Out, Outs, Params, Recovery};
+use lapd_link::{Event, GivenOuts, Link, LinkFault, Out, Outs, Params, Recovery, SendEffect};
 use lapd_testing::{Text, split};
 use std::alloc::Global;
 
@@ -33,6 +33,15 @@ link give 0802 | 42fd02000802 7 V(S)=2 T200 sent 0801 0802
 # An RR, the second message and unit data are frames. A third message that is not there, a UA as a command, 261 octets and an
 # indication are none.
 link outputs | 40fd010b 42fd0a0a0802 42fd0309 - - - - 7 V(S)=2 T200 sent 0801 0802
+
+# In state 7 a message is sent at once: the first one stops T203 and starts T200. It is returned if the peer is busy.
+link network 512 | network 16 126 512 4
+link at-once 0801 | returned 0801 4
+link hear 40fd7f | 40fd73 - - 7 T203
+link at-once 0801 | 42fd00000801 stop T203 start T200 7 V(S)=1 T200 sent 0801
+link at-once 0802 | 42fd02000802 7 V(S)=2 T200 sent 0801 0802
+link hear 42fd0500 | - 7 V(S)=2 peer-busy T200 sent 0801 0802
+link at-once 0803 | returned 0803 7 V(S)=2 peer-busy T200 sent 0801 0802
 ";
 
 /// k, N200 and room, from which parameters are made if each is in its range, and the defaults of
@@ -111,6 +120,7 @@ pub(crate) fn put(text: &mut Text, alloc: Global, link: &mut Link, action: &str,
         "release" => release(text, link),
         "hear" => receive(text, alloc, link, word),
         "give" => give(text, alloc, link, word),
+        "at-once" => give_at_once(text, alloc, link, word),
         _ => put_frames(text, link),
     }
     text.put(" ");
@@ -171,6 +181,29 @@ fn give(text: &mut Text, alloc: Global, link: &mut Link, digits: &str) {
             }
         },
         Err(_) => text.put(" no octets"),
+    }
+}
+
+/// Layer 3 submits a message that is sent at once, or returned.
+fn give_at_once(text: &mut Text, alloc: Global, link: &mut Link, digits: &str) {
+    match hex::decode(alloc, digits) {
+        Ok(message) => match link.give_at_once(message) {
+            Ok(outs) => put_given(text, link, &outs),
+            Err(back) => {
+                text.put(" returned ");
+                text.hex(back.as_slice());
+            }
+        },
+        Err(_) => text.put(" no octets"),
+    }
+}
+
+/// Appends the frame of a message that was sent at once, and its effect on the timers.
+fn put_given(text: &mut Text, link: &Link, outs: &GivenOuts) {
+    put_out(text, link, Out::SendMessage(outs.place, outs.control), &[]);
+    if let SendEffect::Starts { stops } = outs.effect {
+        text.mark(" stop T203", stops);
+        text.put(" start T200");
     }
 }
 

@@ -131,8 +131,8 @@ pub fn wrong_histories_are_not_safe()
     ensures altered { IsSafe one_message in_first [] (receipt 0 1 (2 ∷ []) ∷ []) → ⊥ }
 {}
 
-/// Every run keeps `IsConsistentWorld`, on whole numbers and on tags. A new world with windows of up to
-/// 127 satisfies it, and each admitted move keeps it.
+/// Every run keeps `IsConsistentWorld`, on whole numbers and on tags. A new world with windows of
+/// up to 127 satisfies it, and each admitted move keeps it.
 pub fn worlds_are_consistent()
     ensures begins { (r : Reading) (user network : Parameters) → user.k ≤ 127 → network.k ≤ 127
         → IsConsistentWorld r (new_world user network) }
@@ -178,10 +178,10 @@ pub fn outputs_are_recorded()
 {}
 
 /// A move has the same effect on tags as on whole numbers: the same refusal, or the same world and
-/// outputs with each number replaced by its tag. It needs a world that satisfies `IsConsistentWorld`. A
-/// frame delivered in states 7 and 8 must carry numbers near the end's own (Q.921 3.5.2, 5.9.5), as
-/// numbers within the window bounds are. The same holds for a run of such moves, in each outcome
-/// and in the final world.
+/// outputs with each number replaced by its tag. It needs a world that satisfies
+/// `IsConsistentWorld`. A frame delivered in states 7 and 8 must carry numbers near the end's own
+/// (Q.921 3.5.2, 5.9.5), as numbers within the window bounds are. The same holds for a run of such
+/// moves, in each outcome and in the final world.
 pub fn tags_move_as_whole_numbers()
     ensures moves { (move : Move) (w : World) → IsConsistentWorld Whole w → IsNearMove move w
         → happens Tagged move (tag_world w) ≡ tag_outcome (happens Whole move w) }

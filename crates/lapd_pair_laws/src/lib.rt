@@ -5,11 +5,12 @@
 //! and when that is safe. The definitions are in specs/, to be read in this order: `Line`, one
 //! direction of the line; `Histories`, what a side received, sent, had acknowledged and dropped;
 //! `Move`, what a side does or what happens to it, and when that is admitted; `World`, both ends,
-//! and a run of moves; `Consistent`, facts that every run keeps; `Safe`; and `Tagged`, the world on tags
-//! that represents one on whole numbers, and which moves are the same in both. Every other
+//! and a run of moves; `Consistent`, facts that every run keeps; `Safe`; and `Tagged`, the world on
+//! tags that represents one on whole numbers, and which moves are the same in both. Every other
 //! definition holds on whole numbers and on the tags that frames carry. The laws try them on worked
-//! moves (begin with [`schedule_is_computed`]), say what every run keeps ([`worlds_are_consistent`]), and
-//! that a run on tags is the tag of the run on whole numbers ([`tags_move_as_whole_numbers`]).
+//! moves (begin with [`schedule_is_computed`]), say what every run keeps
+//! ([`worlds_are_consistent`]), and that a run on tags is the tag of the run on whole numbers
+//! ([`tags_move_as_whole_numbers`]).
 //!
 //! **Every run is safe.** A side receives only messages that the other side submitted, in order and
 //! once each. Read next: `Kinds`, the kinds of frames in transit; `Parties`, the values of a side

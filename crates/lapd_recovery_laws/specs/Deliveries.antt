@@ -23,8 +23,8 @@ abbrev pub frames : World → ℕ
 frames w = length w.to_user + length w.to_network
 
 -- The number of deliveries that suffices. A frame may be answered, so it counts twice. A message
--- left may be sent in vain, and then sent again and acknowledged, so it counts three times. The rest
--- is for a REJ of each end, or for the DISC of a pending release and its answer.
+-- left may be sent in vain, and then sent again and acknowledged, so it counts three times. The
+-- rest is for a REJ of each end, or for the DISC of a pending release and its answer.
 abbrev pub most_deliveries : World → ℕ
 most_deliveries w = 2 * frames w + 3 * left w + 4
 

@@ -35,8 +35,8 @@ pub record StaysOpen (w now : World) : Type 0 where
 abbrev pub most_open_moves : ℕ → World → ℕ
 most_open_moves lost w = 2 * frames w + 3 * left w + 12 + lost * (4 * left w + 15)
 
--- From this world own moves and losses, in any order, are few. Both ends stay in states 7 and 8, and
--- no message is dropped. When no own move is possible any more, the link is up.
+-- From this world own moves and losses, in any order, are few. Both ends stay in states 7 and 8,
+-- and no message is dropped. When no own move is possible any more, the link is up.
 pub record KeepsAll (r : Reading) (lost : ℕ) (w : World) : Type 0 where
   pub few : (moves : List Move) → AreOwnOrLosses r moves w → losses moves ≤ lost
       → length moves ≤ most_open_moves lost w

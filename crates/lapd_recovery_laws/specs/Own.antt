@@ -47,8 +47,8 @@ Rests r w = (move : Move) → IsOwn r move w → ⊥
 abbrev pub IsFree : End → Type 0
 IsFree e = is_7_or_8 e.state ≡ true → e.window.own_busy ≡ false
 
--- The number of own moves that suffices if the line is empty at the start. The argument is N200, the
--- greater one of both ends.
+-- The number of own moves that suffices if the line is empty at the start. The argument is N200,
+-- the greater one of both ends.
 abbrev pub most_own_moves : ℕ → World → ℕ
 most_own_moves n200 w = 3 * left w + 6 * n200 + 11
 

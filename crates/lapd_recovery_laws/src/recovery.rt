@@ -181,10 +181,10 @@ pub fn every_world_comes_back()
 
 /// Every world recovers by itself although frames are lost meanwhile, if only so many are. The
 /// premises are those of [`every_world_comes_back`], but any frame in transit may be lost at any
-/// moment. Own moves and losses, in any order, are at most the moves of that law and, for each frame
-/// that may be lost, four per message left at the start, six per retransmission that N200 allows,
-/// and 18 more. When no own move is possible any more, both ends agree, however many frames were
-/// lost.
+/// moment. Own moves and losses, in any order, are at most the moves of that law and, for each
+/// frame that may be lost, four per message left at the start, six per retransmission that N200
+/// allows, and 18 more. When no own move is possible any more, both ends agree, however many frames
+/// were lost.
 pub fn every_world_comes_back_despite_losses()
     ensures { (r : Reading) (n200 : ℕ) → 1 ≤ n200 → (user network : Parameters)
         → user.k ≤ 127 → network.k ≤ 127 → 1 ≤ user.k → 1 ≤ network.k → (moves : List Move)
@@ -192,15 +192,15 @@ pub fn every_world_comes_back_despite_losses()
         → ComesBackDespite r n200 (run r moves (new_world user network)) }
 {}
 
-/// Few losses drop no message. Suppose that both ends are in state 7 or 8 and neither is own receiver
-/// busy, with frames in transit or not. Fewer frames are lost than each end retransmits at most, and
-/// in state 8 fewer than its retransmissions that are left. Then, after own moves and losses in any
-/// order, both ends are in state 7 or 8, and no message was dropped. When no own move is possible
-/// any more, both ends are in state 7 with equal numbers, and each message that was not dropped
-/// before was received and acknowledged. Own moves and losses are at most two per frame in transit,
-/// three per message left, and 12 more, and for each frame that may be lost, four per message left
-/// and 15 more, whatever N200 is. The run starts in a new world, on whole numbers or on tags, with
-/// windows of 1 to 127 and either `Recovery`.
+/// Few losses drop no message. Suppose that both ends are in state 7 or 8 and neither is own
+/// receiver busy, with frames in transit or not. Fewer frames are lost than each end retransmits at
+/// most, and in state 8 fewer than its retransmissions that are left. Then, after own moves and
+/// losses in any order, both ends are in state 7 or 8, and no message was dropped. When no own move
+/// is possible any more, both ends are in state 7 with equal numbers, and each message that was not
+/// dropped before was received and acknowledged. Own moves and losses are at most two per frame in
+/// transit, three per message left, and 12 more, and for each frame that may be lost, four per
+/// message left and 15 more, whatever N200 is. The run starts in a new world, on whole numbers or
+/// on tags, with windows of 1 to 127 and either `Recovery`.
 pub fn few_losses_drop_nothing()
     ensures { (r : Reading) (user network : Parameters)
         → user.k ≤ 127 → network.k ≤ 127 → 1 ≤ user.k → 1 ≤ network.k → (moves : List Move)

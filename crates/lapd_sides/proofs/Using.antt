@@ -38,7 +38,7 @@ use Rattle.lapd_sides_links.specs.declared.side_fault.SideKind.TheVariants.{NoLi
 use Rattle.lapd_sides_links.specs.Effects.{Effects, no_effects, and_then}
 use Rattle.lapd_sides_links.specs.Links.{Links, Reaction, Served, is_served, in_links, link_acts, link_expires, of_sapi, no_links, with_tei}
 use Rattle.lapd_sides.specs.Management.{carries_message, links_with, manages, one_more}
-use Rattle.lapd_sides.specs.User.{User, PendingEstablishments, nothing_pending, among_links, or_discarded, or_unmoved, next, link_of_user, with_tei_or, establishes, establishes_pending, terminal_acts, assigned, pending_after, fault_received, for_layer_3, data_received, message_received, frame_received, got_for_message, got_for_frame, unit_from_group, user_requested, wants, with_pending, is_pending, forgets, sends_message, next_reference, advanced, drawn, links_of_fixed, user_expires}
+use Rattle.lapd_sides.specs.User.{User, PendingEstablishments, nothing_pending, among_links, or_discarded, or_unmoved, next, link_of_user, with_tei_or, establishes, establishes_pending, terminal_acts, assigned, pending_after, fault_received, for_layer_3, data_received, message_received, frame_received, got_for_message, got_for_frame, unit_from_group, user_requested, wants, has_tei, gives_up, with_pending, is_pending, forgets, sends_message, next_reference, advanced, drawn, links_of_fixed, user_expires}
 use Rattle.lapd_sides.specs.Requests.{message_of}
 use Rattle.lapd_sides_links.specs.Shown.{ShowLinks, HaveActed}
 use Rattle.lapd_sides.specs.Shows.{ShowServed, HaveServed, HaveReceived, LinkHasExpired, RequestOutcome, effects_after, fault_on_links, frame_on_links, links_after}
@@ -304,6 +304,11 @@ want_gets_none ri Unassigned = refl
 want_gets_none ri (Awaiting purpose count old) = refl
 want_gets_none ri (Assigned by tei) = refl
 
+pub leave_gets_none : (phase : Phase) → tei_given (terminal_step phase event.Leave).outs ≡ None
+leave_gets_none Unassigned = refl
+leave_gets_none (Awaiting purpose count old) = refl
+leave_gets_none (Assigned by tei) = refl
+
 asked_or_not : (again : Bool) (asking failed : TerminalStep) → tei_given asking.outs ≡ None → tei_given failed.outs ≡ None → tei_given (if again then asking else failed).outs ≡ None
 asked_or_not true asking failed h k = h
 asked_or_not false asking failed h k = k
@@ -369,6 +374,28 @@ pub wanted : (code after : UserSide) (config : Config) (now : ℕ) (sapi : Sapi)
 wanted code after config now sapi s acts test is holds shown done = record {
   acted = terminal_acts config now event.Want (record s { pending = with_pending sapi true s.pending });
   is = ap (λ (b : Bool). if b then Ok (terminal_acts config now event.Want (record s { pending = with_pending sapi true s.pending })) else Err NoLink) (ap (λ (k : Config). is_served k sapi) (sym shown.configured) ∙ sym is ∙ holds);
+  done = done;
+}
+
+-- ---- A terminal removes its TEI.
+
+-- the result of the test whether the TEI is the terminal's
+pub record IsOwnTei (code : UserSide) (tei : ℕ) (own : Option ℕ) (test answer : Bool) : Type 0 where
+  pub of : own ≡ tei_of code.terminal
+  pub is : test ≡ has_tei tei own
+  pub answered : test ≡ answer
+
+pub gives_up_as : (code : UserSide) (config : Config) (now tei : ℕ) (s : User) (own : Option ℕ) (test answer : Bool) → ShowUser code config s → IsOwnTei code tei own test answer
+    → gives_up config now tei s ≡ (if answer then Ok (terminal_acts config now (λ ri. event.Leave) s) else Err NoLink)
+gives_up_as code config now tei s own test answer shown t =
+    ap (λ (b : Bool). if b then Ok (terminal_acts config now (λ ri. event.Leave) s) else Err NoLink)
+    (ap (λ (p : Phase). has_tei tei (tei_of p)) (sym shown.terminal) ∙ ap (has_tei tei) (sym t.of) ∙ sym t.is ∙ t.answered)
+
+pub given_up : (code after : UserSide) (config : Config) (now tei : ℕ) (s : User) (acts : Effects) (own : Option ℕ) (test : Bool) → ShowUser code config s → IsOwnTei code tei own test true
+    → HasDone after config acts (terminal_acts config now (λ ri. event.Leave) s) → HasGranted after config acts (gives_up config now tei s)
+given_up code after config now tei s acts own test shown t done = record {
+  acted = terminal_acts config now (λ ri. event.Leave) s;
+  is = gives_up_as code config now tei s own test true shown t;
   done = done;
 }
 

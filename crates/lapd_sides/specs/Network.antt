@@ -189,3 +189,5 @@ network_requested config (request.Busy id on) now s = link_of_network now id (bu
 network_requested config request.AskTei now s = Ok (unmoved s)
 network_requested config (request.Check tei) now s =
     Ok (assigner_acts config now (event.Check tei) s)
+network_requested config (request.Remove tei) now s =
+    Ok (assigner_acts config now (event.Remove tei) s)

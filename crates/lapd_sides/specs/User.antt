@@ -1,6 +1,6 @@
 -- The user side: a terminal with the links of its own TEI, and the effects of a frame, a timer or a
 -- request.
-use Rattle.std.specs.Prelude.{ℕ, ◌&&◌, ◌%◌, ◌^◌, if◌then◌else◌, Bool, true, false, List, [], ◌∷◌, ◌++◌, length, Option, Some, None, Result, Ok, Err}
+use Rattle.std.specs.Prelude.{ℕ, ◌&&◌, ◌==◌, ◌%◌, ◌^◌, if◌then◌else◌, Bool, true, false, List, [], ◌∷◌, ◌++◌, length, Option, Some, None, Result, Ok, Err}
 use Rattle.rand_pcg.specs.Lcg.{Lcg}
 use Rattle.rand_core.specs.Pcg32Seed.{pcg32_seed}
 use Rattle.rand_pcg.specs.Pcg.{pcg32, pcg32_of_seed}
@@ -25,7 +25,7 @@ use Rattle.lapd_tei.specs.declared.phase.Phase.TheVariants.{Unassigned, Awaiting
 use Rattle.lapd_tei.specs.declared.terminal.TerminalEvent.{TerminalEvent}
 use Rattle.lapd_tei.specs.declared.terminal.TerminalEvent.TheVariants as event
 use Rattle.lapd_tei.specs.Out.{tei_given}
-use Rattle.lapd_tei.specs.Terminal.{TerminalStep, terminal_step, new_terminal}
+use Rattle.lapd_tei.specs.Terminal.{TerminalStep, terminal_step, tei_of, new_terminal}
 use Rattle.lapd_tei.specs.Message.{group_tei, message_at}
 use Rattle.lapd_table.specs.declared.link_id.LinkId.{LinkId}
 use Rattle.lapd_sides_links.specs.declared.config.Config.{Config}
@@ -299,6 +299,17 @@ forgets sapi s =
     })
     else Err NoLink
 
+-- whether this is the TEI of a terminal that has this TEI, or none
+abbrev pub has_tei : ℕ → Option ℕ → Bool
+has_tei tei None = false
+has_tei tei (Some own) = own == tei
+
+-- The terminal gives up its TEI, if it is this one (MDL-REMOVE, 5.3.4).
+abbrev pub gives_up : Config → ℕ → ℕ → User → Result (Reaction User) SideKind
+gives_up config now tei s =
+    if has_tei tei (tei_of s.terminal) then Ok (terminal_acts config now (λ ri. event.Leave) s)
+    else Err NoLink
+
 unfoldable pub user_requested : Config → Request → ℕ → User → Result (Reaction User) SideKind
 user_requested config (request.Establish id) now s =
     with_tei_or now s.terminal id.sapi Establish [] (wants config now id.sapi s) s
@@ -312,3 +323,4 @@ user_requested config (request.Busy id on) now s =
     with_tei_or now s.terminal id.sapi (busy_input on) [] (Err NoLink) s
 user_requested config request.AskTei now s = Ok (terminal_acts config now event.Ask s)
 user_requested config (request.Check tei) now s = Ok (unmoved s)
+user_requested config (request.Remove tei) now s = gives_up config now tei s

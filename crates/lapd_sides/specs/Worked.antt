@@ -111,6 +111,10 @@ one_released = Arrives (0x40 ∷ 0x81 ∷ 0x53 ∷ []) 500 ∷ []
 abbrev pub vain_check : List Happening
 vain_check = Asked (request.Check 64) 600 ∷ Expires T201 None 1600 ∷ Expires T201 None 2600 ∷ []
 
+-- a TEI is removed at this moment; the group TEI is not
+abbrev pub removed_at : ℕ → List Happening
+removed_at now = Asked (request.Remove 64) now ∷ Asked (request.Remove 127) now ∷ []
+
 -- octets that do not form a frame for an existing link, four times, and then a SABME
 abbrev pub four_and_sabme : List Happening
 four_and_sabme =
@@ -147,3 +151,8 @@ abbrev pub want_and_tei : List Happening
 want_and_tei =
     Asked (request.Establish (of_sapi Call 0)) 0
     ∷ Arrives (0xFE ∷ 0xFF ∷ 0x03 ∷ 0x0F ∷ 0x00 ∷ 0x00 ∷ 0x02 ∷ 0x81 ∷ []) 100 ∷ []
+
+-- a terminal gives up its TEI 64: another TEI is not its own, nor is this one afterwards
+abbrev pub given_up : List Happening
+given_up = Asked (request.Remove 65) 0 ∷ Asked (request.Remove 64) 0 ∷ Asked (request.Remove 64) 0
+    ∷ []

@@ -8,11 +8,12 @@ ghost use Rattle.lapd_timers.specs.declared.timer.Timer.TheVariants.{T200, T202,
 ghost use Rattle.lapd_timers.specs.Due.{deadline_of};
 ghost use Rattle.lapd_sides_links.specs.declared.primitive.Primitive.TheVariants.{Of, Management};
 ghost use Rattle.lapd_sides_links.specs.declared.primitive.What.TheVariants as what;
+ghost use Rattle.lapd_sides_links.specs.declared.side_fault.SideKind.TheVariants.{NoLink};
 ghost use Rattle.lapd_sides_links.specs.Effects.{no_effects};
 ghost use Rattle.lapd_sides_links.specs.Links.{of_sapi};
 ghost use Rattle.lapd_sides.specs.Network.{new_network};
 ghost use Rattle.lapd_sides.specs.User.{new_user};
-ghost use Rattle.lapd_sides.specs.Worked.{network_run, network_gives, user_run, user_gives, state_of, ends_at, asking, reference, both_sapis, call_control_alone, tei_and_disc, both_established, one_released, vain_check, four_and_sabme, random, vain_want, want_and_tei};
+ghost use Rattle.lapd_sides.specs.Worked.{network_run, network_gives, user_run, user_gives, state_of, ends_at, asking, reference, both_sapis, call_control_alone, tei_and_disc, both_established, one_released, vain_check, removed_at, four_and_sabme, random, vain_want, want_and_tei, given_up};
 
 /// A network side assigns a TEI, and from then on its two links respond. A DISC for another TEI is
 /// discarded.
@@ -73,6 +74,25 @@ pub fn freed_teis_lose_their_links()
         }) ∷ [] }
     ensures gone { (network_run both_sapis (both_established ++ vain_check)
         (new_network both_sapis (64 ∷ []))).served.links (of_sapi Call 64) ≡ None }
+{}
+
+/// A network side that removes a TEI sends Identity remove twice, reports the TEI free, and then
+/// releases its links, by ascending SAPI. The group TEI is not removed. A terminal that gives up
+/// its TEI sends nothing, and gives up no other TEI.
+pub fn removed_teis_lose_their_links()
+    ensures gives { network_gives both_sapis (removed_at 600)
+        (network_run both_sapis both_established (new_network both_sapis (64 ∷ [])))
+        ≡ Ok (record {
+          frames = (0xFE ∷ 0xFF ∷ 0x03 ∷ 0x0F ∷ 0x00 ∷ 0x00 ∷ 0x06 ∷ 0x81 ∷ [])
+              ∷ (0xFE ∷ 0xFF ∷ 0x03 ∷ 0x0F ∷ 0x00 ∷ 0x00 ∷ 0x06 ∷ 0x81 ∷ []) ∷ [];
+          primitives = Management (tei.Free 64)
+              ∷ Of (of_sapi Call 64) what.Released ∷ Of (of_sapi Packet 64) what.Released ∷ [];
+        }) ∷ Ok no_effects ∷ [] }
+    ensures gone { (network_run both_sapis (both_established ++ removed_at 600)
+        (new_network both_sapis (64 ∷ []))).served.links (of_sapi Call 64) ≡ None }
+    ensures given_up { user_gives both_sapis given_up (new_user both_sapis (Some 64) random)
+        ≡ Err NoLink ∷ Ok (record { frames = []; primitives = Management (tei.Gone 64) ∷ [] })
+        ∷ Err NoLink ∷ [] }
 {}
 
 /// Octets with F1, F2 and F3, and a frame for a TEI without links, are discarded and counted; a

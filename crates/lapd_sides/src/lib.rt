@@ -64,13 +64,15 @@ mod user_side;
 
 pub use either_side::EitherSide;
 pub use lapd_sides_links::{
-    Acts, Config, Durations, Letter, LinkFault, LinkId, LinkTable, Octets, Params, Primitive,
-    RunningTimer, Sapi, Side, SideFault, SideKind, Tei, TeiMessage, TeiOut, Timer, TimerSet, What,
+    Acts, Config, Durations, FrameOctets, Letter, LinkFault, LinkId, LinkTable, Octets, Params,
+    Primitive, RunningTimer, Sapi, Side, SideFault, SideKind, Tei, TeiMessage, TeiOut, Timer,
+    TimerSet, What,
 };
 pub use lapd_tei::{Assigner, Terminal};
 pub use laws::{
     assignments_make_links, discarded_frames_are_counted, freed_teis_lose_their_links,
-    pending_establishments_are_done, releases_leave_other_links, vain_requests_are_released,
+    pending_establishments_are_done, releases_leave_other_links, removed_teis_lose_their_links,
+    vain_requests_are_released,
 };
 pub use net_side::NetSide;
 pub use request::Request;

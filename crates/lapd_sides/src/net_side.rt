@@ -224,6 +224,10 @@ impl NetSide {
             self.manage(AssignerEvent::Check(*tei), now, acts);
             return Ok(());
         }
+        if let Request::Remove(tei) = &request {
+            self.manage(AssignerEvent::Remove(*tei), now, acts);
+            return Ok(());
+        }
         match request {
             Request::Establish(id) => self.act(id, Event::Establish, now, acts),
             Request::Release(id) => self.act(id, Event::Release, now, acts),
@@ -231,7 +235,7 @@ impl NetSide {
             Request::Busy(id, false) => self.act(id, Event::BusyOff, now, acts),
             Request::Unit(id, octets) => self.send_unit(id, octets, now, acts),
             Request::Give(id, message) => self.give(id, message, now, acts),
-            Request::AskTei | Request::Check(_) => Ok(()),
+            Request::AskTei | Request::Check(_) | Request::Remove(_) => Ok(()),
         }
     }
 }

@@ -20,4 +20,8 @@ pub enum Request {
     AskTei,
     /// Check this TEI. A user side ignores it.
     Check(Tei),
+    /// Remove this TEI (MDL-REMOVE request). A network side sends Identity remove twice, and
+    /// removes the TEI's links; it ignores the group TEI. A user side gives up its TEI if it is
+    /// this one.
+    Remove(Tei),
 }

@@ -18,7 +18,7 @@ ghost use Rattle.lapd_sides_links.specs.Rooms.{HasRoomFor, AddsAtMost, IsEmpty};
 ghost use Rattle.lapd_sides.specs.Calls.{WasRead};
 ghost use Rattle.lapd_sides.specs.Requests.{message_of, without_message};
 ghost use Rattle.lapd_sides.specs.Shows.{ShowEnds};
-ghost use Rattle.lapd_sides.specs.User.{User, seeded, sends_message, new_user, user_takes, user_requested, terminal_acts, assigned, pending_after, establishes_pending, establishes, gives_up_pending, primitive_of_group, primitive_of_sapi, link_of_user, frame_received, data_received, for_layer_3, got_for, got_for_frame, got_for_message, wants, forgets, with_tei_or};
+ghost use Rattle.lapd_sides.specs.User.{User, seeded, sends_message, new_user, user_takes, user_requested, terminal_acts, assigned, pending_after, establishes_pending, establishes, gives_up_pending, primitive_of_group, primitive_of_sapi, link_of_user, frame_received, data_received, for_layer_3, got_for, got_for_frame, got_for_message, wants, forgets, gives_up, has_tei, with_tei_or};
 
 use crate::links_and_timer::{
     Expired, LinksAndTimer, MOST_TEI_OUTPUTS, carries_message, is_unit_to_group, without_message,
@@ -233,9 +233,9 @@ impl UserSide {
     ///
     /// # Errors
     ///
-    /// B1 if the link does not exist, and L1 to L5 if it refuses; L1 for a message without a TEI.
-    /// The message or unit data is returned in the error. The side is unchanged and `acts` is
-    /// empty.
+    /// B1 if the link does not exist, or the TEI to remove is not the terminal's; L1 to L5 if the
+    /// link refuses; L1 for a message without a TEI. The message or unit data is returned in the
+    /// error. The side is unchanged and `acts` is empty.
     #[tactic(auto, unfolding(crate::specs::User::user_requested))]
     pub fn request(&mut self, request: Request, now: u64, acts: &mut Acts) -> Result<(), SideFault>
         ensures { Answers result self.old self.new acts.new (message_of request)
@@ -246,6 +246,9 @@ impl UserSide {
             self.ask(now, acts);
             return Ok(());
         }
+        if let Request::Remove(tei) = &request {
+            return self.give_up(*tei, now, acts);
+        }
         match request {
             Request::Establish(id) => self.establish(id.sapi, now, acts),
             Request::Release(id) => self.release(id.sapi, now, acts),
@@ -253,7 +256,7 @@ impl UserSide {
             Request::Busy(id, false) => self.be_busy(id.sapi, Event::BusyOff, now, acts),
             Request::Unit(id, octets) => self.send_unit(id.sapi, octets, now, acts),
             Request::Give(id, message) => self.give(id.sapi, message, now, acts),
-            Request::AskTei | Request::Check(_) => Ok(()),
+            Request::AskTei | Request::Check(_) | Request::Remove(_) => Ok(()),
         }
     }
 
@@ -420,6 +423,19 @@ impl UserSide {
         }
     }
 
+    /// Gives up the terminal's TEI, if it is this one (Q.921 5.3.4).
+    fn give_up(&mut self, tei: Tei, now: u64, acts: &mut Acts) -> Result<(), SideFault>
+        requires empty { IsEmpty acts.old }
+        ensures { Answers result self.old self.new acts.new None
+            (λ config. gives_up config now tei) }
+    {
+        if !has_tei(self.terminal.tei(), tei) {
+            return Err(without_message(SideKind::NoLink));
+        }
+        self.leave(now, acts);
+        Ok(())
+    }
+
     /// Passes an event to the link with this id.
     fn act(&mut self, id: LinkId, event: Event, now: u64, acts: &mut Acts) -> Result<(), SideFault>
         requires empty { IsEmpty acts.old }
@@ -446,6 +462,15 @@ impl UserSide {
     {
         let event = TerminalEvent::Ask(self.references.next());
         self.manage(event, now, acts);
+    }
+
+    /// Gives up the terminal's TEI.
+    fn leave(&mut self, now: u64, acts: &mut Acts)
+        requires { IsEmpty acts.old }
+        ensures { UserDoes self.old self.new acts.new
+            (λ config. terminal_acts config now (λ _. TerminalEvent.Leave)) }
+    {
+        self.manage(TerminalEvent::Leave, now, acts);
     }
 
     /// Stops T202, which has expired, and processes its expiry.
@@ -545,6 +570,16 @@ fn is_for_layer_3(config: &Config, frame: &Frame<'_>) -> bool
     ensures { result ≡ for_layer_3 config.now frame.now }
 {
     config.serves(frame.address().sapi) && is_unit_to_group(frame)
+}
+
+/// Whether this is the TEI of a terminal that has `own`, if any.
+fn has_tei(own: Option<Tei>, tei: Tei) -> bool
+    ensures { result ≡ has_tei tei own }
+{
+    match own {
+        Some(own) => own == tei,
+        None => false,
+    }
 }
 
 /// Whether these outputs send a message.

@@ -130,6 +130,7 @@ module _ (config : Config) (now : ℕ) where
   network_asked (request.Busy id false) s all = linked now id input.BusyOff [] s tt tt all
   network_asked request.AskTei s all = nothing s all
   network_asked (request.Check tei) s all = assigning (event.Check tei) s all
+  network_asked (request.Remove tei) s all = assigning (event.Remove tei) s all
 
 -- ---- A newly created side.
 

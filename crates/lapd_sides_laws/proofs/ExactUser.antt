@@ -27,7 +27,7 @@ use Rattle.lapd_tei.specs.declared.phase.Phase.{Phase}
 use Rattle.lapd_tei.specs.declared.phase.Phase.TheVariants.{Unassigned, Awaiting, Assigned}
 use Rattle.lapd_tei.specs.declared.terminal.TerminalEvent.{TerminalEvent}
 use Rattle.lapd_tei.specs.declared.terminal.TerminalEvent.TheVariants as event
-use Rattle.lapd_tei.specs.Terminal.{TerminalStep, terminal_step}
+use Rattle.lapd_tei.specs.Terminal.{TerminalStep, terminal_step, tei_of}
 use Rattle.lapd_tei.specs.Message.{message_at}
 use Rattle.lapd_table.specs.declared.link_id.LinkId.{LinkId}
 use Rattle.lapd_sides_links.specs.declared.config.Config.{Config}
@@ -38,7 +38,7 @@ use Rattle.lapd_sides_links.specs.Links.{Links, Reaction, of_sapi, is_served, in
 use Rattle.lapd_sides.specs.declared.request.Request.{Request}
 use Rattle.lapd_sides.specs.declared.request.Request.TheVariants as request
 use Rattle.lapd_sides.specs.Management.{carries_message, manages}
-use Rattle.lapd_sides.specs.User.{User, new_user, nothing_pending, unmoved, discards, next, next_reference, drawn, among_links, link_of_user, or_discarded, or_unmoved, establishes, establishes_pending, gives_up_pending, pending_after, assigned, terminal_acts, message_received, unit_from_group, for_layer_3, data_received, fault_received, received, user_takes, user_expires, with_tei_or, is_pending, with_pending, wants, forgets, user_requested}
+use Rattle.lapd_sides.specs.User.{User, new_user, nothing_pending, unmoved, discards, next, next_reference, drawn, among_links, link_of_user, or_discarded, or_unmoved, establishes, establishes_pending, gives_up_pending, pending_after, assigned, terminal_acts, message_received, unit_from_group, for_layer_3, data_received, fault_received, received, user_takes, user_expires, with_tei_or, is_pending, with_pending, wants, forgets, has_tei, user_requested}
 use Rattle.lapd_sides_laws.specs.ExactTimers.{HaveExactTimers}
 use Rattle.lapd_sides_laws.proofs.ExactLinks.{if_either, IsNoExpiry, CarriesTags, IsExact, IsExactAmong, quietly, acts_exactly, expires_exactly, no_link_is_exact, with_tei_exact, manages_exactly}
 
@@ -186,6 +186,7 @@ module _ (config : Config) (now : ℕ) where
   user_asked (request.Busy id false) s all = with_own s.terminal id.sapi input.BusyOff [] (Err NoLink) s tt tt all tt
   user_asked request.AskTei s all = acting event.Ask s all
   user_asked (request.Check tei) s all = nothing s all
+  user_asked (request.Remove tei) s all = if_either PreservesIfOk (has_tei tei (tei_of s.terminal)) (Ok (terminal_acts config now (λ ri. event.Leave) s)) (Err NoLink) (acting (λ ri. event.Leave) s all) tt
 
 -- ---- A newly created side.
 

@@ -17,7 +17,7 @@ use Rattle.lapd_tei.specs.declared.check.Responses.{Responses}
 use Rattle.lapd_tei.specs.declared.check.Responses.TheVariants as responses
 use Rattle.lapd_tei.specs.declared.assigner.AssignerEvent.{AssignerEvent}
 use Rattle.lapd_tei.specs.declared.assigner.AssignerEvent.TheVariants as event
-use Rattle.lapd_tei.specs.Assigner.{AssignerState, AssignerStep, is_held, least_free, stays, serves, begins_check, counts_response, round_ends, timer_ends, assigner_receives, assigner_step, one_more}
+use Rattle.lapd_tei.specs.Assigner.{AssignerState, AssignerStep, is_held, least_free, stays, serves, begins_check, counts_response, removes_one, removes, round_ends, timer_ends, assigner_receives, assigner_step, one_more}
 use Rattle.lapd_tei.specs.Message.{group_tei}
 use Rattle.lapd_tei.specs.Out.{tei_given, tei_freed}
 use Rattle.lapd_tei.proofs.AssignerPreserves.{IsFree, free_from}
@@ -75,9 +75,9 @@ counting a tei (Some check) = by_test (tei == check.tei)
     by_test true = none_changes a _
     by_test false = none_changes a a.check
 
-frees : (a : AssignerState) (tei : ℕ) (outs : List TeiOut) → ((t : ℕ) → tei_given outs ≡ Some t → ⊥) → tei_freed outs ≡ Some tei → ((n : ℕ) → list_any (is_assignment n) (filter_map outcome_of outs) ≡ false)
-    → GivesFree a.held (record { now = record { held = set a.held tei false; check = None }; outs = outs })
-frees a tei outs no_given freed quiet = record {
+frees : (a : AssignerState) (tei : ℕ) (later : Option Check) (outs : List TeiOut) → ((t : ℕ) → tei_given outs ≡ Some t → ⊥) → tei_freed outs ≡ Some tei → ((n : ℕ) → list_any (is_assignment n) (filter_map outcome_of outs) ≡ false)
+    → GivesFree a.held (record { now = record { held = set a.held tei false; check = later }; outs = outs })
+frees a tei later outs no_given freed quiet = record {
   given = λ t is. absurd (no_given t is);
   stays_held = λ n h. subst (λ (f : Option ℕ). (freed_here n f ≡ true) ⊎ (is_held (set a.held tei false) n ≡ true)) (sym freed) (unheld a.held tei n (tei == n) refl h);
   free = λ n delivered. (let no : true ≡ false = sym delivered ∙ quiet n in cc);
@@ -85,11 +85,22 @@ frees a tei outs no_given freed quiet = record {
 
 ending : (a : AssignerState) (tei : ℕ) (nth : Round) (count : Responses) → GivesFree a.held (round_ends tei nth count a)
 ending a tei round.First responses.Nobody = asks a _ _
-ending a tei round.Second responses.Nobody = frees a tei (out.Free tei ∷ []) (λ t is. cc) refl (λ n. refl)
+ending a tei round.Second responses.Nobody = frees a tei None (out.Free tei ∷ []) (λ t is. cc) refl (λ n. refl)
 ending a tei round.First responses.One = record { given = λ t is. cc; stays_held = λ n h. inr h; free = λ n delivered. cc }
 ending a tei round.Second responses.One = record { given = λ t is. cc; stays_held = λ n h. inr h; free = λ n delivered. cc }
-ending a tei round.First responses.Several = frees a tei _ (λ t is. cc) refl (λ n. refl)
-ending a tei round.Second responses.Several = frees a tei _ (λ t is. cc) refl (λ n. refl)
+ending a tei round.First responses.Several = frees a tei None _ (λ t is. cc) refl (λ n. refl)
+ending a tei round.Second responses.Several = frees a tei None _ (λ t is. cc) refl (λ n. refl)
+
+either : (a : AssignerState) (test : Bool) (x y : AssignerStep) → GivesFree a.held x → GivesFree a.held y → GivesFree a.held (if test then x else y)
+either a true x y hx hy = hx
+either a false x y hx hy = hy
+
+removing_one : (a : AssignerState) (tei : ℕ) (check : Option Check) → GivesFree a.held (removes_one tei check a)
+removing_one a tei None = frees a tei a.check _ (λ t is. cc) refl (λ n. refl)
+removing_one a tei (Some check) = either a (tei == check.tei) _ _ (frees a tei None _ (λ t is. cc) refl (λ n. refl)) (frees a tei a.check _ (λ t is. cc) refl (λ n. refl))
+
+removing : (a : AssignerState) (tei : ℕ) → GivesFree a.held (removes tei a.check a)
+removing a tei = either a (nat_lt tei group_tei) _ _ (removing_one a tei a.check) (none_changes a a.check)
 
 timing : (a : AssignerState) (check : Option Check) → GivesFree a.held (timer_ends check a)
 timing a None = none_changes a a.check
@@ -107,4 +118,5 @@ reception_is_exact a kind.Remove ri ai = none_changes a a.check
 pub gives_free : (a : AssignerState) (e : AssignerEvent) → GivesFree a.held (assigner_step a e)
 gives_free a (event.Heard m) = reception_is_exact a m.kind m.ri m.ai
 gives_free a (event.Check tei) = checks a tei a.check (nat_lt tei group_tei) refl refl
+gives_free a (event.Remove tei) = removing a tei
 gives_free a event.T201 = timing a a.check

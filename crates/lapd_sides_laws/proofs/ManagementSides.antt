@@ -29,7 +29,7 @@ use Rattle.lapd_tei.specs.declared.terminal.TerminalEvent.TheVariants as termina
 use Rattle.lapd_tei.specs.declared.assigner.AssignerEvent.{AssignerEvent}
 use Rattle.lapd_tei.specs.declared.assigner.AssignerEvent.TheVariants as assigner
 use Rattle.lapd_tei.specs.Message.{message_at, group_tei}
-use Rattle.lapd_tei.specs.Terminal.{is_awaiting, terminal_step}
+use Rattle.lapd_tei.specs.Terminal.{is_awaiting, terminal_step, tei_of}
 use Rattle.lapd_table.specs.declared.link_id.LinkId.{LinkId}
 use Rattle.lapd_table.specs.LinkId.{id_of_address}
 use Rattle.lapd_sides_links.specs.declared.config.Config.{Config}
@@ -43,7 +43,7 @@ use Rattle.lapd_sides.specs.Management.{carries_message, manages, busy_input}
 use Rattle.lapd_sides.specs.Network as net
 use Rattle.lapd_sides.specs.Network.{Network, new_network, assigner_acts, link_of_network, network_takes, network_expires, unit_to_group, network_requested}
 use Rattle.lapd_sides.specs.User as usr
-use Rattle.lapd_sides.specs.User.{User, new_user, nothing_pending, next, next_reference, drawn, link_of_user, establishes, establishes_pending, gives_up_pending, pending_after, terminal_acts, unit_from_group, for_layer_3, user_takes, user_expires, with_tei_or, is_pending, with_pending, wants, forgets, user_requested}
+use Rattle.lapd_sides.specs.User.{User, new_user, nothing_pending, next, next_reference, drawn, link_of_user, establishes, establishes_pending, gives_up_pending, pending_after, terminal_acts, unit_from_group, for_layer_3, user_takes, user_expires, with_tei_or, is_pending, with_pending, wants, forgets, has_tei, user_requested}
 use Rattle.lapd_sides_laws.specs.Interface.{Configs, Interface, Move, user_behaviour, network_behaviour, new_interface, by_user, by_network, side_does, happens, run}
 use Rattle.lapd_sides_laws.specs.ManagementTimers.{RunsAlone, HasTimerOfTerminal, HasTimerOfAssigner, HaveTimersOfManagement}
 use Rattle.lapd_sides_laws.specs.SideView.{Behaviour, SideView, SideEvent, Take, Lose, Expire, Ask, unmoved, takes_first, may_expire, or_unmoved, does}
@@ -150,6 +150,7 @@ module _ (config : Config) (now : ℕ) where
   network_asking (request.Busy id on) s h = network_asks_link id (busy_input on) [] s h
   network_asking request.AskTei s h = h
   network_asking (request.Check tei) s h = assigning (assigner.Check tei) s h
+  network_asking (request.Remove tei) s h = assigning (assigner.Remove tei) s h
 
 pub network_preserves_its_timer : (config : Config) → PreservedBySide Network (network_behaviour config) HasTimerOfAssigner
 network_preserves_its_timer config = record { takes = network_taking config; expires = network_expiring config; requested = network_asking config }
@@ -260,6 +261,7 @@ module _ (config : Config) (now : ℕ) where
   user_asking (request.Busy id on) s h = with_own s.terminal id.sapi (busy_input on) [] (Err NoLink) s h tt
   user_asking request.AskTei s h = terminal_acting terminal.Ask s h
   user_asking (request.Check tei) s h = h
+  user_asking (request.Remove tei) s h = if_either AwaitedIfOk (has_tei tei (tei_of s.terminal)) (Ok (terminal_acts config now (λ ri. terminal.Leave) s)) (Err NoLink) (terminal_acting (λ ri. terminal.Leave) s h) tt
 
 pub user_preserves_its_timer : (config : Config) → PreservedBySide User (user_behaviour config) HasTimerOfTerminal
 user_preserves_its_timer config = record { takes = user_taking config; expires = user_expiring config; requested = user_asking config }

@@ -20,7 +20,7 @@ use Rattle.lapd_tei.specs.declared.terminal.TerminalEvent.{TerminalEvent}
 use Rattle.lapd_tei.specs.declared.terminal.TerminalEvent.TheVariants as terminal
 use Rattle.lapd_tei.specs.declared.assigner.AssignerEvent.{AssignerEvent}
 use Rattle.lapd_tei.specs.declared.assigner.AssignerEvent.TheVariants as assigner
-use Rattle.lapd_tei.specs.Assigner.{AssignerState, AssignerStep, least_free, serves, begins_check, counts_response, round_ends, timer_ends, assigner_receives, assigner_step, stays}
+use Rattle.lapd_tei.specs.Assigner.{AssignerState, AssignerStep, least_free, serves, begins_check, counts_response, removes_one, removes, round_ends, timer_ends, assigner_receives, assigner_step, stays}
 use Rattle.lapd_tei.specs.Message.{group_tei}
 use Rattle.lapd_tei.specs.Terminal.{TerminalStep, moves_to, n202, is_automatic, names, is_got_by, asks_again, awaiting_receives, assigned_receives, terminal_step, is_awaiting}
 use Rattle.lapd_sides_links.specs.Effects.{managed, stopped, started}
@@ -100,6 +100,13 @@ module _ (now : ℕ) (t : Timers) where
   counting tei None a is h = h
   counting tei (Some check) a is h = if_either IsTimelyCheck (tei == check.tei) _ (stays a) (subst (λ (c : Option Check). RunsAlone T201 (is_some c) t) is h) h
 
+  removing_one : (tei : ℕ) (check : Option Check) (a : AssignerState) → RunsAlone T201 (is_some a.check) t → IsTimelyCheck (removes_one tei check a)
+  removing_one tei None a h = h
+  removing_one tei (Some check) a h = if_either IsTimelyCheck (tei == check.tei) _ _ (set_201 None t (is_some a.check) h) h
+
+  removing : (tei : ℕ) (a : AssignerState) → RunsAlone T201 (is_some a.check) t → IsTimelyCheck (removes tei a.check a)
+  removing tei a h = if_either IsTimelyCheck (nat_lt tei group_tei) _ (stays a) (removing_one tei a.check a h) h
+
   reception_is_exact : (what : TeiKind) (ri ai : ℕ) (a : AssignerState) → RunsAlone T201 (is_some a.check) t → IsTimelyCheck (assigner_receives what ri ai a)
   reception_is_exact kind.Request ri ai a h = serving ri (least_free a.held) a h
   reception_is_exact kind.CheckResponse ri ai a h = counting ai a.check a refl h
@@ -126,6 +133,7 @@ checks_before a event = is_some a.check
 pub assigner_row : (now : ℕ) (t : Timers) (a : AssignerState) (event : AssignerEvent) → RunsAlone T201 (checks_before a event) t → IsTimelyCheck now t (assigner_step a event)
 assigner_row now t a (assigner.Heard m) h = reception_is_exact now t m.kind m.ri m.ai a h
 assigner_row now t a (assigner.Check tei) h = beginning now t tei a.check a h
+assigner_row now t a (assigner.Remove tei) h = removing now t tei a h
 assigner_row now t a assigner.T201 h = ending now t a.check a refl h
 
 -- ---- A timer that expires runs, so it is the only one that may run.

@@ -134,6 +134,7 @@ module _ (config : Config) (s : Network) (held : AreHeld s) where
   granted (request.Busy other false) now a is = link_granted now other input.BusyOff [] a is
   granted request.AskTei now a is = subst (PreservesHeld s) (same_network (network.unmoved s) a is) still
   granted (request.Check tei) now a is = subst (PreservesHeld s) (same_network (assigner_acts config now (event.Check tei) s) a is) (assigning now (event.Check tei))
+  granted (request.Remove tei) now a is = subst (PreservesHeld s) (same_network (assigner_acts config now (event.Remove tei) s) a is) (assigning now (event.Remove tei))
 
   requested : (r : Result (Reaction Network) SideKind) → ((a : Reaction Network) → r ≡ Ok a → PreservesHeld s a) → PreservesHeld s (or_unmoved s r)
   requested (Ok a) each = each a refl

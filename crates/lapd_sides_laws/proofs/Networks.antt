@@ -210,6 +210,9 @@ module _ (config : Config) (id : LinkId) (low : id.tei < 127) (removed : Bool) w
   asked (request.Check tei) now s a is stays =
       let same = same_network (assigner_acts config now (event.Check tei) s) a is in
       subst (λ (x : Reaction Network). Asked now s x []) same (inl (record { proceeds = assigning now (event.Check tei) s (subst (Stays s) (sym same) stays); none_given = refl }))
+  asked (request.Remove tei) now s a is stays =
+      let same = same_network (assigner_acts config now (event.Remove tei) s) a is in
+      subst (λ (x : Reaction Network). Asked now s x []) same (inl (record { proceeds = assigning now (event.Remove tei) s (subst (Stays s) (sym same) stays); none_given = refl }))
 
   -- ---- A network side.
 

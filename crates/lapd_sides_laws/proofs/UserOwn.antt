@@ -22,7 +22,7 @@ use Rattle.lapd_tei.specs.declared.phase.Phase.{Phase}
 use Rattle.lapd_tei.specs.declared.phase.Phase.TheVariants.{Unassigned, Awaiting, Assigned}
 use Rattle.lapd_tei.specs.declared.terminal.TerminalEvent.{TerminalEvent}
 use Rattle.lapd_tei.specs.declared.terminal.TerminalEvent.TheVariants as event
-use Rattle.lapd_tei.specs.Terminal.{terminal_step}
+use Rattle.lapd_tei.specs.Terminal.{terminal_step, tei_of}
 use Rattle.lapd_tei.specs.Message.{message_at}
 use Rattle.lapd_table.specs.declared.link_id.LinkId.{LinkId}
 use Rattle.lapd_sides_links.specs.declared.config.Config.{Config}
@@ -36,7 +36,7 @@ use Rattle.lapd_sides.specs.declared.request.Request.{Request}
 use Rattle.lapd_sides.specs.declared.request.Request.TheVariants as request
 use Rattle.lapd_sides.specs.Management.{carries_message, manages}
 use Rattle.lapd_sides.specs.User as user
-use Rattle.lapd_sides.specs.User.{User, nothing_pending, next_reference, drawn, with_links, among_links, link_of_user, or_discarded, establishes, establishes_pending, primitive_of_group, primitive_of_sapi, gives_up_pending, pending_after, terminal_acts, message_received, unit_from_group, for_layer_3, data_received, fault_received, received, user_takes, user_expires, with_tei_or, is_pending, with_pending, wants, forgets, user_requested}
+use Rattle.lapd_sides.specs.User.{User, nothing_pending, next_reference, drawn, with_links, among_links, link_of_user, or_discarded, establishes, establishes_pending, primitive_of_group, primitive_of_sapi, gives_up_pending, pending_after, terminal_acts, message_received, unit_from_group, for_layer_3, data_received, fault_received, received, user_takes, user_expires, with_tei_or, is_pending, with_pending, wants, forgets, has_tei, user_requested}
 use Rattle.lapd_sides_laws.specs.Interface.{user_behaviour}
 use Rattle.lapd_sides_laws.specs.Premises.{is_assignment}
 use Rattle.lapd_sides_laws.specs.SideView.{SideEvent, Take, Lose, Expire, Ask, SideView, unmoved, takes_first, may_expire, or_unmoved, reaction}
@@ -217,6 +217,10 @@ wanting config s own now at a true is =
     subst (PreservesOwn s) (same_user config s own _ a is) (record { after = k.after; quiet = k.quiet })
 wanting config s own now at a false is = cc
 
+giving_up : (config : Config) (s : User) (own : AreOwn s) (now : ℕ) (a : Reaction User) (is_its : Bool) → (if is_its then Ok (terminal_acts config now (λ ri. event.Leave) s) else Err NoLink) ≡ Ok a → PreservesOwn s a
+giving_up config s own now a true is = subst (PreservesOwn s) (same_user config s own _ a is) (acting config s own now (λ ri. event.Leave))
+giving_up config s own now a false is = cc
+
 granted : (config : Config) (s : User) (own : AreOwn s) (request : Request) (now : ℕ) (a : Reaction User) → user_requested config request now s ≡ Ok a → PreservesOwn s a
 unfolding user_requested
 granted config s own (request.Establish other) now a is = with_own config s own now s.terminal other.sapi Establish [] (wants config now other.sapi s) a (wanting config s own now other.sapi a (is_served config other.sapi)) is
@@ -227,6 +231,7 @@ granted config s own (request.Busy other true) now a is = with_own config s own 
 granted config s own (request.Busy other false) now a is = with_own config s own now s.terminal other.sapi input.BusyOff [] (Err NoLink) a (refused config s own NoLink a) is
 granted config s own request.AskTei now a is = subst (PreservesOwn s) (same_user config s own (terminal_acts config now event.Ask s) a is) (acting config s own now event.Ask)
 granted config s own (request.Check tei) now a is = subst (PreservesOwn s) (same_user config s own (user.unmoved s) a is) (still config s own)
+granted config s own (request.Remove tei) now a is = giving_up config s own now a (has_tei tei (tei_of s.terminal)) is
 
 expires : (config : Config) (s : User) (own : AreOwn s) (now : ℕ) (timer : Timer) (of : Option LinkId) → PreservesOwn s (user_expires config now timer of s)
 unfolding user_expires

@@ -30,7 +30,7 @@ use Rattle.lapd_tei.specs.declared.phase.Phase.{Phase}
 use Rattle.lapd_tei.specs.declared.phase.Phase.TheVariants.{Unassigned, Awaiting, Assigned}
 use Rattle.lapd_tei.specs.declared.terminal.TerminalEvent.{TerminalEvent}
 use Rattle.lapd_tei.specs.declared.terminal.TerminalEvent.TheVariants as event
-use Rattle.lapd_tei.specs.Terminal.{TerminalStep, terminal_step}
+use Rattle.lapd_tei.specs.Terminal.{TerminalStep, terminal_step, tei_of}
 use Rattle.lapd_tei.specs.Message.{message_at, group_tei}
 use Rattle.lapd_pair_laws.specs.Line.{Flight}
 use Rattle.lapd_table.specs.declared.link_id.LinkId.{LinkId}
@@ -48,7 +48,7 @@ use Rattle.lapd_sides_links.specs.Links.{Links, Linked, Reaction, of_sapi, is_se
 use Rattle.lapd_sides.specs.declared.request.Request.{Request}
 use Rattle.lapd_sides.specs.declared.request.Request.TheVariants as request
 use Rattle.lapd_sides.specs.Management.{carries_message, is_unit_to_group, is_management, is_ui, manages}
-use Rattle.lapd_sides.specs.User.{User, nothing_pending, unmoved, next_reference, drawn, with_links, among_links, link_of_user, or_discarded, or_unmoved, establishes, establishes_pending, primitive_of_sapi, gives_up_pending, pending_after, assigned, terminal_acts, message_received, unit_from_group, for_layer_3, data_received, fault_received, received, user_takes, user_expires, with_tei_or, is_pending, with_pending, wants, forgets, user_requested}
+use Rattle.lapd_sides.specs.User.{User, nothing_pending, unmoved, next_reference, drawn, with_links, among_links, link_of_user, or_discarded, or_unmoved, establishes, establishes_pending, primitive_of_sapi, gives_up_pending, pending_after, assigned, terminal_acts, message_received, unit_from_group, for_layer_3, data_received, fault_received, received, user_takes, user_expires, with_tei_or, is_pending, with_pending, wants, forgets, has_tei, user_requested}
 use Rattle.lapd_sides_laws.specs.Owed.{PassesBy, IsStep, IsUnmovedBy, IsRequest, IsNoRequest, ServesLink}
 use Rattle.lapd_sides_laws.specs.Addressed.{is_named, is_for, parts_of, spelled}
 use Rattle.lapd_sides_laws.specs.Interface.{fresh_link, user_behaviour, own_link}
@@ -397,6 +397,12 @@ module _ (config : Config) (id : LinkId) (low : id.tei < 127) (removed : Bool) w
   forgetting at s a true is = subst (Passes s) (same_user _ a is) (record { links = refl; frames = refl; delivered = group_is_other true at what.ReleaseConfirm })
   forgetting at s a false is = cc
 
+  leaving : (now : ℕ) (s : User) (a : Reaction User) (is_its : Bool) → Stays s a → (if is_its then Ok (terminal_acts config now (λ ri. event.Leave) s) else Err NoLink) ≡ Ok a → Asked now s a []
+  leaving now s a true stays is =
+      let same = same_user (terminal_acts config now (λ ri. event.Leave) s) a is in
+      subst (λ (x : Reaction User). Asked now s x []) same (inl (record { proceeds = acting now (λ ri. event.Leave) s (subst (Stays s) (sym same) stays); none_given = refl }))
+  leaving now s a false stays is = cc
+
   abbrev Refused : SideKind → Result (Reaction User) SideKind
   Refused kind = Err kind
 
@@ -417,6 +423,7 @@ module _ (config : Config) (id : LinkId) (low : id.tei < 127) (removed : Bool) w
       let same = same_user (terminal_acts config now event.Ask s) a is in
       subst (λ (x : Reaction User). Asked now s x []) same (inl (record { proceeds = acting now event.Ask s (subst (Stays s) (sym same) stays); none_given = refl }))
   asked (request.Check tei) now s a is stays = subst (λ (x : Reaction User). Asked now s x []) (same_user (unmoved s) a is) (inl (record { proceeds = inl (nothing s); none_given = refl }))
+  asked (request.Remove tei) now s a is stays = leaving now s a (has_tei tei (tei_of s.terminal)) stays is
 
   -- ---- A user side.
 

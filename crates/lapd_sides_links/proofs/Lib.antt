@@ -6,5 +6,6 @@ pub mod Order
 pub mod Dues
 pub mod Outcomes
 pub mod Tournaments
-pub mod Spellings
+pub mod WrittenOver
 pub mod UsualSteps
+pub mod GivenSteps

@@ -1,4 +1,6 @@
 pub mod Effects
+pub mod WrittenOver
+pub mod ActsFit
 pub mod Rooms
 pub mod Expiries
 pub mod Links

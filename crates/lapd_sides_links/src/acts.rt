@@ -3,13 +3,13 @@ ghost use Rattle.std.specs.List.{All};
 ghost use Rattle.std.specs.Vec.{vec_capacity};
 ghost use Rattle.lapd_frame.specs.Frame.{spelling};
 ghost use Rattle.lapd_sides_links.specs.declared.primitive.Primitive.TheVariants.{Of};
-ghost use Rattle.lapd_sides_links.specs.declared.primitive.What.TheVariants.{Up};
+ghost use Rattle.lapd_sides_links.specs.declared.primitive.What.TheVariants.{Acknowledged, Up};
 ghost use Rattle.lapd_sides_links.specs.Effects.{HasLeastOctets, no_effects};
 ghost use Rattle.lapd_tei.specs.Message.{frame_of_message};
 
-use crate::{Octets, Primitive, What};
-use arrayvec::ArrayVec;
-use lapd_frame::{Frame, MOST_OCTETS, N201, Side, write_over};
+use crate::written_over::next_place;
+use crate::{FrameOctets, Octets, Primitive, What};
+use lapd_frame::{Frame, N201, Side};
 use lapd_link::MOST_OUTPUTS;
 use lapd_table::LinkId;
 use lapd_tei::TeiMessage;
@@ -28,29 +28,37 @@ pub const MOST_PRIMITIVES: usize = 20;
 
 /// The result of a call of a side: the frames to send, as octets, and the primitives for the layers
 /// above, each in order.
+// A frame and a primitive are written over an old one, if one is left: to make a new one would cost
+// more than to write it.
 #[derive(Drop)]
 pub struct Acts {
-    frames: Vec<ArrayVec<u8, MOST_OCTETS>>,
+    frames: Vec<FrameOctets>,
+    /// The place of the first frame.
+    first_frame: usize,
+    /// The place after the last frame.
+    frames_end: usize,
     primitives: Vec<Primitive>,
+    /// The place of the first primitive.
+    first_primitive: usize,
+    /// The place after the last primitive.
+    primitives_end: usize,
 }
 
 impl Model for Acts {
-    ghost use Rattle.std.specs.Prelude.{◌≤◌, map};
-    ghost use Rattle.std.specs.List.{All};
-    ghost use Rattle.std.specs.Vec.{vec_capacity};
-    ghost use Rattle.lapd_sides_links.specs.declared.acts.TheConstants.{MOST_FRAMES, MOST_PRIMITIVES};
-    ghost use Rattle.lapd_sides_links.specs.Effects.{Effects, HasLeastOctets};
+    ghost use Rattle.std.specs.Prelude.{map};
+    ghost use Rattle.lapd_sides_links.specs.Effects.{Effects};
+    ghost use Rattle.lapd_sides_links.specs.WrittenOver.{in_use};
 
     ghost Value = { Effects };
 
+    ghost use Rattle.lapd_sides_links.specs.ActsFit.{ActsFit};
+
     ghost view = { λ a. record {
-      frames = map (λ f. f.items) a.frames.items;
-      primitives = a.primitives.items;
+      frames = map (λ f. f.items) (in_use a.first_frame a.frames_end a.frames.items);
+      primitives = in_use a.first_primitive a.primitives_end a.primitives.items;
     } };
 
-    ghost invariant = { λ a. (MOST_FRAMES ≤ vec_capacity a.frames)
-        × (MOST_PRIMITIVES ≤ vec_capacity a.primitives)
-        × All (λ f. HasLeastOctets f.items) a.frames.items };
+    ghost invariant = { ActsFit };
 }
 
 impl Acts {
@@ -64,31 +72,39 @@ impl Acts {
     {
         Ok(Acts {
             frames: Vec::with_capacity(alloc, MOST_FRAMES)?,
+            first_frame: 0,
+            frames_end: 0,
             primitives: Vec::with_capacity(alloc, MOST_PRIMITIVES)?,
+            first_primitive: 0,
+            primitives_end: 0,
         })
     }
 
     /// The frames to send, as octets, in order. Each has 3 to 264 octets.
-    pub fn frames(&self) -> &[ArrayVec<u8, MOST_OCTETS>]
+    #[inline(always)]
+    pub fn frames(&self) -> &[FrameOctets]
         ensures frames { map (λ f. f.items) result.now ≡ self.now.frames }
         ensures least { All (λ f. HasLeastOctets f.items) result.now }
     {
-        self.frames.as_slice()
+        &self.frames[self.first_frame..self.frames_end]
     }
 
     /// The primitives for the layers above, in order.
+    #[inline(always)]
     pub fn primitives(&self) -> &[Primitive]
         ensures { result.now ≡ self.now.primitives }
     {
-        self.primitives.as_slice()
+        &self.primitives[self.first_primitive..self.primitives_end]
     }
 
     /// Removes all frames and primitives.
     pub fn clear(&mut self)
         ensures { self.new ≡ no_effects }
     {
-        self.frames.clear();
-        self.primitives.clear();
+        self.first_frame = 0;
+        self.frames_end = 0;
+        self.first_primitive = 0;
+        self.primitives_end = 0;
     }
 
     /// Removes the first frame.
@@ -96,7 +112,7 @@ impl Acts {
         requires { 0 < length self.old.frames }
         ensures { self.new ≡ record self.old { frames = drop 1 self.old.frames } }
     {
-        remove_first(&mut self.frames);
+        self.first_frame += 1;
     }
 
     /// Removes the first primitive.
@@ -104,7 +120,7 @@ impl Acts {
         requires { 0 < length self.old.primitives }
         ensures { self.new ≡ record self.old { primitives = drop 1 self.old.primitives } }
     {
-        remove_first(&mut self.primitives);
+        self.first_primitive += 1;
     }
 
     /// Moves everything to the ends of these lists.
@@ -114,7 +130,7 @@ impl Acts {
     /// `AllocError` if an allocation failed. Nothing is moved.
     pub fn move_behind(
         &mut self,
-        frames: &mut Vec<ArrayVec<u8, MOST_OCTETS>>,
+        frames: &mut Vec<FrameOctets>,
         primitives: &mut Vec<Primitive>,
     ) -> Result<(), AllocError>
         ensures left { OnOk result (self.new ≡ no_effects) }
@@ -126,15 +142,16 @@ impl Acts {
         ensures same_frames { OnErr result (frames.new.items ≡ frames.old.items) }
         ensures same_primitives { OnErr result (primitives.new.items ≡ primitives.old.items) }
     {
-        frames.reserve(self.frames.len())?;
-        primitives.append(&mut self.primitives)?;
-        let Ok(()) = frames.append(&mut self.frames) else {
-            unreachable!()
-        };
+        frames.reserve(self.frames().len())?;
+        primitives.reserve(self.primitives().len())?;
+        copy_frames(self.frames(), frames);
+        copy_primitives(self.primitives(), primitives);
+        self.clear();
         Ok(())
     }
 
     /// Appends the octets of a frame, as this side sends it.
+    #[inline(always)]
     pub fn put(&mut self, from: Side, frame: &Frame<'_>)
         requires { length self.old.frames < MOST_FRAMES }
         ensures { self.new ≡ record self.old {
@@ -142,10 +159,12 @@ impl Acts {
               ∷ [];
         } }
     {
-        // The frame is written in place: otherwise its whole buffer would be copied.
-        let place = self.frames.len();
-        self.frames.push_reserved(ArrayVec::new());
-        write_over(frame, from, &mut self.frames[place]);
+        let place = next_place(
+            &mut self.frames,
+            &mut self.first_frame,
+            &mut self.frames_end,
+        );
+        self.frames[place].write(frame, from);
     }
 
     /// Appends the octets of a TEI management message, as this side sends it.
@@ -157,11 +176,13 @@ impl Acts {
               ++ spelling from (frame_of_message message.now) ∷ [];
         } }
     {
-        let mut spelled = ArrayVec::new();
-        let Ok(()) = spelled.try_extend_from_slice(&message.frame(from)) else {
-            unreachable!()
-        };
-        self.frames.push_reserved(spelled);
+        let octets = message.frame(from);
+        let place = next_place(
+            &mut self.frames,
+            &mut self.first_frame,
+            &mut self.frames_end,
+        );
+        self.frames[place].set(&octets);
     }
 
     /// Appends a received message of the link with this id, for layer 3.
@@ -175,10 +196,12 @@ impl Acts {
           primitives = self.old.primitives ++ Of of (Up octets.now) ∷ [];
         } }
     {
-        let place = self.primitives.len();
-        self.primitives
-            .push_reserved(Primitive::Of(of, What::Up(Octets::none())));
-        fill_up(&mut self.primitives[place], &of, octets);
+        let place = next_place(
+            &mut self.primitives,
+            &mut self.first_primitive,
+            &mut self.primitives_end,
+        );
+        set_up(&mut self.primitives[place], &of, octets);
     }
 
     /// Appends a primitive.
@@ -191,44 +214,166 @@ impl Acts {
               ∷ [];
         } }
     {
-        self.primitives.push_reserved(primitive);
+        let place = next_place(
+            &mut self.primitives,
+            &mut self.first_primitive,
+            &mut self.primitives_end,
+        );
+        set_primitive(&mut self.primitives[place], primitive);
     }
 }
 
-/// Fills these octets into a message primitive that has none.
+/// Writes a message primitive over another primitive.
 #[inline(always)]
-fn fill_up(primitive: &mut Primitive, of: &LinkId, octets: &[u8])
-    requires empty { primitive.old ≡ Of of.now (Up []) }
-    requires fits { length octets.now ≤ N201 }
+fn set_up(primitive: &mut Primitive, of: &LinkId, octets: &[u8])
+    requires { length octets.now ≤ N201 }
     ensures { primitive.new ≡ Of of.now (Up octets.now) }
 {
     match primitive {
-        Primitive::Of(_, What::Up(up)) => up.fill(octets),
-        _ => unreachable!(),
+        Primitive::Of(id, what) => {
+            *id = *of;
+            set_message(what, octets);
+        }
+        Primitive::Management(_) => {
+            *primitive = Primitive::Of(*of, What::Up(Octets::new(octets)));
+        }
     }
 }
 
-/// Removes the first item. The only item is dropped in place, not moved out.
+/// Writes a message over another primitive of a link.
 #[inline(always)]
-pub fn remove_first<T: Drop>(items: &mut Vec<T>)
-    requires { 0 < length items.old.items }
-    ensures items { items.new.items ≡ drop 1 items.old.items }
-    ensures capacity { vec_capacity items.new ≡ vec_capacity items.old }
+fn set_message(what: &mut What, octets: &[u8])
+    requires { length octets.now ≤ N201 }
+    ensures { what.new ≡ Up octets.now }
 {
-    if items.len() == 1 {
-        items.clear();
-    } else {
-        remove_of_several(items);
+    match what {
+        What::Up(message) => message.set(octets),
+        _ => *what = What::Up(Octets::new(octets)),
     }
 }
 
-/// Removes the first of several items and moves the others. If inlined, this rare case
-/// would cost its callers stack and registers.
-#[inline(never)]
-fn remove_of_several<T: Drop>(items: &mut Vec<T>)
-    requires { 0 < length items.old.items }
-    ensures items { items.new.items ≡ drop 1 items.old.items }
-    ensures capacity { vec_capacity items.new ≡ vec_capacity items.old }
+/// Writes a primitive over another primitive.
+// An acknowledgement is written in its fields: otherwise the room for octets would be cleared.
+#[inline(always)]
+fn set_primitive(place: &mut Primitive, primitive: Primitive)
+    ensures { place.new ≡ primitive }
 {
-    drop(items.remove(0));
+    match primitive {
+        Primitive::Of(of, What::Acknowledged(count)) => set_acknowledged(place, &of, count),
+        other => *place = other,
+    }
+}
+
+/// Writes an acknowledgement over another primitive.
+#[inline(always)]
+fn set_acknowledged(primitive: &mut Primitive, of: &LinkId, count: u16)
+    ensures { primitive.new ≡ Of of.now (Acknowledged count) }
+{
+    match primitive {
+        Primitive::Of(id, what) => {
+            *id = *of;
+            set_count(what, count);
+        }
+        Primitive::Management(_) => {
+            *primitive = Primitive::Of(*of, What::Acknowledged(count));
+        }
+    }
+}
+
+/// Writes the number of acknowledged messages over another primitive of a link.
+#[inline(always)]
+fn set_count(what: &mut What, count: u16)
+    ensures { what.new ≡ Acknowledged count }
+{
+    match what {
+        What::Acknowledged(number) => *number = count,
+        _ => *what = What::Acknowledged(count),
+    }
+}
+
+/// Copies these frames to the end of a list that has room for them.
+fn copy_frames(frames: &[FrameOctets], to: &mut Vec<FrameOctets>)
+    requires { length to.old.items + length frames.now ≤ vec_capacity to.old }
+    ensures { to.new.items ≡ to.old.items ++ frames.now }
+{
+    for frame in frames {
+        push_frame(frame, to);
+    }
+}
+
+/// Copies a frame to the end of a list that has room for it.
+// The frame is written in its place: otherwise its array would be copied twice.
+#[inline(always)]
+fn push_frame(frame: &FrameOctets, to: &mut Vec<FrameOctets>)
+    requires { length to.old.items < vec_capacity to.old }
+    ensures items { to.new.items ≡ to.old.items ++ frame.now ∷ [] }
+    ensures capacity { vec_capacity to.new ≡ vec_capacity to.old }
+{
+    let place = to.len();
+    to.push_reserved(FrameOctets::new());
+    to[place].set(frame.as_slice());
+}
+
+/// Copies these primitives to the end of a list that has room for them.
+fn copy_primitives(primitives: &[Primitive], to: &mut Vec<Primitive>)
+    requires { length to.old.items + length primitives.now ≤ vec_capacity to.old }
+    ensures { to.new.items ≡ to.old.items ++ primitives.now }
+{
+    for primitive in primitives {
+        push_primitive(primitive, to);
+    }
+}
+
+/// Copies a primitive to the end of a list that has room for it.
+// Messages and acknowledgements, which are most primitives, are written in their places.
+#[inline(always)]
+fn push_primitive(primitive: &Primitive, to: &mut Vec<Primitive>)
+    requires { length to.old.items < vec_capacity to.old }
+    ensures items { to.new.items ≡ to.old.items ++ primitive.now ∷ [] }
+    ensures capacity { vec_capacity to.new ≡ vec_capacity to.old }
+{
+    match primitive {
+        Primitive::Of(id, What::Up(octets)) => push_message(id, octets, to),
+        Primitive::Of(id, What::Acknowledged(count)) => {
+            to.push_reserved(Primitive::Of(*id, What::Acknowledged(*count)));
+        }
+        _ => to.push_reserved(primitive.copy()),
+    }
+}
+
+/// Copies a message to the end of a list that has room for it.
+#[inline(always)]
+fn push_message(id: &LinkId, octets: &Octets, to: &mut Vec<Primitive>)
+    requires { length to.old.items < vec_capacity to.old }
+    ensures items { to.new.items ≡ to.old.items ++ Of id.now (Up octets.now) ∷ [] }
+    ensures capacity { vec_capacity to.new ≡ vec_capacity to.old }
+{
+    let place = to.len();
+    to.push_reserved(Primitive::Of(*id, What::Up(Octets::none())));
+    copy_up(octets, &mut to[place], id);
+}
+
+/// Writes a copy of a message over another primitive.
+#[inline(always)]
+fn copy_up(octets: &Octets, primitive: &mut Primitive, of: &LinkId)
+    ensures { primitive.new ≡ Of of.now (Up octets.now) }
+{
+    match primitive {
+        Primitive::Of(id, what) => {
+            *id = *of;
+            copy_message(octets, what);
+        }
+        Primitive::Management(_) => *primitive = Primitive::Of(*of, What::Up(octets.copy())),
+    }
+}
+
+/// Writes a copy of a message over another primitive of a link.
+#[inline(always)]
+fn copy_message(octets: &Octets, what: &mut What)
+    ensures { what.new ≡ Up octets.now }
+{
+    match what {
+        What::Up(message) => message.set_as(octets),
+        _ => *what = What::Up(octets.copy()),
+    }
 }

@@ -6,6 +6,7 @@ ghost use Rattle.lapd_frame.specs.declared.Side.{Side};
 ghost use Rattle.lapd_link.specs.Link.{LinkRepresents, setup_of};
 ghost use Rattle.lapd_link.specs.declared.link.Link.{Link};
 ghost use Rattle.lapd_link_machine.specs.Bounds.{primitive_count};
+ghost use Rattle.lapd_link_machine.specs.Given.{given_outs};
 ghost use Rattle.lapd_link_machine.specs.Usual.{usual_outs};
 ghost use Rattle.lapd_link_definition.specs.End.{End};
 ghost use Rattle.lapd_link_definition.specs.Input.{input_of, Give, UnitData};
@@ -23,10 +24,12 @@ ghost use Rattle.lapd_sides_links.specs.Rooms.{HasRoomFor, AddsAtMost};
 use crate::delivery::{deliver_all, put_frames};
 use crate::link_timers::LinkTimers;
 use crate::side_fault::refused;
-use crate::usual::{deliver_acknowledged, deliver_message, put_response};
+use crate::usual::{deliver_acknowledged, deliver_message, put_message_frame, put_response};
 use crate::{Acts, Config, Primitive, RunningTimer, SideFault, SideKind, What};
 use lapd_frame::N201;
-use lapd_link::{Event, Link, LinkFault, Outs, Params, Sapi, Side, State, Tei, UsualOuts};
+use lapd_link::{
+    Event, GivenOuts, Link, LinkFault, Outs, Params, Sapi, Side, State, Tei, UsualOuts,
+};
 use lapd_table::{LinkId, LinkKey, LinkTable};
 use lapd_tei::Assigner;
 use lapd_timers::{Durations, Timer, TimerSet};
@@ -297,6 +300,29 @@ impl LinkSet {
         self.link_timers.apply_nr(id, outs.nr, now);
     }
 
+    /// Carries out the outputs of a message that a link sent at once.
+    #[inline(always)]
+    fn carry_out_given(&mut self, key: &LinkKey, outs: &GivenOuts, now: u64, acts: &mut Acts)
+        requires key { IsKey self.old.table key.now }
+        requires room { length acts.old.frames < MOST_FRAMES }
+        ensures frames { (link : Link) (e : End) → link_at self.old.table key.now.id ≡ Some link
+            → LinkRepresents link e
+            → acts.new.frames ≡ acts.old.frames
+            ++ filter_map (made_by (setup_for (side_of self.old.table) key.now.id) e [])
+            (given_outs outs.now) }
+        ensures primitives { acts.new.primitives ≡ acts.old.primitives
+            ++ map (Of key.now.id) (filter_map (what_of []) (given_outs outs.now)) }
+        ensures own { timers_at self.new.link_timers key.now.id
+            ≡ option_map (timed now (given_outs outs.now))
+            (timers_at self.old.link_timers key.now.id) }
+        ensures others { (other : LinkId) → other ≢ key.now.id
+            → timers_at self.new.link_timers other ≡ timers_at self.old.link_timers other }
+        ensures table { self.new.table ≡ self.old.table }
+    {
+        put_message_frame(self.table.link_at(key), outs.place, outs.control, acts);
+        self.link_timers.apply_send(key.id(), outs.effect, now);
+    }
+
     /// Processes an event in the link with this id, at the time `now`. `octets` are the information
     /// of the received frame, or the unit data to send. The results are appended to `acts`.
     ///
@@ -491,9 +517,64 @@ impl LinkSet {
         let Some(key) = self.table.find(id) else {
             return Err(refused(SideKind::NoLink, message));
         };
-        match self.table.give_at(&key, message, &mut self.outs) {
+        match self.give_at_once(&key, message, now, acts) {
+            Ok(()) => Ok(()),
+            Err(message) => self.give_in_general(&key, message, now, acts),
+        }
+    }
+
+    /// Submits a message to a link that has been found, if it is sent at once. Otherwise the
+    /// message is returned, and the links are unchanged.
+    #[inline(always)]
+    fn give_at_once(
+        &mut self,
+        key: &LinkKey,
+        message: Vec<u8>,
+        now: u64,
+        acts: &mut Acts,
+    ) -> Result<(), Vec<u8>>
+        requires key { IsKey self.old.table key.now }
+        requires room { HasRoomFor (Give message.items) acts.old }
+        ensures ok { OnOk result (LinksDo self.old self.new acts.old acts.new
+            (λ side. in_links key.now.id (link_acts side key.now.id now (Give message.items) []))) }
+        ensures returned { IfErr result (λ back. back ≡ message) }
+        ensures unchanged { OnErr result (ShowsLinksAsBefore self.old self.new) }
+        ensures nothing { OnErr result (acts.new ≡ acts.old) }
+        ensures key { IsKey self.new.table key.now }
+    {
+        match self.table.give_at_once_at(key, message) {
+            Ok(outs) => {
+                self.carry_out_given(key, &outs, now, acts);
+                Ok(())
+            }
+            Err(message) => Err(message),
+        }
+    }
+
+    /// Like `give`, for a link that has been found and any message.
+    // If inlined, it would cost a message that is sent at once stack and registers.
+    #[inline(never)]
+    fn give_in_general(
+        &mut self,
+        key: &LinkKey,
+        message: Vec<u8>,
+        now: u64,
+        acts: &mut Acts,
+    ) -> Result<(), SideFault>
+        requires key { IsKey self.old.table key.now }
+        requires room { HasRoomFor (Give message.items) acts.old }
+        ensures ok { OnOk result (LinksDo self.old self.new acts.old acts.new
+            (λ side. in_links key.now.id (link_acts side key.now.id now (Give message.items) []))) }
+        ensures err { IfErr result (λ fault. LinksRefuseAs self.old
+            (λ side. in_links key.now.id (link_acts side key.now.id now (Give message.items) []))
+            fault.kind) }
+        ensures returned { IfErr result (λ fault. fault.message ≡ Some message) }
+        ensures unchanged { OnErr result (ShowsLinksAsBefore self.old self.new) }
+        ensures nothing { OnErr result (acts.new ≡ acts.old) }
+    {
+        match self.table.give_at(key, message, &mut self.outs) {
             Ok(()) => {
-                self.carry_out(&key, &[], now, acts);
+                self.carry_out(key, &[], now, acts);
                 Ok(())
             }
             Err(back) => Err(refused(SideKind::Link(back.fault), back.message)),

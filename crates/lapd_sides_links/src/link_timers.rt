@@ -2,6 +2,7 @@
 
 ghost use Rattle.std.specs.Prelude.{◌≡◌, ◌≢◌, ℕ, ◌<◌, ◌≤◌, Some, option_map, option_copied, IfOk, IfSome};
 ghost use Rattle.lapd_timers.specs.Due.{all_stopped, deadline_of, with_durations};
+ghost use Rattle.lapd_link_machine.specs.Given.{send_outs};
 ghost use Rattle.lapd_link_machine.specs.Usual.{nr_outs};
 ghost use Rattle.lapd_table.specs.declared.link_id.LinkId.{LinkId};
 ghost use Rattle.lapd_sides_links.specs.declared.tournament.TheConstants.{PLACES};
@@ -15,7 +16,7 @@ use crate::RunningTimer;
 use crate::running_timer::sooner;
 use crate::timer_places::TimerPlaces;
 use crate::tournament::Tournament;
-use lapd_link::{NrEffect, Out, Sapi};
+use lapd_link::{NrEffect, Out, Sapi, SendEffect};
 use lapd_table::LinkId;
 use lapd_timers::{Durations, Timer, TimerSet};
 use std::alloc::{AllocError, Global};
@@ -125,6 +126,25 @@ impl LinkTimers {
                 self.apply_outputs(id, &[Out::Start(Timer::T200)], now);
             }
             NrEffect::Nothing => {}
+        }
+    }
+
+    /// Starts and stops the timers of one link after an I frame that was sent at once.
+    pub fn apply_send(&mut self, id: &LinkId, effect: SendEffect, now: u64)
+        ensures own { placed self.new id.now
+            ≡ option_map (timed now (send_outs effect)) (placed self.old id.now) }
+        ensures others { (other : LinkId) → other ≢ id.now
+            → placed self.new other ≡ placed self.old other }
+    {
+        match effect {
+            SendEffect::Starts { stops } => {
+                if stops {
+                    self.apply_outputs(id, &[Out::Stop(Timer::T203), Out::Start(Timer::T200)], now);
+                } else {
+                    self.apply_outputs(id, &[Out::Start(Timer::T200)], now);
+                }
+            }
+            SendEffect::Nothing => {}
         }
     }
 

@@ -1,24 +1,28 @@
 ghost use Rattle.std.specs.Prelude.{◌≡◌, ◌≤◌, [], length, Some};
 ghost use Rattle.hex.specs.Hex.{encode_lower};
 
-use arrayvec::ArrayVec;
 use lapd_frame::N201;
 use std::fmt;
 use std::marker::Model;
 
 /// The octets of a received message or unit data for layer 3, at most 260 (N201, Q.921 5.9.3). They
 /// print as lower case hexadecimal digits.
+// A message overwrites the last one, as in `FrameOctets`.
 #[derive(Debug, Drop)]
 pub struct Octets {
-    octets: ArrayVec<u8, N201>,
+    room: [u8; N201],
+    len: usize,
 }
 
 impl Model for Octets {
-    ghost use Rattle.std.specs.Prelude.{ℕ, List};
+    ghost use Rattle.std.specs.Prelude.{ℕ, ◌≤◌, List, take};
+    ghost use Rattle.lapd_frame.specs.declared.frame.TheConstants.{N201};
 
     ghost Value = { List ℕ };
 
-    ghost view = { λ o. o.octets.items };
+    ghost view = { λ o. take o.len o.room };
+
+    ghost invariant = { λ o. o.len ≤ N201 };
 }
 
 impl Octets {
@@ -28,39 +32,59 @@ impl Octets {
         requires { length octets.now ≤ N201 }
         ensures { result ≡ octets.now }
     {
-        let mut copy = ArrayVec::new();
-        let Ok(()) = copy.try_extend_from_slice(octets) else {
-            unreachable!()
-        };
-        Octets { octets: copy }
+        let mut copy = Octets::none();
+        copy.set(octets);
+        copy
     }
 
+    /// No octets.
     #[inline(always)]
     pub(crate) fn none() -> Octets
         ensures { result ≡ [] }
     {
         Octets {
-            octets: ArrayVec::new(),
+            room: [0; N201],
+            len: 0,
         }
     }
 
-    /// Sets the octets, at most 260, of an empty value.
+    /// A copy of the octets.
     #[inline(always)]
-    pub(crate) fn fill(&mut self, octets: &[u8])
-        requires none { self.old ≡ [] }
-        requires fits { length octets.now ≤ N201 }
+    pub(crate) fn copy(&self) -> Octets
+        ensures { result ≡ self.now }
+    {
+        Octets {
+            room: self.room,
+            len: self.len,
+        }
+    }
+
+    /// Replaces the octets by these, at most 260.
+    #[inline(always)]
+    pub(crate) fn set(&mut self, octets: &[u8])
+        requires { length octets.now ≤ N201 }
         ensures { self.new ≡ octets.now }
     {
-        let Ok(()) = self.octets.try_extend_from_slice(octets) else {
-            unreachable!()
-        };
+        self.room[..octets.len()].copy_from_slice(octets);
+        self.len = octets.len();
+    }
+
+    /// Replaces the octets by those of another value.
+    #[inline(always)]
+    pub(crate) fn set_as(&mut self, other: &Octets)
+        ensures { self.new ≡ other.now }
+    {
+        let len = other.len;
+        self.room[..len].copy_from_slice(&other.room[..len]);
+        self.len = len;
     }
 
     /// The octets.
+    #[inline(always)]
     pub fn as_slice(&self) -> &[u8]
         ensures { result.now ≡ self.now }
     {
-        self.octets.as_slice()
+        &self.room[..self.len]
     }
 }
 
@@ -69,8 +93,8 @@ impl fmt::Display for Octets {
 
     fn fmt<W: fmt::Write>(&self, f: &mut fmt::Formatter<W>) -> fmt::Result {
         let mut room = [0u8; 2 * N201];
-        let digits = &mut room[..2 * self.octets.len()];
-        let Ok(()) = hex::encode_to_slice(self.octets.as_slice(), digits) else {
+        let digits = &mut room[..2 * self.len];
+        let Ok(()) = hex::encode_to_slice(self.as_slice(), digits) else {
             unreachable!()
         };
         let Ok(text) = str::from_utf8(digits) else {

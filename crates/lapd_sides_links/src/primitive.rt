@@ -44,7 +44,37 @@ pub enum Primitive {
     Management(TeiOut),
 }
 
+impl Primitive {
+    /// A copy of the primitive.
+    pub(crate) fn copy(&self) -> Primitive
+        ensures { result ≡ self.now }
+    {
+        match self {
+            Primitive::Of(id, what) => Primitive::Of(*id, what.copy()),
+            Primitive::Management(outcome) => Primitive::Management(*outcome),
+        }
+    }
+}
+
 impl What {
+    /// A copy of the primitive.
+    #[inline(always)]
+    fn copy(&self) -> What
+        ensures { result ≡ self.now }
+    {
+        match self {
+            What::Up(octets) => What::Up(octets.copy()),
+            What::UnitUp(octets) => What::UnitUp(octets.copy()),
+            What::Established => What::Established,
+            What::Confirmed => What::Confirmed,
+            What::Released => What::Released,
+            What::ReleaseConfirm => What::ReleaseConfirm,
+            What::Acknowledged(count) => What::Acknowledged(*count),
+            What::Dropped(count) => What::Dropped(*count),
+            What::Report(letter) => What::Report(*letter),
+        }
+    }
+
     /// The first word of the printed form, as in `established` and `data`.
     pub fn word(&self) -> &'static str
         ensures { result.now ≡ what_word self.now }

@@ -1,6 +1,6 @@
 //! Turns the outputs of a usual step of a link into frames, primitives and timers.
 
-ghost use Rattle.std.specs.Prelude.{◌≡◌, ◌≤◌, ◌<◌, ◌+◌, ◌++◌, length, map, ℕ, List};
+ghost use Rattle.std.specs.Prelude.{◌≡◌, ◌≤◌, ◌<◌, ◌+◌, ◌++◌, ◌∷◌, [], length, map, ℕ, List};
 ghost use Rattle.std.specs.List.{filter_map};
 ghost use Rattle.lapd_link.specs.Link.{LinkRepresents, setup_of};
 ghost use Rattle.lapd_link_machine.specs.Usual.{nr_outs};
@@ -31,6 +31,21 @@ pub fn put_response(link: &Link, response: Option<Control>, acts: &mut Acts)
         if let Some(frame) = link.frame(&Out::Send(Role::Answer, control), &[]) {
             acts.put(link.side(), &frame);
         }
+    }
+}
+
+/// Appends the I frame with the message at this place of the queue.
+#[inline(always)]
+pub fn put_message_frame(link: &Link, place: u16, control: Control, acts: &mut Acts)
+    requires { length acts.old.frames < MOST_FRAMES }
+    ensures frames { (e : End) (octets : List ℕ) → LinkRepresents link.now e → acts.new.frames
+        ≡ acts.old.frames ++ filter_map (made_by (setup_of link.now) e octets)
+        (out.SendMessage place control ∷ []) }
+    ensures primitives { acts.new.primitives ≡ acts.old.primitives }
+    ensures at_most { length acts.new.frames ≤ length acts.old.frames + 1 }
+{
+    if let Some(frame) = link.frame(&Out::SendMessage(place, control), &[]) {
+        acts.put(link.side(), &frame);
     }
 }
 

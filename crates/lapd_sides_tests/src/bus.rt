@@ -29,6 +29,7 @@ fn move_at(word: &str, place: usize) -> Option<BusMove> {
         "hear-up" => Some(BusMove::HearUp(place)),
         "drop-up" => Some(BusMove::DropUp(place)),
         "check" => Some(BusMove::Check(Tei::new((place & 0xff) as u8)?)),
+        "remove" => Some(BusMove::Remove(Tei::new((place & 0xff) as u8)?)),
         "T201" => Some(BusMove::T201),
         "leave" => Some(BusMove::Leave(place)),
         _ => None,

@@ -76,12 +76,13 @@ impl Held {
 /// A random event of an assigner, with this reference. Most responses are for the TEI under check.
 fn event(random: &mut Pcg32, assigner: &Assigner, ri: u16) -> AssignerEvent {
     let any = Tei::new((random.next_u32() & 0x7f) as u8).unwrap_or(Tei::group());
-    let kind = match random.next_u32() & 0x07 {
-        0..3 => TeiKind::Request,
-        3 => return AssignerEvent::Check(any),
-        4 => return AssignerEvent::T201,
-        5 => TeiKind::CheckResponse,
-        6 => TeiKind::Verify,
+    let kind = match random.next_u32() & 0x0f {
+        0..6 => TeiKind::Request,
+        6 | 7 => return AssignerEvent::Check(any),
+        8 | 9 => return AssignerEvent::T201,
+        10 | 11 => TeiKind::CheckResponse,
+        12 | 13 => TeiKind::Verify,
+        14 => return AssignerEvent::Remove(any),
         _ => TeiKind::Remove,
     };
     let checked = assigner.check().unwrap_or(any);

@@ -142,6 +142,7 @@ fn request_of(alloc: Global, word: &str, behind: &str) -> Option<Request> {
         "ready" => Some(Request::Busy(id, false)),
         "ask" => Some(Request::AskTei),
         "check" => Some(Request::Check(id.tei)),
+        "remove" => Some(Request::Remove(id.tei)),
         _ => None,
     }
 }

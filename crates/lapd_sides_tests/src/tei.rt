@@ -159,6 +159,7 @@ fn assigner_event(words: &str) -> Option<AssignerEvent> {
     let (word, behind) = split(words, " ");
     match word {
         "check" => Some(AssignerEvent::Check(Tei::new((number_of(behind) & 0xff) as u8)?)),
+        "remove" => Some(AssignerEvent::Remove(Tei::new((number_of(behind) & 0xff) as u8)?)),
         "T201" => Some(AssignerEvent::T201),
         _ => Some(AssignerEvent::Heard(message_of(words)?)),
     }

@@ -6,13 +6,14 @@ ghost use Rattle.lapd_link_definition.specs.Input.{input_of, Give, Heard};
 ghost use Rattle.lapd_link_definition.specs.Refusal.{refused};
 ghost use Rattle.lapd_link.specs.Link.{setup_of};
 ghost use Rattle.lapd_link_machine.specs.Bounds.{IsBounded};
+ghost use Rattle.lapd_link_machine.specs.Given.{given_outs};
 ghost use Rattle.lapd_link_machine.specs.Usual.{usual_outs};
 ghost use Rattle.lapd_table.specs.LinkId.{id_cmp, id_of_setup, setup_for};
 ghost use Rattle.lapd_table.specs.Index.{IsIndex, key_of};
 
 use crate::{LinkId, LinkKey, TableFault};
 use lapd_frame::{Control, FrameFault, Role, Side, read};
-use lapd_link::{Event, Link, LinkFault, Outs, Refused, UsualOuts};
+use lapd_link::{Event, GivenOuts, Link, LinkFault, Outs, Refused, UsualOuts};
 use slab::Slab;
 use std::alloc::{AllocError, Global};
 use std::collections::BTreeMap;
@@ -442,6 +443,20 @@ impl LinkTable {
         ensures key { IsKey self.new key.now }
     {
         self.give_under(key.place, key.id, message, outs)
+    }
+
+    /// Submits a message to the link with this key, if it is sent at once ([`Link::give_at_once`]).
+    /// Otherwise the message is returned, and the links are unchanged.
+    #[inline(always)]
+    pub fn give_at_once_at(&mut self, key: &LinkKey, message: Vec<u8>) -> Result<GivenOuts, Vec<u8>>
+        requires key { IsKey self.old key.now }
+        ensures ok { IfOk result (λ outs. StepsAt self.old self.new key.now.id
+            (Give message.items) (given_outs outs)) }
+        ensures returned { IfErr result (λ back. back ≡ message) }
+        ensures unchanged { OnErr result (IsUnchanged self.old self.new) }
+        ensures key { IsKey self.new key.now }
+    {
+        self.links[key.place].give_at_once(message)
     }
 
     /// Like [`LinkTable::give_into`], for the link with this slab key.

@@ -22,7 +22,7 @@ use Rattle.lapd_tei.specs.declared.assigner.AssignerEvent.TheVariants as event
 use Rattle.lapd_tei.specs.Message.{group_tei}
 use Rattle.lapd_tei.specs.Out.{sent, assigned, denied, check_request, remove}
 use Rattle.lapd_tei.specs.Terminal.{tei_of}
-use Rattle.lapd_tei.specs.Assigner.{AssignerState, AssignerStep, assigner_step, assigner_receives, serves, begins_check, counts_response, timer_ends, round_ends, first_free, least_free, is_held, stays}
+use Rattle.lapd_tei.specs.Assigner.{AssignerState, AssignerStep, assigner_step, assigner_receives, serves, begins_check, counts_response, removes_one, removes, timer_ends, round_ends, first_free, least_free, is_held, stays}
 use Rattle.lapd_tei.specs.Bus.{BusState, broadcast, assigner_did}
 use Rattle.lapd_tei.specs.Single.{freed, assigned_by, IsNobodys}
 use Rattle.lapd_tei.specs.Service.{IsKnown, KnowsInUse}
@@ -108,6 +108,18 @@ ended a tei round.Second responses.One = record { stays = λ n is unfreed. is; n
 ended a tei round.First responses.Several = record { stays = λ n is unfreed. held_but_one a.held tei n is unfreed.0; none = All-cons AssignsNothing (remove tei) (remove tei ∷ []) refl (one_sent (remove tei) refl) }
 ended a tei round.Second responses.Several = record { stays = λ n is unfreed. held_but_one a.held tei n is unfreed.0; none = All-cons AssignsNothing (remove tei) (remove tei ∷ []) refl (one_sent (remove tei) refl) }
 
+twice_removed : (tei : ℕ) → All AssignsNothing (remove tei ∷ remove tei ∷ [])
+twice_removed tei = All-cons AssignsNothing (remove tei) (remove tei ∷ []) refl (one_sent (remove tei) refl)
+
+removed_one : (a : AssignerState) (tei : ℕ) (check : Option Check) → AssignsNone a (removes_one tei check a)
+removed_one a tei None = record { stays = λ n is unfreed. held_but_one a.held tei n is unfreed.0; none = twice_removed tei }
+removed_one a tei (Some check) = cond_both (tei == check.tei) _ _ (AssignsNone a)
+    (λ test. record { stays = λ n is unfreed. held_but_one a.held tei n is unfreed.0; none = twice_removed tei })
+    (λ test. record { stays = λ n is unfreed. held_but_one a.held tei n is unfreed.0; none = twice_removed tei })
+
+removed : (a : AssignerState) (tei : ℕ) (check : Option Check) → AssignsNone a (removes tei check a)
+removed a tei check = cond_both (nat_lt tei group_tei) _ _ (AssignsNone a) (λ test. removed_one a tei check) (λ test. stayed a)
+
 timed : (a : AssignerState) (check : Option Check) → AssignsNone a (timer_ends check a)
 timed a None = stayed a
 timed a (Some check) = ended a check.tei check.round check.responses
@@ -128,6 +140,7 @@ reception a kind.Remove ri ai = inl (stayed a)
 pub assigner_assigns : (a : AssignerState) (e : AssignerEvent) → Assigns a (assigner_step a e)
 assigner_assigns a (event.Heard m) = reception a m.kind m.ri m.ai
 assigner_assigns a (event.Check tei) = inl (begun a tei a.check)
+assigner_assigns a (event.Remove tei) = inl (removed a tei a.check)
 assigner_assigns a event.T201 = inl (timed a a.check)
 
 -- ---- A held TEI stays held until it is freed.

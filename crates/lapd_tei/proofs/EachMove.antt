@@ -83,5 +83,6 @@ each_move b G way (move.Drop i) = drops_down_way b G way i (slice_get b.down i)
 each_move b G way (move.HearUp i) = network_way b G way i (slice_get b.up i)
 each_move b G way (move.DropUp i) = drops_up_way b G way i (slice_get b.up i)
 each_move b G way (move.Check tei) = way.assigner_does (assigner.Check tei)
+each_move b G way (move.Remove tei) = way.assigner_does (assigner.Remove tei)
 each_move b G way move.T201 = t201_way b G way b.assigner.check
 each_move b G way (move.Leave t) = terminal_way b G way t (slice_get b.terminals t) event.Leave refl tt

@@ -6,7 +6,7 @@ use Rattle.lapd_tei.specs.Terminal.{tei_of}
 use Rattle.lapd_tei.specs.Bus.{BusState, new_bus, run}
 use Rattle.lapd_tei.specs.Single.{Single, asked, Differ, FreesNobodys}
 use Rattle.lapd_tei.specs.Service.{BusEvent, in_service, after_events, AsksByItsOwn, FreesNobodysTei, RestartsKnowing, JoinsByItsOwn, MeetsInService, AreNotEnough}
-use Rattle.lapd_tei.specs.Worked.{got_by_another, one_reference, freed_while_held, freed_on_its_way, reference_again, reference_on_its_way, reference_outstanding, reference_got_by, checked_while_held, checked_on_its_way, restarted_while_held, restarted_on_its_way, joined_while_held, joined_on_its_way, joined_unknown}
+use Rattle.lapd_tei.specs.Worked.{got_by_another, one_reference, freed_while_held, freed_on_its_way, reference_again, reference_on_its_way, reference_outstanding, reference_got_by, checked_while_held, checked_on_its_way, removed_while_held, restarted_while_held, restarted_on_its_way, joined_while_held, joined_on_its_way, joined_unknown}
 use Rattle.lapd_tei.proofs.Computed.{throughout, asks, frees, restarts, joins, run_asks, run_frees, run_restarts, run_joins, moves_free_nobodys}
 
 numbers_differ : (a b : ℕ) → a < b → b ≢ a
@@ -76,6 +76,14 @@ checked_held_is_needed = record {
   second = run_restarts (in_service 2 []) checked_while_held refl;
   third = run_joins (in_service 2 []) checked_while_held refl;
   doubled = both_hold checked_while_held (Assigned (Some 1) 64) (Assigned (Some 3) 64) 64 refl refl refl;
+}
+
+pub removed_held_is_needed : AreNotEnough AsksByItsOwn RestartsKnowing JoinsByItsOwn removed_while_held
+removed_held_is_needed = record {
+  first = run_asks (in_service 2 []) removed_while_held refl;
+  second = run_restarts (in_service 2 []) removed_while_held refl;
+  third = run_joins (in_service 2 []) removed_while_held refl;
+  doubled = both_hold removed_while_held (Assigned (Some 1) 64) (Assigned (Some 3) 64) 64 refl refl refl;
 }
 
 pub checked_assigned_is_needed : AreNotEnough AsksByItsOwn RestartsKnowing JoinsByItsOwn checked_on_its_way

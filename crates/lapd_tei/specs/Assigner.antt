@@ -5,7 +5,7 @@ use Rattle.lapd_timers.specs.declared.timer.Timer.TheVariants.{T201}
 use Rattle.lapd_tei.specs.declared.kind.TeiKind.{TeiKind}
 use Rattle.lapd_tei.specs.declared.kind.TeiKind.TheVariants as kind
 use Rattle.lapd_tei.specs.declared.out.TeiOut.{TeiOut}
-use Rattle.lapd_tei.specs.declared.out.TeiOut.TheVariants.{Send, Start, Given, Free, InUse, Doubled}
+use Rattle.lapd_tei.specs.declared.out.TeiOut.TheVariants.{Send, Start, Stop, Given, Free, InUse, Doubled}
 use Rattle.lapd_tei.specs.declared.check.Check.{Check}
 use Rattle.lapd_tei.specs.declared.check.Round.{Round}
 use Rattle.lapd_tei.specs.declared.check.Round.TheVariants as round
@@ -127,6 +127,29 @@ abbrev pub timer_ends : Option Check → AssignerState → AssignerStep
 timer_ends None a = stays a
 timer_ends (Some check) a = round_ends check.tei check.round check.responses a
 
+-- the outputs of a removal on request: Identity remove is sent twice, since one may be lost (5.3.4)
+abbrev pub removal : ℕ → List TeiOut
+removal tei = Send (remove tei) ∷ Send (remove tei) ∷ Free tei ∷ []
+
+-- removes a TEI that is not under check
+abbrev pub removes_unchecked : ℕ → AssignerState → AssignerStep
+removes_unchecked tei a = record {
+  now = record { held = set a.held tei false; check = a.check };
+  outs = removal tei;
+}
+
+-- removes a TEI, and ends a check of it; the check of another TEI continues
+abbrev pub removes_one : ℕ → Option Check → AssignerState → AssignerStep
+removes_one tei None a = removes_unchecked tei a
+removes_one tei (Some check) a =
+    if tei == check.tei then freed_by_check tei a (Stop T201 ∷ removal tei)
+    else removes_unchecked tei a
+
+-- Removes a TEI on request, held or not (MDL-REMOVE, 5.3.4). The group TEI, which names all
+-- terminals, is never removed.
+abbrev pub removes : ℕ → Option Check → AssignerState → AssignerStep
+removes tei check a = if nat_lt tei group_tei then removes_one tei check a else stays a
+
 -- the network side processes requests, check responses and verifications
 abbrev pub assigner_receives : TeiKind → ℕ → ℕ → AssignerState → AssignerStep
 assigner_receives kind.Request ri ai a = serves ri (least_free a.held) a
@@ -138,6 +161,7 @@ assigner_receives other ri ai a = stays a
 abbrev pub assigner_step : AssignerState → AssignerEvent → AssignerStep
 assigner_step a (event.Heard m) = assigner_receives m.kind m.ri m.ai a
 assigner_step a (event.Check tei) = begins_check tei a.check a
+assigner_step a (event.Remove tei) = removes tei a.check a
 assigner_step a event.T201 = timer_ends a.check a
 
 -- the TEI under check

@@ -182,6 +182,7 @@ bus_step b (move.Drop i) = drop_down b i
 bus_step b (move.HearUp i) = hear_up b i
 bus_step b (move.DropUp i) = drop_up b i
 bus_step b (move.Check tei) = Ok (to_assigner b (assigner.Check tei))
+bus_step b (move.Remove tei) = Ok (to_assigner b (assigner.Remove tei))
 bus_step b move.T201 = expire_t201 b
 bus_step b (move.Leave t) = to_terminal b t event.Leave
 

@@ -118,7 +118,8 @@ abbrev pub AsksByItsOwn : BusState → BusEvent → Type 0
 AsksByItsOwn b e = AllByRecursion (IsNoOthers b (place_of_event e))
     (references (sent (event_step b e).outs))
 
--- a check frees a TEI only while no terminal holds it and no assignment of it is in transit
+-- a check or a removal frees a TEI only while no terminal holds it and no assignment of it is in
+-- transit
 abbrev pub FreesNobodysTei : BusState → BusEvent → Type 0
 FreesNobodysTei b e = AllByRecursion (IsNobodys b) (freed (event_step b e).outs)
 

@@ -2,7 +2,7 @@
 use Rattle.std.specs.Prelude.{ℕ, zero, suc, List, [], ◌∷◌, Some, Result, Ok, Err}
 use Rattle.lapd_tei.specs.declared.out.TeiOut.{TeiOut}
 use Rattle.lapd_tei.specs.declared.bus_move.BusMove.{BusMove}
-use Rattle.lapd_tei.specs.declared.bus_move.BusMove.TheVariants.{Ask, T202, Hear, Drop, HearUp, Check, T201, Leave}
+use Rattle.lapd_tei.specs.declared.bus_move.BusMove.TheVariants.{Ask, T202, Hear, Drop, HearUp, Check, Remove, T201, Leave}
 use Rattle.lapd_tei.specs.declared.bus_move.BusFault.{BusFault}
 use Rattle.lapd_tei.specs.declared.assigner.AssignerEvent.{AssignerEvent}
 use Rattle.lapd_tei.specs.declared.assigner.AssignerEvent.TheVariants as event
@@ -50,6 +50,10 @@ responded (suc n) = event.Heard (check_response 0x5678 64) ∷ responded n
 
 abbrev pub check_with : ℕ → List AssignerEvent
 check_with n = event.Check 64 ∷ responded n
+
+-- during a check of TEI 65, TEI 64 and then 65 are removed; T201 expires all the same
+abbrev pub removed_under_check : List AssignerEvent
+removed_under_check = event.Check 65 ∷ event.Remove 64 ∷ event.Remove 65 ∷ event.T201 ∷ []
 
 -- ---- Runs that test the premises of the law.
 
@@ -117,6 +121,10 @@ checked_while_held = first_gets (Move (Check 64) ∷ Move T201 ∷ Move T201 ∷
 abbrev pub checked_on_its_way : List BusEvent
 checked_on_its_way = Move (Ask 0 1) ∷ Move (HearUp 0) ∷ Move (Check 64) ∷ Move T201 ∷ Move T201
     ∷ second_gets 3 (Move (Hear 0 0 2) ∷ [])
+
+-- a removal frees the TEI that the first holds, as it receives neither Identity remove
+abbrev pub removed_while_held : List BusEvent
+removed_while_held = first_gets (Move (Remove 64) ∷ second_gets 2 [])
 
 -- the network side restarts, and does not know the TEI that the first holds
 abbrev pub restarted_while_held : List BusEvent

@@ -3,10 +3,10 @@ ghost use Rattle.std.specs.List.{All};
 ghost use Rattle.lapd_timers.specs.declared.timer.Timer.TheVariants.{T201};
 ghost use Rattle.lapd_tei.specs.declared.out.TeiOut.TheVariants.{Send, Start};
 ghost use Rattle.lapd_tei.specs.Out.{check_request, IsInRange};
-ghost use Rattle.lapd_tei.specs.Assigner.{known_held, is_held, least_free, serves, begins_check, counts_response, one_more, round_ends, timer_ends, assigner_step, checked};
+ghost use Rattle.lapd_tei.specs.Assigner.{known_held, is_held, least_free, serves, begins_check, counts_response, one_more, removes, removes_one, round_ends, timer_ends, assigner_step, checked};
 
 use crate::check::{Check, Responses, Round};
-use crate::out::{no_outs, one_out, three_outs, two_outs};
+use crate::out::{four_outs, no_outs, one_out, three_outs, two_outs};
 use crate::{TeiKind, TeiMessage, TeiOut, TeiOuts};
 use lapd_frame::Tei;
 use lapd_timers::Timer;
@@ -19,6 +19,8 @@ pub enum AssignerEvent {
     Heard(TeiMessage),
     /// Start a check of this TEI.
     Check(Tei),
+    /// Remove this TEI from the terminals that have it (MDL-REMOVE request).
+    Remove(Tei),
     /// T201 expires.
     T201,
 }
@@ -93,6 +95,7 @@ impl Assigner {
                 _ => no_outs(),
             },
             AssignerEvent::Check(tei) => self.begin_check(tei.value()),
+            AssignerEvent::Remove(tei) => self.remove(tei),
             AssignerEvent::T201 => self.end_round(),
         }
     }
@@ -146,6 +149,41 @@ impl Assigner {
                 no_outs()
             }
             _ => no_outs(),
+        }
+    }
+
+    /// Removes the TEI, held or not, and ends a check of it (Q.921 5.3.4). The group TEI is never
+    /// removed.
+    fn remove(&mut self, tei: Tei) -> TeiOuts
+        ensures now { self.new ≡ (removes tei self.old.check self.old).now }
+        ensures outs { result.items ≡ (removes tei self.old.check self.old).outs }
+        ensures in_range { All IsInRange result.items }
+    {
+        if tei == Tei::group() {
+            no_outs()
+        } else {
+            self.remove_one(tei)
+        }
+    }
+
+    /// Removes a TEI of 0 to 126.
+    fn remove_one(&mut self, tei: Tei) -> TeiOuts
+        requires { tei < 127 }
+        ensures now { self.new ≡ (removes_one tei self.old.check self.old).now }
+        ensures outs { result.items ≡ (removes_one tei self.old.check self.old).outs }
+        ensures in_range { All IsInRange result.items }
+    {
+        let once = message(0, TeiKind::Remove, tei);
+        let again = message(0, TeiKind::Remove, tei);
+        match self.check {
+            Some(check) if tei.value() == check.tei.value() => {
+                self.free(tei);
+                four_outs(TeiOut::Stop(Timer::T201), once, again, TeiOut::Free(tei))
+            }
+            _ => {
+                self.held[usize::from(tei.value())] = false;
+                three_outs(once, again, TeiOut::Free(tei))
+            }
         }
     }
 

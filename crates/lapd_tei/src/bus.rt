@@ -99,6 +99,7 @@ impl Bus {
             BusMove::HearUp(i) => self.hear_up(i),
             BusMove::DropUp(i) => self.drop_up(i),
             BusMove::Check(tei) => self.to_assigner(AssignerEvent::Check(tei)),
+            BusMove::Remove(tei) => self.to_assigner(AssignerEvent::Remove(tei)),
             BusMove::T201 => self.expire_t201(),
             BusMove::Leave(t) => self.to_terminal(t, TerminalEvent::Leave),
         }

@@ -24,6 +24,8 @@ pub enum BusMove {
     DropUp(usize),
     /// The network side checks the TEI.
     Check(Tei),
+    /// The network side removes the TEI.
+    Remove(Tei),
     /// T201 of the network side expires.
     T201,
     /// The terminal leaves, and releases its TEI without sending a message.

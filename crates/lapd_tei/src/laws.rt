@@ -14,7 +14,7 @@ ghost use Rattle.lapd_tei.specs.Bus.{BusState, new_bus, run, refusals};
 ghost use Rattle.lapd_tei.specs.Assigner.{nothing_held, known_held, is_held};
 ghost use Rattle.lapd_tei.specs.declared.assigner.AssignerEvent.TheVariants as event;
 ghost use Rattle.lapd_tei.specs.declared.bus_move.BusMove.TheVariants.{Ask, HearUp};
-ghost use Rattle.lapd_tei.specs.Worked.{answers, check_with, results, two_ask, vain_check, three_times, served, got_by_another, one_reference, freed_while_held, freed_on_its_way, reference_again, reference_on_its_way, reference_outstanding, reference_got_by, checked_while_held, checked_on_its_way, restarted_while_held, restarted_on_its_way, joined_while_held, joined_on_its_way, joined_unknown};
+ghost use Rattle.lapd_tei.specs.Worked.{answers, check_with, removed_under_check, results, two_ask, vain_check, three_times, served, got_by_another, one_reference, freed_while_held, freed_on_its_way, reference_again, reference_on_its_way, reference_outstanding, reference_got_by, checked_while_held, checked_on_its_way, removed_while_held, restarted_while_held, restarted_on_its_way, joined_while_held, joined_on_its_way, joined_unknown};
 ghost use Rattle.lapd_tei.specs.Single.{Single, MeetsPremises, freed};
 ghost use Rattle.lapd_tei.specs.Service.{BusEvent, Move, in_service, event_step, after_events, HoldsInUse, IsInOrder, KnowsAnew, AsksByItsOwn, FreesNobodysTei, RestartsKnowing, JoinsByItsOwn, LosesNone, MeetsInService, AreNotEnough};
 ghost use Rattle.lapd_tei.specs.declared.bus_move.BusMove.{BusMove};
@@ -45,7 +45,8 @@ pub fn moves_are_computed()
 
 /// An assigner assigns the lowest free TEI, and denies requests when 64 to 126 are all held. One
 /// response to a check reports the TEI in use; two or more make the assigner send Identity remove
-/// twice. The octets match Table 8 of Q.921.
+/// twice, and so does a removal, which ends a check of its TEI alone. The octets match Table 8 of
+/// Q.921.
 pub fn assigner_is_computed()
     ensures given { answers nothing_held (event.Heard (request 0x1234) ∷ event.Heard (request 1)
         ∷ []) ≡ (out.Send (assigned 0x1234 64) ∷ out.Given 64 ∷ [])
@@ -63,6 +64,11 @@ pub fn assigner_is_computed()
     ensures doubled { answers nothing_held (check_with 2)
         ≡ (out.Send (check_request 64) ∷ out.Start timer.T201 ∷ []) ∷ [] ∷ []
         ∷ (out.Send (remove 64) ∷ out.Send (remove 64) ∷ out.Doubled 64 ∷ []) ∷ [] }
+    ensures removed { answers (known_held (64 ∷ 65 ∷ [])) removed_under_check
+        ≡ (out.Send (check_request 65) ∷ out.Start timer.T201 ∷ [])
+        ∷ (out.Send (remove 64) ∷ out.Send (remove 64) ∷ out.Free 64 ∷ [])
+        ∷ (out.Stop timer.T201 ∷ out.Send (remove 65) ∷ out.Send (remove 65) ∷ out.Free 65 ∷ [])
+        ∷ [] ∷ [] }
     ensures request_octets { spelling side.User (frame_of_message (request 0x1234))
         ≡ 0xFC ∷ 0xFF ∷ 0x03 ∷ 0x0F ∷ 0x12 ∷ 0x34 ∷ 0x01 ∷ 0xFF ∷ [] }
     ensures assigned_octets { spelling side.Network (frame_of_message (assigned 0x1234 64))
@@ -104,13 +110,13 @@ pub fn premises_are_needed()
 
 /// On a bus in service no two terminals ever hold the same TEI. The network side holds each TEI of
 /// 64 to 126 that a terminal holds or an assignment in transit carries. By `until`, the network
-/// side gives up a TEI only if a check frees it, or if it restarts without it.
+/// side gives up a TEI only if a check or a removal frees it, or if it restarts without it.
 ///
 /// The premises are of each event (`MeetsInService`). A TEI is in use while a terminal holds it or
 /// an assignment in transit carries it.
 ///
 /// - A terminal requests only by a reference that is not another terminal's last one.
-/// - A check frees no TEI in use.
+/// - Neither a check nor a removal frees a TEI in use.
 /// - A network side that restarts knows the TEIs in use, from 64 on.
 /// - A terminal joins with a fixed TEI only if that TEI is not in use and, from 64 on, the network
 ///   side knows it.
@@ -156,8 +162,9 @@ pub fn service_premises_can_be_met()
 /// None of the four premises can be dropped. With the other three met, two terminals end up with
 /// the same TEI in each of these cases: one requests by the other's reference, outstanding or the
 /// one that it was assigned by; a check frees a TEI that is held or whose assignment is in transit;
-/// the network side restarts without knowing such a TEI; a terminal joins with a fixed TEI that is
-/// held, whose assignment is in transit, or that the network side does not know.
+/// a TEI that is held is removed, and its terminal does not receive the removal; the network side
+/// restarts without knowing such a TEI; a terminal joins with a fixed TEI that is held, whose
+/// assignment is in transit, or that the network side does not know.
 pub fn service_premises_are_needed()
     ensures outstanding { AreNotEnough FreesNobodysTei RestartsKnowing JoinsByItsOwn
         reference_outstanding }
@@ -166,6 +173,8 @@ pub fn service_premises_are_needed()
         checked_while_held }
     ensures checked_assigned { AreNotEnough AsksByItsOwn RestartsKnowing JoinsByItsOwn
         checked_on_its_way }
+    ensures removed_held { AreNotEnough AsksByItsOwn RestartsKnowing JoinsByItsOwn
+        removed_while_held }
     ensures restarted_held { AreNotEnough AsksByItsOwn FreesNobodysTei JoinsByItsOwn
         restarted_while_held }
     ensures restarted_assigned { AreNotEnough AsksByItsOwn FreesNobodysTei JoinsByItsOwn

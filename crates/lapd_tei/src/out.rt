@@ -25,7 +25,7 @@ pub enum TeiOut {
     Failed,
     /// The network side has assigned the TEI.
     Given(Tei),
-    /// No terminal responded to the check: the TEI is free again.
+    /// The TEI is free again: no terminal responded to its check, or it was removed on request.
     Free(Tei),
     /// One terminal responded to the check of the TEI.
     InUse(Tei),
@@ -75,6 +75,20 @@ pub fn three_outs(first: TeiOut, second: TeiOut, third: TeiOut) -> TeiOuts
     outs.push(first);
     outs.push(second);
     outs.push(third);
+    outs
+}
+
+/// Four outputs, in this order.
+pub fn four_outs(first: TeiOut, second: TeiOut, third: TeiOut, fourth: TeiOut) -> TeiOuts
+    ensures items { result.items ≡ first ∷ second ∷ third ∷ fourth ∷ [] }
+    ensures in_range { IsInRange first → IsInRange second → IsInRange third → IsInRange fourth
+        → All IsInRange result.items }
+{
+    let mut outs = TeiOuts::new();
+    outs.push(first);
+    outs.push(second);
+    outs.push(third);
+    outs.push(fourth);
     outs
 }
 

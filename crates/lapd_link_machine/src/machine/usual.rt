@@ -63,6 +63,17 @@ impl Machine {
         ran
     }
 
+    /// STOP T203. Returns whether it ran.
+    #[inline(always)]
+    pub(crate) fn stop_t203_quietly(&mut self) -> bool
+        ensures step { (s : StepState) (outs : List Out) → Represents self.old outs s
+            → Represents self.new (outs ++ out_where result (Stop T203)) (stop T203 s) }
+    {
+        let ran = self.t203;
+        self.t203 = false;
+        ran
+    }
+
     /// START T203.
     #[inline(always)]
     fn start_t203_quietly(&mut self)
@@ -75,7 +86,7 @@ impl Machine {
 
     /// START T200.
     #[inline(always)]
-    fn start_t200_quietly(&mut self)
+    pub(crate) fn start_t200_quietly(&mut self)
         ensures step { (s : StepState) (outs : List Out) → Represents self.old outs s
             → Represents self.new (outs ++ Start T200 ∷ []) (start T200 s) }
         ensures idle { IsIdle self.old → IsIdle self.new }
@@ -290,7 +301,7 @@ impl Machine {
     }
 
     /// Whether the state is 7, and no message is unsent.
-    fn is_idle(&self) -> bool
+    pub(crate) fn is_idle(&self) -> bool
         ensures { result ≡ true → IsIdle self.now }
     {
         match self.state {

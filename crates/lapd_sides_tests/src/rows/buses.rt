@@ -53,6 +53,16 @@ bus T201: Remove 0 64;Remove 0 64;doubled 64;
 bus hear 2 0 6: gone 64;
 bus leave 1: gone 64;
 bus shows: state 1;asked 0;state 1;asked 0;holds;
+
+# a TEI is removed; the second message of the removal is repeated in vain
+bus begin 1
+bus ask 0 1: Request 1 127;start T202;
+bus hear-up 0: Assigned 1 64;given 64;
+bus hear 0 0 2: stop T202;got 64;
+bus remove 64: Remove 0 64;Remove 0 64;free 64;
+bus hear 1 0 3: gone 64;
+bus hear 2 0 4
+bus shows: state 1;asked 0;holds;
 ";
 
 /// Moves of a new bus in one run, and how many of them are refused.
@@ -90,6 +100,11 @@ bus shows: state 4;TEI 64;asked 0;reference 1;state 4;TEI 64;asked 0;reference 1
 # a TEI is freed while a terminal holds it
 bus begin 2
 bus run ask 0 1, hear-up 0, hear 0 0 2, check 64, T201, T201, ask 1 3, hear-up 0, hear 3 1 4: refused 0;
+bus shows: state 4;TEI 64;asked 0;reference 1;state 4;TEI 64;asked 0;reference 3;holds 64;
+
+# a TEI is removed while a terminal holds it
+bus begin 2
+bus run ask 0 1, hear-up 0, hear 0 0 2, remove 64, ask 1 3, hear-up 0, hear 3 1 4: refused 0;
 bus shows: state 4;TEI 64;asked 0;reference 1;state 4;TEI 64;asked 0;reference 3;holds 64;
 
 # a TEI is freed while its assignment is on its way

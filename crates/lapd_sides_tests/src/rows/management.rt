@@ -97,6 +97,17 @@ assigner CheckResponse 22136 64: checks 64;holds 64;
 assigner CheckResponse 22136 64: checks 64;holds 64;
 assigner T201: Remove 0 64;Remove 0 64;doubled 64;holds;
 
+# a TEI is removed, held or not; only a check of it ends
+assigner begins 64 3 64: holds 3 64;
+assigner remove 127: holds 3 64;
+assigner remove 3: Remove 0 3;Remove 0 3;free 3;holds 64;
+assigner check 64: CheckRequest 0 64;start T201;checks 64;holds 64;
+assigner remove 65: Remove 0 65;Remove 0 65;free 65;checks 64;holds 64;
+assigner CheckResponse 22136 64: checks 64;holds 64;
+assigner remove 64: stop T201;Remove 0 64;Remove 0 64;free 64;holds;
+assigner T201: holds;
+assigner Request 4660 127: Assigned 4660 64;given 64;holds 64;
+
 # nothing is given that is held, whatever comes, and all TEIs are held at once
 drawn: most 63;
 

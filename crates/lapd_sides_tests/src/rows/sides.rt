@@ -70,6 +70,31 @@ net 64 packets
 shows: network;discarded 1;holds;
 exact: yes
 
+# a TEI is removed, held or not, and its links go; a check of another TEI goes on
+net 64 packets
+0 establish 0 64: 02817f;
+0 take 40817f: 408173;16 64 established;
+0 give 16 64 01: 4281000001;
+0 remove 0 127
+0 check 0 64: feff030f00000481;
+100 remove 16 65: feff030f00000683;feff030f00000683;tei free 65;
+shows: network;discarded 0;next 1000;T201 1000;checks 64;holds 64;
+200 remove 0 64: feff030f00000681;feff030f00000681;tei free 64;0 64 released;16 64 released;
+300 check 0 64: feff030f00000481;
+400 remove 0 64: feff030f00000681;feff030f00000681;tei free 64;
+500 take fcff030f123401ff: feff030f12340281;tei given 64;
+100000 tick: none;
+shows: network;discarded 0;holds 64;
+exact: yes
+
+# a fixed TEI is removed, and nothing makes it known again
+net all
+0 take 00077f: 000773;0 3 established;
+0 remove 0 3: feff030f00000607;feff030f00000607;tei free 3;0 3 released;
+0 take 00077f
+0 take fcff030f123401ff: feff030f123403ff;
+exact: yes
+
 # a TEI is in use, then doubled
 net 64
 0 check 0 64: feff030f00000481;
@@ -241,6 +266,20 @@ user 64 packets
 100000 take 02817f
 100000 ask: fcff030f15ec01ff;
 shows: user;discarded 1;next 102000;T202 102000;state 2;asked 1;reference 5612;
+exact: yes
+
+# a terminal gives up its TEI, and no other
+user 64 packets
+0 take 02817f: 028173;0 64 established;
+0 establish 16 5: 40817f;
+0 remove 0 65: refused B1 NoLink;
+0 remove 0 127: refused B1 NoLink;
+0 remove 16 64: tei gone 64;0 64 released;16 64 released;
+0 remove 0 64: refused B1 NoLink;
+100000 tick: none;
+100000 ask: fcff030f619901ff;
+100000 remove 0 64: refused B1 NoLink;
+shows: user;discarded 0;next 102000;T202 102000;state 2;asked 1;reference 24985;
 exact: yes
 
 # its TEI is assigned to another

@@ -39,7 +39,7 @@ use Rattle.std.specs.contracts.impls.GlobalAllocator.TheImpl.{ghosts}
 use Rattle.lapd_c.specs.Owned.{Held}
 use Rattle.lapd_c.specs.Lent.{with_side}
 use Rattle.lapd_c.specs.contracts.held_side.HeldSide as held_side
-use Rattle.lapd_c.proofs.HandleValues.{E, H, Z, both, handle_out, handle_in, tested}
+use Rattle.lapd_c.proofs.HandleValues.{H, Z, both, handle_out, handle_in, tested}
 use Rattle.lapd_c.specs.contracts.handle.Handle.side.{ended, clauses}
 use Rattle.lapd_c.specs.contracts.handle.Handle.side.Key.{name as #self}
 use Rattle.lapd_c.proofs.handle.Handle.side.Statement.{statement}

@@ -1,13 +1,30 @@
-use Rattle.std.proofs.Common.{ap, rules}
-use Rattle.lapd_sides_links.specs.declared.primitive.Primitive.TheVariants.{Of}
-use Rattle.lapd_sides_links.specs.declared.primitive.What.TheVariants.{Up}
-use Rattle.lapd_sides_links.proofs.Spellings.{filled_behind, pushed_behind}
+use Rattle.std.proofs.Common.{arith, rules}
+use Rattle.std.proofs.lemmas.List.{length-set}
+use Rattle.lapd_sides_links.specs.declared.acts.TheConstants.{MOST_PRIMITIVES}
+use Rattle.lapd_sides_links.proofs.WrittenOver.{primitive_behind, free_primitive}
 use Rattle.lapd_sides_links.proofs.acts.Acts.deliver_up.Goals as goal
 
-pub fill_up-requires-clause-empty : goal.fill_up-requires-clause-empty
-fill_up-requires-clause-empty c = pushed_behind c.self.inside.primitives.items c.push_reserved.new.self.items c.len-place.result _ c.index_mut.result.now _
-    (search rules) c.push_reserved.ensures.items c.index_mut.ensures.value (ap (λ o. Of c.args.of (Up o)) c.none.ensures)
+pub next_place-place-requires-clause-room : goal.next_place-place-requires-clause-room
+next_place-place-requires-clause-room c =
+    let fits = c.self.invariant in
+    free_primitive c.self.inside.primitives.items c.self.inside.first_primitive c.self.inside.primitives_end MOST_PRIMITIVES _ fits.primitives_end (rw (← c.self.view_is) at c.requires.room) fits.primitive_room
+
+pub invariant_of-self : goal.invariant_of-self
+invariant_of-self c =
+    let next = c.next_place-place in
+    let fits = c.self.invariant in
+    record {
+      frame_room = fits.frame_room;
+      primitive_room = search rules;
+      frames_begin = fits.frames_begin;
+      frames_end = fits.frames_end;
+      primitives_begin = omega arith;
+      primitives_end = omega (arith, length-set next.new.items.items next.result c.set_up.new.primitive);
+      least = fits.least;
+    }
 
 pub returns : goal.returns
-returns c = rw (← c.self.view_is) (filled_behind c.self.inside.primitives.items c.push_reserved.new.self.items c.len-place.result _ c.fill_up.new.primitive _ _
-    (search rules) c.push_reserved.ensures.items c.fill_up.ensures)
+returns c =
+    let next = c.next_place-place in
+    rw (← c.self.view_is) (primitive_behind c.self.inside.primitives.items next.new.items.items c.self.inside.first_primitive c.self.inside.primitives_end next.new.first next.result next.new.end c.set_up.new.primitive _ _
+    next.ensures.first next.ensures.within next.ensures.end next.ensures.same c.set_up.ensures)

@@ -1,10 +1,9 @@
 -- give
-use Rattle.std.proofs.Common.{[], Err, sym, ap, ◌∙◌, subst, arith}
-use Rattle.lapd_link_definition.specs.Input.{Give}
-use Rattle.lapd_table.specs.declared.link_id.LinkId.{LinkId}
-use Rattle.lapd_sides_links.specs.Links.{in_links, link_acts}
-use Rattle.lapd_sides_links.specs.Shown.{HaveActed}
-use Rattle.lapd_sides_links.proofs.Acting.{no_link, refuses_found, have_acted}
+use Rattle.std.proofs.Common.{Err, refl, sym, ap, ◌∙◌}
+use Rattle.lapd_table.proofs.Tables.{on_ok, on_err, if_err}
+use Rattle.lapd_sides_links.proofs.Acting.{no_link}
+use Rattle.lapd_sides_links.proofs.UsualSteps.{still_do, still_refuse, still_as_before}
+use Rattle.lapd_sides_links.proofs.GivenSteps.{do_as_given, refuse_as_given}
 use Rattle.lapd_sides_links.proofs.link_set.LinkSet.give.Goals as goal
 
 pub returns-in_default-clause-err : goal.returns-in_default-clause-err
@@ -13,15 +12,20 @@ returns-in_default-clause-err c = λ side links shown.
     ∙ ap (λ kind. Err kind) (sym c.refused.ensures.kind)
 
 pub returns-in-Ok-clause-ok : goal.returns-in-Ok-clause-ok
-returns-in-Ok-clause-ok c = λ side links shown.
-    let key = c.in-Some.key in
-    subst (λ (id : LinkId). HaveActed side c.carry_out.new.self c.args.acts.now c.carry_out.new.acts
-    (in_links id (link_acts side id c.args.now (Give c.args.message.items) []) links)) c.in-Some.ensures.found.0
-    (have_acted side c.args.self.now c.carry_out.new.self c.give_at.new.self links key.id c.args.now (Give c.args.message.items) []
-    c.give_at.new.outs.items c.args.acts.now c.carry_out.new.acts c.in-Ok.ensures.ok c.carry_out.ensures.table
-    c.carry_out.ensures.own c.carry_out.ensures.others c.carry_out.ensures.frames c.carry_out.ensures.primitives (omega arith) shown)
+returns-in-Ok-clause-ok c = do_as_given c.args.now c.in-Some.key.id c.args.id.now c.in-Some.ensures.found.0 c.args.message c.args.message refl _ _ _ _ c.in-Ok.ensures.ok
+
+pub returns-in-Err-clause-ok : goal.returns-in-Err-clause-ok
+returns-in-Err-clause-ok c = on_ok c.give_in_general.result _ _ (λ does.
+    do_as_given c.args.now c.in-Some.key.id c.args.id.now c.in-Some.ensures.found.0 c.in-Err.message c.args.message c.in-Err.ensures.returned _ _ _ _
+    (still_do _ _ _ _ _ _ _ c.in-Err.ensures.unchanged c.in-Err.ensures.nothing does)) c.give_in_general.ensures.ok
 
 pub returns-in-Err-clause-err : goal.returns-in-Err-clause-err
-returns-in-Err-clause-err c = λ side links shown.
-    refuses_found side c.args.self.now links c.in-Some.key.id c.args.id.now c.args.now (Give c.args.message.items) [] c.in-Err.back.fault
-    c.in-Some.ensures.found.0 c.in-Err.ensures.err shown ∙ ap (λ kind. Err kind) (sym c.refused-in-Err.ensures.kind)
+returns-in-Err-clause-err c = if_err c.give_in_general.result _ _ (λ fault refuses.
+    refuse_as_given c.args.now c.in-Some.key.id c.args.id.now c.in-Some.ensures.found.0 c.in-Err.message c.args.message c.in-Err.ensures.returned _ _
+    (still_refuse _ _ _ _ c.in-Err.ensures.unchanged refuses)) c.give_in_general.ensures.err
+
+pub returns-in-Err-clause-unchanged : goal.returns-in-Err-clause-unchanged
+returns-in-Err-clause-unchanged c = on_err c.give_in_general.result _ _ (still_as_before _ _ _ c.in-Err.ensures.unchanged) c.give_in_general.ensures.unchanged
+
+pub returns-in-Err-clause-nothing : goal.returns-in-Err-clause-nothing
+returns-in-Err-clause-nothing c = on_err c.give_in_general.result _ _ (λ same. same ∙ c.in-Err.ensures.nothing) c.give_in_general.ensures.nothing
