@@ -1,3 +1,7 @@
+pub mod Bounds
+pub mod Counted
 pub mod Kept
+pub mod Middles
+pub mod NthTimes
 pub mod Octets
 pub mod Turned

@@ -1,4 +1,5 @@
 pub mod BusyTimes
+pub mod Classes
 pub mod Ends
 pub mod Exchange
 pub mod Follower

@@ -1,6 +1,6 @@
 -- How many frames of each kind one end of a link sent, how soon it answered polls, and how long it
 -- was busy.
-use Rattle.std.specs.Prelude.{ℕ, min, max, Bool, true, false, if◌then◌else◌, length, Option, Some, None}
+use Rattle.std.specs.Prelude.{ℕ, min, max, Bool, true, false, if◌then◌else◌, List, [], ◌∷◌, length, replicate, Option, Some, None}
 use Rattle.lapd_frame.specs.declared.Role.{Role}
 use Rattle.lapd_frame.specs.declared.Role.TheVariants.{Command, Answer}
 use Rattle.lapd_frame.specs.declared.Control.{Control}
@@ -13,7 +13,9 @@ use Rattle.lapd_follow.specs.declared.tally.Kinds.{Kinds}
 use Rattle.lapd_follow.specs.declared.tally.Times.{Times}
 use Rattle.lapd_follow.specs.declared.tally.Tally.{Tally}
 use Rattle.lapd_follow.specs.declared.packet.Packet.{Packet}
+use Rattle.lapd_follow.specs.declared.classes.Middle.{Middle}
 use Rattle.lapd_follow.specs.BusyTimes.{busy_after, no_busy_time, sum_of}
+use Rattle.lapd_follow.specs.Classes.{class_of, counted_in, middle_class, middle_within}
 use Rattle.lapd_follow.specs.Ends.{one_more}
 
 -- nothing was counted
@@ -33,7 +35,13 @@ no_kinds = record {
 }
 
 abbrev pub no_times : Times
-no_times = record { count = 0; least = None; greatest = None; total = 0 }
+no_times = record {
+  count = 0;
+  least = None;
+  greatest = None;
+  total = 0;
+  classes = replicate 17 0;
+}
 
 abbrev pub no_tally : Tally
 no_tally = record {
@@ -87,7 +95,17 @@ with_time (Some n) t = record {
   least = Some (least_with n t.least);
   greatest = Some (greatest_with n t.greatest);
   total = sum_of t.total n;
+  classes = counted_in (class_of n) t.classes;
 }
+
+-- all of these times
+abbrev pub with_times : List ℕ → Times → Times
+with_times [] t = t
+with_times (n ∷ rest) t = with_times rest (with_time (Some n) t)
+
+-- between which times the middle one lies, if there is one
+abbrev pub middle_of : Times → Option Middle
+middle_of t = middle_within (middle_class t.classes) t.least t.greatest
 
 -- the P bit of a command that polls, or the bit in its place (Q.921 3.5.1)
 abbrev pub poll_bit : Control → Bool

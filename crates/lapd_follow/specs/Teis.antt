@@ -55,8 +55,8 @@ new_teis = record { requests = []; holders = replicate 128 unknown_holder }
 abbrev pub holder_at : ℕ → List Holder → Holder
 holder_at tei holders = slice_index_or holders tei unknown_holder
 
--- Nothing is known of a TEI after its removal, or after a check request: if no terminal responds, it
--- is free (5.3.3.2). The group TEI stands for all.
+-- Nothing is known of a TEI after its removal, or after a check request: if no terminal responds,
+-- it is free (5.3.3.2). The group TEI stands for all.
 abbrev pub forgotten_tei : ℕ → List Holder → List Holder
 forgotten_tei tei holders = if tei == 127 then replicate 128 unknown_holder
     else set holders tei unknown_holder
@@ -83,8 +83,8 @@ teis_after (Verify tei) t = t
 abbrev pub unrequested : ℕ → List ℕ → Option Remark
 unrequested ri requests = if is_requested ri requests then None else Some Unrequested
 
--- The network assigns free TEIs alone (5.3.2). A TEI is not free if a terminal responded to its last
--- check (5.3.3.2); but the response may be lost.
+-- The network assigns free TEIs alone (5.3.2). A TEI is not free if a terminal responded to its
+-- last check (5.3.3.2); but the response may be lost.
 abbrev pub answered_check : ℕ → ℕ → Option ℕ → TeisKnown → Option Remark
 answered_check tei ri None t = unrequested ri t.requests
 answered_check tei ri (Some answer) t = Some (AssignedInUse tei)

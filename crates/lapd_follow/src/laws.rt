@@ -1,8 +1,12 @@
 //! Laws that test the definitions. Calling them does nothing.
 
-ghost use Rattle.std.specs.Prelude.{◌≡◌, [], ◌∷◌, Some, None};
+ghost use Rattle.std.specs.Prelude.{◌≡◌, ◌<◌, ◌^◌, ℕ, List, [], ◌∷◌, length, nat_le, nat_lt, Some, None};
+ghost use Rattle.std.specs.List.{All};
 ghost use Rattle.lapd_follow.specs.declared.identity.Identity.TheVariants.{Request, Assigned, Denied, CheckRequest, CheckResponse, Remove, Verify};
 ghost use Rattle.lapd_follow.specs.declared.remark.Remark.TheVariants.{Begins, UaWithoutCommand, NsExpected, Repeated, RepeatedOtherwise, WindowExceeded, SentToBusy, SentToKnownBusy, NrOutside, Answers, ResponseWithoutPoll, Unrequested, AssignedTwice, AssignedInUse, TwoResponses};
+ghost use Rattle.lapd_follow.specs.declared.classes.Middle.{Middle};
+ghost use Rattle.lapd_follow.specs.Classes.{Halve, IsNarrow, class_of, middle_class};
+ghost use Rattle.lapd_follow.specs.Tallies.{middle_of, no_times, with_times};
 ghost use Rattle.lapd_follow.specs.Worked.{told, undisturbed, vr_not_reset, sent_again, without_cause, to_busy, four_messages, collision};
 ghost use Rattle.lapd_follow.specs.WorkedTeis.{notes, said, said_but, assignment, checks, assigned_twice, assigned_anew};
 
@@ -43,4 +47,37 @@ pub fn identities_are_computed()
         ∷ said (Remove 64) ∷ said (Request 2) ∷ said (Assigned 64 2) ∷ said (CheckRequest 64)
         ∷ said (CheckRequest 64) ∷ said (Request 3) ∷ said (Assigned 64 3) ∷ said (Remove 127)
         ∷ said (Request 1) ∷ said (Assigned 64 1) ∷ [] }
+{}
+
+/// The middle of worked times lies in the class that holds it, and no further than the least time
+/// and the greatest.
+pub fn middles_are_computed()
+    ensures no_time { middle_of (with_times [] no_times) ≡ None }
+    ensures one { middle_of (with_times (23000 ∷ []) no_times)
+        ≡ Some (record { from = 23000; to = 23000 }) }
+    ensures of_two { middle_of (with_times (30000 ∷ 7000 ∷ []) no_times)
+        ≡ Some (record { from = 7000; to = 10000 }) }
+    ensures of_five { middle_of
+        (with_times (5000 ∷ 12000 ∷ 14000 ∷ 19999 ∷ 120000 ∷ []) no_times)
+        ≡ Some (record { from = 10000; to = 20000 }) }
+    ensures at_a_bound { middle_of (with_times (5000 ∷ 20000 ∷ 20000 ∷ 90000 ∷ []) no_times)
+        ≡ Some (record { from = 20000; to = 50000 }) }
+    ensures below_all_bounds { middle_of (with_times (3 ∷ 400 ∷ 999 ∷ 2000 ∷ []) no_times)
+        ≡ Some (record { from = 3; to = 1000 }) }
+    ensures above_all_bounds { middle_of (with_times (100000000 ∷ 700000000 ∷ []) no_times)
+        ≡ Some (record { from = 100000000; to = 700000000 }) }
+{}
+
+/// The middle lies where it is reported. At least half of the times are in its class or in one
+/// before, and fewer than half are in one before. So at least half are not above its greater bound,
+/// and fewer than half are below its lesser one. The greater is at most 2.5 times the lesser,
+/// unless it is at most 1 ms or the lesser at least 100 s.
+pub fn middle_is_between()
+    ensures by_class { (times : List ℕ) → 0 < length times → length times < 2 ^ 64
+        → Halve (λ n. nat_le (class_of n) (middle_class (with_times times no_times).classes))
+        (λ n. nat_lt (class_of n) (middle_class (with_times times no_times).classes)) times }
+    ensures by_time { (times : List ℕ) → 0 < length times → length times < 2 ^ 64
+        → All (λ n. n < 2 ^ 64) times
+        → (m : Middle) × (middle_of (with_times times no_times) ≡ Some m)
+        × Halve (λ n. nat_le n m.to) (λ n. nat_lt n m.from) times × IsNarrow m }
 {}

@@ -4,13 +4,14 @@
 //! Begin with [`Follower`], or [`LinkFollower`] for one link: it takes frames in the order in which
 //! they are seen, at either end or between, and returns [`Remarks`] on each: a repeated I frame, an
 //! N(R) out of range, the poll that a response answers, a TEI that is assigned twice. Each
-//! [`Remark`] has a [`Class`]. A violation is a frame that two ends which follow the standard
-//! never send, whatever frames are lost, if T200 exceeds the time until an answer (Q.921 5.9.1), and
-//! if the listener sees one of two messages that free a TEI (Q.921 5.3.4). [`Tally`] counts the
-//! frames of one end. [`Listener`] follows all links of a line and counts their frames.
+//! [`Remark`] has a [`Class`]. A violation is a frame that two ends which follow the standard never
+//! send, whatever frames are lost, if T200 exceeds the time until an answer (Q.921 5.9.1), and if
+//! the listener sees one of two messages that free a TEI (Q.921 5.3.4). [`Tally`] counts the frames
+//! of one end. [`Listener`] follows all links of a line and counts their frames.
 #![tactic(auto)]
 
 mod busy_time;
+mod classes;
 mod dialogue;
 mod end;
 mod follower;
@@ -32,10 +33,13 @@ mod teis;
 mod unacknowledged;
 
 pub use busy_time::BusyTime;
+pub use classes::Middle;
 pub use end::Busy;
 pub use follower::Follower;
 pub use identity::Identity;
-pub use laws::{identities_are_computed, remarks_are_computed};
+pub use laws::{
+    identities_are_computed, middle_is_between, middles_are_computed, remarks_are_computed,
+};
 pub use link_follower::LinkFollower;
 pub use link_tally::LinkTally;
 pub use listener::Listener;

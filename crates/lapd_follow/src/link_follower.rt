@@ -68,7 +68,8 @@ impl LinkFollower {
         Ok(said)
     }
 
-    /// Like [`LinkFollower::frame`], but replaces `said` with the remarks. On error nothing changes.
+    /// Like [`LinkFollower::frame`], but replaces `said` with the remarks. On error nothing
+    /// changes.
     pub fn frame_into(
         &mut self,
         packet: Packet,

@@ -1,9 +1,10 @@
 ghost use Rattle.std.specs.Prelude.{◌≡◌, if◌then◌else◌};
 ghost use Rattle.lapd_follow.specs.Ends.{one_more};
-ghost use Rattle.lapd_follow.specs.Tallies.{answer_time, counted, greatest_with, is_poll, is_repeat, least_with, no_kinds, no_tally, no_times, poll_bit, tallied, with_time};
+ghost use Rattle.lapd_follow.specs.Tallies.{answer_time, counted, greatest_with, is_poll, is_repeat, least_with, middle_of, no_kinds, no_tally, no_times, poll_bit, tallied, with_time};
 
 use crate::busy_time::no_busy_time;
-use crate::{BusyTime, Packet, Remark, Remarks};
+use crate::classes::{CLASSES, class_of, middle_class, middle_within};
+use crate::{BusyTime, Middle, Packet, Remark, Remarks};
 use lapd_frame::{Control, Frame, Role};
 
 /// How many frames of each kind were sent. Each count stops at 2^64 - 1.
@@ -33,6 +34,9 @@ pub struct Times {
     pub greatest: Option<u64>,
     /// Their sum, at most 2^64 - 1.
     pub total: u64,
+    /// How many there are of each class, each at most 2^64 - 1. A class begins at 0, at 1, 2 and 5
+    /// ms, at 10, 20 and 50 ms, and so on up to 100 s.
+    pub classes: [u64; CLASSES],
 }
 
 /// The counts of what one end of a link sent.
@@ -109,6 +113,7 @@ fn no_times() -> Times
         least: None,
         greatest: None,
         total: 0,
+        classes: [0; CLASSES],
     }
 }
 
@@ -187,6 +192,15 @@ fn answer_time(remark: &Option<Remark>) -> Option<u64>
 }
 
 impl Times {
+    /// Two times between which the middle one lies, if there is a time. They are the bounds of its
+    /// class, but no further than the least time and the greatest. Of two in the middle it is the
+    /// lesser one.
+    pub fn middle(&self) -> Option<Middle>
+        ensures { result ≡ middle_of self.now }
+    {
+        middle_within(middle_class(&self.classes), self.least, self.greatest)
+    }
+
     /// Adds a time, if there is one.
     fn add(&mut self, time: Option<u64>)
         ensures { self.new ≡ with_time time self.old }
@@ -198,6 +212,8 @@ impl Times {
                 self.least = Some(least_with(time, self.least));
                 self.greatest = Some(greatest_with(time, self.greatest));
                 self.total = self.total.saturating_add(time);
+                let class = class_of(time);
+                self.classes[class] = self.classes[class].saturating_add(1);
             }
         }
     }
