@@ -14,6 +14,12 @@ _lapd() {
         --kinds) offered="i s u" ;;
         --color) offered="auto always never" ;;
         --time) [[ ${COMP_WORDS[1]} == decode ]] && offered="none absolute relative delta" ;;
+        --ladder)
+            if [[ ${COMP_WORDS[1]} == net || ${COMP_WORDS[1]} == user ]]; then
+                mapfile -t COMPREPLY < <(compgen -f -- "$word")
+                return
+            fi
+            ;;
         --pcap | --svg) mapfile -t COMPREPLY < <(compgen -f -- "$word"); return ;;
         --tei | --k | --n200 | --room | --terminals | --idle-limit | --t20? | --seed | --count) return ;;
         --listen | --connect | --gsmtap) return ;;
@@ -26,12 +32,13 @@ _lapd() {
             case ${COMP_WORDS[1]} in
                 answer) offered+=" --side --sapi --tei --k --n200 --room --recovery" ;;
                 bus) offered+=" --terminals" ;;
-                pair | loop) offered+=" --k --n200 --room --recovery-user --recovery-net" ;;
+                pair) offered+=" --k --n200 --room --recovery-user --recovery-net --ladder" ;;
+                loop) offered+=" --k --n200 --room --recovery-user --recovery-net" ;;
                 net) offered+=" --listen --terminals --idle-limit" ;;&
                 user) offered+=" --connect" ;;&
                 net | user)
                     offered+=" --pri --tei --sapi16 --k --n200 --room --recovery --t200 --t201 --t202 --t203 --seed"
-                    offered+=" --json --clock --time --quiet --serve --keep --pcap --gsmtap"
+                    offered+=" --json --clock --time --quiet --serve --keep --pcap --ladder --gsmtap"
                     ;;
                 decode)
                     offered+=" --loose --sender --names --json --keep-going --pcap --follow --ladder --svg --k"

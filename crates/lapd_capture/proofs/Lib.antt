@@ -1,4 +1,5 @@
 pub mod Heads
+pub mod ReadBack
 pub mod Steps
 pub mod Taken
 pub mod Units

@@ -2,6 +2,7 @@ pub mod Moment
 pub mod Octets
 pub mod Packet
 pub mod Reader
+pub mod ReadBack
 pub mod Reading
 pub mod Takes
 pub mod Written

@@ -29,7 +29,7 @@ pub enum Stop {
     Unmet,
     /// A frame that was followed violates Q.921, under `--strict`.
     Violated,
-    /// The capture or the GSMTAP socket could not be opened.
+    /// The capture, the ladder or the GSMTAP socket could not be opened.
     NoTaps(NoTaps),
 }
 
@@ -145,15 +145,22 @@ fn print_impossible(rt: &HostRuntime, what: &str, whom: &str, error: &io::Error)
     let _ = eprintln!(rt; "cannot {what} {whom}: {}", Reason(error));
 }
 
-// Reports why the capture or the GSMTAP socket could not be opened.
+// Reports why the capture, the ladder or the GSMTAP socket could not be opened.
 fn print_no_taps(rt: &HostRuntime, ending: &Ending<'_>, taps: &NoTaps) {
-    let (pcap, gsmtap) = match ending.clock {
-        Clock::Real(options) => (options.pcap.unwrap_or(""), options.gsmtap.unwrap_or("")),
-        Clock::Script => ("", ""),
+    let Clock::Real(options) = ending.clock else {
+        return;
     };
     match taps {
-        NoTaps::File(error) => print_impossible(rt, "write", pcap, error),
-        NoTaps::Socket(error) => print_impossible(rt, "send to", gsmtap, error),
+        NoTaps::File(error) => {
+            print_impossible(rt, "write", options.pcap.unwrap_or(""), error);
+        }
+        NoTaps::Ladder(error) => {
+            print_impossible(rt, "write", options.ladder.unwrap_or(""), error);
+        }
+        NoTaps::Socket(error) => {
+            print_impossible(rt, "send to", options.gsmtap.unwrap_or(""), error);
+        }
+        NoTaps::Memory => {}
     }
 }
 

@@ -4,11 +4,11 @@ use crate::ending::Stop;
 use crate::live::do_live;
 use lapd_cli_console::Script;
 use lapd_cli_decode::{
-    Filter, Follow, FrameStyle, FrameTime, Layout, LineForm, LinesStyle, Style, decode_good_lines,
-    decode_lines, print_lines,
+    Drawing, Filter, Follow, FrameStyle, FrameTime, Layout, LineForm, LinesStyle, Style,
+    decode_good_lines, decode_lines, print_lines,
 };
 use lapd_cli_io::{Notes, connection};
-use lapd_cli_link_commands::{answer, bus, loop_over, pair};
+use lapd_cli_link_commands::{answer, bus, draw_pair, loop_over, pair};
 use lapd_cli_options::{
     Clock, Color, DecodeOptions, Interface, Invocation, Job, LinkEnd, Params, PrintedLayout,
     PrintedTime, Side,
@@ -63,7 +63,16 @@ pub fn do_job<R: Read, W: Write>(
     let ended = match &chosen.job {
         Job::Answer(end) => do_answer(rt, script, out, *end),
         Job::Bus { terminals } => bus(rt.alloc(), script, out, *terminals),
-        Job::Pair { user, network } => pair(rt.alloc(), script, out, *user, *network),
+        Job::Pair {
+            user,
+            network,
+            is_drawn: false,
+        } => pair(rt.alloc(), script, out, *user, *network),
+        Job::Pair {
+            user,
+            network,
+            is_drawn: true,
+        } => draw_pair(rt.alloc(), script, out, *user, *network),
         Job::Loop { user, network } => return do_loop(rt, script, out, *user, *network),
         Job::Net(interface) => {
             return do_side(rt, Side::Network, interface, chosen, script, out);
@@ -212,8 +221,8 @@ fn has_no_color(rt: &HostRuntime) -> bool {
 fn layout_of(options: DecodeOptions) -> Layout {
     match options.layout {
         PrintedLayout::Lines => Layout::Lines,
-        PrintedLayout::Ladder => Layout::Ladder,
-        PrintedLayout::Picture => Layout::Picture,
+        PrintedLayout::Ladder => Layout::Drawn(Drawing::Ladder),
+        PrintedLayout::Picture => Layout::Drawn(Drawing::Picture),
     }
 }
 

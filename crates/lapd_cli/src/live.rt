@@ -4,7 +4,7 @@ use crate::ending::Stop;
 use crate::job::{SideSetup, config_of};
 use crate::person::Speaker;
 use lapd_cli_console::Script;
-use lapd_cli_io::{ConnectionSetup, Connections, Notes, Taps, connect_side};
+use lapd_cli_io::{ConnectionSetup, Connections, NoTaps, Notes, TapSetup, Taps, connect_side};
 use lapd_cli_live::{
     Impaired, LiveSide, LiveStop, Printer, Style, Tapped, live_script, live_session,
 };
@@ -57,13 +57,30 @@ fn tapped_line<'a>(
     options: &LiveOptions<'_>,
     seed: u64,
 ) -> Result<Line<'a>, Stop> {
-    let taps = Taps::open(rt, notes, side, options.pcap, options.gsmtap).map_err(Stop::NoTaps)?;
+    let taps = Taps::open(rt, notes, side, &tap_setup(options)).map_err(stop_of_taps)?;
     match connect_side(rt, notes, side, &connection_setup(setup, options)) {
         Ok(connections) => {
             let line = Impaired::new(rt.alloc(), connections, seed);
             Ok(Tapped::new(side, line, taps))
         }
         Err(error) => Err(Stop::NoConnection(error)),
+    }
+}
+
+/// The files and the address that get the frames of the line.
+fn tap_setup<'a>(options: &LiveOptions<'a>) -> TapSetup<'a> {
+    TapSetup {
+        pcap: options.pcap,
+        ladder: options.ladder,
+        gsmtap: options.gsmtap,
+    }
+}
+
+/// Why frames can't be recorded.
+fn stop_of_taps(taps: NoTaps) -> Stop {
+    match taps {
+        NoTaps::Memory => Stop::Script(ScriptFault::Memory),
+        _ => Stop::NoTaps(taps),
     }
 }
 

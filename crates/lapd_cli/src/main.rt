@@ -7,9 +7,9 @@
 //! - prints octets as trace lines.
 //!
 //! The program reads a script on standard input, a line for each event, and writes the output of
-//! each line to standard output before it reads more. The commands are in `lapd_cli_link_commands` and
-//! `lapd_cli_side_commands`, the execution of a script in `lapd_cli_script`, the command line in
-//! `lapd_cli_options`, and the messages to people about a script in `lapd_cli_console`.
+//! each line to standard output before it reads more. The commands are in `lapd_cli_link_commands`
+//! and `lapd_cli_side_commands`, the execution of a script in `lapd_cli_script`, the command line
+//! in `lapd_cli_options`, and the messages to people about a script in `lapd_cli_console`.
 #![tactic(auto)]
 
 mod capture;

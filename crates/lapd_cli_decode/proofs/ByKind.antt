@@ -1,5 +1,5 @@
--- The kind and the C/R bit of a frame name its sender, and octets that name none are shown alike as
--- those of each side.
+-- The kind and the C/R bit of a frame name its sender, and octets that name none are shown and drawn
+-- alike as those of each side.
 use Rattle.std.proofs.Common.{◌≡◌, ◌+◌, ◌*◌, ◌/◌, ◌%◌, ◌==◌, ℕ, Bool, true, false, List, [], ◌∷◌, ◌++◌, length, drop, if◌then◌else◌, option_map, Option, Some, None, Result, Ok, Err, refl, sym, ap, ◌∙◌, arith}
 use Rattle.lapd_field.specs.Address.{command_bit, is_badly_extended, role_of, sapi_at, sapi_value, with_sapi}
 use Rattle.lapd_field.specs.Control.{control_at, control_octets}
@@ -19,7 +19,9 @@ use Rattle.lapd_frame.specs.declared.FaultKind.{FaultKind}
 use Rattle.lapd_frame.specs.declared.FrameFault.{FrameFault}
 use Rattle.lapd_frame.specs.Frame.{Fields, IsFrame, content_fault, frame_of, spelling}
 use Rattle.lapd_frame.specs.Reading.{fault_for_link, frame_at, frame_of_fields}
+use Rattle.lapd_follow.specs.Listening.{Listening}
 use Rattle.lapd_cli_render.specs.declared.Packet.{Packet as JsonPacket}
+use Rattle.lapd_cli_ladder.specs.Words.{frame_words, known_words}
 use Rattle.lapd_cli_decode.specs.declared.style.Style.{Style}
 use Rattle.lapd_cli_decode.specs.declared.style.Style.TheVariants.{Plain, Named, Json, NamedJson}
 use Rattle.lapd_cli_decode.specs.Senders.{role_by_kind, sender_by_kind, sender_of_control, sender_of_role}
@@ -153,3 +155,25 @@ shown_alike style is_cut packet octets h =
     shown_as_command style is_cut packet octets (frame_at User octets)
     ∙ ap (shown_text style is_cut packet None octets) (read_alike octets h)
     ∙ sym (shown_as_command style is_cut packet octets (frame_at Network octets))
+
+words_as_command : (octets : List ℕ) (reading : Result Fields FrameFault) → frame_words None octets reading ≡ frame_words None octets (as_command reading)
+words_as_command octets (Ok f) = refl
+words_as_command octets (Err fault) = refl
+
+pub words_alike : (octets : List ℕ) → sender_by_kind octets ≡ None → frame_words None octets (frame_at User octets) ≡ frame_words None octets (frame_at Network octets)
+words_alike octets h =
+    words_as_command octets (frame_at User octets)
+    ∙ ap (frame_words None octets) (read_alike octets h)
+    ∙ sym (words_as_command octets (frame_at Network octets))
+
+ends_as_command : (side : Side) (reading : Result Fields FrameFault) (listening : Option Listening) → known_words side reading listening ≡ known_words side (as_command reading) listening
+ends_as_command side (Ok f) None = refl
+ends_as_command side (Ok f) (Some l) = refl
+ends_as_command side (Err fault) None = refl
+ends_as_command side (Err fault) (Some l) = refl
+
+pub ends_alike : (side : Side) (octets : List ℕ) (listening : Option Listening) → sender_by_kind octets ≡ None → known_words side (frame_at User octets) listening ≡ known_words side (frame_at Network octets) listening
+ends_alike side octets listening h =
+    ends_as_command side (frame_at User octets) listening
+    ∙ ap (λ reading. known_words side reading listening) (read_alike octets h)
+    ∙ sym (ends_as_command side (frame_at Network octets) listening)

@@ -1,5 +1,6 @@
 pub mod ByKind
 pub mod Closed
 pub mod Lines
+pub mod LiveLadder
 pub mod LooseLine
 pub mod Printed

@@ -19,11 +19,11 @@ use Rattle.lapd_cli_decode.specs.declared.frame_printer.Origin.{Origin}
 use Rattle.lapd_cli_decode.specs.declared.frame_printer.Origin.TheVariants.{Script, Capture}
 use Rattle.lapd_cli_decode.specs.declared.frame_style.FrameStyle.{FrameStyle}
 use Rattle.lapd_cli_decode.specs.declared.frame_style.Layout.{Layout}
-use Rattle.lapd_cli_decode.specs.declared.frame_style.Layout.TheVariants.{Lines, Ladder, Picture}
+use Rattle.lapd_cli_decode.specs.declared.frame_style.Layout.TheVariants.{Lines, Drawn}
 use Rattle.lapd_cli_decode.specs.declared.style.Style.{Style}
 use Rattle.lapd_cli_decode.specs.AnySapi.{has_other_sapi, with_sapi_0}
 use Rattle.lapd_cli_decode.specs.Color.{color_of, colored}
-use Rattle.lapd_cli_decode.specs.Drawn.{drawn_frame, pictured_frame}
+use Rattle.lapd_cli_decode.specs.Drawn.{drawn_frame}
 use Rattle.lapd_cli_decode.specs.Filter.{reaches, takes_by}
 use Rattle.lapd_cli_decode.specs.Remarked.{remarked}
 use Rattle.lapd_cli_decode.specs.ShownText.{shown_text}
@@ -118,16 +118,11 @@ line_with said packet from octets s = text_line (colored s.how.is_colored s.how.
     (front_text s.how.style s.how.time (time_of s.how.time s.first s.last packet.moment)
     ++ bare_text (has_other_sapi s.how.any_sapi octets) s.origin s.how.style packet from octets)))
 
--- the text of a frame that is printed, in this layout: a line, or its part of a ladder or picture.
--- In these a frame without a known sender is the network's.
+-- the text of a frame that is printed, in this layout: a line, or its part of a drawing
 abbrev pub text_by : Layout → Option Remarks → Packet → Option Side → List ℕ → Printing → List ℕ
 text_by Lines said packet from octets s = line_with said packet from octets s
-text_by Ladder said packet from octets s = drawn_frame s.how s.printed packet
-    (time_of s.how.time s.first s.last packet.moment) (unwrap_or from Network) octets said
-    s.listening
-text_by Picture said packet from octets s = pictured_frame s.how s.printed packet
-    (time_of s.how.time s.first s.last packet.moment) (unwrap_or from Network) octets said
-    s.listening
+text_by (Drawn drawing) said packet from octets s = drawn_frame drawing s.how s.printed packet
+    (time_of s.how.time s.first s.last packet.moment) from octets said s.listening
 
 abbrev pub text_with : Option Remarks → Packet → Option Side → List ℕ → Printing → List ℕ
 text_with said packet from octets s = text_by s.how.layout said packet from octets s
@@ -175,11 +170,10 @@ abbrev pub tables_of : Style → Option Listening → List ℕ
 tables_of style None = []
 tables_of style (Some l) = tables_text style l.tallies
 
--- a ladder or a picture has none
+-- a drawing has none
 abbrev pub closing_by : Layout → Style → Option Listening → List ℕ
 closing_by Lines style listening = tables_of style listening
-closing_by Ladder style listening = []
-closing_by Picture style listening = []
+closing_by (Drawn drawing) style listening = []
 
 abbrev pub closing_text : Printing → List ℕ
 closing_text s = closing_by s.how.layout s.how.style s.listening

@@ -7,8 +7,8 @@ pub mod Filter
 pub mod Frames
 pub mod Lines
 pub mod LinesPrinter
+pub mod LiveLadder
 pub mod Loose
-pub mod Parts
 pub mod PrintedLines
 pub mod Remarked
 pub mod Senders

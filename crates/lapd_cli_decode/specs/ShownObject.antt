@@ -12,9 +12,9 @@ use Rattle.lapd_frame.specs.declared.FrameFault.{FrameFault}
 use Rattle.lapd_frame.specs.Fault.{fault_name}
 use Rattle.lapd_frame.specs.Frame.{Fields}
 use Rattle.lapd_cli_render.specs.declared.Packet.{Packet}
+use Rattle.lapd_cli_ladder.specs.Parts.{name_of, nr_of, ns_of}
+use Rattle.lapd_cli_ladder.specs.Words.{known_role}
 use Rattle.lapd_cli_decode.specs.AnySapi.{sapi_of}
-use Rattle.lapd_cli_decode.specs.Parts.{name_of, nr_of, ns_of}
-use Rattle.lapd_cli_decode.specs.Shown.{known_role}
 use Rattle.lapd_cli_decode.specs.Time.{seconds_digits}
 
 -- ---- Members that an object may lack.

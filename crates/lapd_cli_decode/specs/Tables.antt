@@ -4,10 +4,12 @@ use Rattle.std.specs.List.{flat_map}
 use Rattle.std.specs.Fmt.{decimal}
 use Rattle.std.specs.Io.KnownBytes.{Appends, Keeps}
 use Rattle.lapd_frame.specs.Address.{sapi_value}
+use Rattle.lapd_follow.specs.declared.classes.Middle.{Middle}
 use Rattle.lapd_follow.specs.declared.link_tally.LinkTally.{LinkTally}
 use Rattle.lapd_follow.specs.declared.tally.Kinds.{Kinds}
 use Rattle.lapd_follow.specs.declared.tally.Tally.{Tally}
 use Rattle.lapd_follow.specs.declared.tally.Times.{Times}
+use Rattle.lapd_follow.specs.Tallies.{middle_of}
 use Rattle.lapd_cli_script.specs.declared.script.ScriptFault.{ScriptFault}
 use Rattle.lapd_cli_script.specs.declared.script.ScriptFault.TheVariants.{BadLine, Device, Memory, Port}
 use Rattle.lapd_cli_decode.specs.declared.style.Style.{Style}
@@ -38,16 +40,21 @@ kinds_line direction k = codes "  " ++ (direction ++ (codes " I " ++ (decimal k.
     ++ (codes ", FRMR " ++ (decimal k.frmr ++ (codes ", XID " ++ (decimal k.xid
     ++ codes "\n")))))))))))))))))))))))
 
--- the answers to polls whose times are known: the least time, the greatest, and the mean
-abbrev pub range_text : Times → Option ℕ → Option ℕ → List ℕ
-range_text t None greatest = []
-range_text t (Some least) None = []
-range_text t (Some least) (Some greatest) = codes ", answers " ++ (decimal t.count
-    ++ (codes " after " ++ (thousandths least ++ (codes " to " ++ (thousandths greatest
-    ++ (codes " s, mean " ++ (thousandths (mean_of t) ++ codes " s")))))))
+-- two times, in seconds
+abbrev pub from_to : ℕ → ℕ → List ℕ
+from_to least greatest = thousandths least ++ (codes " to " ++ (thousandths greatest ++ codes " s"))
+
+-- the answers to polls whose times are known: the least time and the greatest, between which times
+-- the middle one lies, and the mean
+abbrev pub range_text : Times → Option ℕ → Option ℕ → Option Middle → List ℕ
+range_text t (Some least) (Some greatest) (Some middle) = codes ", answers " ++ (decimal t.count
+    ++ (codes " after " ++ (from_to least greatest ++ (codes ", middle "
+    ++ (from_to middle.from middle.to ++ (codes ", mean " ++ (thousandths (mean_of t)
+    ++ codes " s")))))))
+range_text t least greatest middle = []
 
 abbrev pub times_text : Times → List ℕ
-times_text t = range_text t t.least t.greatest
+times_text t = range_text t t.least t.greatest (middle_of t)
 
 -- the counts of an end
 abbrev pub counts_text : List ℕ → Tally → List ℕ
@@ -80,18 +87,19 @@ link_lines t = head_line t
 
 -- ---- JSON objects. Times are in microseconds.
 
-abbrev pub answers_member : ℕ → ℕ → ℕ → ℕ → List ℕ
-answers_member count greatest least mean = codes "\"answers\":{\"count\":" ++ (decimal count
-    ++ (codes ",\"greatest\":" ++ (decimal greatest ++ (codes ",\"least\":" ++ (decimal least
-    ++ (codes ",\"mean\":" ++ (decimal mean ++ codes "},")))))))
+-- two times, in a list
+abbrev pub times_list : ℕ → ℕ → List ℕ
+times_list from to = codes "[" ++ (decimal from ++ (codes "," ++ (decimal to ++ codes "]")))
 
-abbrev pub range_member : Times → Option ℕ → Option ℕ → List ℕ
-range_member t None greatest = []
-range_member t (Some least) None = []
-range_member t (Some least) (Some greatest) = answers_member t.count greatest least (mean_of t)
+abbrev pub range_member : Times → Option ℕ → Option ℕ → Option Middle → List ℕ
+range_member t (Some least) (Some greatest) (Some middle) = codes "\"answers\":{\"count\":"
+    ++ (decimal t.count ++ (codes ",\"greatest\":" ++ (decimal greatest
+    ++ (codes ",\"least\":" ++ (decimal least ++ (codes ",\"mean\":" ++ (decimal (mean_of t)
+    ++ (codes ",\"middle\":" ++ (times_list middle.from middle.to ++ codes "},")))))))))
+range_member t least greatest middle = []
 
 abbrev pub times_member : Times → List ℕ
-times_member t = range_member t t.least t.greatest
+times_member t = range_member t t.least t.greatest (middle_of t)
 
 abbrev pub busy_member : Option ℕ → List ℕ
 busy_member None = []

@@ -6,8 +6,8 @@ ghost use Rattle.lapd_cli_decode.specs.Frames.{ClosingEnds, PrintEnds, after_fra
 
 use crate::any_sapi::has_other_sapi;
 use crate::color::put_colored;
-use crate::drawn::{drawn_frame, pictured_frame, put_text};
-use crate::frame_style::{FrameStyle, Layout};
+use crate::drawn::{drawn_frame, put_text};
+use crate::frame_style::{Drawing, FrameStyle, Layout};
 use crate::frame_time::either;
 use crate::shown_text::{write_other, write_unsent};
 use crate::style::Style;
@@ -200,14 +200,16 @@ impl FramePrinter {
     {
         match self.how.layout {
             Layout::Lines => self.show_line(is_followed, said, packet, from, octets, out),
-            Layout::Ladder => self.show_rung(is_followed, said, packet, from, octets, out),
-            Layout::Picture => self.show_element(is_followed, said, packet, from, octets, out),
+            Layout::Drawn(drawing) => {
+                self.show_drawn(drawing, is_followed, said, packet, from, octets, out)
+            }
         }
     }
 
-    /// Prints octets, with these remarks if links are followed, as a part of a ladder.
-    fn show_rung<W: Write>(
+    /// Prints octets, with these remarks if links are followed, as a part of a drawing.
+    fn show_drawn<W: Write>(
         &mut self,
+        drawing: Drawing,
         is_followed: bool,
         said: &Remarks,
         packet: Packet,
@@ -215,50 +217,19 @@ impl FramePrinter {
         octets: &[u8],
         out: &mut W,
     ) -> Result<(), LineFault>
-        ensures { PrintEnds (text_by Layout.Ladder (said_if is_followed said.now) packet from
-            octets.now self.old) (after_shown packet.moment self.old) result self.new
+        ensures { PrintEnds (text_by (Layout.Drawn drawing) (said_if is_followed said.now) packet
+            from octets.now self.old) (after_shown packet.moment self.old) result self.new
             (W.contents out.old) (W.contents out.new) }
     {
         let time = self.how.time.of(self.first, self.last, packet.moment);
         let Ok(text) = drawn_frame(
             self.alloc,
+            drawing,
             &self.how,
             self.printed,
             packet,
             time,
-            from.unwrap_or(Side::Network),
-            octets,
-            &said_if(is_followed, said),
-            &self.listener,
-        ) else {
-            return Err(LineFault::Memory);
-        };
-        self.count(packet.moment);
-        put_text(text.as_slice(), out)
-    }
-
-    /// Prints octets, with these remarks if links are followed, as a part of a picture.
-    fn show_element<W: Write>(
-        &mut self,
-        is_followed: bool,
-        said: &Remarks,
-        packet: Packet,
-        from: Option<Side>,
-        octets: &[u8],
-        out: &mut W,
-    ) -> Result<(), LineFault>
-        ensures { PrintEnds (text_by Layout.Picture (said_if is_followed said.now) packet from
-            octets.now self.old) (after_shown packet.moment self.old) result self.new
-            (W.contents out.old) (W.contents out.new) }
-    {
-        let time = self.how.time.of(self.first, self.last, packet.moment);
-        let Ok(text) = pictured_frame(
-            self.alloc,
-            &self.how,
-            self.printed,
-            packet,
-            time,
-            from.unwrap_or(Side::Network),
+            from,
             octets,
             &said_if(is_followed, said),
             &self.listener,
@@ -340,7 +311,7 @@ impl FramePrinter {
     {
         match self.how.layout {
             Layout::Lines => close_links(self.alloc, self.how.style, &self.listener, out),
-            Layout::Ladder | Layout::Picture => Ok(is_violated_by(&self.listener)),
+            Layout::Drawn(_) => Ok(is_violated_by(&self.listener)),
         }
     }
 }

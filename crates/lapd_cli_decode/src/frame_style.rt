@@ -12,7 +12,14 @@ use lapd_cli_values::Filter;
 pub enum Layout {
     /// A line for each frame.
     Lines,
-    /// A ladder. Of the style only the names count, and there are no tables.
+    /// A drawing. Of the style only the names count, and there are no tables.
+    Drawn(Drawing),
+}
+
+/// How frames are drawn.
+#[derive(Clone, Copy, Debug, PartialEq, Eq)]
+pub enum Drawing {
+    /// A ladder of lines.
     Ladder,
     /// The same as a picture (SVG), without its beginning and its end.
     Picture,

@@ -6,7 +6,9 @@ ghost use Rattle.lapd_frame.specs.declared.Side.{Side};
 ghost use Rattle.lapd_frame.specs.declared.Side.TheVariants.{Network, User};
 ghost use Rattle.lapd_frame.specs.Frame.{Fields, IsFrame, spelling};
 ghost use Rattle.lapd_frame.specs.Reading.{frame_at};
+ghost use Rattle.lapd_follow.specs.Listening.{Listening};
 ghost use Rattle.lapd_cli_render.specs.declared.Packet.{Packet};
+ghost use Rattle.lapd_cli_ladder.specs.Words.{frame_words, known_words};
 ghost use Rattle.lapd_cli_decode.specs.declared.style.Style.{Style};
 ghost use Rattle.lapd_cli_decode.specs.Senders.{role_by_kind, sender_by_kind};
 ghost use Rattle.lapd_cli_decode.specs.ShownText.{shown_text};
@@ -24,4 +26,16 @@ pub fn both_read_alike()
         → sender_by_kind octets ≡ None
         → shown_text style is_cut packet None octets (frame_at User octets)
         ≡ shown_text style is_cut packet None octets (frame_at Network octets) }
+{}
+
+/// Octets that name no sender are drawn with the same words, and the same ends beside them,
+/// whichever side reads them.
+pub fn both_draw_alike()
+    ensures words { (octets : List ℕ) → sender_by_kind octets ≡ None
+        → frame_words None octets (frame_at User octets)
+        ≡ frame_words None octets (frame_at Network octets) }
+    ensures ends { (side : Side) (octets : List ℕ) (listening : Option Listening)
+        → sender_by_kind octets ≡ None
+        → known_words side (frame_at User octets) listening
+        ≡ known_words side (frame_at Network octets) listening }
 {}

@@ -6,8 +6,9 @@
 //! frames that a [`FrameStyle`] requests, and [`decode_capture`] those of a capture of
 //! `lapd_capture`. If links are followed, which [`follow_capture`] does for a capture, the remarks
 //! of a listener of `lapd_follow` are printed behind each frame, and a table of each link at the
-//! end. With [`Layout::Ladder`] the frames are drawn as a ladder, with [`Layout::Picture`] as a
-//! picture between [`PICTURE_BEGIN`] and [`PICTURE_END`].
+//! end. With [`Layout::Drawn`] the frames are drawn as a ladder, or as a picture between
+//! [`PICTURE_BEGIN`] and [`PICTURE_END`]. A [`FrameDrawer`] draws the same ladder of the frames of
+//! a line, when they are sent or received.
 #![tactic(auto)]
 
 mod any_sapi;
@@ -20,8 +21,9 @@ mod frame_time;
 mod laws;
 mod line_decoder;
 mod line_form;
+mod live_ladder;
+mod live_laws;
 mod loose;
-mod parts;
 mod printed_lines;
 mod remarked;
 mod senders;
@@ -33,7 +35,7 @@ mod tables;
 
 pub use capture_lines::{CaptureStop, CaptureStyle, Seen, decode_capture, follow_capture};
 pub use frame_printer::Follow;
-pub use frame_style::{FrameStyle, Layout};
+pub use frame_style::{Drawing, FrameStyle, Layout};
 pub use frame_time::FrameTime;
 pub use lapd_capture::{CaptureFault, CaptureReader, PacketFault, ReadFault};
 pub use lapd_cli_ladder::{PICTURE_BEGIN, PICTURE_END};
@@ -42,5 +44,7 @@ pub use lapd_frame::Side;
 pub use laws::{both_read_alike, sender_is_found};
 pub use line_decoder::{decode_good_lines, decode_lines};
 pub use line_form::LineForm;
+pub use live_ladder::FrameDrawer;
+pub use live_laws::ladder_is_decoded;
 pub use printed_lines::{LinesStyle, print_lines};
 pub use style::Style;

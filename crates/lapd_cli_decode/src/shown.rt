@@ -2,11 +2,11 @@
 
 ghost use Rattle.std.specs.Prelude.{◌≡◌, ◌++◌, OnOk};
 ghost use Rattle.std.specs.String.{string_bytes};
-ghost use Rattle.lapd_cli_decode.specs.Shown.{address_words, control_words, direction_words, frame_words, known_role, number_words, poll_words, reading_words, role_words, shown_line};
+ghost use Rattle.lapd_cli_decode.specs.Shown.{address_words, direction_words, frame_words, reading_words, role_words, shown_line};
 
 use crate::any_sapi::sapi_of;
-use crate::parts::{name_of, nr_of, ns_of};
-use lapd_frame::{Control, Frame, FrameFault, Number, Role, Side};
+use lapd_cli_ladder::{known_role, push_control};
+use lapd_frame::{Frame, FrameFault, Role, Side};
 use std::alloc::{AllocError, Global};
 
 /// Appends the line of these octets, which were read as this frame or fault. If the sender is not
@@ -82,31 +82,6 @@ fn push_address(text: &mut String, sapi: u8, tei: u8, role: Option<Role>) -> Res
     text.push_str(role_words(role))
 }
 
-/// Appends the name of the frame, its numbers and its P/F bit.
-fn push_control(text: &mut String, role: Option<Role>, control: Control) -> Result<(), AllocError>
-    ensures { OnOk result (string_bytes text.new
-        ≡ string_bytes text.old ++ control_words role control) }
-{
-    text.push_str(name_of(control))?;
-    push_number(text, " N(S)=", ns_of(control))?;
-    push_number(text, " N(R)=", nr_of(control))?;
-    text.push_str(poll_words(role, control.poll_final()))
-}
-
-/// Appends words and a number, if there is one.
-fn push_number(text: &mut String, words: &str, number: Option<Number>) -> Result<(), AllocError>
-    ensures { OnOk result (string_bytes text.new
-        ≡ string_bytes text.old ++ number_words words.now number) }
-{
-    match number {
-        None => Ok(()),
-        Some(number) => {
-            let value = number.value();
-            write!(text, "{words}{value}")
-        }
-    }
-}
-
 /// The direction of a frame, from this sender.
 fn direction_words(from: Option<Side>) -> &'static str
     ensures { result.now ≡ direction_words from }
@@ -118,16 +93,6 @@ fn direction_words(from: Option<Side>) -> &'static str
     }
 }
 
-/// The role, if the sender is known.
-pub(crate) fn known_role(from: Option<Side>, role: Role) -> Option<Role>
-    ensures { result ≡ known_role from role }
-{
-    match from {
-        None => None,
-        Some(_) => Some(role),
-    }
-}
-
 /// Command or response.
 fn role_words(role: Option<Role>) -> &'static str
     ensures { result.now ≡ role_words role }
@@ -136,19 +101,5 @@ fn role_words(role: Option<Role>) -> &'static str
         None => " ? ",
         Some(Role::Command) => " C ",
         Some(Role::Answer) => " R ",
-    }
-}
-
-/// The P/F bit.
-fn poll_words(role: Option<Role>, pf: bool) -> &'static str
-    ensures { result.now ≡ poll_words role pf }
-{
-    match (role, pf) {
-        (None, false) => " P/F=0",
-        (None, true) => " P/F=1",
-        (Some(Role::Command), false) => " P=0",
-        (Some(Role::Command), true) => " P=1",
-        (Some(Role::Answer), false) => " F=0",
-        (Some(Role::Answer), true) => " F=1",
     }
 }

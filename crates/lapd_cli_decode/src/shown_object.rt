@@ -6,8 +6,7 @@ ghost use Rattle.lapd_cli_decode.specs.ShownObject.{cut_member, direction_member
 
 use crate::any_sapi::sapi_of;
 use crate::frame_time::Seconds;
-use crate::parts::{name_of, nr_of, ns_of};
-use crate::shown::known_role;
+use lapd_cli_ladder::{known_role, name_of, nr_of, ns_of};
 use lapd_cli_render::Packet;
 use lapd_frame::{Frame, FrameFault, Number, Role, Side};
 use std::alloc::{AllocError, Global};

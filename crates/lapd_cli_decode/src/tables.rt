@@ -3,11 +3,11 @@
 ghost use Rattle.std.specs.Prelude.{◌≡◌, ◌++◌, Some, IfOk, OnOk};
 ghost use Rattle.std.specs.Io.KnownBytes.{Appends, Keeps};
 ghost use Rattle.std.specs.String.{string_bytes};
-ghost use Rattle.lapd_cli_decode.specs.Tables.{TablesEnd, address_members, answers_member, busy_member, busy_text, counts_line, counts_text, end_lines, end_object, first_members, head_line, kinds_line, last_members, link_lines, link_object, link_text, mean_of, messages_of, object_front, object_head, object_rest, place_text, range_text, tables_text, thousandths, times_member, times_text};
+ghost use Rattle.lapd_cli_decode.specs.Tables.{TablesEnd, address_members, busy_member, busy_text, counts_line, counts_text, end_lines, end_object, first_members, from_to, head_line, kinds_line, last_members, link_lines, link_object, link_text, mean_of, messages_of, object_front, object_head, object_rest, place_text, range_member, range_text, tables_text, thousandths, times_list, times_member, times_text};
 
 use crate::style::Style;
 use lapd_cli_script::ScriptFault;
-use lapd_follow::{Kinds, LinkTally, Tally, Times};
+use lapd_follow::{Kinds, LinkTally, Middle, Tally, Times};
 use std::alloc::{AllocError, Global};
 use std::fmt;
 use std::io::Write;
@@ -160,26 +160,40 @@ fn push_counts(text: &mut String, direction: &str, tally: &Tally) -> Result<(), 
 fn push_times(text: &mut String, times: &Times) -> Result<(), AllocError>
     ensures { OnOk result (string_bytes text.new ≡ string_bytes text.old ++ times_text times.now) }
 {
-    match (times.least, times.greatest) {
-        (Some(least), Some(greatest)) => push_range(text, times, least, greatest),
+    match (times.least, times.greatest, times.middle()) {
+        (Some(least), Some(greatest), Some(middle)) => {
+            push_range(text, times, least, greatest, &middle)
+        }
         _ => Ok(()),
     }
 }
 
-/// Appends the number of answers, the least time, the greatest and the mean.
-fn push_range(text: &mut String, times: &Times, least: u64, greatest: u64) -> Result<(), AllocError>
-    ensures { OnOk result (string_bytes text.new
-        ≡ string_bytes text.old ++ range_text times.now (Some least) (Some greatest)) }
+/// Appends the number of answers, the least time, the greatest, the middle and the mean.
+fn push_range(
+    text: &mut String,
+    times: &Times,
+    least: u64,
+    greatest: u64,
+    middle: &Middle,
+) -> Result<(), AllocError>
+    ensures { OnOk result (string_bytes text.new ≡ string_bytes text.old
+        ++ range_text times.now (Some least) (Some greatest) (Some middle.now)) }
 {
     let count = times.count;
-    let first = Thousandths { time: least };
-    let last = Thousandths { time: greatest };
+    let all = FromTo {
+        from: least,
+        to: greatest,
+    };
+    let half = FromTo {
+        from: middle.from,
+        to: middle.to,
+    };
     let mean = Thousandths {
         time: mean_of(times),
     };
     write!(
         text,
-        ", answers {count} after {first} to {last} s, mean {mean} s"
+        ", answers {count} after {all}, middle {half}, mean {mean} s"
     )
 }
 
@@ -255,27 +269,34 @@ fn push_times_member(text: &mut String, times: &Times) -> Result<(), AllocError>
     ensures { OnOk result (string_bytes text.new
         ≡ string_bytes text.old ++ times_member times.now) }
 {
-    match (times.least, times.greatest) {
-        (Some(least), Some(greatest)) => {
-            push_answers_member(text, times.count, greatest, least, mean_of(times))
+    match (times.least, times.greatest, times.middle()) {
+        (Some(least), Some(greatest), Some(middle)) => {
+            push_range_member(text, times, least, greatest, &middle)
         }
         _ => Ok(()),
     }
 }
 
-fn push_answers_member(
+/// Appends the member of the times of the answers.
+fn push_range_member(
     text: &mut String,
-    count: u64,
-    greatest: u64,
+    times: &Times,
     least: u64,
-    mean: u64,
+    greatest: u64,
+    middle: &Middle,
 ) -> Result<(), AllocError>
-    ensures { OnOk result (string_bytes text.new
-        ≡ string_bytes text.old ++ answers_member count greatest least mean) }
+    ensures { OnOk result (string_bytes text.new ≡ string_bytes text.old
+        ++ range_member times.now (Some least) (Some greatest) (Some middle.now)) }
 {
+    let count = times.count;
+    let mean = mean_of(times);
+    let half = TimesList {
+        from: middle.from,
+        to: middle.to,
+    };
     write!(
         text,
-        "\"answers\":{{\"count\":{count},\"greatest\":{greatest},\"least\":{least},\"mean\":{mean}}},"
+        "\"answers\":{{\"count\":{count},\"greatest\":{greatest},\"least\":{least},\"mean\":{mean},\"middle\":{half}}},"
     )
 }
 
@@ -361,5 +382,39 @@ impl fmt::Display for Thousandths {
         let hundredths = self.time / 10_000 % 10;
         let thousandths = self.time / 1_000 % 10;
         write!(f, "{seconds}.{tenths}{hundredths}{thousandths}")
+    }
+}
+
+/// Two times, shown in seconds.
+#[derive(Clone, Copy)]
+struct FromTo {
+    from: u64,
+    to: u64,
+}
+
+impl fmt::Display for FromTo {
+    ghost output = { λ shown. Some (from_to shown.from shown.to) };
+
+    fn fmt<W: fmt::Write>(&self, f: &mut fmt::Formatter<W>) -> fmt::Result {
+        let from = Thousandths { time: self.from };
+        let to = Thousandths { time: self.to };
+        write!(f, "{from} to {to} s")
+    }
+}
+
+/// Two times, shown as a list.
+#[derive(Clone, Copy)]
+struct TimesList {
+    from: u64,
+    to: u64,
+}
+
+impl fmt::Display for TimesList {
+    ghost output = { λ shown. Some (times_list shown.from shown.to) };
+
+    fn fmt<W: fmt::Write>(&self, f: &mut fmt::Formatter<W>) -> fmt::Result {
+        let from = self.from;
+        let to = self.to;
+        write!(f, "[{from},{to}]")
     }
 }

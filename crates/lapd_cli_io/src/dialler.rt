@@ -67,8 +67,8 @@ impl Dialler {
         self.put_off(now)
     }
 
-    /// The next moment at which to call [`Dialler::advance`], in milliseconds, unless an attempt ends
-    /// earlier. `None` if there is nothing to do.
+    /// The next moment at which to call [`Dialler::advance`], in milliseconds, unless an attempt
+    /// ends earlier. `None` if there is nothing to do.
     pub fn next_moment(&self) -> Option<u64> {
         match &self.state {
             Dialling::Idle => None,

@@ -1,9 +1,9 @@
 //! The program's connections: TCP streams of frames, one wait for all streams, standard input and
-//! the clock, captures and GSMTAP, and notes on standard error.
+//! the clock, captures, ladders and GSMTAP, and notes on standard error.
 //!
-//! Begin with [`connect_side`]. It makes the [`Connections`] of a side with the real clock, by which
-//! the side sends and receives frames, reads the clock and waits. The functions of [`connection`]
-//! make the one stream of a side with the script's clock.
+//! Begin with [`connect_side`]. It makes the [`Connections`] of a side with the real clock, by
+//! which the side sends and receives frames, reads the clock and waits. The functions of
+//! [`connection`] make the one stream of a side with the script's clock.
 #![tactic(auto)]
 
 mod clock;
@@ -27,4 +27,4 @@ pub use connections::Connections;
 pub use lost::words_of;
 pub use notes::Notes;
 pub use reason::{KindReason, Reason};
-pub use taps::{NoTaps, Taps};
+pub use taps::{NoTaps, TapSetup, Taps};

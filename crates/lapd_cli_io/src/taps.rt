@@ -1,10 +1,11 @@
-//! Recording the frames of a line: a capture in a file, and GSMTAP over UDP.
+//! Recording the frames of a line: a capture in a file, a ladder in a file, and GSMTAP over UDP.
 
 ghost use Rattle.std.specs.Prelude.{◌≤◌, length};
 
 use crate::notes::Notes;
 use crate::reason::Reason;
 use lapd_capture::{CaptureWriter, gsmtap_of};
+use lapd_cli_decode::FrameDrawer;
 use lapd_cli_outside::Tap;
 use lapd_frame::Side;
 use lapd_port::MOST_OCTETS;
@@ -13,17 +14,32 @@ use std::io::{self, ErrorKind};
 use std::net::{SocketAddr, ToSocketAddrs, UdpSocket};
 use std::time::{SystemTime, UNIX_EPOCH};
 
+/// The files and the address that get the frames of a line, each if requested.
+#[derive(Clone, Copy)]
+pub struct TapSetup<'a> {
+    /// The file of the capture.
+    pub pcap: Option<&'a str>,
+    /// The file of the ladder.
+    pub ladder: Option<&'a str>,
+    /// The address of GSMTAP, a host and a port.
+    pub gsmtap: Option<&'a str>,
+}
+
 /// Why frames can't be recorded.
 #[derive(Drop)]
 pub enum NoTaps {
     /// The capture's file can't be created.
     File(io::Error),
+    /// The ladder's file can't be created.
+    Ladder(io::Error),
     /// The socket for the address of `--gsmtap` can't be created.
     Socket(io::Error),
+    /// An allocation failed.
+    Memory,
 }
 
-/// A capture and a socket, each if it was requested. If one of them fails, that is noted once on
-/// standard error, and it is not used any more.
+/// A capture, a ladder and a socket, each if it was requested. If one of them fails, that is noted
+/// once on standard error, and it is not used any more.
 #[derive(Drop)]
 pub struct Taps<'rt> {
     rt: &'rt HostRuntime,
@@ -31,6 +47,7 @@ pub struct Taps<'rt> {
     /// The time of the start, in milliseconds since 1970, known from the first frame on.
     begun: Option<u64>,
     capture: Option<CaptureWriter<File>>,
+    ladder: Option<FrameDrawer<File>>,
     gsmtap: Option<GsmtapSocket>,
 }
 
@@ -42,25 +59,28 @@ struct GsmtapSocket {
 }
 
 impl<'rt> Taps<'rt> {
-    /// Creates this side's capture in the file `pcap`, which is overwritten, and GSMTAP to the
-    /// address `gsmtap`, a host and a port. The first frame is stamped by the system's clock, the
-    /// later ones by the line's clock.
+    /// Creates the files and the socket of this side. The files are overwritten. The first frame is
+    /// stamped by the system's clock, the later ones by the line's clock.
     ///
     /// # Errors
     ///
-    /// `File` or `Socket`, if one of them can't be created.
+    /// `File`, `Ladder` or `Socket`, if one of them can't be created; `Memory` if an allocation
+    /// fails.
     pub fn open(
         rt: &'rt HostRuntime,
         notes: &'rt Notes<'rt>,
         own: Side,
-        pcap: Option<&str>,
-        gsmtap: Option<&str>,
+        setup: &TapSetup<'_>,
     ) -> Result<Taps<'rt>, NoTaps> {
-        let capture = match pcap {
+        let capture = match setup.pcap {
             Some(file) => Some(capture_into(rt, own, file).map_err(NoTaps::File)?),
             None => None,
         };
-        let gsmtap = match gsmtap {
+        let ladder = match setup.ladder {
+            Some(file) => Some(ladder_into(rt, file)?),
+            None => None,
+        };
+        let gsmtap = match setup.gsmtap {
             Some(address) => Some(GsmtapSocket::open(rt, address).map_err(NoTaps::Socket)?),
             None => None,
         };
@@ -69,6 +89,7 @@ impl<'rt> Taps<'rt> {
             notes,
             begun: None,
             capture,
+            ladder,
             gsmtap,
         })
     }
@@ -76,25 +97,44 @@ impl<'rt> Taps<'rt> {
 
 impl Tap for Taps<'_> {
     fn pass(&mut self, from: Side, moment: u64, frame: &[u8]) {
-        self.capture_frame(from, moment, frame);
+        let time = self.time_of(moment);
+        self.capture_frame(from, time, frame);
+        self.draw_frame(from, time, frame);
         self.send_frame(from, frame);
     }
 }
 
 impl Taps<'_> {
+    // The time of a moment of the line, in milliseconds since 1970.
+    fn time_of(&mut self, moment: u64) -> u64 {
+        let begun = begun_at(self.rt, self.begun, moment);
+        self.begun = Some(begun);
+        begun.saturating_add(moment)
+    }
+
     // Writes a frame into the capture, if there is one.
-    fn capture_frame(&mut self, from: Side, moment: u64, frame: &[u8])
+    fn capture_frame(&mut self, from: Side, time: u64, frame: &[u8])
         requires { length frame.now ≤ MOST_OCTETS }
     {
         let Some(capture) = &mut self.capture else {
             return;
         };
-        let begun = begun_at(self.rt, self.begun, moment);
-        self.begun = Some(begun);
-        if let Err(error) = capture.write(from, begun.saturating_add(moment), frame) {
+        if let Err(error) = capture.write(from, time, frame) {
             self.notes
                 .print(format_args!("capture stopped: {}", Reason(&error)));
             self.capture = None;
+        }
+    }
+
+    // Draws a frame into the ladder, if there is one.
+    fn draw_frame(&mut self, from: Side, time: u64, frame: &[u8]) {
+        let Some(ladder) = &mut self.ladder else {
+            return;
+        };
+        if let Err(error) = ladder.draw(from, time, frame) {
+            self.notes
+                .print(format_args!("ladder stopped: {}", Reason(&error)));
+            self.ladder = None;
         }
     }
 
@@ -145,6 +185,12 @@ fn gsmtap_address(rt: &HostRuntime, address: &str) -> io::Result<SocketAddr> {
 // Creates this side's capture in a file, which is overwritten.
 fn capture_into(rt: &HostRuntime, own: Side, file: &str) -> io::Result<CaptureWriter<File>> {
     CaptureWriter::new(own, fs::create(rt, file)?)
+}
+
+// Begins a ladder in a file, which is overwritten.
+fn ladder_into(rt: &HostRuntime, file: &str) -> Result<FrameDrawer<File>, NoTaps> {
+    let file = fs::create(rt, file).map_err(NoTaps::Ladder)?;
+    FrameDrawer::new(rt.alloc(), file).map_err(|_| NoTaps::Memory)
 }
 
 // The time of the start: the known one, or `moment` milliseconds ago.

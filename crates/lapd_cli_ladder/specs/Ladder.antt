@@ -1,11 +1,10 @@
--- A ladder: two upright lines, the user at the left and the network at the right. A frame is an arrow
--- between them. Left of it are its packet, its time and the user's end, right of it the network's
--- end; the notes on it are below.
-use Rattle.std.specs.Prelude.{ℕ, ◌==◌, if◌then◌else◌, Bool, true, false, List, [], ◌∷◌, ◌++◌, codes, drop, Option, Some, None}
+-- A ladder: two upright lines, the user at the left and the network at the right. A frame is an
+-- arrow between them. Left of it are its packet, its time and the user's end, right of it the
+-- network's end; the notes on it are below.
+use Rattle.std.specs.Prelude.{ℕ, ◌==◌, if◌then◌else◌, Bool, true, false, List, [], ◌∷◌, ◌++◌, codes, drop, flat_map, Option, Some, None}
 use Rattle.std.specs.Fmt.{decimal}
 use Rattle.lapd_frame.specs.declared.Side.{Side}
 use Rattle.lapd_frame.specs.declared.Side.TheVariants.{Network, User}
-use Rattle.lapd_frame.specs.Reading.{frame_at}
 use Rattle.lapd_follow.specs.declared.remark.Remark.{Remark}
 use Rattle.lapd_follow.specs.declared.remarks.Remarks.{Remarks}
 use Rattle.lapd_follow.specs.Listening.{Listening}
@@ -13,14 +12,15 @@ use Rattle.lapd_cli_render.specs.Names.{names_text}
 use Rattle.lapd_cli_render.specs.declared.Packet.{Packet}
 use Rattle.lapd_cli_ladder.specs.declared.ladder.LadderStyle.{LadderStyle}
 use Rattle.lapd_cli_ladder.specs.Columns.{at_left, at_right, filled, shortened}
-use Rattle.lapd_cli_ladder.specs.Words.{frame_words, known_words, remark_words}
+use Rattle.lapd_cli_ladder.specs.Words.{frame_words, known_words, reading_of, remark_words}
 
 -- the words beside the line at the right, after a space
 abbrev pub beside : List ℕ → List ℕ
 beside [] = []
 beside (octet ∷ words) = 32 ∷ octet ∷ words
 
--- a line: the packet, its time, the user's end, what is between the upright lines, the network's end
+-- a line: the packet, its time, the user's end, what is between the upright lines, the network's
+-- end
 abbrev pub line_front : ℕ → List ℕ → List ℕ → List ℕ → List ℕ
 line_front width packet time user = at_right 6 packet ++ (codes " " ++ (at_right width time
     ++ (at_right 14 user ++ codes " |")))
@@ -46,10 +46,11 @@ head_line width = ladder_line width (codes "packet") (time_heading width) (codes
 abbrev pub labelled : List ℕ → List ℕ
 labelled words = filled 45 44 (shortened 42 words ++ codes " ")
 
--- the arrow from its sender to the other end
-abbrev pub arrow : Side → List ℕ → List ℕ
-arrow User words = codes "-- " ++ (labelled words ++ codes ">")
-arrow Network words = codes "<-- " ++ labelled words
+-- the arrow from its sender to the other end; a line without a head if the sender is not known
+abbrev pub arrow : Option Side → List ℕ → List ℕ
+arrow (Some User) words = codes "-- " ++ (labelled words ++ codes ">")
+arrow (Some Network) words = codes "<-- " ++ labelled words
+arrow None words = codes "?- " ++ (labelled words ++ codes "?")
 
 -- the arrow of a frame that is lost: it ends before the other end
 abbrev pub lost_label : List ℕ → List ℕ
@@ -60,21 +61,24 @@ lost_arrow User words = codes "-- " ++ (lost_label words ++ codes "X          ")
 lost_arrow Network words = codes "          X-- " ++ lost_label words
 
 abbrev pub arrow_or_lost : Bool → Side → List ℕ → List ℕ
-arrow_or_lost false from words = arrow from words
+arrow_or_lost false from words = arrow (Some from) words
 arrow_or_lost true from words = lost_arrow from words
 
 -- the line of the octets that this side sent, and that arrive or are lost; beside it these words of
 -- both ends
 abbrev pub arrival_line : Bool → Side → List ℕ → List ℕ → List ℕ → List ℕ
 arrival_line is_lost from octets user network = ladder_line 0 [] [] user
-    (arrow_or_lost is_lost from (frame_words octets (frame_at from octets))) network
+    (arrow_or_lost is_lost from (frame_words (Some from) octets (reading_of (Some from) octets)))
+    network
 
--- the line of the octets that this side sent; beside it is what is known of both ends after it
-abbrev pub rung_line : LadderStyle → Packet → List ℕ → Side → List ℕ → Option Listening → List ℕ
+-- the line of octets, of this sender if it is known; beside it is what is known of both ends after
+-- it
+abbrev pub rung_line : LadderStyle → Packet → List ℕ → Option Side → List ℕ → Option Listening
+    → List ℕ
 rung_line style packet time from octets listening = ladder_line style.time_width
-    (decimal packet.number) time (known_words User (frame_at from octets) listening)
-    (arrow from (frame_words octets (frame_at from octets)))
-    (known_words Network (frame_at from octets) listening)
+    (decimal packet.number) time (known_words User (reading_of from octets) listening)
+    (arrow from (frame_words from octets (reading_of from octets)))
+    (known_words Network (reading_of from octets) listening)
 
 -- ---- The notes on a frame, each in a line of its own.
 
@@ -92,9 +96,11 @@ abbrev pub cut_line : ℕ → Bool → List ℕ
 cut_line width false = []
 cut_line width true = note_line width (codes "[cut]")
 
--- the message in the frame, without the space before it
-abbrev pub names_line : LadderStyle → Side → List ℕ → List ℕ
-names_line style from octets = if style.names
+-- the message in the frame, without the space before it; only I and UI frames have one, and their
+-- sender is known
+abbrev pub names_line : LadderStyle → Option Side → List ℕ → List ℕ
+names_line style None octets = []
+names_line style (Some from) octets = if style.names
     then line_of_words style.time_width (drop 1 (names_text from octets)) else []
 
 abbrev pub remark_line : ℕ → Option Remark → List ℕ
@@ -102,24 +108,20 @@ remark_line width None = []
 remark_line width (Some r) = note_line width (remark_words r)
 
 -- the remarks, in the order of their kinds
-abbrev pub first_remarks : ℕ → Remarks → List ℕ
-first_remarks width r = remark_line width r.establishment ++ (remark_line width r.ns
-    ++ (remark_line width r.window ++ remark_line width r.busy))
-
-abbrev pub last_remarks : ℕ → Remarks → List ℕ
-last_remarks width r = remark_line width r.nr ++ (remark_line width r.answer
-    ++ (remark_line width r.identity ++ remark_line width r.conflict))
+abbrev pub each_remark : Remarks → List (Option Remark)
+each_remark r = r.establishment ∷ r.ns ∷ r.window ∷ r.busy ∷ r.nr ∷ r.answer ∷ r.identity
+    ∷ r.conflict ∷ []
 
 abbrev pub remark_lines : ℕ → Option Remarks → List ℕ
 remark_lines width None = []
-remark_lines width (Some r) = first_remarks width r ++ last_remarks width r
+remark_lines width (Some r) = flat_map (remark_line width) (each_remark r)
 
-abbrev pub note_lines : LadderStyle → Packet → Side → List ℕ → Option Remarks → List ℕ
+abbrev pub note_lines : LadderStyle → Packet → Option Side → List ℕ → Option Remarks → List ℕ
 note_lines style packet from octets said = cut_line style.time_width packet.is_cut
     ++ (names_line style from octets ++ remark_lines style.time_width said)
 
--- all lines of the octets that this side sent
-abbrev pub frame_lines : LadderStyle → Packet → List ℕ → Side → List ℕ → Option Remarks
+-- all lines of octets, of this sender if it is known
+abbrev pub frame_lines : LadderStyle → Packet → List ℕ → Option Side → List ℕ → Option Remarks
     → Option Listening → List ℕ
 frame_lines style packet time from octets said listening =
     rung_line style packet time from octets listening

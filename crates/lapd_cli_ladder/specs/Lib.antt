@@ -1,4 +1,5 @@
 pub mod Columns
 pub mod Ladder
+pub mod Parts
 pub mod Picture
 pub mod Words

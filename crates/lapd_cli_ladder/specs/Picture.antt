@@ -1,17 +1,16 @@
--- A ladder as a picture (SVG 1.1). Its pages are below one another, 940 units wide and 1,000 high. The
--- user is a line at 310 units from the left, the network one at 810.
+-- A ladder as a picture (SVG 1.1). Its pages are below one another, 940 units wide and 1,000 high.
+-- The user is a line at 310 units from the left, the network one at 810.
 use Rattle.std.specs.Prelude.{ℕ, ◌+◌, ◌*◌, ◌/◌, ◌%◌, ◌==◌, if◌then◌else◌, Bool, true, false, List, [], ◌∷◌, ◌++◌, codes, drop, flat_map, Option, Some, None}
 use Rattle.std.specs.Fmt.{decimal}
 use Rattle.lapd_frame.specs.declared.Side.{Side}
 use Rattle.lapd_frame.specs.declared.Side.TheVariants.{Network, User}
-use Rattle.lapd_frame.specs.Reading.{frame_at}
 use Rattle.lapd_follow.specs.declared.remarks.Remarks.{Remarks}
 use Rattle.lapd_follow.specs.Listening.{Listening}
 use Rattle.lapd_follow.specs.Texts.{remarks_text}
 use Rattle.lapd_cli_render.specs.Names.{names_text}
 use Rattle.lapd_cli_render.specs.declared.Packet.{Packet}
 use Rattle.lapd_cli_ladder.specs.Columns.{shortened}
-use Rattle.lapd_cli_ladder.specs.Words.{frame_words, known_words}
+use Rattle.lapd_cli_ladder.specs.Words.{frame_words, known_words, reading_of}
 
 -- ---- Words.
 
@@ -38,16 +37,17 @@ abbrev pub cut_words : Bool → List ℕ
 cut_words false = []
 cut_words true = codes "[cut]"
 
-abbrev pub message_words : Bool → Side → List ℕ → List ℕ
-message_words false from octets = []
-message_words true from octets = drop 1 (names_text from octets)
+-- the message in the frame; only I and UI frames have one, and their sender is known
+abbrev pub message_words : Bool → Option Side → List ℕ → List ℕ
+message_words names None octets = []
+message_words names (Some from) octets = if names then drop 1 (names_text from octets) else []
 
 -- the remarks, without the semicolon before the first
 abbrev pub said_words : Option Remarks → List ℕ
 said_words None = []
 said_words (Some said) = drop 2 (remarks_text said)
 
-abbrev pub note_words : Bool → Packet → Side → List ℕ → Option Remarks → List ℕ
+abbrev pub note_words : Bool → Packet → Option Side → List ℕ → Option Remarks → List ℕ
 note_words names packet from octets said = joined (cut_words packet.is_cut)
     (joined (message_words names from octets) (said_words said))
 
@@ -60,12 +60,15 @@ unfoldable pub begin_frame : ℕ → List ℕ
 begin_frame place = begin_page (place / 25) ++ (codes "<g transform=\"translate(0 "
     ++ (decimal (place % 25 * 36 + 80) ++ codes ")\">"))
 
--- the arrow from its sender to the other end, over this part of the upright lines
-abbrev pub arrow_element : Side → List ℕ
-arrow_element User =
+-- the arrow from its sender to the other end, over this part of the upright lines; a line between
+-- two question marks if the sender is not known
+abbrev pub arrow_element : Option Side → List ℕ
+arrow_element (Some User) =
     codes "<path d=\"M310-20v36M810-20v36\"/><path d=\"M310 0H810\" marker-end=\"url(#head)\"/>"
-arrow_element Network =
+arrow_element (Some Network) =
     codes "<path d=\"M310-20v36M810-20v36\"/><path d=\"M810 0H310\" marker-end=\"url(#head)\"/>"
+arrow_element None =
+    codes "<path d=\"M310-20v36M810-20v36M326 0H794\"/><text x=\"315\" y=\"4\">?</text><text x=\"798\" y=\"4\">?</text>"
 
 -- the number of its packet
 unfoldable pub number_element : ℕ → List ℕ
@@ -75,37 +78,38 @@ number_element number = text_element (codes "x=\"60\" class=\"end\"") (decimal n
 unfoldable pub time_element : List ℕ → List ℕ
 time_element time = text_element (codes "x=\"190\" class=\"end\"") time
 
-unfoldable pub element_front : ℕ → Packet → List ℕ → Side → List ℕ
+unfoldable pub element_front : ℕ → Packet → List ℕ → Option Side → List ℕ
 element_front place packet time from = begin_frame place ++ (arrow_element from
     ++ (number_element packet.number ++ time_element time))
 
--- what is known of both ends
-unfoldable pub user_element : Side → List ℕ → Option Listening → List ℕ
-user_element from octets listening = text_element (codes "x=\"300\" class=\"end\"")
-    (known_words User (frame_at from octets) listening)
+-- the attributes of the words beside the upright line of this side
+abbrev pub end_attributes : Side → List ℕ
+end_attributes User = codes "x=\"300\" class=\"end\""
+end_attributes Network = codes "x=\"820\""
 
-unfoldable pub network_element : Side → List ℕ → Option Listening → List ℕ
-network_element from octets listening = text_element (codes "x=\"820\"")
-    (known_words Network (frame_at from octets) listening)
+-- what is known of the end of this side
+unfoldable pub end_element : Side → Option Side → List ℕ → Option Listening → List ℕ
+end_element side from octets listening = text_element (end_attributes side)
+    (known_words side (reading_of from octets) listening)
 
-unfoldable pub ends_elements : Side → List ℕ → Option Listening → List ℕ
+unfoldable pub ends_elements : Option Side → List ℕ → Option Listening → List ℕ
 ends_elements from octets listening =
-    user_element from octets listening ++ network_element from octets listening
+    end_element User from octets listening ++ end_element Network from octets listening
 
 -- its words, above the arrow
-unfoldable pub label_element : Side → List ℕ → List ℕ
+unfoldable pub label_element : Option Side → List ℕ → List ℕ
 label_element from octets = text_element (codes "x=\"560\" y=\"-5\" class=\"middle\"")
-    (shortened 66 (frame_words octets (frame_at from octets)))
+    (shortened 66 (frame_words from octets (reading_of from octets)))
 
 -- the notes on it, below the arrow
-unfoldable pub notes_element : Bool → Packet → Side → List ℕ → Option Remarks → List ℕ
+unfoldable pub notes_element : Bool → Packet → Option Side → List ℕ → Option Remarks → List ℕ
 notes_element names packet from octets said =
     text_element (codes "x=\"560\" y=\"12\" class=\"middle note\"")
     (shortened 110 (note_words names packet from octets said))
 
--- the octets that this side sent, after so many drawn frames, with what is known of both ends
--- after it
-abbrev pub frame_element : Bool → ℕ → Packet → List ℕ → Side → List ℕ → Option Remarks
+-- octets, of this sender if it is known, after so many drawn frames, with what is known of both
+-- ends after them
+abbrev pub frame_element : Bool → ℕ → Packet → List ℕ → Option Side → List ℕ → Option Remarks
     → Option Listening → List ℕ
 frame_element names place packet time from octets said listening =
     element_front place packet time from ++ (ends_elements from octets listening
@@ -131,8 +135,8 @@ page_element page = page_height page ++ page_border page
 abbrev pub page_before : ℕ → List ℕ
 page_before place = if place % 25 == 0 then page_element (place / 25) else []
 
--- the part of a picture for the octets that this side sent, after so many drawn frames
-abbrev pub picture_part : Bool → ℕ → Packet → List ℕ → Side → List ℕ → Option Remarks
+-- the part of a picture for octets, of this sender if it is known, after so many drawn frames
+abbrev pub picture_part : Bool → ℕ → Packet → List ℕ → Option Side → List ℕ → Option Remarks
     → Option Listening → List ℕ
 picture_part names place packet time from octets said listening = page_before place
     ++ frame_element names place packet time from octets said listening

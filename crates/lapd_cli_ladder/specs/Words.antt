@@ -1,12 +1,17 @@
 -- The words of a ladder: of a frame, of what is known of an end, and of the remarks on a frame.
-use Rattle.std.specs.Prelude.{ℕ, if◌then◌else◌, Bool, true, false, List, [], ◌∷◌, ◌++◌, codes, slice_get, Option, Some, None, is_some, Result, Ok, Err}
+use Rattle.std.specs.Prelude.{ℕ, if◌then◌else◌, Bool, true, false, List, [], ◌∷◌, ◌++◌, codes, slice_get, Option, Some, None, is_some, unwrap_or, Result, Ok, Err}
 use Rattle.std.specs.Fmt.{decimal}
+use Rattle.lapd_frame.specs.Control.{poll_final}
 use Rattle.lapd_frame.specs.declared.Side.{Side}
+use Rattle.lapd_frame.specs.declared.Side.TheVariants.{Network}
+use Rattle.lapd_frame.specs.declared.Role.{Role}
+use Rattle.lapd_frame.specs.declared.Control.{Control}
 use Rattle.lapd_frame.specs.declared.FrameFault.{FrameFault}
 use Rattle.lapd_frame.specs.Address.{sapi_value}
 use Rattle.lapd_frame.specs.Fault.{fault_name}
 use Rattle.lapd_frame.specs.Frame.{Fields}
-use Rattle.lapd_trace.specs.Trace.{control_text, octets_text}
+use Rattle.lapd_frame.specs.Reading.{frame_at}
+use Rattle.lapd_trace.specs.Trace.{octets_text, poll_text}
 use Rattle.lapd_follow.specs.declared.end.Busy.{Busy}
 use Rattle.lapd_follow.specs.declared.end.Busy.TheVariants.{Free, Reported, Answered}
 use Rattle.lapd_follow.specs.declared.numbering.Numbering.{Numbering}
@@ -19,18 +24,45 @@ use Rattle.lapd_follow.specs.Link.{LinkKnown, end_of}
 use Rattle.lapd_follow.specs.Listening.{Listening}
 use Rattle.lapd_follow.specs.Remarks.{class_of}
 use Rattle.lapd_follow.specs.Texts.{remark_text}
+use Rattle.lapd_cli_ladder.specs.Parts.{name_of, nr_of, ns_of}
 
 -- ---- A frame.
 
+-- octets of this sender. If it is not known, they are read as the network's: both sides read them
+-- alike but for the role.
+abbrev pub reading_of : Option Side → List ℕ → Result Fields FrameFault
+reading_of from octets = frame_at (unwrap_or from Network) octets
+
+-- the role is known if the sender is
+abbrev pub known_role : Option Side → Role → Option Role
+known_role None role = None
+known_role (Some from) role = Some role
+
+-- the P/F bit: P or F by its role, if this is known
+abbrev pub bit_words : Option Role → Bool → List ℕ
+bit_words None false = codes " P/F=0"
+bit_words None true = codes " P/F=1"
+bit_words (Some role) bit = poll_text role bit
+
+-- these words and a number, if there is one
+abbrev pub number_words : List ℕ → Option ℕ → List ℕ
+number_words words None = []
+number_words words (Some number) = words ++ decimal number
+
+-- a control field in a frame with this role
+abbrev pub control_words : Option Role → Control → List ℕ
+control_words role control = name_of control ++ (number_words (codes " N(S)=") (ns_of control)
+    ++ (number_words (codes " N(R)=") (nr_of control) ++ bit_words role (poll_final control)))
+
 -- its SAPI and TEI, and then as in a trace line
-abbrev pub fields_words : Fields → List ℕ
-fields_words f = decimal (sapi_value f.address.sapi) ++ (codes " " ++ (decimal f.address.tei
-    ++ (codes " " ++ (control_text f.address.role f.control ++ octets_text (codes " info=") f.info))))
+abbrev pub fields_words : Option Role → Fields → List ℕ
+fields_words role f = decimal (sapi_value f.address.sapi) ++ (codes " " ++ (decimal f.address.tei
+    ++ (codes " " ++ (control_words role f.control ++ octets_text (codes " info=") f.info))))
 
 -- octets that do not form a valid frame: their first fault, and the octets
-abbrev pub frame_words : List ℕ → Result Fields FrameFault → List ℕ
-frame_words octets (Ok f) = fields_words f
-frame_words octets (Err fault) = fault_name fault.kind ++ octets_text (codes " ") octets
+abbrev pub frame_words : Option Side → List ℕ → Result Fields FrameFault → List ℕ
+frame_words from octets (Ok f) = fields_words (known_role from f.address.role) f
+frame_words from octets (Err fault) = fault_name fault.kind ++ octets_text (codes " ") octets
 
 -- ---- An end of its link, as far as the frames up to this one show it.
 

@@ -7,7 +7,7 @@ ghost use Rattle.lapd_cli_ladder.specs.Ladder.{arrival_line, arrow, arrow_or_los
 
 use crate::columns::{push_filled, push_right, push_shortened};
 use crate::ends::known_words;
-use crate::words::frame_words;
+use crate::words::{frame_words, reading_of};
 use lapd_cli_render::Packet;
 use lapd_follow::Listener;
 use lapd_frame::Side;
@@ -69,8 +69,8 @@ fn time_heading(width: usize) -> &'static [u8]
     if width == 0 { b"" } else { b"time " }
 }
 
-/// Appends the line of the octets that `from` sent in this packet at this time. `listener` knows the
-/// ends of its link after it.
+/// Appends the line of the octets that `from` sent in this packet at this time, or that one of both
+/// sides sent if it is not known which. `listener` knows the ends of its link after it.
 ///
 /// # Errors
 ///
@@ -81,15 +81,15 @@ pub fn push_rung(
     style: LadderStyle,
     packet: Packet,
     time: &[u8],
-    from: Side,
+    from: Option<Side>,
     octets: &[u8],
     listener: &Option<Listener>,
 ) -> Result<(), AllocError>
     ensures { OnOk result (text.new.items ≡ text.old.items
         ++ rung_line style packet time.now from octets.now listener.now) }
 {
-    let frame = lapd_frame::read(octets, from);
-    let words = frame_words(alloc, octets, &frame)?;
+    let frame = reading_of(from, octets);
+    let words = frame_words(alloc, from, octets, &frame)?;
     let user = known_words(alloc, Side::User, &frame, listener)?;
     let network = known_words(alloc, Side::Network, &frame, listener)?;
     let number = number_words(alloc, packet.number)?;
@@ -106,8 +106,8 @@ pub fn push_rung(
     )
 }
 
-/// Appends the line of the octets that `from` sent, and that arrive or are lost, with these words of
-/// both ends.
+/// Appends the line of the octets that `from` sent, and that arrive or are lost, with these words
+/// of both ends.
 ///
 /// # Errors
 ///
@@ -124,8 +124,8 @@ pub fn push_arrival(
     ensures { OnOk result (text.new.items ≡ text.old.items
         ++ arrival_line is_lost from octets.now user.now network.now) }
 {
-    let frame = lapd_frame::read(octets, from);
-    let words = frame_words(alloc, octets, &frame)?;
+    let frame = reading_of(Some(from), octets);
+    let words = frame_words(alloc, Some(from), octets, &frame)?;
     let mut between = Vec::new(alloc);
     push_arrow_or_lost(alloc, &mut between, is_lost, from, words.as_bytes())?;
     push_line(text, 0, b"", b"", user, between.as_slice(), network)
@@ -145,7 +145,7 @@ fn push_arrow_or_lost(
     if is_lost {
         push_lost_arrow(alloc, text, from, words)
     } else {
-        push_arrow(alloc, text, from, words)
+        push_arrow(alloc, text, Some(from), words)
     }
 }
 
@@ -188,19 +188,29 @@ pub(crate) fn number_words(alloc: Global, number: u64) -> Result<String, AllocEr
     format!(in alloc; "{number}")
 }
 
-/// Appends the arrow of a frame with these words.
-fn push_arrow(alloc: Global, text: &mut Vec<u8>, from: Side, words: &[u8]) -> Result<(), AllocError>
+/// Appends the arrow of a frame with these words. It has no head if the sender is not known.
+fn push_arrow(
+    alloc: Global,
+    text: &mut Vec<u8>,
+    from: Option<Side>,
+    words: &[u8],
+) -> Result<(), AllocError>
     ensures { OnOk result (text.new.items ≡ text.old.items ++ arrow from words.now) }
 {
     match from {
-        Side::User => {
+        Some(Side::User) => {
             text.extend_from_slice(b"-- ")?;
             push_labelled(alloc, text, words)?;
             text.extend_from_slice(b">")
         }
-        Side::Network => {
+        Some(Side::Network) => {
             text.extend_from_slice(b"<-- ")?;
             push_labelled(alloc, text, words)
+        }
+        None => {
+            text.extend_from_slice(b"?- ")?;
+            push_labelled(alloc, text, words)?;
+            text.extend_from_slice(b"?")
         }
     }
 }

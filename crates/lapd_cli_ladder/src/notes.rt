@@ -1,9 +1,9 @@
 //! The lines below a frame.
 
-ghost use Rattle.std.specs.Prelude.{◌≡◌, ◌++◌, drop, IfOk, OnOk};
+ghost use Rattle.std.specs.Prelude.{◌≡◌, ◌++◌, Some, drop, flat_map, IfOk, OnOk};
 ghost use Rattle.std.specs.String.{string_bytes};
 ghost use Rattle.lapd_cli_render.specs.Names.{names_text};
-ghost use Rattle.lapd_cli_ladder.specs.Ladder.{cut_line, first_remarks, last_remarks, line_of_words, names_line, note_line, note_lines, remark_line, remark_lines};
+ghost use Rattle.lapd_cli_ladder.specs.Ladder.{cut_line, each_remark, line_of_words, names_line, note_line, note_lines, remark_line, remark_lines};
 ghost use Rattle.lapd_cli_ladder.specs.Words.{class_mark, remark_words};
 
 use crate::LadderStyle;
@@ -17,8 +17,8 @@ use std::alloc::{AllocError, Global};
 /// The columns of the words of a note.
 const NOTE_WIDTH: usize = 45;
 
-/// Appends the lines below that of the octets that `from` sent in this packet: a mark if the packet
-/// was cut, the name of the message if that is requested, and the remarks.
+/// Appends the lines below that of octets in this packet, of this sender if it is known: a mark if
+/// the packet was cut, the name of the message if that is requested, and the remarks.
 ///
 /// # Errors
 ///
@@ -28,7 +28,7 @@ pub fn push_notes(
     text: &mut Vec<u8>,
     style: LadderStyle,
     packet: Packet,
-    from: Side,
+    from: Option<Side>,
     octets: &[u8],
     said: &Option<Remarks>,
 ) -> Result<(), AllocError>
@@ -51,15 +51,33 @@ fn push_cut(alloc: Global, text: &mut Vec<u8>, width: usize, is_cut: bool) -> Re
     }
 }
 
-/// Appends the name of the message in a frame, if that is requested and there is one.
+/// Appends the name of the message in a frame, if that is requested and there is one. A frame whose
+/// sender is not known has none.
 fn push_message(
+    alloc: Global,
+    text: &mut Vec<u8>,
+    style: LadderStyle,
+    from: Option<Side>,
+    octets: &[u8],
+) -> Result<(), AllocError>
+    ensures { OnOk result (text.new.items ≡ text.old.items ++ names_line style from octets.now) }
+{
+    match from {
+        None => Ok(()),
+        Some(from) => push_message_of(alloc, text, style, from, octets),
+    }
+}
+
+/// Appends the name of the message in a frame of this sender, if that is requested.
+fn push_message_of(
     alloc: Global,
     text: &mut Vec<u8>,
     style: LadderStyle,
     from: Side,
     octets: &[u8],
 ) -> Result<(), AllocError>
-    ensures { OnOk result (text.new.items ≡ text.old.items ++ names_line style from octets.now) }
+    ensures { OnOk result (text.new.items
+        ≡ text.old.items ++ names_line style (Some from) octets.now) }
 {
     if !style.names {
         return Ok(());
@@ -110,41 +128,40 @@ fn push_remarks(
 {
     match said {
         None => Ok(()),
-        Some(said) => {
-            push_first_remarks(alloc, text, width, said)?;
-            push_last_remarks(alloc, text, width, said)
-        }
+        Some(said) => push_remark_lines(alloc, text, width, &each_remark(said)),
     }
 }
 
-/// Appends the remarks on establishment, N(S), the window and a busy end.
-fn push_first_remarks(
-    alloc: Global,
-    text: &mut Vec<u8>,
-    width: usize,
-    said: &Remarks,
-) -> Result<(), AllocError>
-    ensures { OnOk result (text.new.items ≡ text.old.items ++ first_remarks width said.now) }
+/// The remarks, in the order of their kinds.
+fn each_remark(said: &Remarks) -> [Option<Remark>; 8]
+    ensures { result ≡ each_remark said.now }
 {
-    push_remark(alloc, text, width, said.establishment)?;
-    push_remark(alloc, text, width, said.ns)?;
-    push_remark(alloc, text, width, said.window)?;
-    push_remark(alloc, text, width, said.busy)
+    [
+        said.establishment,
+        said.ns,
+        said.window,
+        said.busy,
+        said.nr,
+        said.answer,
+        said.identity,
+        said.conflict,
+    ]
 }
 
-/// Appends the remarks on N(R), an answer, and messages of TEI management.
-fn push_last_remarks(
+/// Appends the lines of these remarks.
+fn push_remark_lines(
     alloc: Global,
     text: &mut Vec<u8>,
     width: usize,
-    said: &Remarks,
+    remarks: &[Option<Remark>],
 ) -> Result<(), AllocError>
-    ensures { OnOk result (text.new.items ≡ text.old.items ++ last_remarks width said.now) }
+    ensures { OnOk result (text.new.items
+        ≡ text.old.items ++ flat_map (remark_line width) remarks.now) }
 {
-    push_remark(alloc, text, width, said.nr)?;
-    push_remark(alloc, text, width, said.answer)?;
-    push_remark(alloc, text, width, said.identity)?;
-    push_remark(alloc, text, width, said.conflict)
+    for remark in remarks {
+        push_remark(alloc, text, width, *remark)?;
+    }
+    Ok(())
 }
 
 /// Appends the line of a remark, if there is one.

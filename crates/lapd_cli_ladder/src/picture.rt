@@ -2,16 +2,15 @@
 
 ghost use Rattle.std.specs.Prelude.{◌≡◌, ◌++◌, ◌<◌, ◌^◌, IfOk, OnOk};
 ghost use Rattle.std.specs.Fmt.{decimal};
-ghost use Rattle.lapd_frame.specs.Reading.{frame_at};
 ghost use Rattle.lapd_cli_ladder.specs.Columns.{shortened};
-ghost use Rattle.lapd_cli_ladder.specs.Words.{frame_words, known_words};
-ghost use Rattle.lapd_cli_ladder.specs.Picture.{arrow_element, begin_frame, begin_page, element_front, ends_elements, escaped, escaped_octet, frame_element, label_element, network_element, notes_element, number_element, page_before, page_border, page_element, page_height, picture_part, text_element, time_element, user_element};
+ghost use Rattle.lapd_cli_ladder.specs.Words.{frame_words, known_words, reading_of};
+ghost use Rattle.lapd_cli_ladder.specs.Picture.{arrow_element, begin_frame, begin_page, element_front, end_attributes, end_element, ends_elements, escaped, escaped_octet, frame_element, label_element, notes_element, number_element, page_before, page_border, page_element, page_height, picture_part, text_element, time_element};
 
 use crate::columns::push_shortened;
 use crate::ends::known_words;
 use crate::ladder::number_words;
 use crate::picture_notes::push_note_words;
-use crate::words::frame_words;
+use crate::words::{frame_words, reading_of};
 use lapd_cli_render::Packet;
 use lapd_follow::{Listener, Remarks};
 use lapd_frame::Side;
@@ -43,8 +42,8 @@ pub const PICTURE_END: &str = "</svg>\n";
 const HEADINGS: &[u8] =
     b"<path d=\"M0 0H940V1000H0Z\" class=\"page\"/><text x=\"60\" y=\"40\" class=\"end\">packet</text><text x=\"190\" y=\"40\" class=\"end\">time</text><text x=\"310\" y=\"40\" class=\"middle\">user</text><text x=\"810\" y=\"40\" class=\"middle\">network</text><text x=\"470\" y=\"990\" class=\"middle\">";
 
-/// Appends the part of a picture for the octets that `from` sent in this packet at this time, as the
-/// frame of this place, from 0. `listener` knows the ends of its link after it.
+/// Appends the part of a picture for octets in this packet at this time, of this sender if it is
+/// known, as the frame of this place, from 0. `listener` knows the ends of its link after it.
 ///
 /// # Errors
 ///
@@ -56,7 +55,7 @@ pub fn push_picture_part(
     place: u64,
     packet: Packet,
     time: &[u8],
-    from: Side,
+    from: Option<Side>,
     octets: &[u8],
     said: &Option<Remarks>,
     listener: &Option<Listener>,
@@ -152,7 +151,7 @@ fn push_element(
     place: u64,
     packet: Packet,
     time: &[u8],
-    from: Side,
+    from: Option<Side>,
     octets: &[u8],
     said: &Option<Remarks>,
     listener: &Option<Listener>,
@@ -175,7 +174,7 @@ fn push_element_front(
     place: u64,
     packet: Packet,
     time: &[u8],
-    from: Side,
+    from: Option<Side>,
 ) -> Result<(), AllocError>
     ensures { OnOk result (text.new.items
         ≡ text.old.items ++ element_front place packet time.now from) }
@@ -191,15 +190,15 @@ fn push_element_front(
 fn push_ends(
     alloc: Global,
     text: &mut Vec<u8>,
-    from: Side,
+    from: Option<Side>,
     octets: &[u8],
     listener: &Option<Listener>,
 ) -> Result<(), AllocError>
     ensures { OnOk result (text.new.items
         ≡ text.old.items ++ ends_elements from octets.now listener.now) }
 {
-    push_user_element(alloc, text, from, octets, listener)?;
-    push_network_element(alloc, text, from, octets, listener)
+    push_end(alloc, text, Side::User, from, octets, listener)?;
+    push_end(alloc, text, Side::Network, from, octets, listener)
 }
 
 /// Appends the number of a packet.
@@ -219,77 +218,41 @@ fn push_time_element(text: &mut Vec<u8>, time: &[u8]) -> Result<(), AllocError>
     push_text(text, b"x=\"190\" class=\"end\"", time)
 }
 
-/// Appends the words of the user's end.
-#[tactic(auto, unfolding(crate::specs::Picture::user_element))]
-fn push_user_element(
-    alloc: Global,
-    text: &mut Vec<u8>,
-    from: Side,
-    octets: &[u8],
-    listener: &Option<Listener>,
-) -> Result<(), AllocError>
-    ensures { OnOk result (text.new.items
-        ≡ text.old.items ++ user_element from octets.now listener.now) }
-{
-    push_end(
-        alloc,
-        text,
-        b"x=\"300\" class=\"end\"",
-        Side::User,
-        from,
-        octets,
-        listener,
-    )
-}
-
-/// Appends the words of the network's end.
-#[tactic(auto, unfolding(crate::specs::Picture::network_element))]
-fn push_network_element(
-    alloc: Global,
-    text: &mut Vec<u8>,
-    from: Side,
-    octets: &[u8],
-    listener: &Option<Listener>,
-) -> Result<(), AllocError>
-    ensures { OnOk result (text.new.items
-        ≡ text.old.items ++ network_element from octets.now listener.now) }
-{
-    push_end(
-        alloc,
-        text,
-        b"x=\"820\"",
-        Side::Network,
-        from,
-        octets,
-        listener,
-    )
-}
-
-/// Appends the words of the end of this side, in an element with these attributes.
+/// Appends the words of the end of this side.
+#[tactic(auto, unfolding(crate::specs::Picture::end_element))]
 fn push_end(
     alloc: Global,
     text: &mut Vec<u8>,
-    attributes: &[u8],
     side: Side,
-    from: Side,
+    from: Option<Side>,
     octets: &[u8],
     listener: &Option<Listener>,
 ) -> Result<(), AllocError>
-    ensures { OnOk result (text.new.items ≡ text.old.items ++ text_element attributes.now
-        (known_words side (frame_at from octets.now) listener.now)) }
+    ensures { OnOk result (text.new.items
+        ≡ text.old.items ++ end_element side from octets.now listener.now) }
 {
-    let frame = lapd_frame::read(octets, from);
+    let frame = reading_of(from, octets);
     let words = known_words(alloc, side, &frame, listener)?;
-    push_text(text, attributes, words.as_bytes())
+    push_text(text, end_attributes(side), words.as_bytes())
+}
+
+/// The attributes of the words beside the upright line of this side.
+fn end_attributes(side: Side) -> &'static [u8]
+    ensures { result.now ≡ end_attributes side }
+{
+    match side {
+        Side::User => b"x=\"300\" class=\"end\"",
+        Side::Network => b"x=\"820\"",
+    }
 }
 
 /// The words above an arrow.
-fn label_words(alloc: Global, from: Side, octets: &[u8]) -> Result<Vec<u8>, AllocError>
+fn label_words(alloc: Global, from: Option<Side>, octets: &[u8]) -> Result<Vec<u8>, AllocError>
     ensures { IfOk result (λ label. label.items
-        ≡ shortened 66 (frame_words octets.now (frame_at from octets.now))) }
+        ≡ shortened 66 (frame_words from octets.now (reading_of from octets.now))) }
 {
-    let frame = lapd_frame::read(octets, from);
-    let words = frame_words(alloc, octets, &frame)?;
+    let frame = reading_of(from, octets);
+    let words = frame_words(alloc, from, octets, &frame)?;
     let mut label = Vec::new(alloc);
     push_shortened(&mut label, MOST_WORDS, words.as_bytes())?;
     Ok(label)
@@ -300,7 +263,7 @@ fn label_words(alloc: Global, from: Side, octets: &[u8]) -> Result<Vec<u8>, Allo
 fn push_label(
     alloc: Global,
     text: &mut Vec<u8>,
-    from: Side,
+    from: Option<Side>,
     octets: &[u8],
 ) -> Result<(), AllocError>
     ensures { OnOk result (text.new.items ≡ text.old.items ++ label_element from octets.now) }
@@ -320,7 +283,7 @@ fn push_element_notes(
     text: &mut Vec<u8>,
     names: bool,
     packet: Packet,
-    from: Side,
+    from: Option<Side>,
     octets: &[u8],
     said: &Option<Remarks>,
 ) -> Result<(), AllocError>
@@ -338,16 +301,19 @@ fn push_element_notes(
     )
 }
 
-/// The arrow of a frame that this side sent.
-fn arrow_element(from: Side) -> &'static [u8]
+/// The arrow of a frame that this side sent. It has no head if the sender is not known.
+fn arrow_element(from: Option<Side>) -> &'static [u8]
     ensures { result.now ≡ arrow_element from }
 {
     match from {
-        Side::User => {
+        Some(Side::User) => {
             b"<path d=\"M310-20v36M810-20v36\"/><path d=\"M310 0H810\" marker-end=\"url(#head)\"/>"
         }
-        Side::Network => {
+        Some(Side::Network) => {
             b"<path d=\"M310-20v36M810-20v36\"/><path d=\"M810 0H310\" marker-end=\"url(#head)\"/>"
+        }
+        None => {
+            b"<path d=\"M310-20v36M810-20v36M326 0H794\"/><text x=\"315\" y=\"4\">?</text><text x=\"798\" y=\"4\">?</text>"
         }
     }
 }

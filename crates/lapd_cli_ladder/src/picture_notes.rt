@@ -1,6 +1,6 @@
 //! The words below an arrow of a picture.
 
-ghost use Rattle.std.specs.Prelude.{◌≡◌, ◌++◌, drop, IfOk, OnOk};
+ghost use Rattle.std.specs.Prelude.{◌≡◌, ◌++◌, Some, drop, IfOk, OnOk};
 ghost use Rattle.std.specs.String.{string_bytes};
 ghost use Rattle.lapd_cli_render.specs.Names.{names_text};
 ghost use Rattle.lapd_cli_ladder.specs.Picture.{cut_words, joined, message_words, note_words, said_words};
@@ -11,13 +11,13 @@ use lapd_follow::Remarks;
 use lapd_frame::Side;
 use std::alloc::{AllocError, Global};
 
-/// Appends the notes on the octets that `from` sent in this packet.
+/// Appends the notes on octets in this packet, of this sender if it is known.
 pub(crate) fn push_note_words(
     alloc: Global,
     text: &mut Vec<u8>,
     names: bool,
     packet: Packet,
-    from: Side,
+    from: Option<Side>,
     octets: &[u8],
     said: &Option<Remarks>,
 ) -> Result<(), AllocError>
@@ -49,14 +49,30 @@ fn cut_words(is_cut: bool) -> &'static [u8]
     if is_cut { b"[cut]" } else { b"" }
 }
 
-/// The name of the message in a frame, if that is requested and there is one.
+/// The name of the message in a frame, if that is requested and there is one. A frame whose sender
+/// is not known has none.
 fn message_words(
+    alloc: Global,
+    names: bool,
+    from: Option<Side>,
+    octets: &[u8],
+) -> Result<Vec<u8>, AllocError>
+    ensures { IfOk result (λ text. text.items ≡ message_words names from octets.now) }
+{
+    match from {
+        None => Ok(Vec::new(alloc)),
+        Some(from) => message_words_of(alloc, names, from, octets),
+    }
+}
+
+/// The name of the message in a frame of this sender, if that is requested.
+fn message_words_of(
     alloc: Global,
     names: bool,
     from: Side,
     octets: &[u8],
 ) -> Result<Vec<u8>, AllocError>
-    ensures { IfOk result (λ text. text.items ≡ message_words names from octets.now) }
+    ensures { IfOk result (λ text. text.items ≡ message_words names (Some from) octets.now) }
 {
     let mut text = Vec::new(alloc);
     if names {

@@ -4,38 +4,49 @@ ghost use Rattle.std.specs.Prelude.{◌≡◌, ◌++◌, codes, IfOk, OnOk};
 ghost use Rattle.std.specs.Fmt.{decimal};
 ghost use Rattle.std.specs.String.{string_bytes};
 ghost use Rattle.lapd_frame.specs.Address.{sapi_value};
-ghost use Rattle.lapd_frame.specs.Reading.{frame_at};
-ghost use Rattle.lapd_trace.specs.Trace.{control_text, poll_text};
-ghost use Rattle.lapd_cli_ladder.specs.Words.{fields_words, frame_words};
+ghost use Rattle.lapd_cli_ladder.specs.Words.{bit_words, control_words, fields_words, frame_words, known_role, number_words, reading_of};
 
-use lapd_frame::{Address, Control, Frame, FrameFault, Number, Role};
+use crate::parts::{name_of, nr_of, ns_of};
+use lapd_frame::{Address, Control, Frame, FrameFault, Number, Role, Side};
 use lapd_trace::push_octets;
 use std::alloc::{AllocError, Global};
 
-/// The words of these octets, which [`lapd_frame::read`] read as this frame or fault.
+/// Reads octets that `from` sent. If the sender is not known, they are read as the network's.
+pub(crate) fn reading_of(from: Option<Side>, octets: &[u8]) -> Result<Frame<'_>, FrameFault>
+    ensures { result ≡ reading_of from octets.now }
+{
+    lapd_frame::read(octets, from.unwrap_or(Side::Network))
+}
+
+/// The words of these octets of `from`, which [`reading_of`] read as this frame or fault.
 pub(crate) fn frame_words(
     alloc: Global,
+    from: Option<Side>,
     octets: &[u8],
     frame: &Result<Frame<'_>, FrameFault>,
 ) -> Result<String, AllocError>
-    ensures { IfOk result (λ text. string_bytes text ≡ frame_words octets.now frame.now) }
+    ensures { IfOk result (λ text. string_bytes text ≡ frame_words from octets.now frame.now) }
 {
     let mut text = String::new(alloc);
-    push_words(alloc, &mut text, octets, frame)?;
+    push_words(alloc, &mut text, from, octets, frame)?;
     Ok(text)
 }
 
 fn push_words(
     alloc: Global,
     text: &mut String,
+    from: Option<Side>,
     octets: &[u8],
     frame: &Result<Frame<'_>, FrameFault>,
 ) -> Result<(), AllocError>
     ensures { OnOk result (string_bytes text.new
-        ≡ string_bytes text.old ++ frame_words octets.now frame.now) }
+        ≡ string_bytes text.old ++ frame_words from octets.now frame.now) }
 {
     match frame {
-        Ok(frame) => push_fields(alloc, text, frame),
+        Ok(frame) => {
+            let role = known_role(from, frame.address().role);
+            push_fields(alloc, text, role, frame)
+        }
         Err(fault) => {
             text.push_str(fault.kind.name())?;
             push_octets(alloc, text, " ", octets)
@@ -43,14 +54,28 @@ fn push_words(
     }
 }
 
-/// Appends the address, the control field and the information.
-fn push_fields(alloc: Global, text: &mut String, frame: &Frame<'_>) -> Result<(), AllocError>
-    ensures { OnOk result (string_bytes text.new
-        ≡ string_bytes text.old ++ fields_words frame.now) }
+/// The role, if the sender is known.
+pub fn known_role(from: Option<Side>, role: Role) -> Option<Role>
+    ensures { result ≡ known_role from role }
 {
-    let address = frame.address();
-    push_address(text, &address)?;
-    push_control(text, address.role, frame.control())?;
+    match from {
+        None => None,
+        Some(_) => Some(role),
+    }
+}
+
+/// Appends the address, the control field and the information of a frame with this role.
+fn push_fields(
+    alloc: Global,
+    text: &mut String,
+    role: Option<Role>,
+    frame: &Frame<'_>,
+) -> Result<(), AllocError>
+    ensures { OnOk result (string_bytes text.new
+        ≡ string_bytes text.old ++ fields_words role frame.now) }
+{
+    push_address(text, &frame.address())?;
+    push_control(text, role, frame.control())?;
     push_octets(alloc, text, " info=", frame.info())
 }
 
@@ -65,60 +90,49 @@ fn push_address(text: &mut String, address: &Address) -> Result<(), AllocError>
     write!(text, "{sapi} {tei} ")
 }
 
-/// Appends the name of the frame, its sequence numbers and its P/F bit.
-fn push_control(text: &mut String, role: Role, control: Control) -> Result<(), AllocError>
+/// Appends the name of a frame with this role, its sequence numbers and its P/F bit.
+///
+/// # Errors
+///
+/// `AllocError` if an allocation fails. A part of the words may have been appended.
+pub fn push_control(
+    text: &mut String,
+    role: Option<Role>,
+    control: Control,
+) -> Result<(), AllocError>
     ensures { OnOk result (string_bytes text.new
-        ≡ string_bytes text.old ++ control_text role control) }
+        ≡ string_bytes text.old ++ control_words role control) }
 {
-    match control {
-        Control::I { ns, nr, p } => {
-            push_numbered(text, "I N(S)=", ns, " N(R)=")?;
-            push_numbered(text, "", nr, poll_name(role, p))
+    text.push_str(name_of(control))?;
+    push_number(text, " N(S)=", ns_of(control))?;
+    push_number(text, " N(R)=", nr_of(control))?;
+    text.push_str(bit_words(role, control.poll_final()))
+}
+
+/// Appends words and a number, if there is one.
+fn push_number(text: &mut String, words: &str, number: Option<Number>) -> Result<(), AllocError>
+    ensures { OnOk result (string_bytes text.new
+        ≡ string_bytes text.old ++ number_words words.now number) }
+{
+    match number {
+        None => Ok(()),
+        Some(number) => {
+            let value = number.value();
+            write!(text, "{words}{value}")
         }
-        Control::Rr { nr, pf } => push_numbered(text, "RR N(R)=", nr, poll_name(role, pf)),
-        Control::Rnr { nr, pf } => push_numbered(text, "RNR N(R)=", nr, poll_name(role, pf)),
-        Control::Rej { nr, pf } => push_numbered(text, "REJ N(R)=", nr, poll_name(role, pf)),
-        Control::Sabme { p } => push_unnumbered(text, "SABME", poll_name(role, p)),
-        Control::Dm { f } => push_unnumbered(text, "DM", poll_name(role, f)),
-        Control::Ui { p } => push_unnumbered(text, "UI", poll_name(role, p)),
-        Control::Disc { p } => push_unnumbered(text, "DISC", poll_name(role, p)),
-        Control::Ua { f } => push_unnumbered(text, "UA", poll_name(role, f)),
-        Control::Frmr { f } => push_unnumbered(text, "FRMR", poll_name(role, f)),
-        Control::Xid { pf } => push_unnumbered(text, "XID", poll_name(role, pf)),
     }
 }
 
-/// Appends words, a sequence number, and words.
-fn push_numbered(
-    text: &mut String,
-    front: &str,
-    number: Number,
-    back: &str,
-) -> Result<(), AllocError>
-    ensures { OnOk result (string_bytes text.new
-        ≡ string_bytes text.old ++ (front.now ++ (decimal number ++ back.now))) }
-{
-    let number = number.value();
-    write!(text, "{front}{number}{back}")
-}
-
-/// Appends the name of an unnumbered frame and its P/F bit.
-fn push_unnumbered(text: &mut String, name: &str, poll: &str) -> Result<(), AllocError>
-    ensures { OnOk result (string_bytes text.new
-        ≡ string_bytes text.old ++ (name.now ++ poll.now)) }
-{
-    text.push_str(name)?;
-    text.push_str(poll)
-}
-
-/// The P bit of a command, the F bit of a response.
-fn poll_name(role: Role, bit: bool) -> &'static str
-    ensures { result.now ≡ poll_text role bit }
+/// The P bit of a command, the F bit of a response; the P/F bit if the role is not known.
+fn bit_words(role: Option<Role>, bit: bool) -> &'static str
+    ensures { result.now ≡ bit_words role bit }
 {
     match (role, bit) {
-        (Role::Command, false) => " P=0",
-        (Role::Command, true) => " P=1",
-        (Role::Answer, false) => " F=0",
-        (Role::Answer, true) => " F=1",
+        (None, false) => " P/F=0",
+        (None, true) => " P/F=1",
+        (Some(Role::Command), false) => " P=0",
+        (Some(Role::Command), true) => " P=1",
+        (Some(Role::Answer), false) => " F=0",
+        (Some(Role::Answer), true) => " F=1",
     }
 }

@@ -4,3 +4,5 @@ mod Refusals
 mod Settling
 mod Crossed
 mod Loops
+mod Drawings
+mod NotedLines

@@ -8,6 +8,8 @@ pub mod LoopState
 pub mod Moves
 pub mod Outputs
 pub mod Pair
+pub mod PairLadder
+pub mod RepresentsLadder
 pub mod RepresentsWorld
 pub mod Session
 pub mod PrintedOutput

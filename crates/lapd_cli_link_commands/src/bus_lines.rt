@@ -40,6 +40,7 @@ pub fn mover(m: &BusMove) -> Option<usize>
         | BusMove::HearUp(_)
         | BusMove::DropUp(_)
         | BusMove::Check(_)
+        | BusMove::Remove(_)
         | BusMove::T201 => None,
     }
 }

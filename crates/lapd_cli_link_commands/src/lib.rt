@@ -5,7 +5,8 @@
 //!   specs/Answer.antt, which has a row for each word.
 //! - [`pair`] executes a script of moves on two ends and the line between them: `move_named` in
 //!   specs/Moves.antt has a row for each word, and `pair_step` in specs/Pair.antt one each for
-//!   `settle` and `recover`. [`Mover`] makes the moves alone.
+//!   `settle` and `recover`. [`Mover`] makes the moves alone, and [`draw_pair`] draws them: an arrow
+//!   for each frame that arrives or is lost (`drawn_step` in specs/PairLadder.antt).
 //! - [`loop_over`] is the command `loop`: two ends whose frames are sent through a port and must be
 //!   received from it unchanged (`loop_step` in specs/LoopState.antt).
 //! - [`bus`] executes a script of moves on several terminals without a fixed TEI and the network
@@ -23,9 +24,12 @@ mod looper;
 mod move_lines;
 mod mover;
 mod moves;
+mod notes;
 mod outputs;
+mod pair_ladder;
 mod printed_output;
 mod settler;
+mod taken;
 mod words;
 
 pub use answerer::{Answerer, answer};
@@ -35,4 +39,5 @@ pub use lapd_link::{Link, Params, Side};
 pub use lapd_pair::Pair;
 pub use looper::loop_over;
 pub use mover::Mover;
+pub use pair_ladder::draw_pair;
 pub use settler::pair;

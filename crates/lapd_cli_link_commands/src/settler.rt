@@ -16,8 +16,8 @@ use std::io::{Read, Write};
 
 /// Two ends that also execute the words `settle` and `recover`.
 #[derive(Drop)]
-struct Settler {
-    mover: Mover,
+pub(crate) struct Settler {
+    pub(crate) mover: Mover,
 }
 
 /// Executes a script of moves on two ends of SAPI 0 and TEI 64, with these parameters. Writes a

@@ -21,8 +21,8 @@ use Rattle.lapd_cli_outside.specs.declared.outside.Sending.{Sending}
 use Rattle.lapd_cli_outside.specs.declared.outside.Sending.TheVariants as sending
 use Rattle.lapd_cli_live.specs.declared.style.Style.{Style}
 
--- Lines have this moment from here on. A frame is received, sent, or lost on purpose. A primitive is
--- passed to layer 3. A line consists of a name and a text, or of words and numbers.
+-- Lines have this moment from here on. A frame is received, sent, or lost on purpose. A primitive
+-- is passed to layer 3. A line consists of a name and a text, or of words and numbers.
 pub data Entry : Type 0 where
   Dated : (now : ℕ) → Entry
   Received : (frame : List ℕ) → Entry

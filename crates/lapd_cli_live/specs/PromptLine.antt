@@ -36,9 +36,9 @@ pub record HasAllThatArrived (arrivals : List Arrival) (s : LiveState) : Type 0 
   pub are : s.io_events ≡ Some io_events
   pub received : frames_received io_events ≡ arrived_by (moment_of s) arrivals
 
--- A side that catches up expires timers for a moment only after every frame that had arrived by that
--- moment was received, and so also the response that a timer waits for; or if as many frames arrived
--- at once as a step receives.
+-- A side that catches up expires timers for a moment only after every frame that had arrived by
+-- that moment was received, and so also the response that a timer waits for; or if as many frames
+-- arrived at once as a step receives.
 pub record ExpiresInTime (arrivals : List Arrival) (until : Until) (a b : LiveState) : Type 0 where
   pub received : LiveState
   pub receives : Receives until a received

@@ -89,7 +89,8 @@ pub record PutsManagement (a b : LiveState) : Type 0 where
   pub have : HasTimers a.side None timers
   pub prints : HappenBeside (management_events timers (moment_of a)) a b
 
--- `state`: the line of each link that the side has, by rising SAPI and then TEI, and that of TEI management
+-- `state`: the line of each link that the side has, by rising SAPI and then TEI, and that of TEI
+-- management
 pub record StatesAll (a b : LiveState) : Type 0 where
   pub ready : LiveState
   pub catches_up : CatchesUp until.End a ready

@@ -98,16 +98,18 @@ pub(crate) enum TypedAction {
     Obey,
 }
 
-/// Runs a side on a script, also while it waits for the next line. It executes each line once and in
-/// order, and skips empty lines and comments. The script stops at the first line that is not a line
-/// of the side, and at an `expect` whose line is not printed in time. With `serve_on` the side runs
-/// on after the script, until the connection is closed. Returns the side.
+/// Runs a side on a script, also while it waits for the next line. It executes each line once and
+/// in order, and skips empty lines and comments. The script stops at the first line that is not a
+/// line of the side, and at an `expect` whose line is not printed in time. With `serve_on` the side
+/// runs on after the script, until the connection is closed. Returns the side.
 ///
-/// If the octets of the script are known, as in memory, `Ok` means that all its lines were executed.
+/// If the octets of the script are known, as in memory, `Ok` means that all its lines were
+/// executed.
 ///
 /// # Errors
 ///
-/// `BadLine` at the first line that is not a line of the side, `Unmet`, `Device`, `Memory` and `Port`.
+/// `BadLine` at the first line that is not a line of the side, `Unmet`, `Device`, `Memory` and
+/// `Port`.
 pub fn live_script<R: Read, O: Outside, W: Write>(
     alloc: Global,
     mut live: LiveSide<O, W>,
@@ -122,11 +124,11 @@ pub fn live_script<R: Read, O: Outside, W: Write>(
     (ended, live)
 }
 
-/// Runs a side on typed lines, until the connection is closed or the lines end. It executes each line
-/// once it is complete, in order, like a line of a script. It reports a line that is not a line of
-/// the side, and continues, as it does after an `expect` in vain. `help` lists the lines, and `quit`
-/// and `exit` end the session. With `serve_on` the side runs on after the last line, until the
-/// connection is closed. Returns the side.
+/// Runs a side on typed lines, until the connection is closed or the lines end. It executes each
+/// line once it is complete, in order, like a line of a script. It reports a line that is not a
+/// line of the side, and continues, as it does after an `expect` in vain. `help` lists the lines,
+/// and `quit` and `exit` end the session. With `serve_on` the side runs on after the last line,
+/// until the connection is closed. Returns the side.
 ///
 /// If the octets of the lines are known, as in memory, `Ok` means that all lines were executed, or
 /// those before `quit`, or those that were typed before the connection was closed.

@@ -1,15 +1,16 @@
 //! A side served in real time: what `net` and `user` do with the real clock.
 //!
-//! A [`LiveSide`] is a side with its surroundings, an implementation of [`Outside`]: connections and
-//! a clock, or a line in memory. [`LiveSide::serve`] runs it step by step. A step receives every
-//! frame that has arrived, then expires every timer that is due, and then waits once, until the next
-//! deadline. So no timer expires if its response has arrived: *before you expire timers for a
-//! moment, pass in every frame that had arrived by then.* specs/Steps.antt defines a step, and
-//! specs/Entries.antt what is printed and counted.
+//! A [`LiveSide`] is a side with its surroundings, an implementation of [`Outside`]: connections
+//! and a clock, or a line in memory. [`LiveSide::serve`] runs it step by step. A step receives
+//! every frame that has arrived, then expires every timer that is due, and then waits once, until
+//! the next deadline. So no timer expires if its response has arrived: *before you expire timers
+//! for a moment, pass in every frame that had arrived by then.* specs/Steps.antt defines a step,
+//! and specs/Entries.antt what is printed and counted.
 //!
-//! [`live_script`] runs a side on a script, and [`live_session`] on typed lines. specs/Sessions.antt
-//! defines which lines are executed, in which order, and what ends them. A [`Tapped`] line passes
-//! each frame to a [`Tap`], and an [`Impaired`] line loses and delays frames on purpose.
+//! [`live_script`] runs a side on a script, and [`live_session`] on typed lines.
+//! specs/Sessions.antt defines which lines are executed, in which order, and what ends them. A
+//! [`Tapped`] line passes each frame to a [`Tap`], and an [`Impaired`] line loses and delays frames
+//! on purpose.
 #![tactic(auto)]
 
 mod fault;

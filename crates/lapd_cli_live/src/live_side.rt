@@ -13,12 +13,11 @@ ghost use Rattle.lapd_cli_live.specs.Steps.{end_by_wait as end_of_wait, ended_by
 use crate::fault::LiveFault;
 use crate::printer::Printer;
 use crate::service::{EndReason, Service, Until};
-use arrayvec::ArrayVec;
 use lapd_cli_outside::{Lines, Outside, Woken, is_reached};
 use lapd_cli_script::LineFault;
 use lapd_frame::{Frame, FrameFault, Side, read};
 use lapd_port::{MOST_OCTETS, PortFault};
-use lapd_sides::{Acts, EitherSide, LinkId, Primitive, Request};
+use lapd_sides::{Acts, EitherSide, FrameOctets, LinkId, Primitive, Request};
 use lapd_timers::earlier;
 use std::alloc::Global;
 use std::io::Write;
@@ -289,7 +288,7 @@ fn report_discarded<O: Outside>(
 /// Sends these frames, and prints each once it is sent.
 fn send_all<O: Outside, W: Write>(
     own: Side,
-    frames: &[ArrayVec<u8, MOST_OCTETS>],
+    frames: &[FrameOctets],
     outside: &mut O,
     printer: &mut Printer<W>,
 ) -> Result<(), LiveFault>

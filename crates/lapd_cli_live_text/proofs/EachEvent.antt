@@ -19,7 +19,7 @@ use Rattle.lapd_cli_live_text.specs.declared.stats.Stats.{Stats}
 use Rattle.lapd_cli_live_text.specs.declared.traffic.Traffic.{Traffic}
 use Rattle.lapd_cli_live_text.specs.FrameKinds.{kind_of, kind_place}
 use Rattle.lapd_cli_live_text.specs.Histories.{CountsEvents, CountsFrames, StatsEvent, Sent, Received, Delivered, received_in, reports_in, sent_in, stats_after}
-use Rattle.lapd_cli_live_text.specs.Stats.{after_received, after_received_control, after_sent, after_sent_control, counted, letter_place, link_place, no_traffic, nothing_counted, numbered, received_counted, sent_counted, primitive_counted, up_to_most}
+use Rattle.lapd_cli_live_text.specs.Stats.{after_sent, after_sent_control, counted, letter_place, link_place, no_traffic, nothing_counted, numbered, received_counted, sent_counted, primitive_counted, up_to_most}
 use Rattle.lapd_cli_live_text.proofs.Tallies.{Fits, few, more, tally, tally_at, tally_sum}
 
 -- ---- Frames of one sender.
@@ -100,20 +100,13 @@ preserves_numbered place ns stats = preserves_either _ stats _ _ (record { sent 
 
 preserves_sent_control : (c : Control) (place : ℕ) (stats : Stats) → PreservesCounts stats (after_sent_control c place stats)
 preserves_sent_control (control.I ns nr p) place stats = preserves_numbered place ns stats
+preserves_sent_control (control.Sabme p) place stats = record { sent = refl; received = refl; reports = refl }
 preserves_sent_control (control.Ua f) place stats = record { sent = refl; received = refl; reports = refl }
 preserves_sent_control other place stats = record { sent = refl; received = refl; reports = refl }
 
 preserves_sent : (frame : Result Fields FrameFault) (stats : Stats) → PreservesCounts stats (after_sent frame stats)
 preserves_sent (Ok frame) stats = preserves_sent_control frame.control (link_place frame.address) stats
 preserves_sent (Err fault) stats = record { sent = refl; received = refl; reports = refl }
-
-preserves_received_control : (c : Control) (place : ℕ) (stats : Stats) → PreservesCounts stats (after_received_control c place stats)
-preserves_received_control (control.Ua f) place stats = record { sent = refl; received = refl; reports = refl }
-preserves_received_control other place stats = record { sent = refl; received = refl; reports = refl }
-
-preserves_received : (frame : Result Fields FrameFault) (stats : Stats) → PreservesCounts stats (after_received frame stats)
-preserves_received (Ok frame) stats = preserves_received_control frame.control (link_place frame.address) stats
-preserves_received (Err fault) stats = record { sent = refl; received = refl; reports = refl }
 
 -- ---- The three parts of the counts over a history.
 
@@ -123,7 +116,6 @@ sent_after own [] stats = refl
 sent_after own (Sent octets ∷ events) stats = sent_after own events (sent_counted stats own octets)
     ∙ ap (traffic_after own (sent_in events)) (preserves_sent (frame_at own octets) _).sent
 sent_after own (Received octets ∷ events) stats = sent_after own events (received_counted stats (other_side own) octets)
-    ∙ ap (traffic_after own (sent_in events)) (preserves_received (frame_at (other_side own) octets) _).sent
 sent_after own (Delivered (Of id (what.Report letter)) ∷ events) stats = sent_after own events (primitive_counted stats (Of id (what.Report letter)))
 sent_after own (Delivered primitive ∷ events) stats = sent_after own events stats
 
@@ -134,7 +126,6 @@ received_after own [] stats = refl
 received_after own (Sent octets ∷ events) stats = received_after own events (sent_counted stats own octets)
     ∙ ap (traffic_after (other_side own) (received_in events)) (preserves_sent (frame_at own octets) _).received
 received_after own (Received octets ∷ events) stats = received_after own events (received_counted stats (other_side own) octets)
-    ∙ ap (traffic_after (other_side own) (received_in events)) (preserves_received (frame_at (other_side own) octets) _).received
 received_after own (Delivered (Of id (what.Report letter)) ∷ events) stats = received_after own events (primitive_counted stats (Of id (what.Report letter)))
 received_after own (Delivered primitive ∷ events) stats = received_after own events stats
 
@@ -144,7 +135,6 @@ reports_after own [] stats = refl
 reports_after own (Sent octets ∷ events) stats = reports_after own events (sent_counted stats own octets)
     ∙ ap (tally letter_place (reports_in events)) (preserves_sent (frame_at own octets) _).reports
 reports_after own (Received octets ∷ events) stats = reports_after own events (received_counted stats (other_side own) octets)
-    ∙ ap (tally letter_place (reports_in events)) (preserves_received (frame_at (other_side own) octets) _).reports
 reports_after own (Delivered (Of id (what.Report letter)) ∷ events) stats = reports_after own events (primitive_counted stats (Of id (what.Report letter)))
 reports_after own (Delivered primitive ∷ events) stats = reports_after own events stats
 

@@ -12,14 +12,12 @@ use Rattle.lapd_cli_side_lines.specs.LineRequests.{LineRequest, AskTei, check_re
 use Rattle.lapd_cli_live_text.specs.declared.words.LiveLine.{LiveLine}
 use Rattle.lapd_cli_live_text.specs.declared.words.LiveLine.TheVariants as line
 
--- The request of a line:
--- `Read`: the next frame is awaited, for so many milliseconds or without limit;
--- `Run`: the side is served, for so many milliseconds or until the connection is closed;
--- `Expect`: a line that begins with these words is awaited, for so many milliseconds;
--- `State`: the state of a link, or of each; `Stats`: the statistics;
--- `Busy`: the own receiver of a link is busy, or no longer;
--- `Ask`: what a line of the script's clock requests of the side;
--- `Impair`: sent frames are lost with this chance, in per cent, and delayed by so many milliseconds.
+-- The request of a line: `Read`: the next frame is awaited, for so many milliseconds or without
+-- limit; `Run`: the side is served, for so many milliseconds or until the connection is closed;
+-- `Expect`: a line that begins with these words is awaited, for so many milliseconds; `State`: the
+-- state of a link, or of each; `Stats`: the statistics; `Busy`: the own receiver of a link is busy,
+-- or no longer; `Ask`: what a line of the script's clock requests of the side; `Impair`: sent
+-- frames are lost with this chance, in per cent, and delayed by so many milliseconds.
 pub data LiveRequest : Type 0 where
   Read : (ms : Option ℕ) → LiveRequest
   Run : (ms : Option ℕ) → LiveRequest

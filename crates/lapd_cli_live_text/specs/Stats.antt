@@ -55,7 +55,8 @@ sapi_place Management = 256
 abbrev pub link_place : Address → ℕ
 link_place address = sapi_place address.sapi + address.tei
 
--- a link is established: its numbers restart at 0 (Q.921 5.5.1.2)
+-- a link is being established by this side's SABME, or is by its UA: its numbers restart at 0
+-- (Q.921 5.5.1.2). A UA that this side receives changes nothing: it may arrive a second time.
 abbrev pub restarted : ℕ → Stats → Stats
 restarted place stats = record stats { next = slice_set stats.next place 0 }
 
@@ -71,22 +72,13 @@ numbered place ns stats = if slice_index stats.next place == ns
 -- how a frame that this side sends changes the numbers of its link
 abbrev pub after_sent_control : Control → ℕ → Stats → Stats
 after_sent_control (control.I ns nr p) place stats = numbered place ns stats
+after_sent_control (control.Sabme p) place stats = restarted place stats
 after_sent_control (control.Ua f) place stats = restarted place stats
 after_sent_control other place stats = stats
 
 abbrev pub after_sent : Result Fields FrameFault → Stats → Stats
 after_sent (Ok frame) stats = after_sent_control frame.control (link_place frame.address) stats
 after_sent (Err fault) stats = stats
-
--- and a frame that this side receives
-abbrev pub after_received_control : Control → ℕ → Stats → Stats
-after_received_control (control.Ua f) place stats = restarted place stats
-after_received_control other place stats = stats
-
-abbrev pub after_received : Result Fields FrameFault → Stats → Stats
-after_received (Ok frame) stats =
-    after_received_control frame.control (link_place frame.address) stats
-after_received (Err fault) stats = stats
 
 -- this side, `from`, sends these octets
 unfoldable pub sent_counted : Stats → Side → List ℕ → Stats
@@ -96,9 +88,9 @@ sent_counted stats from octets = after_sent (frame_at from octets) (record stats
 
 -- this side receives these octets from the other side, `from`
 unfoldable pub received_counted : Stats → Side → List ℕ → Stats
-received_counted stats from octets = after_received (frame_at from octets) (record stats {
+received_counted stats from octets = record stats {
   received = counted (kind_of (frame_at from octets)) (length octets) stats.received;
-})
+}
 
 -- the index of the count of reports with this letter
 abbrev pub letter_place : Letter → ℕ

@@ -6,7 +6,7 @@ use Rattle.lapd_timers.specs.Due.{Timers}
 use Rattle.lapd_timers.specs.Durations.{standard_lengths}
 use Rattle.lapd_link_definition.specs.End.{End, new_end}
 use Rattle.lapd_link_definition.specs.Parameters.{Parameters}
-use Rattle.lapd_link_definition.specs.declared.out.Letter.TheVariants.{J}
+use Rattle.lapd_link_definition.specs.declared.out.Letter.TheVariants.{C, J}
 use Rattle.lapd_link_definition.specs.declared.state.State.TheVariants.{MultipleFrameEstablished}
 use Rattle.lapd_table.specs.declared.link_id.LinkId.{LinkId}
 use Rattle.lapd_sides_links.specs.Links.{of_sapi}
@@ -58,9 +58,9 @@ request_timers = record {
 
 -- ---- A history of a user side.
 
--- The link of TEI 64 is established. The first message is rejected once and sent again, and a
--- second one is sent. Two octets are received that do not form a valid frame, and an invalid N(R) is
--- reported.
+-- The link of TEI 64 is established. The first message is rejected once and sent again. A second UA
+-- is received and reported, and a second message is sent. Two octets are received that do not form
+-- a valid frame, and an invalid N(R) is reported.
 abbrev pub rejected_message : List StatsEvent
 rejected_message = Sent (0x00 ∷ 0x81 ∷ 0x7F ∷ [])
     ∷ Received (0x00 ∷ 0x81 ∷ 0x73 ∷ [])
@@ -68,6 +68,8 @@ rejected_message = Sent (0x00 ∷ 0x81 ∷ 0x7F ∷ [])
     ∷ Sent (0x00 ∷ 0x81 ∷ 0x00 ∷ 0x00 ∷ 0x08 ∷ 0x01 ∷ [])
     ∷ Received (0x02 ∷ 0x81 ∷ 0x09 ∷ 0x00 ∷ [])
     ∷ Sent (0x00 ∷ 0x81 ∷ 0x00 ∷ 0x00 ∷ 0x08 ∷ 0x01 ∷ [])
+    ∷ Received (0x00 ∷ 0x81 ∷ 0x73 ∷ [])
+    ∷ Delivered (Of worked_link (Report C))
     ∷ Sent (0x00 ∷ 0x81 ∷ 0x02 ∷ 0x00 ∷ 0x08 ∷ 0x02 ∷ [])
     ∷ Received (0x00 ∷ 0x81 ∷ [])
     ∷ Delivered (Of worked_link (Report J)) ∷ []

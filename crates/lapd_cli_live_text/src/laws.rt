@@ -23,13 +23,14 @@ pub fn each_event_is_counted()
         → CountsEvents own events (stats_after own events nothing_counted) }
 {}
 
-/// The statistics of a history in which a message is rejected and sent again.
+/// The statistics of a history in which a message is rejected and sent again, and a UA arrives
+/// twice.
 pub fn rejected_message_is_sent_again()
     ensures sent { sent_words worked_stats
         ≡ codes "sent frames=4 octets=21 I=3 SABME=1 again=1" }
     ensures received { received_words worked_stats 1
-        ≡ codes "received frames=3 octets=9 REJ=1 UA=1 other=1 discarded=1" }
-    ensures reports { reports_words worked_stats ≡ codes "reports J=1" }
+        ≡ codes "received frames=4 octets=12 REJ=1 UA=2 other=1 discarded=1" }
+    ensures reports { reports_words worked_stats ≡ codes "reports C=1 J=1" }
 {}
 
 /// Lines of a link and of the timers of TEI management, and objects of lines, as documented.
@@ -66,8 +67,8 @@ pub fn worked_requests()
     ensures tick { live_request_of_line Network 127 (codes "tick 5") ≡ None }
 {}
 
-/// Expected words, and how they are shown, as documented. 27 is ESC, 195 and 169 are the octets of é,
-/// and 194 and 155 those of the control character U+009B.
+/// Expected words, and how they are shown, as documented. 27 is ESC, 195 and 169 are the octets of
+/// é, and 194 and 155 those of the control character U+009B.
 pub fn worked_expectations()
     ensures expect { live_request_of_line Network 127 (codes "expect 0 64  established 100")
         ≡ Some (Expect (codes "0 64  established") 100) }

@@ -4,7 +4,7 @@ ghost use Rattle.std.specs.Prelude.{◌≡◌, ◌<◌, ◌++◌, OnOk, flat_map
 ghost use Rattle.std.specs.String.{string_bytes};
 ghost use Rattle.lapd_frame.specs.declared.Side.{Side};
 ghost use Rattle.lapd_frame.specs.Reading.{frame_at};
-ghost use Rattle.lapd_cli_live_text.specs.Stats.{after_received_control, after_sent_control, letter_place, letter_text, letters_text, link_place, nothing_counted, numbered, received_counted, received_words, reports_words, restarted, sent_counted, sent_words, primitive_counted};
+ghost use Rattle.lapd_cli_live_text.specs.Stats.{after_sent_control, letter_place, letter_text, letters_text, link_place, nothing_counted, numbered, received_counted, received_words, reports_words, restarted, sent_counted, sent_words, primitive_counted};
 
 use crate::frame_kind::FrameKind;
 use crate::link_text::push_number;
@@ -69,8 +69,8 @@ impl Stats {
     }
 
     /// Counts a frame that this side sent. `frame` is what [`lapd_frame::read`] returned for its
-    /// octets. An I frame was sent again unless its N(S) is the next new one of its link. A UA
-    /// restarts its link's numbers at 0.
+    /// octets. An I frame was sent again unless its N(S) is the next new one of its link. A SABME
+    /// or UA restarts its link's numbers at 0.
     #[tactic(auto, unfolding(crate::specs::Stats::sent_counted))]
     pub fn count_sent(&mut self, octets: &[u8], frame: &Result<Frame<'_>, FrameFault>)
         ensures { (from : Side) → frame.now ≡ frame_at from octets.now
@@ -87,20 +87,17 @@ impl Stats {
     }
 
     /// Counts a frame that this side received. `frame` is what [`lapd_frame::read`] returned for
-    /// its octets. A UA restarts its link's numbers at 0.
+    /// its octets.
     #[tactic(auto, unfolding(crate::specs::Stats::received_counted))]
     pub fn count_received(&mut self, octets: &[u8], frame: &Result<Frame<'_>, FrameFault>)
         ensures { (from : Side) → frame.now ≡ frame_at from octets.now
             → self.new ≡ received_counted self.old from octets.now }
     {
-        match frame {
-            Ok(frame) => {
-                let control = frame.control();
-                self.received.count(FrameKind::of(&control), octets.len());
-                self.follow_received(&control, place_of(frame.address()));
-            }
-            Err(_) => self.received.count(FrameKind::Other, octets.len()),
-        }
+        let kind = match frame {
+            Ok(frame) => FrameKind::of(&frame.control()),
+            Err(_) => FrameKind::Other,
+        };
+        self.received.count(kind, octets.len());
     }
 
     /// Counts a report by its letter. No other primitive is counted.
@@ -166,18 +163,8 @@ impl Stats {
     {
         match control {
             Control::I { ns, .. } => self.count_ns(place, ns.value()),
-            Control::Ua { .. } => self.next[place] = 0,
+            Control::Sabme { .. } | Control::Ua { .. } => self.next[place] = 0,
             _ => {}
-        }
-    }
-
-    /// Updates the numbers of a link after a frame was received.
-    fn follow_received(&mut self, control: &Control, place: usize)
-        requires { place < LINKS }
-        ensures { self.new ≡ after_received_control control.now place self.old }
-    {
-        if let Control::Ua { .. } = control {
-            self.next[place] = 0;
         }
     }
 

@@ -10,7 +10,7 @@ use lapd_cli_values::{CONNECTED_TERMINALS, GSMTAP, IDLE_LIMIT, number_written, t
 const REAL_FLAGS: [&str; 4] = ["time", "quiet", "serve", "keep"];
 
 // The options with a value that require the real clock.
-const REAL_OPTIONS: [&str; 4] = ["pcap", "gsmtap", "terminals", "idle-limit"];
+const REAL_OPTIONS: [&str; 5] = ["pcap", "ladder", "gsmtap", "terminals", "idle-limit"];
 
 /// The clock of this command.
 pub(crate) fn clock_of<'a>(
@@ -60,6 +60,7 @@ fn live_options_of<'a>(given: &ArgMatches<'a>) -> Result<LiveOptions<'a>, NoInvo
         terminals,
         idle_limit: idle_limit_of(given, terminals)?,
         pcap: given.get_str("pcap"),
+        ladder: given.get_str("ladder"),
         gsmtap: gsmtap_of(given)?,
     })
 }

@@ -238,6 +238,11 @@ Output of a line: nothing, or a line in one of these forms for each output, in o
   recovered N        the same for `recover`
 Timers are not printed, nor what the moves of `settle` and `recover` do.
 
+With --ladder a frame is printed when it arrives or is lost, as an arrow between the user at the left
+and the network at the right; a lost one ends in an X. Beside it are both ends after that: the state,
+and S, A and R with V(S), V(A) and V(R). The other lines are notes between the ends, except refusals
+and the last two lines, which do not change.
+
 Refusals:
   P1 NothingThere    no such frame is on its way to this side
   P2 NotRunning      the timer does not run
@@ -661,7 +666,8 @@ With --ladder each frame is an arrow between the user at the left and the networ
 the number of its packet, its time, and what the frames show of both ends: S and the next N(S), R
 and the last N(R), poll if a poll is not answered, busy, or SABME sent or DISC sent if that is not
 answered. In the arrow are SAPI, TEI and the fields; below it are the remarks. There are no tables.
---svg draws the same into a file, on pages of 25 frames.
+A frame whose sender is not known is a line between two ?, without a head. --svg draws the same into
+a file, on pages of 25 frames.
 
 With --json a line is an object with these members, in the order of their names:
   direction        \"U>N\" or \"N>U\", if the sender is known

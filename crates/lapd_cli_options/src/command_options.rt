@@ -51,7 +51,11 @@ fn bus_of<'a>(given: &ArgMatches<'a>) -> Result<Job, NoInvocation<'a>> {
 
 fn pair_of<'a>(given: &ArgMatches<'a>) -> Result<Job, NoInvocation<'a>> {
     let (user, network) = ends_of(given)?;
-    Ok(Job::Pair { user, network })
+    Ok(Job::Pair {
+        user,
+        network,
+        is_drawn: given.get_flag("ladder"),
+    })
 }
 
 fn loop_of<'a>(given: &ArgMatches<'a>) -> Result<Job, NoInvocation<'a>> {

@@ -42,12 +42,11 @@ fn color_of(given: &ArgMatches<'_>) -> Color {
     }
 }
 
-// The chosen sender, if there is one. In a drawing it is the network if none is chosen, since each
-// arrow needs a sender.
+// The chosen sender, if there is one.
 fn sender_of(given: &ArgMatches<'_>) -> Option<Side> {
     match given.get_str("sender") {
         Some(_) => Some(side_named(given, "sender")),
-        None => is_drawn(given).then_some(Side::Network),
+        None => None,
     }
 }
 

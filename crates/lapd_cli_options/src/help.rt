@@ -52,6 +52,11 @@ pub const PRI: &str =
 /// The help of `--sapi16`.
 pub const SAPI16: &str = "With --pri, serves SAPI 16 too; without --pri, SAPI 16 is always served";
 
+/// The help of `--ladder`, of `pair`.
+pub const PAIR_LADDER: &str = "\
+Draws each frame that arrives or is lost as an arrow between the user and the network, with both ends \
+after that";
+
 /// The help of the options of `decode`.
 pub const LOOSE: &str = "\
 Allows spaces, colons, brackets and 0x in HEX, and lines of libpri and of logs, hex dumps of one \
@@ -117,6 +122,10 @@ pub const KEEP: &str = "With --clock real, accepts or makes the next connection 
 pub const LIVE_PCAP: &str =
     "With --clock real, writes each frame to this file, as pcap of link type 177 (LINUX_LAPD)";
 
+pub const LIVE_LADDER: &str = "\
+With --clock real, draws each frame into this file, as an arrow between the user and the network, \
+with what is known of both ends: the lines of decode --ladder";
+
 /// The help of `--strict`.
 pub const STRICT: &str = "Ends with exit status 5 if a line of the script was refused";
 
@@ -169,8 +178,8 @@ Exit status:
      it were executed. With --pcap of `decode`: the capture could not be read to its end
   2  the command line is not valid
   3  `device fault`: a read or a write failed, or 1,000,000 reads did not reach the script's end; in
-     `lapd loop`, `net` and `user` also if no connection could be made; with --pcap and --gsmtap
-     also if the file or the socket could not be opened.
+     `lapd loop`, `net` and `user` also if no connection could be made; with --pcap, --ladder
+     and --gsmtap also if the file or the socket could not be opened.
      `port S3 Cut`, or another of S2 to S6: the connection of `net` or `user` failed
   4  `out of memory`
   5  with --strict: the script was executed to its end, and `refused` was printed for a line, or

@@ -27,11 +27,21 @@ pub enum Job {
     /// Execute a script on this end of a link.
     Answer(LinkEnd),
     /// Execute a script on a bus of 1 to 127 terminals.
-    Bus { terminals: u8 },
+    Bus {
+        terminals: u8,
+    },
     /// Execute a script of moves on two ends with these parameters, and the line between them.
-    Pair { user: Params, network: Params },
+    /// Print its output, or draw it.
+    Pair {
+        user: Params,
+        network: Params,
+        is_drawn: bool,
+    },
     /// Like `Pair`, but each frame is sent over a connection of the process to itself.
-    Loop { user: Params, network: Params },
+    Loop {
+        user: Params,
+        network: Params,
+    },
     /// Execute a script on the network side of this interface, over the first connection accepted
     /// at the address.
     Net(Interface),
@@ -68,6 +78,8 @@ pub struct LiveOptions<'a> {
     pub idle_limit: Option<u64>,
     /// The file of `--pcap`, unchanged from the command line.
     pub pcap: Option<&'a str>,
+    /// The file of `--ladder`, unchanged from the command line.
+    pub ladder: Option<&'a str>,
     /// The address and port of `--gsmtap`, unchanged from the command line.
     pub gsmtap: Option<&'a str>,
 }

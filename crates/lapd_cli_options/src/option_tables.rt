@@ -24,15 +24,16 @@ pub(crate) const ANSWER: &[&[CommandOption]] = &[
 /// The options of `bus`.
 pub(crate) const BUS: &[&[CommandOption]] = &[EACH, &[CommandOption::Number(TERMINALS)]];
 
-/// The options of `pair` and `loop`.
-pub(crate) const ENDS: &[&[CommandOption]] = &[
+/// The options of `pair`.
+pub(crate) const PAIR: &[&[CommandOption]] = &[
     EACH,
     NUMBERS,
-    &[
-        CommandOption::Word(RECOVERY_USER),
-        CommandOption::Word(RECOVERY_NET),
-    ],
+    RECOVERIES,
+    &[CommandOption::Flag("ladder", help::PAIR_LADDER)],
 ];
+
+/// The options of `loop`.
+pub(crate) const LOOP: &[&[CommandOption]] = &[EACH, NUMBERS, RECOVERIES];
 
 /// The options of `net`.
 pub(crate) const NET: &[&[CommandOption]] = &[
@@ -97,6 +98,12 @@ const NUMBERS: &[CommandOption] = &[
     CommandOption::Number(ROOM),
 ];
 
+/// The recoveries of two ends.
+const RECOVERIES: &[CommandOption] = &[
+    CommandOption::Word(RECOVERY_USER),
+    CommandOption::Word(RECOVERY_NET),
+];
+
 /// The options of an interface, after its TEIs.
 const INTERFACE: &[CommandOption] = &[
     CommandOption::Flag("sapi16", help::SAPI16),
@@ -120,6 +127,7 @@ const LIVE: &[CommandOption] = &[
     CommandOption::Flag("serve", help::SERVE),
     CommandOption::Flag("keep", help::KEEP),
     CommandOption::File("pcap", help::LIVE_PCAP),
+    CommandOption::File("ladder", help::LIVE_LADDER),
     CommandOption::Address(GSMTAP),
 ];
 

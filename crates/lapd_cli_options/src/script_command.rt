@@ -81,7 +81,8 @@ impl ScriptCommand {
         match self {
             ScriptCommand::Answer => option_tables::ANSWER,
             ScriptCommand::Bus => option_tables::BUS,
-            ScriptCommand::Pair | ScriptCommand::Loop => option_tables::ENDS,
+            ScriptCommand::Pair => option_tables::PAIR,
+            ScriptCommand::Loop => option_tables::LOOP,
             ScriptCommand::Net => option_tables::NET,
             ScriptCommand::User => option_tables::USER,
             ScriptCommand::Decode => option_tables::DECODE,

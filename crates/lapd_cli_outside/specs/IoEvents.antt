@@ -12,7 +12,8 @@ pub data IoEvent : Type 0 where
   Waits : (until : Option ℕ) → (woken : Woken) → IoEvent
   Sends : (frame : List ℕ) → IoEvent
 
--- If the calls are recorded, exactly these are added. If they are not, they are not afterwards either.
+-- If the calls are recorded, exactly these are added. If they are not, they are not afterwards
+-- either.
 abbrev pub Adds : Option (List IoEvent) → Option (List IoEvent) → List IoEvent → Type 0
 Adds None None io_events = ⊤
 Adds None (Some after) io_events = ⊥

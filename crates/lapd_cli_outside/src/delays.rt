@@ -10,7 +10,8 @@ use rand_pcg::Pcg32;
 use std::alloc::{AllocError, Global};
 use std::collections::VecDeque;
 
-/// The losses and the delayed frames of a line. Frames leave in the order in which they were passed in.
+/// The losses and the delayed frames of a line. Frames leave in the order in which they were passed
+/// in.
 #[derive(Drop)]
 pub(crate) struct Delays {
     alloc: Global,

@@ -42,8 +42,8 @@ pub enum Sending {
 /// The surroundings of a side: the line with the other side behind it, and a clock. Moments are
 /// milliseconds since the start.
 ///
-/// An implementation that records its calls returns them by `io_events`, in order. Clauses about `io_events`
-/// hold for such an implementation, and all others for every implementation.
+/// An implementation that records its calls returns them by `io_events`, in order. Clauses about
+/// `io_events` hold for such an implementation, and all others for every implementation.
 pub trait Outside {
     /// The calls so far, if they are recorded.
     ghost io_events: { Self → Option (List IoEvent) } = { λ _. None };
@@ -58,9 +58,9 @@ pub trait Outside {
             (Reads now ∷ [])) }
         ensures err { OnErr result (io_events self.new ≡ io_events self.old) };
 
-    /// Receives the next frame that has arrived, without waiting, into the beginning of `frame`, and
-    /// returns its number of octets. `None` if no whole frame had arrived when the call began. Part
-    /// of a frame is kept until the rest arrives.
+    /// Receives the next frame that has arrived, without waiting, into the beginning of `frame`,
+    /// and returns its number of octets. `None` if no whole frame had arrived when the call began.
+    /// Part of a frame is kept until the rest arrives.
     ///
     /// # Errors
     ///

@@ -27,7 +27,8 @@ pub trait Tap {
 }
 
 /// The surroundings of a side, with a tap. The tap is passed each frame that is received or sent,
-/// once and in order, with the last moment that was read. All calls are forwarded to the inner line.
+/// once and in order, with the last moment that was read. All calls are forwarded to the inner
+/// line.
 #[derive(Drop)]
 pub struct Tapped<O: Outside, T: Tap> {
     inner: O,
@@ -53,8 +54,8 @@ impl<O: Outside, T: Tap> Tapped<O, T> {
         }
     }
 
-    /// Returns the inner line and the tap, which was passed exactly the frames that were received and
-    /// sent.
+    /// Returns the inner line and the tap, which was passed exactly the frames that were received
+    /// and sent.
     pub fn into_parts(self) -> (O, T)
         ensures { ∥ ArePassed self.own (O.io_events result.0) (T.passed_frames result.1) ∥₁ }
     {

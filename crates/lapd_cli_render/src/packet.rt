@@ -23,8 +23,8 @@ pub struct Packet {
     pub is_cut: bool,
 }
 
-/// Like [`crate::line`], for octets in a packet of a capture. The member `packet` is its number, and
-/// `time` is the time of the capture, if known, in seconds since 1970 with six decimals. If the
+/// Like [`crate::line`], for octets in a packet of a capture. The member `packet` is its number,
+/// and `time` is the time of the capture, if known, in seconds since 1970 with six decimals. If the
 /// packet was cut, a member `cut` is true.
 ///
 /// ```text

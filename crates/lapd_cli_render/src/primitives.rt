@@ -10,9 +10,9 @@ use crate::members::Members;
 use lapd_sides_links::{LinkId, Primitive, Tei, TeiOut, What};
 use std::alloc::{AllocError, Global};
 
-/// Returns the JSON object for a primitive, in one line without line feeds and without spaces outside
-/// texts. Its members are in alphabetical order. The text is empty for messages and timers of TEI
-/// management, which are not passed to layer 3.
+/// Returns the JSON object for a primitive, in one line without line feeds and without spaces
+/// outside texts. Its members are in alphabetical order. The text is empty for messages and timers
+/// of TEI management, which are not passed to layer 3.
 ///
 /// ```text
 /// {"info":"0802","primitive":"data","sapi":0,"tei":64}

@@ -5,6 +5,7 @@ mod chosen;
 mod colors;
 mod followed;
 mod lines;
+mod live_ladder;
 mod names;
 mod objects;
 mod read;

@@ -40,6 +40,7 @@ lapd bus --terminals=0127 => bus 127
 lapd pair => pair 1 3 512 enquiry 1 3 512 enquiry
 lapd pair --k 7 --n200 2 --room 9 --recovery-user last => pair 7 2 9 last 7 2 9 enquiry
 lapd pair --recovery-net=last --recovery-user=enquiry => pair 1 3 512 enquiry 1 3 512 last
+lapd pair --ladder --k 7 => pair 7 3 512 enquiry 7 3 512 enquiry ladder
 lapd loop => loop 1 3 512 enquiry 1 3 512 enquiry
 lapd loop --k=7 --n200=2 --room=9 --recovery-net=last => loop 7 2 9 enquiry 7 2 9 last
 lapd net --listen 127.0.0.1:7000 => net 1 3 512 enquiry 3 3 512 enquiry 1000 1000 2000 10000 with-16 - at 127.0.0.1:7000
@@ -53,6 +54,8 @@ lapd net --listen a:1 --clock real => net 1 3 512 enquiry 3 3 512 enquiry 1000 1
 lapd user --clock=real --time --connect=a:1 => user 1 3 512 enquiry 3 3 512 enquiry 1000 1000 2000 10000 with-16 - at a:1 real 1 - - time
 lapd user --connect=a:1 --quiet --clock=real => user 1 3 512 enquiry 3 3 512 enquiry 1000 1000 2000 10000 with-16 - at a:1 real 1 - - quiet
 lapd net --listen=a:1 --clock=real --terminals=127 --pcap line.pcap --gsmtap b:4729 => net 1 3 512 enquiry 3 3 512 enquiry 1000 1000 2000 10000 with-16 - at a:1 real 127 line.pcap b:4729
+lapd net --listen=a:1 --clock=real --ladder rungs --pcap=line.pcap => net 1 3 512 enquiry 3 3 512 enquiry 1000 1000 2000 10000 with-16 - at a:1 real 1 line.pcap - ladder rungs
+lapd user --ladder=/dev/stdout --connect=a:1 --clock=real --quiet => user 1 3 512 enquiry 3 3 512 enquiry 1000 1000 2000 10000 with-16 - at a:1 real 1 - - quiet ladder /dev/stdout
 lapd net --listen=a:1 --clock=real --serve => net 1 3 512 enquiry 3 3 512 enquiry 1000 1000 2000 10000 with-16 - at a:1 real 1 - - serve
 lapd user --keep --connect=a:1 --clock=real => user 1 3 512 enquiry 3 3 512 enquiry 1000 1000 2000 10000 with-16 - at a:1 real 1 - - keep
 lapd net --listen=a:1 --clock=real --terminals=2 --idle-limit 3600000 => net 1 3 512 enquiry 3 3 512 enquiry 1000 1000 2000 10000 with-16 - at a:1 real 2 - - idle 3600000
@@ -63,12 +66,12 @@ lapd decode --json => decode
 lapd decode --follow => decode follow
 lapd decode --follow --strict => decode follow strict
 lapd decode --k 127 --follow => decode follow 127
-lapd decode --ladder => decode follow ladder from net
-lapd decode --ladder --follow --k 7 => decode follow 7 ladder from net
+lapd decode --ladder => decode follow ladder
+lapd decode --ladder --follow --k 7 => decode follow 7 ladder
 lapd decode --ladder --pcap a --sender user => decode follow ladder relative from user
-lapd decode --ladder --pcap a --time absolute => decode follow ladder absolute from net
-lapd decode --svg b => decode follow picture from net
-lapd decode --pcap a --svg=b --count 2 => decode follow picture relative count 2 from net
+lapd decode --ladder --pcap a --time absolute => decode follow ladder absolute
+lapd decode --svg b => decode follow picture
+lapd decode --pcap a --svg=b --count 2 => decode follow picture relative count 2
 lapd decode --time none --kinds i,s,u => decode
 lapd decode --time absolute --pcap a => decode absolute
 lapd decode --time=relative --pcap=a => decode relative
@@ -121,6 +124,7 @@ lapd pair --recovery last => refused
 lapd pair --recovery-user other => refused
 lapd pair --recovery-net => refused
 lapd pair --k 3 --k 3 => refused
+lapd loop --ladder => refused
 lapd loop more => refused
 lapd loop --side user => refused
 lapd loop --recovery last => refused
@@ -223,6 +227,7 @@ lapd net --listen=a:1 --clock=real --terminals=1 --idle-limit=1000 => error: --i
 lapd net --listen=a:1 --clock=real --terminals=2 --idle-limit=0 => error: invalid value '0' for '--idle-limit <MS>': not a number from 1 to 3600000 in decimal digits~
 lapd net --listen=a:1 --clock=real --terminals=2 --idle-limit=3600001 => error: invalid value '3600001' for '--idle-limit <MS>': not a number from 1 to 3600000 in decimal digits~
 lapd net --listen=a:1 --pcap line.pcap => error: --pcap requires --clock real~
+lapd user --connect=a:1 --ladder rungs => error: --ladder requires --clock real~
 lapd user --connect=a:1 --gsmtap b:4729 => error: --gsmtap requires --clock real~
 lapd net --listen=a:1 --clock=real --terminals=128 => error: invalid value '128' for '--terminals <TERMINALS>': not a number from 1 to 127 in decimal digits~
 lapd user --connect=a:1 --clock=real --gsmtap=b => error: invalid value 'b' for '--gsmtap <ADDRESS>': expected HOST:PORT, such as 127.0.0.1:4000~
@@ -297,6 +302,9 @@ fn show(text: &mut String, chosen: &Invocation<'_>) {
         if let Some(limit) = options.idle_limit {
             let _ = write!(text, " idle {limit}");
         }
+        if let Some(file) = options.ladder {
+            let _ = write!(text, " ladder {file}");
+        }
     }
     let _ = text.push_str(if chosen.json { " json" } else { "" });
     let _ = text.push_str(if chosen.strict { " strict" } else { "" });
@@ -317,7 +325,14 @@ fn show_job(text: &mut String, job: &Job) {
         Job::Bus { terminals } => {
             let _ = write!(text, "bus {terminals}");
         }
-        Job::Pair { user, network } => show_ends(text, "pair", user, network),
+        Job::Pair {
+            user,
+            network,
+            is_drawn,
+        } => {
+            show_ends(text, "pair", user, network);
+            let _ = text.push_str(if *is_drawn { " ladder" } else { "" });
+        }
         Job::Loop { user, network } => show_ends(text, "loop", user, network),
         Job::Net(interface) => show_interface(text, "net", interface),
         Job::User(interface) => show_interface(text, "user", interface),

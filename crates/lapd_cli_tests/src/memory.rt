@@ -79,9 +79,34 @@ fn scenarios_while_there_is_memory(rt: HostRuntime) -> Result<(), Fail> {
     let job = Job::Pair {
         user: params,
         network: params,
+        is_drawn: false,
     };
     preserves(&rt, job, MESSAGE)
 }
+
+#[test]
+fn moves_are_drawn_while_there_is_memory(rt: HostRuntime) -> Result<(), Fail> {
+    let params = Params::basic(Sapi::Call).with_recovery(Recovery::Enquiry);
+    let job = Job::Pair {
+        user: params,
+        network: params,
+        is_drawn: true,
+    };
+    preserves(&rt, job, DRAWN_MOVES)
+}
+
+const DRAWN_MOVES: &str =
+    "                     user |                                                | network
+establish user
+deliver net
+               5 S0 A0 R0 |-- 0 64 SABME P=1 ----------------------------->| 7 S0 A0 R0
+                          |  net established                               |
+lose user 0
+               5 S0 A0 R0 |          X-- 0 64 UA F=1 ----------------------| 7 S0 A0 R0
+.
+    user: state 5, given 0, received 0, acknowledged 0, dropped 0
+    net: state 7, given 0, received 0, acknowledged 0, dropped 0
+";
 
 const MESSAGE: &str = "\
 establish user

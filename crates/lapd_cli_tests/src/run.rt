@@ -1,10 +1,10 @@
 //! Running a command over any reader, writer and port.
 
 use lapd_cli_decode::{
-    Filter, Follow, FrameStyle, FrameTime, Layout, LineForm, LinesStyle, Style, decode_lines,
-    print_lines,
+    Drawing, Filter, Follow, FrameStyle, FrameTime, Layout, LineForm, LinesStyle, Style,
+    decode_lines, print_lines,
 };
-use lapd_cli_link_commands::{answer, bus, loop_over, pair};
+use lapd_cli_link_commands::{answer, bus, draw_pair, loop_over, pair};
 use lapd_cli_options::{DecodeOptions, Interface, Invocation, Job, LinkEnd, PrintedLayout};
 use lapd_cli_script::ScriptFault;
 use lapd_cli_side_commands::{Config, Port, SideRun, Sink, Source, net, user};
@@ -34,7 +34,16 @@ pub(crate) fn run<R: Read, W: Write, S: Source, K: Sink>(
         Job::Decode(options) => (do_decode(alloc, script, out, *options), port),
         Job::Loop { user, network } => loop_over(alloc, script, out, *user, *network, port),
         Job::Net(interface) => do_net(alloc, (interface, style), script, out, port),
-        Job::Pair { user, network } => (pair(alloc, script, out, *user, *network), port),
+        Job::Pair {
+            user,
+            network,
+            is_drawn: false,
+        } => (pair(alloc, script, out, *user, *network), port),
+        Job::Pair {
+            user,
+            network,
+            is_drawn: true,
+        } => (draw_pair(alloc, script, out, *user, *network), port),
         Job::User(interface) => do_user(alloc, (interface, style), script, out, port),
     }
 }
@@ -78,8 +87,8 @@ fn do_decode<R: Read, W: Write>(
         frames: FrameStyle {
             layout: match options.layout {
                 PrintedLayout::Lines => Layout::Lines,
-                PrintedLayout::Ladder => Layout::Ladder,
-                PrintedLayout::Picture => Layout::Picture,
+                PrintedLayout::Ladder => Layout::Drawn(Drawing::Ladder),
+                PrintedLayout::Picture => Layout::Drawn(Drawing::Picture),
             },
             style,
             time: FrameTime::Hidden,

@@ -93,7 +93,8 @@ pub const LINK_TEI: NumberOption = NumberOption {
     most: 126,
 };
 
-/// A TEI that the network side knows from the start. The option may be repeated, and has no default.
+/// A TEI that the network side knows from the start. The option may be repeated, and has no
+/// default.
 pub const KNOWN_TEI: NumberOption = NumberOption {
     name: "tei",
     value_name: "TEI",

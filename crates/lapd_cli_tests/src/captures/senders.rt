@@ -3,8 +3,8 @@
 use crate::captures::read::{are_lines, are_separated, parts_of};
 use crate::wants::{all_hold, wants};
 use lapd_cli_decode::{
-    CaptureReader, CaptureStop, CaptureStyle, FrameStyle, LineForm, LinesStyle, ReadFault, Seen,
-    Side, Style, decode_capture, print_lines,
+    CaptureReader, CaptureStop, CaptureStyle, Drawing, FrameStyle, Layout, LineForm, LinesStyle,
+    ReadFault, Seen, Side, Style, decode_capture, print_lines,
 };
 use lapd_cli_script::ScriptFault;
 use std::alloc::Global;
@@ -93,6 +93,48 @@ fn print_capture(
         Err(ReadFault::Device(kind)) => Err(CaptureStop::Input(kind)),
         Err(ReadFault::Memory) => Err(CaptureStop::Memory),
     }
+}
+
+// A capture of link type 203, and its ladder, with tildes between the lines.
+const DRAWN_CAPTURE: &str =
+    "d4c3b2a102000400000000000000000000000400cb00000001000000d0070000030000000300000000817f01000000d007000004000000040000000081010201000000d0070000030000000300000000817301000000d007000003000000030000000081ff01000000d007000004000000040000000081afaa";
+
+const LADDER: &str = "\
+packet           user |                                                | network\
+~     1                |-- 0 64 SABME P=1 ----------------------------->|\
+~     2                |?- 0 64 RR N(R)=1 P/F=0 -----------------------?|\
+~     3                |<-- 0 64 UA F=1 --------------------------------|\
+~     4                |?- F4 Undefined 0081ff ------------------------?|\
+~     5                |?- 0 64 XID P/F=0 info=aa ---------------------?|";
+
+// One more, and its picture without the beginning and the end.
+const PICTURED_CAPTURE: &str =
+    "d4c3b2a102000400000000000000000000000400cb00000001000000d0070000040000000400000000810102";
+
+const PICTURE: &str =
+    r##"<style>svg{height:1000px}</style><g transform="translate(0 0000)"><path d="M0 0H940V1000H0Z" class="page"/><text x="60" y="40" class="end">packet</text><text x="190" y="40" class="end">time</text><text x="310" y="40" class="middle">user</text><text x="810" y="40" class="middle">network</text><text x="470" y="990" class="middle">1</text></g>~<g transform="translate(0 0000)"><g transform="translate(0 80)"><path d="M310-20v36M810-20v36M326 0H794"/><text x="315" y="4">?</text><text x="798" y="4">?</text><text x="60" class="end">1</text><text x="190" class="end"></text><text x="300" class="end"></text><text x="820"></text><text x="560" y="-5" class="middle">0 64 RR N(R)=1 P/F=0</text><text x="560" y="12" class="middle note"></text></g></g>"##;
+
+#[test]
+fn frames_of_unknown_senders_are_lines_without_heads(rt: HostRuntime) -> Result<(), Fail> {
+    let ladder = draws(rt.alloc(), Drawing::Ladder, DRAWN_CAPTURE, LADDER);
+    let picture = draws(rt.alloc(), Drawing::Picture, PICTURED_CAPTURE, PICTURE);
+    all_hold(&[
+        (ladder, "--ladder", "its lines"),
+        (picture, "--svg", "its picture"),
+    ])
+}
+
+// Whether a capture is drawn so.
+fn draws(alloc: Global, drawing: Drawing, digits: &str, lines: &str) -> bool {
+    let how = CaptureStyle {
+        frames: FrameStyle {
+            layout: Layout::Drawn(drawing),
+            ..FrameStyle::PLAIN
+        },
+        sender: None,
+        keeps_going: false,
+    };
+    row_holds(alloc, digits, how, lines, NOTE)
 }
 
 // Lines with SAPIs that are served and others, and their printed lines.

@@ -1,12 +1,12 @@
 //! The parts of a control field that are printed.
 
 ghost use Rattle.std.specs.Prelude.{◌≡◌};
-ghost use Rattle.lapd_cli_decode.specs.Parts.{name_of, nr_of, ns_of};
+ghost use Rattle.lapd_cli_ladder.specs.Parts.{name_of, nr_of, ns_of};
 
 use lapd_frame::{Control, Number};
 
 /// The name of the frame (Q.921 Table 5).
-pub(crate) fn name_of(control: Control) -> &'static str
+pub fn name_of(control: Control) -> &'static str
     ensures { result.now ≡ name_of control }
 {
     match control {
@@ -25,7 +25,7 @@ pub(crate) fn name_of(control: Control) -> &'static str
 }
 
 /// N(S), which an I frame has.
-pub(crate) fn ns_of(control: Control) -> Option<Number>
+pub fn ns_of(control: Control) -> Option<Number>
     ensures { result ≡ ns_of control }
 {
     match control {
@@ -35,7 +35,7 @@ pub(crate) fn ns_of(control: Control) -> Option<Number>
 }
 
 /// N(R), which I and S frames have.
-pub(crate) fn nr_of(control: Control) -> Option<Number>
+pub fn nr_of(control: Control) -> Option<Number>
     ensures { result ≡ nr_of control }
 {
     match control {
