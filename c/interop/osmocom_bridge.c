@@ -3,7 +3,7 @@
  * `osmocom_bridge net|user listen|connect PORT TEI [establish]` prints the primitives for its layer
  * 3, and sends each message back. It ends when the other side hangs up. */
 #include "common.h"
-#include "osmocom_end.h"
+#include "their_end.h"
 
 #include <stdio.h>
 #include <stdlib.h>
@@ -11,29 +11,26 @@
 
 #define LONGEST 1000000
 
-static struct lapd_instance *end;
 static struct tcp_line line;
-static uint8_t tei;
 
 static void on_write(const uint8_t *frame, size_t length)
 {
 	write_frame(line.socket, frame, length);
 }
 
-static void on_deliver(enum osmo_dl_prim primitive, const uint8_t *octets, size_t length)
+static void on_deliver(enum their_primitive primitive, const uint8_t *octets, size_t length)
 {
-	static const char *const words[] = { "unit data", "data", "established", "released", "suspended", "resumed", "reconnected",
-		                             "MDL-ERROR" };
+	static const char *const words[] = { "other", "data", "established", "released", "MDL-ERROR" };
 
 	printf("%s, %zu octets\n", words[primitive], length);
 	fflush(stdout);
-	if (primitive == PRIM_DL_DATA)
-		osmocom_give(end, tei, octets, length);
+	if (primitive == THEIR_DATA)
+		their_give(octets, length);
 }
 
 int main(int count, char **words)
 {
-	static const struct osmocom_calls calls = { on_write, on_deliver };
+	static const struct their_calls calls = { on_write, on_deliver };
 	uint8_t frame[LAPD_MOST_FRAME];
 	int length;
 
@@ -41,17 +38,16 @@ int main(int count, char **words)
 		fprintf(stderr, "usage: osmocom_bridge net|user listen|connect PORT TEI [establish]\n");
 		return 2;
 	}
-	tei = (uint8_t)atoi(words[4]);
 	line.socket = connected(strcmp(words[2], "listen") == 0, words[3]);
-	end = osmocom_end(strcmp(words[1], "net") == 0, tei, 7, 10, &calls);
+	their_end(strcmp(words[1], "net") == 0, (uint8_t)atoi(words[4]), 7, 10000, &calls);
 	if (count > 5)
-		lapd_sap_start(end, tei, 0);
+		their_establish();
 	for (;;) {
 		while ((length = next_frame(&line, frame)) > 0)
-			osmocom_take(end, frame, (size_t)length);
+			their_take(frame, (size_t)length);
 		if (length < 0)
 			return 0;
-		osmocom_tick();
-		is_readable(line.socket, osmocom_wait(LONGEST));
+		their_tick();
+		is_readable(line.socket, their_wait(LONGEST));
 	}
 }
