@@ -1,5 +1,5 @@
 /* The end of another stack in this process, with SAPI 0 and a fixed TEI. A program has one such
- * end; osmocom_end.c implements it. */
+ * end; osmocom_end.c and misdn_end.c implement it. */
 #ifndef THEIR_END_H
 #define THEIR_END_H
 

@@ -1,6 +1,7 @@
 /* liblapd and another stack in one process: a line in memory, and a simulated clock for both.
  * `osmocom net 7` runs our network side and Osmocom's user side with the window 7, and
- * `osmocom user 7` the other way round. It prints rows; the status is 1 if a row says no. */
+ * `osmocom user 7` the other way round; `misdn` does so with mISDN. It prints rows; the status is 1
+ * if a row says no. */
 #include "common.h"
 #include "their_end.h"
 
