@@ -1,4 +1,5 @@
 pub mod Backlogs
+pub mod Behind
 pub mod CodeOrder
 pub mod Counted
 pub mod CountedCalls

@@ -38,7 +38,7 @@ use codes::{DONE, MEMORY, NO_SIDE, OUT_OF_RANGE};
 use flat_primitive::{FlatPrimitive, link_of};
 use handle::{Handle, opened, shut};
 use held_side::HeldSide;
-use lapd_sides::{Durations, Request, Side, Tei};
+use lapd_sides::{Durations, LinkId, Request, Side, Tei};
 use lapd_trace::line;
 pub use laws::{codes_are_in_order, counters_are_sums};
 use link_counters::LinkCounters;
@@ -139,6 +139,17 @@ fn ask(handle: &mut Handle, request: Request, now: u64) -> u32
     side.request(request, now)
 }
 
+/// Submits a message to a link.
+fn give(handle: &mut Handle, id: LinkId, message: Vec<u8>, now: u64) -> u32
+    ensures { AsksSide (Answers (Request.Give id message) now) [] result handle.old.held
+        handle.new.held }
+{
+    let Some(side) = handle.side() else {
+        return NO_SIDE;
+    };
+    side.give(&id, message, now)
+}
+
 /// Establishes a link (DL-ESTABLISH request).
 #[unsafe(no_mangle)]
 pub extern "C" fn lapd_side_establish(handle: &mut Handle, sapi: u8, tei: u8, now: u64) -> u32
@@ -193,7 +204,7 @@ pub extern "C" fn lapd_side_give(
         return OUT_OF_RANGE;
     };
     match Vec::from_slice(alloc, octets) {
-        Ok(message) => ask(handle, Request::Give(id, message), now),
+        Ok(message) => give(handle, id, message, now),
         Err(_) => MEMORY,
     }
 }

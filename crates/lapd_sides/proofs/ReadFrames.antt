@@ -1,13 +1,13 @@
 -- The information of a frame that was read fits. A fault that was read has an address only if it is
 -- for a link.
-use Rattle.std.proofs.Common.{◌≡◌, ◌≤◌, ℕ, List, length, Bool, true, false, Option, None, Some, Result, Ok, Err, IfErr, IfSome, refl, sym, subst, ap, ◌∙◌}
+use Rattle.std.proofs.Common.{◌≡◌, ◌≤◌, length, Bool, true, false, Option, None, Some, Result, Ok, Err, IfErr, IfSome, refl, sym, subst, ap, ◌∙◌}
 use Rattle.std.specs.Prelude.{if◌then◌else◌}
 use Rattle.lapd_frame.specs.declared.Side.{Side}
 use Rattle.lapd_frame.specs.declared.Address.{Address}
 use Rattle.lapd_frame.specs.declared.FaultKind.{FaultKind}
 use Rattle.lapd_frame.specs.declared.FrameFault.{FrameFault}
 use Rattle.lapd_frame.specs.Fault.{is_for_link}
-use Rattle.lapd_frame.specs.Frame.{Fields, content_fault, frame_of, n201}
+use Rattle.lapd_frame.specs.Frame.{Fields, frame_of, n201}
 use Rattle.lapd_frame.specs.Reading.{address_of, fault_for_link, frame_at}
 use Rattle.lapd_frame.proofs.FrameAt.{address_carried, frame_spelled, parts_again}
 use Rattle.lapd_frame.proofs.Lengths.{content_is_short}

@@ -1,5 +1,5 @@
 -- The common part of both sides processes received frames and expired timers.
-use Rattle.std.proofs.Common.{◌≡◌, ℕ, List, [], Option, Some, None, Result, Ok, Err, sym, ap, subst, ◌∙◌}
+use Rattle.std.proofs.Common.{◌≡◌, ℕ, List, [], Option, Some, None, Result, Ok, Err, refl, sym, ap, subst, ◌∙◌}
 use Rattle.std.specs.Prelude.{OnOk, OnErr, IfErr}
 use Rattle.lapd_frame.specs.declared.Side.{Side}
 use Rattle.lapd_frame.specs.declared.Address.{Address}
@@ -9,12 +9,14 @@ use Rattle.lapd_frame.specs.Frame.{Fields}
 use Rattle.lapd_table.specs.declared.link_id.LinkId.{LinkId}
 use Rattle.lapd_table.specs.LinkId.{id_of_address}
 use Rattle.lapd_sides_links.specs.declared.side_fault.SideKind.{SideKind}
-use Rattle.lapd_sides_links.specs.Effects.{Effects, no_effects}
+use Rattle.lapd_sides_links.specs.declared.link_set.LinkSet.{LinkSet}
+use Rattle.lapd_sides_links.specs.Effects.{Appends, Effects, no_effects}
 use Rattle.lapd_sides_links.specs.Links.{Links, Reaction, in_links, link_acts}
 use Rattle.lapd_sides_links.specs.Shown.{ShowLinks, HaveActed, LinksDo, LinksRefuseAs, ShowsLinksAsBefore}
+use Rattle.lapd_sides_links.proofs.Behind.{acted_alone}
 use Rattle.lapd_sides.specs.declared.links_and_timer.LinksAndTimer.{LinksAndTimer}
 use Rattle.lapd_sides.specs.Management.{one_more}
-use Rattle.lapd_sides.specs.Shows.{HaveReceived, HaveStepped, fault_on_links, frame_on_links}
+use Rattle.lapd_sides.specs.Shows.{HaveReceived, HaveStepped, ReceiveBehind, fault_on_links, frame_on_links}
 
 -- ---- Frames.
 
@@ -37,6 +39,19 @@ pub addressed : (side : Side) (old new : LinksAndTimer) (acts : Effects) (links 
 addressed side old new acts links now frame id address octets named of same h =
     subst (λ (o : List ℕ). HaveReceived side old new acts links (in_links (id_of_address frame.address) (link_acts side (id_of_address frame.address) now (Heard frame.control frame.address.role) o) links)) same
     (subst (λ (i : LinkId). HaveReceived side old new acts links (in_links i (link_acts side i now (Heard frame.control frame.address.role) octets) links)) (named ∙ ap (λ (a : Address). id_of_address a) of) h)
+
+-- a link takes its step for the frame, and its effects are appended to the earlier ones
+pub received_behind : (old : LinksAndTimer) (links : LinkSet) (before after : Effects) (now : ℕ) (frame : Fields) (id : LinkId) (address : Address) → id ≡ id_of_address address → address ≡ frame.address
+    → Appends before after → LinksDo old.links links before after (λ side. in_links id (link_acts side id now (Heard frame.control frame.address.role) frame.info))
+    → ReceiveBehind old (record old { links = links }) before after (frame_on_links now frame)
+received_behind old links before after now frame id address named of appends does = record {
+  given = appends.0;
+  appended = appends.1;
+  received = λ side l here.
+      let alone = acted_alone side links before after appends.0 _ appends.1 (does side l here) in
+      addressed side old (record old { links = links }) appends.0 l now frame id address frame.info named of refl
+      (received_by side old (record old { links = links }) no_effects appends.0 l _ refl alone refl refl);
+}
 
 -- and so is a fault with an address
 pub faulty : (side : Side) (old new : LinksAndTimer) (acts : Effects) (links : Links) (now : ℕ) (kind : FaultKind) (found : Option Address) (address : Address) (id : LinkId) → found ≡ Some address → id ≡ id_of_address address

@@ -1,5 +1,5 @@
 -- The effects of the steps of a user side.
-use Rattle.std.proofs.Common.{◌≡◌, ℕ, List, [], Option, Some, None, Result, Ok, Err, refl, sym, ap, subst, ◌∙◌, ◌<◌, ◌∷◌, length, get_or, drop, suc, append_assoc}
+use Rattle.std.proofs.Common.{◌≡◌, ℕ, List, [], Option, Some, None, Result, Ok, Err, refl, sym, ap, subst, ◌∙◌, ◌<◌, ◌∷◌, length, get_or, drop, suc}
 use Rattle.std.proofs.lemmas.List.{append-nil}
 use Rattle.std.proofs.Math.Seq.{drop-cons}
 use Rattle.std.specs.declared.alloc.Global.{Global}
@@ -35,15 +35,16 @@ use Rattle.lapd_sides.specs.declared.request.Request.{Request}
 use Rattle.lapd_sides_links.specs.declared.side_fault.SideFault.{SideFault}
 use Rattle.lapd_sides_links.specs.declared.side_fault.SideKind.{SideKind}
 use Rattle.lapd_sides_links.specs.declared.side_fault.SideKind.TheVariants.{NoLink}
-use Rattle.lapd_sides_links.specs.Effects.{Effects, no_effects, and_then}
+use Rattle.lapd_sides_links.specs.Effects.{Appends, Effects, no_effects, and_then}
 use Rattle.lapd_sides_links.specs.Links.{Links, Reaction, Served, is_served, in_links, link_acts, link_expires, of_sapi, no_links, with_tei}
 use Rattle.lapd_sides.specs.Management.{carries_message, links_with, manages, one_more}
 use Rattle.lapd_sides.specs.User.{User, PendingEstablishments, nothing_pending, among_links, or_discarded, or_unmoved, next, link_of_user, with_tei_or, establishes, establishes_pending, terminal_acts, assigned, pending_after, fault_received, for_layer_3, data_received, message_received, frame_received, got_for_message, got_for_frame, unit_from_group, user_requested, wants, has_tei, gives_up, with_pending, is_pending, forgets, sends_message, next_reference, advanced, drawn, links_of_fixed, user_expires}
 use Rattle.lapd_sides.specs.Requests.{message_of}
 use Rattle.lapd_sides_links.specs.Shown.{ShowLinks, HaveActed}
+use Rattle.lapd_sides_links.proofs.Behind.{acted_alone, in_order}
 use Rattle.lapd_sides.specs.Shows.{ShowServed, HaveServed, HaveReceived, LinkHasExpired, RequestOutcome, effects_after, fault_on_links, frame_on_links, links_after}
 use Rattle.lapd_sides.proofs.Calling.{granted_as}
-use Rattle.lapd_sides.specs.ShowsUser.{ShowUser, ShowReferences, HasDone, HasExpired, HasFollowed, HasGranted, UserReceives, Answers, admitted}
+use Rattle.lapd_sides.specs.ShowsUser.{ShowUser, ShowReferences, GrantsBehind, HasDone, HasExpired, HasFollowed, HasGranted, UserReceives, Answers, admitted}
 
 -- the side with its links after a step
 abbrev pub relinked : UserSide → LinkSet → UserSide
@@ -88,9 +89,18 @@ link_answers (Err fault) code links before acts message does empty ok err back s
   nothing = nothing ∙ empty;
 }
 
--- effects are appended in any grouping
-in_order : (before e f : Effects) → and_then (and_then before e) f ≡ and_then before (and_then e f)
-in_order before e f = rw (append_assoc before.frames e.frames f.frames, append_assoc before.primitives e.primitives f.primitives) refl
+-- a link sends the message at once, and its effects are appended to the earlier ones
+pub link_grants_behind : {E : Type 0} (result : Result (Unit {0}) E) (code : UserSide) (links : LinkSet) (before after : Effects) (does : Side → Links → Result (Reaction Links) SideKind)
+    → OnOk result ((at : Side) (l : Links) → ShowLinks at code.served.links l → HaveActed at links before after (does at l)) → OnOk result (Appends before after)
+    → OnOk result (GrantsBehind code (relinked code links) before after (λ config s. among_links s (does side.User s.served.links)))
+link_grants_behind (Ok u) code links before after does ok appends = record {
+  given = appends.0;
+  appended = appends.1;
+  grants = λ config s shown.
+      let alone = acted_alone side.User links before after appends.0 _ appends.1 (ok side.User s.served.links shown.served.links) in
+      granted code links config s no_effects appends.0 _ shown refl alone;
+}
+link_grants_behind (Err e) code links before after does ok appends = tt
 
 -- appending no effects changes nothing
 behind : (e : Effects) → e ≡ and_then e no_effects
@@ -209,6 +219,16 @@ pub answers_as : (result : Result (Unit {0}) SideFault) (old after : UserSide) (
     → Answers result old after acts message a → Answers result old after acts message b
 answers_as (Ok u) old after acts message a b same h = λ config s shown. granted_as after config acts (a config s) (b config s) (same config s shown) (h config s shown)
 answers_as (Err fault) old after acts message a b same h = record { kind = λ config s shown. same config s shown ∙ h.kind config s shown; returned = h.returned; unchanged = h.unchanged; nothing = h.nothing }
+
+-- the same, for effects that are appended to the earlier ones
+pub grants_behind_as : {E : Type 0} (result : Result (Unit {0}) E) (old after : UserSide) (before acts : Effects) (a b : RequestOutcome User) → ((config : Config) (s : User) → ShowUser old config s → b config s ≡ a config s)
+    → OnOk result (GrantsBehind old after before acts a) → OnOk result (GrantsBehind old after before acts b)
+grants_behind_as (Ok u) old after before acts a b same h = record {
+  given = h.given;
+  appended = h.appended;
+  grants = λ config s shown. granted_as after config h.given (a config s) (b config s) (same config s shown) (h.grants config s shown);
+}
+grants_behind_as (Err e) old after before acts a b same h = tt
 
 -- ---- One step after another.
 
@@ -339,6 +359,11 @@ received_as_message result old after acts now frame test found is holds read h =
     (subst (λ (r : Result TeiMessage TeiFault). UserReceives result old after acts (λ s. got_for_message s r) (λ config. message_received config now r)) read h)
 
 -- ---- A frame that is not a TEI message.
+
+pub received_as_data : (after : UserSide) (config : Config) (now : ℕ) (frame : Fields) (s : User) (test : Bool) (acts : Effects) → test ≡ carries_message frame → test ≡ false
+    → HasDone after config acts (data_received config now frame s) → HasDone after config acts (frame_received config now frame s)
+received_as_data after config now frame s test acts is fails h =
+    subst (λ (b : Bool). HasDone after config acts (if b then message_received config now (message_at frame.info) s else data_received config now frame s)) (sym fails ∙ is) h
 
 -- the result of the test of the frame, with the side's configuration
 pub record IsTested (code : UserSide) (frame : Fields) (test : Bool) (answer : Bool) : Type 0 where

@@ -87,6 +87,13 @@ Follows {C} {S} Show old new before after step =
     (config : Config) (s : S) → Show old config s
     → HasFollowed Show new config before after (step config s)
 
+-- the call takes this step, and its effects are appended to the earlier ones
+pub record DoesBehind {C S : Type 0} (Show : C → Config → S → Type 0) (old new : C)
+    (before after : Effects) (step : Step S) : Type 0 where
+  pub given : Effects
+  pub appended : after ≡ and_then before given
+  pub does : SideDoes Show old new given step
+
 -- an allocation failed, which happens only for the links of a TEI that is assigned or obtained: the
 -- side is unchanged and `acts` is empty
 pub record LacksMemory {C S : Type 0} (Show : C → Config → S → Type 0) (old new : C)
@@ -107,6 +114,13 @@ abbrev pub Grants : {C S : Type 0} → (C → Config → S → Type 0) → C →
 Grants {C} {S} Show old new acts outcome =
     (config : Config) (s : S) → Show old config s
     → HasGranted Show new config acts (outcome config s)
+
+-- the call executes a request, and its effects are appended to the earlier ones
+pub record GrantsBehind {C S : Type 0} (Show : C → Config → S → Type 0) (old new : C)
+    (before after : Effects) (outcome : RequestOutcome S) : Type 0 where
+  pub given : Effects
+  pub appended : after ≡ and_then before given
+  pub grants : Grants Show old new given outcome
 
 -- the call refuses a request, for this reason
 abbrev pub SideRefusesAs : {C S : Type 0} → (C → Config → S → Type 0) → C → SideKind

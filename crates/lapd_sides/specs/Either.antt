@@ -1,5 +1,5 @@
 -- A side of either kind. Its calls do the same as those of a network side or a user side.
-use Rattle.std.specs.Prelude.{◌≡◌, ℕ, List, Option, Result, ⊤}
+use Rattle.std.specs.Prelude.{◌≡◌, ℕ, List, Option, Result, Ok, ⊤}
 use Rattle.lapd_timers.specs.Due.{Timers}
 use Rattle.lapd_timers.specs.Durations.{Lengths}
 use Rattle.lapd_frame.specs.declared.Side.{Side}
@@ -7,7 +7,7 @@ use Rattle.lapd_frame.specs.declared.Side.TheVariants as side
 use Rattle.lapd_table.specs.declared.link_id.LinkId.{LinkId}
 use Rattle.lapd_table.specs.declared.link_table.LinkTable.{LinkTable}
 use Rattle.lapd_sides_links.specs.declared.side_fault.SideFault.{SideFault}
-use Rattle.lapd_sides_links.specs.Effects.{Effects}
+use Rattle.lapd_sides_links.specs.Effects.{Effects, and_then}
 use Rattle.lapd_sides_links.specs.Expiries.{IsNextDeadline, of_served}
 use Rattle.lapd_sides.specs.declared.request.Request.{Request}
 use Rattle.lapd_sides.specs.declared.either_side.EitherSide.{EitherSide}
@@ -35,6 +35,13 @@ Takes octets now result (either.User old) (either.User new) acts = user.UserRece
     old new acts (λ s. got_for s octets) (λ config. user_takes config octets now)
 Takes octets now result old new acts = ⊥
 
+-- processes received octets, and appends the effects to the earlier ones
+pub record TakesBehind (octets : List ℕ) (now : ℕ) (old new : EitherSide) (before after : Effects) :
+    Type 0 where
+  pub given : Effects
+  pub appended : after ≡ and_then before given
+  pub taken : Takes octets now (Ok tt) old new given
+
 -- executes or refuses a request
 abbrev pub Answers : Request → ℕ → Result ⊤ SideFault → EitherSide → EitherSide → Effects → Type 0
 Answers request now result (either.Network old) (either.Network new) acts = network.Answers result
@@ -42,6 +49,13 @@ Answers request now result (either.Network old) (either.Network new) acts = netw
 Answers request now result (either.User old) (either.User new) acts = user.Answers result
     old new acts (message_of request) (λ config. user_requested config request now)
 Answers request now result old new acts = ⊥
+
+-- executes or refuses a request, and appends the effects to the earlier ones
+pub record AnswersBehind (request : Request) (now : ℕ) (old new : EitherSide)
+    (before after : Effects) : Type 0 where
+  pub given : Effects
+  pub appended : after ≡ and_then before given
+  pub answered : Answers request now (Ok tt) old new given
 
 -- the first due timer has expired
 abbrev pub Expires : ℕ → EitherSide → EitherSide → Effects → Type 0

@@ -1,6 +1,6 @@
 //! A side of either kind.
 
-ghost use Rattle.std.specs.Prelude.{◌≡◌, ℕ, true, false, List, IfErr, option_copied};
+ghost use Rattle.std.specs.Prelude.{◌≡◌, ℕ, true, false, List, OnOk, OnErr, IfErr, option_copied};
 ghost use Rattle.lapd_frame.specs.Address.{other_side};
 ghost use Rattle.lapd_frame.specs.Reading.{frame_at};
 ghost use Rattle.lapd_sides_links.specs.Effects.{no_effects};
@@ -23,7 +23,7 @@ pub enum EitherSide {
 }
 
 impl EitherSide {
-    ghost use Rattle.lapd_sides.specs.Either.{side_of, Takes, Answers, Expires, StaysIdle, SetsDurations, HasNextDeadline, HasTable, HasTimers, HasDiscarded};
+    ghost use Rattle.lapd_sides.specs.Either.{side_of, Takes, TakesBehind, Answers, AnswersBehind, Expires, StaysIdle, SetsDurations, HasNextDeadline, HasTable, HasTimers, HasDiscarded};
 
     /// Whether this is the network side or the user side.
     pub fn side(&self) -> Side
@@ -36,7 +36,8 @@ impl EitherSide {
     }
 
     /// Processes octets received from the line at the time `now`, in milliseconds. `acts` is
-    /// cleared, and then has the frames to send and the primitives to deliver, as in all calls.
+    /// cleared, and then has the frames to send and the primitives to deliver, as in all calls
+    /// except [`EitherSide::take_behind`] and [`EitherSide::give_behind`].
     ///
     /// # Errors
     ///
@@ -49,6 +50,24 @@ impl EitherSide {
         match self {
             EitherSide::Network(side) => side.take(bytes, now, acts),
             EitherSide::User(side) => side.take(bytes, now, acts),
+        }
+    }
+
+    /// Processes octets received from the line at the time `now`, in milliseconds, as
+    /// [`EitherSide::take`] does, if they are a frame whose step in its link is usual, but appends
+    /// the results to those in `acts`. Otherwise, and if `acts` has no room for them, it returns
+    /// `false`, and nothing is changed: then call [`EitherSide::take`]. So a program that has not
+    /// fetched all results need not move them first.
+    pub fn take_behind(&mut self, bytes: &[u8], now: u64, acts: &mut Acts) -> bool
+        ensures side { side_of self.new ≡ side_of self.old }
+        ensures taken { result ≡ true → TakesBehind bytes.now now self.old self.new
+            acts.old acts.new }
+        ensures unchanged { result ≡ false → self.new ≡ self.old }
+        ensures nothing { result ≡ false → acts.new ≡ acts.old }
+    {
+        match self {
+            EitherSide::Network(side) => side.take_behind(bytes, now, acts),
+            EitherSide::User(side) => side.take_behind(bytes, now, acts),
         }
     }
 
@@ -106,6 +125,30 @@ impl EitherSide {
         match self {
             EitherSide::Network(side) => side.request(request, now, acts),
             EitherSide::User(side) => side.request(request, now, acts),
+        }
+    }
+
+    /// Submits a layer 3 message to a link at the time `now`, if it is sent at once, as
+    /// [`EitherSide::request`] does, but appends the results to those in `acts`. Otherwise, and if
+    /// `acts` has no room for them, the message is returned, and nothing is changed: then call
+    /// [`EitherSide::request`].
+    pub fn give_behind(
+        &mut self,
+        id: LinkId,
+        message: Vec<u8>,
+        now: u64,
+        acts: &mut Acts,
+    ) -> Result<(), Vec<u8>>
+        ensures side { side_of self.new ≡ side_of self.old }
+        ensures given { OnOk result (AnswersBehind (Request.Give id message) now self.old self.new
+            acts.old acts.new) }
+        ensures returned { IfErr result (λ back. back ≡ message) }
+        ensures unchanged { OnErr result (self.new ≡ self.old) }
+        ensures nothing { OnErr result (acts.new ≡ acts.old) }
+    {
+        match self {
+            EitherSide::Network(side) => side.give_behind(id, message, now, acts),
+            EitherSide::User(side) => side.give_behind(id, message, now, acts),
         }
     }
 

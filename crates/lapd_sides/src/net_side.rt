@@ -28,8 +28,9 @@ use std::alloc::{AllocError, Global};
 /// The network side of an interface: its links, the assigner of its TEIs, and their timers.
 ///
 /// Each call empties the [`Acts`] that the caller passes, and fills them with its results: the
-/// frames to send and the primitives for the layers above. The side has no clock: the caller passes
-/// the time, in milliseconds.
+/// frames to send and the primitives for the layers above. Only [`NetSide::take_behind`] and
+/// [`NetSide::give_behind`] append their results to those of earlier calls. The side has no clock:
+/// the caller passes the time, in milliseconds.
 #[derive(Drop)]
 pub struct NetSide {
     alloc: Global,
@@ -39,7 +40,7 @@ pub struct NetSide {
 }
 
 impl NetSide {
-    ghost use Rattle.lapd_sides.specs.ShowsNetwork.{ShowNetwork, EachShown, NetworkDoes, NetworkReceives, Answers, Expires, NetworkStaysIdle};
+    ghost use Rattle.lapd_sides.specs.ShowsNetwork.{ShowNetwork, EachShown, NetworkDoes, NetworkDoesBehind, NetworkReceives, Answers, Expires, NetworkStaysIdle};
 
     /// Creates a network side that holds these TEIs, each 0 to 126. Their links exist, in state 4.
     ///
@@ -76,6 +77,39 @@ impl NetSide {
     {
         let frame = read(bytes, Side::User);
         self.take_frame(&frame, now, acts)
+    }
+
+    /// Processes octets received from the line at the time `now`, if they are a frame whose step
+    /// in its link is usual ([`lapd_link::Link::usual_step`]), as `take` does, but appends the
+    /// results to those in `acts`. Otherwise, and if `acts` has no room for them, it returns
+    /// `false`, and nothing is changed: then call `take`.
+    pub fn take_behind(&mut self, bytes: &[u8], now: u64, acts: &mut Acts) -> bool
+        ensures taken { result ≡ true → NetworkDoesBehind self.old self.new acts.old acts.new
+            (λ config. network_takes config bytes.now now) }
+        ensures unchanged { result ≡ false → self.new ≡ self.old }
+        ensures nothing { result ≡ false → acts.new ≡ acts.old }
+    {
+        match read(bytes, Side::User) {
+            Ok(frame) => self.receive_behind(&frame, now, acts),
+            Err(_) => false,
+        }
+    }
+
+    /// Passes a frame that is not a TEI message to the link that it is addressed to, if its step is
+    /// usual.
+    #[inline(always)]
+    fn receive_behind(&mut self, frame: &Frame<'_>, now: u64, acts: &mut Acts) -> bool
+        requires fits { length frame.now.info ≤ N201 }
+        ensures received { result ≡ true → NetworkDoesBehind self.old self.new acts.old acts.new
+            (λ config. frame_received config now frame.now) }
+        ensures unchanged { result ≡ false → self.new ≡ self.old }
+        ensures nothing { result ≡ false → acts.new ≡ acts.old }
+    {
+        if carries_message(frame) {
+            false
+        } else {
+            self.served.receive_behind(frame, now, acts)
+        }
     }
 
     /// Processes octets received from the line at the time `now`, as [`NetSide::take`] does, but
@@ -201,7 +235,8 @@ impl NetSide {
 
     /// The next moment at which [`NetSide::tick`] has something to do, in milliseconds; before it,
     /// `tick` returns `false`. `None` if no timer runs. It changes only in `take`, `take_frame`,
-    /// `tick` and `request`, so a program can sleep until this moment or until octets arrive.
+    /// `take_behind`, `tick`, `request` and `give_behind`, so a program can sleep until this moment
+    /// or until octets arrive.
     pub fn next_deadline(&self) -> Option<u64>
         ensures { EachShown self.now (λ s. IsNextDeadline s.served result) }
     {
@@ -241,7 +276,7 @@ impl NetSide {
 }
 
 impl NetSide {
-    ghost use Rattle.lapd_sides.specs.ShowsNetwork.{EachShown, SetsDurations, ShowsNetworkAsBefore, Grants, NetworkRefusesAs, Answers};
+    ghost use Rattle.lapd_sides.specs.ShowsNetwork.{EachShown, SetsDurations, ShowsNetworkAsBefore, Grants, GrantsBehind, NetworkRefusesAs, Answers};
 
     /// Passes an event to the link with this id.
     fn act(&mut self, id: LinkId, event: Event, now: u64, acts: &mut Acts) -> Result<(), SideFault>
@@ -310,6 +345,25 @@ impl NetSide {
             (λ _. link_of_network now id (Give message.items) []) }
     {
         self.served.links.give(&id, message, now, acts)
+    }
+
+    /// Submits a layer 3 message to a link at the time `now`, if it is sent at once, as `request`
+    /// does, but appends the results to those in `acts`. Otherwise, and if `acts` has no room for
+    /// them, the message is returned, and nothing is changed: then call `request`.
+    pub fn give_behind(
+        &mut self,
+        id: LinkId,
+        message: Vec<u8>,
+        now: u64,
+        acts: &mut Acts,
+    ) -> Result<(), Vec<u8>>
+        ensures given { OnOk result (GrantsBehind self.old self.new acts.old acts.new
+            (λ config. network_requested config (Request.Give id message) now)) }
+        ensures returned { IfErr result (λ back. back ≡ message) }
+        ensures unchanged { OnErr result (self.new ≡ self.old) }
+        ensures nothing { OnErr result (acts.new ≡ acts.old) }
+    {
+        self.served.links.give_behind(&id, message, now, acts)
     }
 
     /// Sets how long timers run when they are started from then on, also those of links that are

@@ -1,6 +1,6 @@
 //! The user side.
 
-ghost use Rattle.std.specs.Prelude.{◌≡◌, ◌≤◌, ◌<◌, ◌+◌, ◌++◌, ℕ, true, false, List, length, [], Some, None, Ok, Err, IfOk, IfErr, IfSome, option_copied};
+ghost use Rattle.std.specs.Prelude.{◌≡◌, ◌≤◌, ◌<◌, ◌+◌, ◌++◌, ℕ, true, false, List, length, [], Some, None, Ok, Err, OnOk, OnErr, IfOk, IfErr, IfSome, option_copied};
 ghost use Rattle.std.specs.List.{All};
 ghost use Rattle.lapd_frame.specs.Reading.{frame_at};
 ghost use Rattle.lapd_link_definition.specs.Input.{input_of, Establish, Release, UnitData, Give};
@@ -37,8 +37,9 @@ use std::alloc::{AllocError, Global};
 /// The user side of an interface: a terminal, the links of its TEI, and their timers.
 ///
 /// Each call empties the [`Acts`] that the caller passes, and fills them with its results: the
-/// frames to send and the primitives for the layers above. The side has no clock: the caller passes
-/// the time, in milliseconds.
+/// frames to send and the primitives for the layers above. Only [`UserSide::take_behind`] and
+/// [`UserSide::give_behind`] append their results to those of earlier calls. The side has no clock:
+/// the caller passes the time, in milliseconds.
 #[derive(Drop)]
 pub struct UserSide {
     alloc: Global,
@@ -50,7 +51,7 @@ pub struct UserSide {
 }
 
 impl UserSide {
-    ghost use Rattle.lapd_sides.specs.ShowsUser.{ShowUser, EachShown, SetsDurations, UserDoes, UserReceives, Answers, Expires, UserStaysIdle};
+    ghost use Rattle.lapd_sides.specs.ShowsUser.{ShowUser, EachShown, GrantsBehind, SetsDurations, UserDoes, UserDoesBehind, UserReceives, Answers, Expires, UserStaysIdle};
 
     /// Creates a user side. With a fixed TEI, 0 to 126, its links exist, in state 4; without one it
     /// has no links yet.
@@ -93,6 +94,41 @@ impl UserSide {
     {
         let frame = read(bytes, Side::Network);
         self.take_frame(&frame, now, acts)
+    }
+
+    /// Processes octets received from the line at the time `now`, if they are a frame whose step
+    /// in its link is usual ([`lapd_link::Link::usual_step`]), as `take` does, but appends the
+    /// results to those in `acts`. Otherwise, and if `acts` has no room for them, it returns
+    /// `false`, and nothing is changed: then call `take`.
+    pub fn take_behind(&mut self, bytes: &[u8], now: u64, acts: &mut Acts) -> bool
+        ensures taken { result ≡ true → UserDoesBehind self.old self.new acts.old acts.new
+            (λ config. user_takes config bytes.now now) }
+        ensures unchanged { result ≡ false → self.new ≡ self.old }
+        ensures nothing { result ≡ false → acts.new ≡ acts.old }
+    {
+        match read(bytes, Side::Network) {
+            Ok(frame) => self.receive_behind(&frame, now, acts),
+            Err(_) => false,
+        }
+    }
+
+    /// Passes a frame that is neither a TEI message nor unit data to all terminals to the link that
+    /// it is addressed to, if its step is usual.
+    #[inline(always)]
+    fn receive_behind(&mut self, frame: &Frame<'_>, now: u64, acts: &mut Acts) -> bool
+        requires fits { length frame.now.info ≤ N201 }
+        ensures received { result ≡ true → UserDoesBehind self.old self.new acts.old acts.new
+            (λ config. frame_received config now frame.now) }
+        ensures unchanged { result ≡ false → self.new ≡ self.old }
+        ensures nothing { result ≡ false → acts.new ≡ acts.old }
+    {
+        if carries_message(frame) {
+            false
+        } else if is_for_layer_3(&self.config, frame) {
+            false
+        } else {
+            self.served.receive_behind(frame, now, acts)
+        }
     }
 
     /// Processes octets received from the line at the time `now`, as [`UserSide::take`] does, but
@@ -220,7 +256,8 @@ impl UserSide {
 
     /// The next moment at which [`UserSide::tick`] has something to do, in milliseconds; before it,
     /// `tick` returns `false`. `None` if no timer runs. It changes only in `take`, `take_frame`,
-    /// `tick` and `request`, so a program can sleep until this moment or until octets arrive.
+    /// `take_behind`, `tick`, `request` and `give_behind`, so a program can sleep until this moment
+    /// or until octets arrive.
     pub fn next_deadline(&self) -> Option<u64>
         ensures { EachShown self.now (λ s. IsNextDeadline s.served result) }
     {
@@ -257,6 +294,31 @@ impl UserSide {
             Request::Unit(id, octets) => self.send_unit(id.sapi, octets, now, acts),
             Request::Give(id, message) => self.give(id.sapi, message, now, acts),
             Request::AskTei | Request::Check(_) | Request::Remove(_) => Ok(()),
+        }
+    }
+
+    /// Submits a layer 3 message to a link at the time `now`, if it is sent at once, as `request`
+    /// does, but appends the results to those in `acts`. Otherwise, and if `acts` has no room for
+    /// them, the message is returned, and nothing is changed: then call `request`.
+    pub fn give_behind(
+        &mut self,
+        id: LinkId,
+        message: Vec<u8>,
+        now: u64,
+        acts: &mut Acts,
+    ) -> Result<(), Vec<u8>>
+        ensures given { OnOk result (GrantsBehind self.old self.new acts.old acts.new
+            (λ config. user_requested config (Request.Give id message) now)) }
+        ensures returned { IfErr result (λ back. back ≡ message) }
+        ensures unchanged { OnErr result (self.new ≡ self.old) }
+        ensures nothing { OnErr result (acts.new ≡ acts.old) }
+    {
+        match self.terminal.tei() {
+            Some(tei) => self
+                .served
+                .links
+                .give_behind(&name(id.sapi, tei), message, now, acts),
+            None => Err(message),
         }
     }
 

@@ -9,3 +9,4 @@ pub mod Tournaments
 pub mod WrittenOver
 pub mod UsualSteps
 pub mod GivenSteps
+pub mod Behind

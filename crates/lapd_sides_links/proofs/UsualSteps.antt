@@ -23,7 +23,7 @@ use Rattle.lapd_sides_links.specs.Effects.{Effects}
 use Rattle.lapd_sides_links.specs.Links.{Links, Reaction}
 use Rattle.lapd_sides_links.specs.declared.link_set.LinkSet.{LinkSet}
 use Rattle.lapd_sides_links.specs.declared.side_fault.SideKind.{SideKind}
-use Rattle.lapd_sides_links.specs.Shown.{made_by, HaveActed, LinksDo, LinksRefuseAs, ShowsLinksAsBefore}
+use Rattle.lapd_sides_links.specs.Shown.{made_by, HaveActed, LinksDo, LinksRefuseAs, ShowLinks, ShowsLinksAsBefore}
 use Rattle.lapd_frame.specs.declared.Side.{Side}
 
 nil_twice : (l : List (List ℕ)) → (l ++ []) ++ [] ≡ l
@@ -153,13 +153,16 @@ module _ (now : ℕ) where
 
 -- ---- The general step, after a usual one that was not taken.
 
-pub still_do : (old mid new : LinkSet) (before after_none after : Effects) (step : Side → Links → Result (Reaction Links) SideKind) → ShowsLinksAsBefore old mid → after_none ≡ before
+as_before : (old mid : LinkSet) → mid ≡ old → ShowsLinksAsBefore old mid
+as_before old mid same = λ side links shown. subst (λ (s : LinkSet). ShowLinks side s links) (sym same) shown
+
+pub still_do : (old mid new : LinkSet) (before after_none after : Effects) (step : Side → Links → Result (Reaction Links) SideKind) → mid ≡ old → after_none ≡ before
     → LinksDo mid new after_none after step → LinksDo old new before after step
 still_do old mid new before after_none after step same acts does = λ side links shown.
-    subst (λ (a : Effects). HaveActed side new a after (step side links)) acts (does side links (same side links shown))
+    subst (λ (a : Effects). HaveActed side new a after (step side links)) acts (does side links (as_before old mid same side links shown))
 
-pub still_refuse : (old mid : LinkSet) (step : Side → Links → Result (Reaction Links) SideKind) (kind : SideKind) → ShowsLinksAsBefore old mid → LinksRefuseAs mid step kind → LinksRefuseAs old step kind
-still_refuse old mid step kind same refuses = λ side links shown. refuses side links (same side links shown)
+pub still_refuse : (old mid : LinkSet) (step : Side → Links → Result (Reaction Links) SideKind) (kind : SideKind) → mid ≡ old → LinksRefuseAs mid step kind → LinksRefuseAs old step kind
+still_refuse old mid step kind same refuses = λ side links shown. refuses side links (as_before old mid same side links shown)
 
-pub still_as_before : (old mid new : LinkSet) → ShowsLinksAsBefore old mid → ShowsLinksAsBefore mid new → ShowsLinksAsBefore old new
-still_as_before old mid new same later = λ side links shown. later side links (same side links shown)
+pub still_as_before : (old mid new : LinkSet) → mid ≡ old → ShowsLinksAsBefore mid new → ShowsLinksAsBefore old new
+still_as_before old mid new same later = λ side links shown. later side links (as_before old mid same side links shown)

@@ -1,12 +1,12 @@
 -- Lists whose items are written over in their places.
-use Rattle.std.proofs.Common.{◌≡◌, ◌<◌, ◌≤◌, ◌+◌, ◌-◌, ℕ, List, [], ◌∷◌, ◌++◌, length, map, set, take, drop, sym, ap, subst, ◌∙◌, arith}
+use Rattle.std.proofs.Common.{◌≡◌, ◌<◌, ◌≤◌, ◌+◌, ◌-◌, ℕ, List, [], ◌∷◌, ◌++◌, length, map, set, take, drop, inl, inr, refl, sym, ap, subst, ◌∙◌, arith}
 use Rattle.std.specs.List.{All}
-use Rattle.std.proofs.lemmas.List.{set_at, take_more_set, map-append, length-take-le, length-map, length-drop, drop-append-le, drop-drop, drop-map, drop-take, take_all, take_at, take-append-le}
+use Rattle.std.proofs.lemmas.List.{set_at, take_more_set, map-append, length-take-le, length-map, length-drop, drop-append-le, drop-drop, drop-map, drop-take, take_all, take_at, take-append-le, drop_all}
 use Rattle.std.proofs.lemmas.List.Elements.{All-push, All-drop}
 use Rattle.arrayvec.specs.ArrayVec.{ArrayVec}
 use Rattle.lapd_sides_links.specs.declared.primitive.Primitive.{Primitive}
 use Rattle.lapd_sides_links.specs.Effects.{Effects, HasLeastOctets}
-use Rattle.lapd_sides_links.specs.WrittenOver.{in_use}
+use Rattle.lapd_sides_links.specs.WrittenOver.{HasFirstRemoved, in_use}
 
 abbrev pub octets_of : List (ArrayVec ℕ) → List (List ℕ)
 octets_of frames = map (λ (f : ArrayVec ℕ). f.items) frames
@@ -85,21 +85,44 @@ least_behind old new first end moved place stop written h within is_end same lea
 
 -- ---- The first is removed.
 
-pub first_left : {X : Type 0} (items : List X) (first end : ℕ) → in_use (first + 1) end items ≡ drop 1 (in_use first end items)
+first_left : {X : Type 0} (items : List X) (first end : ℕ) → in_use (first + 1) end items ≡ drop 1 (in_use first end items)
 first_left items first end = sym (drop-drop 1 first (take end items))
 
-pub frame_left : (frames : List (ArrayVec ℕ)) (first end : ℕ) (primitives : List Primitive)
-    → these (octets_of (in_use (first + 1) end frames)) primitives ≡ these (drop 1 (octets_of (in_use first end frames))) primitives
-frame_left frames first end primitives =
+-- the places in use are in order, and within the items
+pub left_begins : (first end left stop : ℕ) → first < end → HasFirstRemoved first end left stop → left ≤ stop
+left_begins first end left stop some (inl moved) = omega (arith, moved.0, moved.1)
+left_begins first end left stop some (inr only) = omega (arith, only.1, only.2)
+
+pub left_ends : (first end left stop count : ℕ) → end ≤ count → HasFirstRemoved first end left stop → stop ≤ count
+left_ends first end left stop count within (inl moved) = omega (arith, moved.1)
+left_ends first end left stop count within (inr only) = omega (arith, only.2)
+
+no_places : {X : Type 0} (items : List X) → in_use 0 0 items ≡ []
+no_places [] = refl
+no_places (item ∷ items) = refl
+
+-- the others are in use
+left_in_use : {X : Type 0} (items : List X) (first end left stop : ℕ) → end ≤ length items → HasFirstRemoved first end left stop → in_use left stop items ≡ drop 1 (in_use first end items)
+left_in_use items first end left stop within (inl moved) =
+    ap (λ (n : ℕ). in_use n stop items) moved.0 ∙ (ap (λ (n : ℕ). in_use (first + 1) n items) moved.1 ∙ first_left items first end)
+left_in_use items first end left stop within (inr only) =
+    let none : length (take end items) ≤ first + 1 = omega (arith, length-take-le end items within, only.0) in
+    ap (λ (n : ℕ). in_use n stop items) only.1 ∙ (ap (λ (n : ℕ). in_use 0 n items) only.2 ∙ (no_places items
+    ∙ sym (sym (first_left items first end) ∙ drop_all (first + 1) (take end items) none)))
+
+pub frame_left : (frames : List (ArrayVec ℕ)) (first end left stop : ℕ) (primitives : List Primitive) → end ≤ length frames → HasFirstRemoved first end left stop
+    → these (octets_of (in_use left stop frames)) primitives ≡ these (drop 1 (octets_of (in_use first end frames))) primitives
+frame_left frames first end left stop primitives within removed =
     ap (λ (l : List (List ℕ)). these l primitives)
-    (ap octets_of (first_left frames first end) ∙ sym (drop-map (λ (f : ArrayVec ℕ). f.items) 1 (in_use first end frames)))
+    (ap octets_of (left_in_use frames first end left stop within removed) ∙ sym (drop-map (λ (f : ArrayVec ℕ). f.items) 1 (in_use first end frames)))
 
-pub primitive_left : (primitives : List Primitive) (first end : ℕ) (frames : List (List ℕ))
-    → these frames (in_use (first + 1) end primitives) ≡ these frames (drop 1 (in_use first end primitives))
-primitive_left primitives first end frames = ap (these frames) (first_left primitives first end)
+pub primitive_left : (primitives : List Primitive) (first end left stop : ℕ) (frames : List (List ℕ)) → end ≤ length primitives → HasFirstRemoved first end left stop
+    → these frames (in_use left stop primitives) ≡ these frames (drop 1 (in_use first end primitives))
+primitive_left primitives first end left stop frames within removed = ap (these frames) (left_in_use primitives first end left stop within removed)
 
-pub least_left : (frames : List (ArrayVec ℕ)) (first end : ℕ) → AllLeast (in_use first end frames) → AllLeast (in_use (first + 1) end frames)
-least_left frames first end all = subst AllLeast (sym (first_left frames first end))
+pub least_left : (frames : List (ArrayVec ℕ)) (first end left stop : ℕ) → end ≤ length frames → HasFirstRemoved first end left stop
+    → AllLeast (in_use first end frames) → AllLeast (in_use left stop frames)
+least_left frames first end left stop within removed all = subst AllLeast (sym (left_in_use frames first end left stop within removed))
     (All-drop (λ (f : ArrayVec ℕ). HasLeastOctets f.items) 1 (in_use first end frames) all)
 
 -- ---- More places.

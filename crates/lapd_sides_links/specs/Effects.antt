@@ -1,7 +1,7 @@
 -- The effects of an event on a side, made from the outputs of a step of a link or of TEI
 -- management: the frames to send, as octets, the primitives for the layers above, and the running
 -- timers with their deadlines (Q.921 4.1, 5.9).
-use Rattle.std.specs.Prelude.{ℕ, ◌≤◌, List, [], ◌∷◌, ◌++◌, length, map, drop, Option, Some, None, option_map}
+use Rattle.std.specs.Prelude.{◌≡◌, ℕ, ◌≤◌, List, [], ◌∷◌, ◌++◌, length, map, drop, Option, Some, None, option_map}
 use Rattle.std.specs.List.{filter_map}
 use Rattle.lapd_timers.specs.declared.timer.Timer.{Timer}
 use Rattle.lapd_timers.specs.Due.{Timers, with_deadline, deadline_from}
@@ -41,6 +41,10 @@ and_then first second = record {
   frames = first.frames ++ second.frames;
   primitives = first.primitives ++ second.primitives;
 }
+
+-- the effects of a step are appended to the earlier ones
+abbrev pub Appends : Effects → Effects → Type 0
+Appends before after = (given : Effects) × (after ≡ and_then before given)
 
 -- ---- The timers.
 

@@ -5,9 +5,10 @@ ghost use Rattle.lapd_frame.specs.Frame.{spelling};
 ghost use Rattle.lapd_sides_links.specs.declared.primitive.Primitive.TheVariants.{Of};
 ghost use Rattle.lapd_sides_links.specs.declared.primitive.What.TheVariants.{Acknowledged, Up};
 ghost use Rattle.lapd_sides_links.specs.Effects.{HasLeastOctets, no_effects};
+ghost use Rattle.lapd_sides_links.specs.Rooms.{has_usual_room};
 ghost use Rattle.lapd_tei.specs.Message.{frame_of_message};
 
-use crate::written_over::next_place;
+use crate::written_over::{next_place, remove_first};
 use crate::{FrameOctets, Octets, Primitive, What};
 use lapd_frame::{Frame, N201, Side};
 use lapd_link::MOST_OUTPUTS;
@@ -97,6 +98,15 @@ impl Acts {
         &self.primitives[self.first_primitive..self.primitives_end]
     }
 
+    /// Whether there is room for two more frames and two more primitives, as a usual step may
+    /// produce.
+    #[inline(always)]
+    pub fn has_usual_room(&self) -> bool
+        ensures { result ≡ has_usual_room self.now }
+    {
+        self.frames().len() + 2 <= MOST_FRAMES && self.primitives().len() + 2 <= MOST_PRIMITIVES
+    }
+
     /// Removes all frames and primitives.
     pub fn clear(&mut self)
         ensures { self.new ≡ no_effects }
@@ -112,7 +122,7 @@ impl Acts {
         requires { 0 < length self.old.frames }
         ensures { self.new ≡ record self.old { frames = drop 1 self.old.frames } }
     {
-        self.first_frame += 1;
+        remove_first(&mut self.first_frame, &mut self.frames_end);
     }
 
     /// Removes the first primitive.
@@ -120,7 +130,7 @@ impl Acts {
         requires { 0 < length self.old.primitives }
         ensures { self.new ≡ record self.old { primitives = drop 1 self.old.primitives } }
     {
-        self.first_primitive += 1;
+        remove_first(&mut self.first_primitive, &mut self.primitives_end);
     }
 
     /// Moves everything to the ends of these lists.

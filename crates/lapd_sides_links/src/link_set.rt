@@ -9,24 +9,24 @@ ghost use Rattle.lapd_link_machine.specs.Bounds.{primitive_count};
 ghost use Rattle.lapd_link_machine.specs.Given.{given_outs};
 ghost use Rattle.lapd_link_machine.specs.Usual.{usual_outs};
 ghost use Rattle.lapd_link_definition.specs.End.{End};
-ghost use Rattle.lapd_link_definition.specs.Input.{input_of, Give, UnitData};
+ghost use Rattle.lapd_link_definition.specs.Input.{input_of, Give, Heard, UnitData};
 ghost use Rattle.lapd_link_definition.specs.Input as input;
 ghost use Rattle.lapd_table.specs.declared.link_id.LinkId.{LinkId};
 ghost use Rattle.lapd_table.specs.LinkTable.{link_at, side_of, Changes, IsFor, IsKey, IsUnchanged};
 ghost use Rattle.lapd_table.specs.LinkId.{setup_for};
 ghost use Rattle.lapd_sides_links.specs.declared.acts.TheConstants.{MOST_FRAMES, MOST_PRIMITIVES};
 ghost use Rattle.lapd_sides_links.specs.declared.primitive.Primitive.TheVariants.{Of};
-ghost use Rattle.lapd_sides_links.specs.Effects.{timed, what_of};
+ghost use Rattle.lapd_sides_links.specs.Effects.{timed, what_of, Appends};
 ghost use Rattle.lapd_sides_links.specs.Expiries.{IsFirst, IsPast, IsTimerOf, Runs, of_links};
 ghost use Rattle.lapd_sides_links.specs.Links.{Links, IsOfLink, no_links, of_sapi, with_link, with_tei, without_tei, release_at_removal, primitives_of, primitives_at_removal, primitive_of_tei, links_of_held, links_with_durations, in_links, link_acts, link_expires};
-ghost use Rattle.lapd_sides_links.specs.Rooms.{HasRoomFor, AddsAtMost};
+ghost use Rattle.lapd_sides_links.specs.Rooms.{HasRoomFor, HasUsualRoom, AddsAtMost};
 
 use crate::delivery::{deliver_all, put_frames};
 use crate::link_timers::LinkTimers;
 use crate::side_fault::refused;
 use crate::usual::{deliver_acknowledged, deliver_message, put_message_frame, put_response};
 use crate::{Acts, Config, Primitive, RunningTimer, SideFault, SideKind, What};
-use lapd_frame::N201;
+use lapd_frame::{Frame, N201};
 use lapd_link::{
     Event, GivenOuts, Link, LinkFault, Outs, Params, Sapi, Side, State, Tei, UsualOuts,
 };
@@ -387,8 +387,31 @@ impl LinkSet {
         }
     }
 
+    /// Processes a frame in the link with this id, at the time `now`, if its step is usual. The
+    /// results are appended to `acts`. Otherwise, and if `acts` has no room for them, it returns
+    /// `false`, and nothing is changed.
+    #[inline(always)]
+    pub fn act_behind(&mut self, id: &LinkId, frame: &Frame<'_>, now: u64, acts: &mut Acts) -> bool
+        requires fits { length frame.now.info ≤ N201 }
+        ensures ok { result ≡ true → LinksDo self.old self.new acts.old acts.new
+            (λ side. in_links id.now (link_acts side id.now now
+            (Heard frame.now.control frame.now.address.role) frame.now.info)) }
+        ensures appended { result ≡ true → Appends acts.old acts.new }
+        ensures unchanged { result ≡ false → self.new ≡ self.old }
+        ensures nothing { result ≡ false → acts.new ≡ acts.old }
+    {
+        if acts.has_usual_room() {
+            match self.table.find(id) {
+                Some(key) => self.act_usually(&key, &Event::Heard(frame), frame.info(), now, acts),
+                None => false,
+            }
+        } else {
+            false
+        }
+    }
+
     /// Processes the event, if it is a frame whose step is usual. Otherwise it returns `false`, and
-    /// the links are unchanged.
+    /// nothing is changed.
     #[inline(always)]
     fn act_usually(
         &mut self,
@@ -400,14 +423,16 @@ impl LinkSet {
     ) -> bool
         requires key { IsKey self.old.table key.now }
         requires fits { length octets.now ≤ N201 }
-        requires room { HasRoomFor (input_of event.now) acts.old }
+        requires room { HasUsualRoom acts.old }
         ensures ok { result ≡ true → LinksDo self.old self.new acts.old acts.new
             (λ side. in_links key.now.id (link_acts side key.now.id now
             (input_of event.now) octets.now)) }
-        ensures unchanged { result ≡ false → ShowsLinksAsBefore self.old self.new }
+        ensures appended { result ≡ true → Appends acts.old acts.new }
+        ensures unchanged { result ≡ false → self.new ≡ self.old }
         ensures nothing { result ≡ false → acts.new ≡ acts.old }
         ensures key { IsKey self.new.table key.now }
-        ensures most { AddsAtMost (input_of event.now) acts.old acts.new }
+        ensures most_frames { length acts.new.frames ≤ length acts.old.frames + 2 }
+        ensures most_primitives { length acts.new.primitives ≤ length acts.old.primitives + 2 }
     {
         let Event::Heard(frame) = event else {
             return false;
@@ -534,11 +559,12 @@ impl LinkSet {
         acts: &mut Acts,
     ) -> Result<(), Vec<u8>>
         requires key { IsKey self.old.table key.now }
-        requires room { HasRoomFor (Give message.items) acts.old }
+        requires room { HasUsualRoom acts.old }
         ensures ok { OnOk result (LinksDo self.old self.new acts.old acts.new
             (λ side. in_links key.now.id (link_acts side key.now.id now (Give message.items) []))) }
+        ensures appended { OnOk result (Appends acts.old acts.new) }
         ensures returned { IfErr result (λ back. back ≡ message) }
-        ensures unchanged { OnErr result (ShowsLinksAsBefore self.old self.new) }
+        ensures unchanged { OnErr result (self.new ≡ self.old) }
         ensures nothing { OnErr result (acts.new ≡ acts.old) }
         ensures key { IsKey self.new.table key.now }
     {
@@ -578,6 +604,34 @@ impl LinkSet {
                 Ok(())
             }
             Err(back) => Err(refused(SideKind::Link(back.fault), back.message)),
+        }
+    }
+
+    /// Submits a layer 3 message to the link with this id, at the time `now`, if it is sent at once.
+    /// The results are appended to `acts`. Otherwise, and if `acts` has no room for them, the
+    /// message is returned, and nothing is changed.
+    #[inline(always)]
+    pub fn give_behind(
+        &mut self,
+        id: &LinkId,
+        message: Vec<u8>,
+        now: u64,
+        acts: &mut Acts,
+    ) -> Result<(), Vec<u8>>
+        ensures ok { OnOk result (LinksDo self.old self.new acts.old acts.new
+            (λ side. in_links id.now (link_acts side id.now now (Give message.items) []))) }
+        ensures appended { OnOk result (Appends acts.old acts.new) }
+        ensures returned { IfErr result (λ back. back ≡ message) }
+        ensures unchanged { OnErr result (self.new ≡ self.old) }
+        ensures nothing { OnErr result (acts.new ≡ acts.old) }
+    {
+        if acts.has_usual_room() {
+            match self.table.find(id) {
+                Some(key) => self.give_at_once(&key, message, now, acts),
+                None => Err(message),
+            }
+        } else {
+            Err(message)
         }
     }
 

@@ -2,7 +2,7 @@
 
 ghost use Rattle.std.specs.Prelude.{◌≡◌, ◌≤◌, ◌<◌, ◌+◌, ◌-◌, length};
 ghost use Rattle.std.specs.Vec.{vec_capacity};
-ghost use Rattle.lapd_sides_links.specs.WrittenOver.{in_use};
+ghost use Rattle.lapd_sides_links.specs.WrittenOver.{HasFirstRemoved, in_use};
 
 use crate::{FrameOctets, Primitive};
 use lapd_tei::TeiOut;
@@ -81,5 +81,19 @@ fn add_room<T: Blank>(items: &mut Vec<T>, first: &mut usize, end: &mut usize)
         items.rotate_left(*first);
         *end -= *first;
         *first = 0;
+    }
+}
+
+/// Removes the first item. If it is the only one, the next is written to the first place again.
+#[inline(always)]
+pub(crate) fn remove_first(first: &mut usize, end: &mut usize)
+    requires { first.old < end.old }
+    ensures { HasFirstRemoved first.old end.old first.new end.new }
+{
+    if *end == *first + 1 {
+        *first = 0;
+        *end = 0;
+    } else {
+        *first += 1;
     }
 }

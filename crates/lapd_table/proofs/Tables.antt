@@ -1,7 +1,10 @@
 -- How a step of a link changes its table.
-use Rattle.std.proofs.Common.{◌≡◌, ℕ, List, [], true, false, Option, Some, None, Result, Ok, Err, IsSome, IfNone, IfSome, IfOk, IfErr, OnOk, OnErr, Bor, option_copied, Contains, ◌↔◌, refl, sym, ap, subst, ◌∙◌, inl, inr, eq-eqb}
+use Rattle.std.proofs.Common.{◌≡◌, ℕ, List, [], true, false, Option, Some, None, Result, Ok, Err, IsSome, IfNone, IfSome, IfOk, IfErr, OnOk, OnErr, Bor, option_copied, set, Contains, ◌↔◌, refl, sym, ap, subst, ◌∙◌, inl, inr, eq-eqb}
 use Rattle.std.specs.Prelude.{◌==◌, option_and_then, is_some, IsSomeAnd}
+use Rattle.std.proofs.Props.{props}
 use Rattle.std.proofs.lemmas.Bool.{and_from, cases_eq}
+use Rattle.std.proofs.lemmas.List.{set-get_or}
+use mathlib.Core.HLevel.{is_prop→PathP}
 use Rattle.std.specs.BTreeMap as tree
 use Rattle.std.specs.Map.{lookup}
 use Rattle.std.specs.Set.{is_member}
@@ -132,6 +135,23 @@ module _ (old : LinkTable) (id : LinkId) (key : ℕ) (there : key_of old.keys id
         let P : Option Link → Type 0 = λ o. IsSomeAnd o (λ link. Refuses link input fault) in
         subst P (sym before_at) refuses
 
+-- ---- The link under a key is written back as it was.
+
+-- two tables with the same side, links and keys are the same
+same_table : (old new : LinkTable) → new.alloc ≡ old.alloc → new.side ≡ old.side → new.links ≡ old.links → new.keys ≡ old.keys → new ≡ old
+same_table old new alloc side links keys = λ i. record {
+  alloc = alloc i;
+  side = side i;
+  links = links i;
+  keys = keys i;
+  index = is_prop→PathP (λ j. IsIndex (side j) (links j) (keys j)) (λ j. hlevel props) new.index old.index i;
+}
+
+same_slab : (links : Links) (key : ℕ) (link : Link) → slab.get links key ≡ Some link → slab.with_value links key link ≡ links
+same_slab links key link was =
+    let slots : set links.slots key (Some link) ≡ links.slots = ap (set links.slots key) (sym was) ∙ set-get_or links.slots key None in
+    ap (λ (s : List (Option Link)). let written : Links = record links { slots = s } in written) slots
+
 -- after a refusal the link and the table are unchanged
 module _ (old : LinkTable) (id : LinkId) (key : ℕ) (there : key_of old.keys id ≡ Some key) (before : Link) (was : slab.get old.links key ≡ Some before) (after : Link) (same : after ≡ before) where
   rewritten : slab.SameValues old.links (slab.with_value old.links key after)
@@ -147,6 +167,10 @@ module _ (old : LinkTable) (id : LinkId) (key : ℕ) (there : key_of old.keys id
       unchanged old new side (same_found old.side old.links old.keys old.index new.links new.keys
       (λ at. ap (λ l. slab.get l at) links ∙ rewritten at)
       (λ at. ap (λ k. key_of k at) keys))
+
+  pub same_by : (new : LinkTable) → new.alloc ≡ old.alloc → new.side ≡ old.side → new.links ≡ slab.with_value old.links key after → new.keys ≡ old.keys → new ≡ old
+  same_by new alloc side links keys =
+      same_table old new alloc side (links ∙ ap (slab.with_value old.links key) same ∙ same_slab old.links key before was) keys
 
 -- ---- Events that are for the link.
 

@@ -357,7 +357,7 @@ impl LinkTable {
     }
 
     /// Handles a frame for the link with this key, if its step is usual ([`Link::usual_step`]).
-    /// Otherwise it returns `None`, and the links are unchanged.
+    /// Otherwise it returns `None`, and the table is unchanged.
     #[inline(always)]
     pub fn usual_step_at(
         &mut self,
@@ -368,7 +368,7 @@ impl LinkTable {
         requires key { IsKey self.old key.now }
         ensures ok { IfSome result (λ outs. StepsAt self.old self.new key.now.id
             (Heard control.now role) (usual_outs outs)) }
-        ensures unchanged { IfNone result (IsUnchanged self.old self.new) }
+        ensures unchanged { IfNone result (self.new ≡ self.old) }
         ensures key { IsKey self.new key.now }
     {
         self.links[key.place].usual_step(control, role)
@@ -446,14 +446,14 @@ impl LinkTable {
     }
 
     /// Submits a message to the link with this key, if it is sent at once ([`Link::give_at_once`]).
-    /// Otherwise the message is returned, and the links are unchanged.
+    /// Otherwise the message is returned, and the table is unchanged.
     #[inline(always)]
     pub fn give_at_once_at(&mut self, key: &LinkKey, message: Vec<u8>) -> Result<GivenOuts, Vec<u8>>
         requires key { IsKey self.old key.now }
         ensures ok { IfOk result (λ outs. StepsAt self.old self.new key.now.id
             (Give message.items) (given_outs outs)) }
         ensures returned { IfErr result (λ back. back ≡ message) }
-        ensures unchanged { OnErr result (IsUnchanged self.old self.new) }
+        ensures unchanged { OnErr result (self.new ≡ self.old) }
         ensures key { IsKey self.new key.now }
     {
         self.links[key.place].give_at_once(message)

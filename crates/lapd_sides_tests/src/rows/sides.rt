@@ -132,6 +132,17 @@ net 64
 shows: network;discarded 0;next 10000;holds 64;
 exact: yes
 
+# usual results are appended to those of earlier calls
+net 64
+0 take 00817f: 008173;0 64 established;
+1 give-behind 0 64 01: 008173;0281000001;0 64 established;
+2 take-behind 0081000202: 008173;0281000001;00810102;0 64 established;0 64 data 02;0 64 acknowledged 1;
+3 take-behind 008153: not usual;008173;0281000001;00810102;0 64 established;0 64 data 02;0 64 acknowledged 1;
+3 take 008153: 008173;0 64 released;
+4 give-behind 0 64 01: not at once;008173;0 64 released;
+shows: network;discarded 0;holds 64;
+exact: yes
+
 # frames that are discarded are counted
 net 64
 0 take 00
@@ -175,6 +186,16 @@ user
 100000 release 0 127: refused B1 NoLink;
 100000 establish 0 127: fcff030f983001ff;
 shows: user;discarded 0;next 102000;T202 102000;state 3;asked 1;reference 38960;
+exact: yes
+
+# usual results are appended to those of earlier calls
+user 64
+0 take 02817f: 028173;0 64 established;
+1 give-behind 0 127 01: 028173;0081000001;0 64 established;
+2 take-behind 0281000202: 028173;0081000001;02810102;0 64 established;0 64 data 02;0 64 acknowledged 1;
+3 take-behind 02ff030a: not usual;028173;0081000001;02810102;0 64 established;0 64 data 02;0 64 acknowledged 1;
+3 take 028153: 028173;0 64 released;
+4 give-behind 0 64 01: not at once;028173;0 64 released;
 exact: yes
 
 # a TEI is got, and the establishment done

@@ -4,8 +4,15 @@ use Rattle.lapd_link_definition.specs.Input.{input_of}
 use Rattle.lapd_table.proofs.Tables.{on_ok, on_err, if_err}
 use Rattle.lapd_sides_links.specs.Effects.{Effects}
 use Rattle.lapd_sides_links.specs.Rooms.{AddsAtMost, HasRoomFor}
+use Rattle.lapd_sides_links.proofs.Behind.{adds_at_most, room_for_usual}
 use Rattle.lapd_sides_links.proofs.UsualSteps.{still_do, still_refuse, still_as_before}
 use Rattle.lapd_sides_links.proofs.link_set.LinkSet.act_at.Goals as goal
+
+pub act_usually-requires-clause-room : goal.act_usually-requires-clause-room
+act_usually-requires-clause-room c = room_for_usual (input_of c.args.event) c.args.acts.now c.requires.room
+
+pub returns-then-act_usually-clause-most : goal.returns-then-act_usually-clause-most
+returns-then-act_usually-clause-most c = adds_at_most (input_of c.args.event) c.args.acts.now c.act_usually.new.acts c.act_usually.ensures.most_frames c.act_usually.ensures.most_primitives
 
 pub returns-else-act_usually-clause-ok : goal.returns-else-act_usually-clause-ok
 returns-else-act_usually-clause-ok c = on_ok c.act_in_general.result _ _

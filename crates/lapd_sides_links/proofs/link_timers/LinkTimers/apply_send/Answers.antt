@@ -1,4 +1,3 @@
-use Rattle.std.proofs.Common.{true, false}
 use Rattle.lapd_sides_links.proofs.GivenSteps.{nothing_timed}
 use Rattle.lapd_sides_links.proofs.link_timers.LinkTimers.apply_send.Goals as goal
 

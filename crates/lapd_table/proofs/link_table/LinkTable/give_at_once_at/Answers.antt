@@ -1,6 +1,6 @@
 use Rattle.std.proofs.Common.{refl}
 use Rattle.lapd_table.specs.LinkTable.{IsKey}
-use Rattle.lapd_table.proofs.Tables.{has_link, on_ok_all, on_err, after_index, steps_at, unchanged_by}
+use Rattle.lapd_table.proofs.Tables.{has_link, on_ok_all, on_err, after_index, steps_at, same_by}
 use Rattle.lapd_table.proofs.link_table.LinkTable.give_at_once_at.Goals as goal
 
 pub index_mut-requires : goal.index_mut-requires
@@ -21,7 +21,7 @@ returns-clause-ok c = on_ok_all c.give_at_once.result _ _
 pub returns-clause-unchanged : goal.returns-clause-unchanged
 unfolding IsKey
 returns-clause-unchanged c = on_err c.give_at_once.result _ _
-    (λ same. unchanged_by c.args.self.now c.args.key.now.id c.args.key.now.place c.requires.key _ c.index_mut.ensures.value _ same _ refl refl refl) c.give_at_once.ensures.unchanged
+    (λ same. same_by c.args.self.now c.args.key.now.id c.args.key.now.place c.requires.key _ c.index_mut.ensures.value _ same _ refl refl refl refl) c.give_at_once.ensures.unchanged
 
 pub returns-clause-key : goal.returns-clause-key
 unfolding IsKey

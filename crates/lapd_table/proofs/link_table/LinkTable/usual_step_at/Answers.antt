@@ -1,7 +1,7 @@
 use Rattle.std.proofs.Common.{refl}
 use Rattle.lapd_table.specs.LinkTable.{IsKey}
 use Rattle.lapd_link_machine.proofs.Usual.{if_some}
-use Rattle.lapd_table.proofs.Tables.{has_link, if_none, after_index, steps_at, unchanged_by}
+use Rattle.lapd_table.proofs.Tables.{has_link, if_none, after_index, steps_at, same_by}
 use Rattle.lapd_table.proofs.link_table.LinkTable.usual_step_at.Goals as goal
 
 pub index_mut-requires : goal.index_mut-requires
@@ -22,7 +22,7 @@ returns-clause-ok c = if_some c.usual_step.result _ _
 pub returns-clause-unchanged : goal.returns-clause-unchanged
 unfolding IsKey
 returns-clause-unchanged c = if_none c.usual_step.result _ _
-    (λ same. unchanged_by c.args.self.now c.args.key.now.id c.args.key.now.place c.requires.key _ c.index_mut.ensures.value _ same _ refl refl refl) c.usual_step.ensures.unchanged
+    (λ same. same_by c.args.self.now c.args.key.now.id c.args.key.now.place c.requires.key _ c.index_mut.ensures.value _ same _ refl refl refl refl) c.usual_step.ensures.unchanged
 
 pub returns-clause-key : goal.returns-clause-key
 unfolding IsKey

@@ -1,0 +1,23 @@
+use Rattle.std.proofs.Common.{sym, subst, ◌∙◌, Result}
+use Rattle.lapd_frame.specs.Frame.{Fields}
+use Rattle.lapd_frame.specs.declared.Side.TheVariants as side
+use Rattle.lapd_frame.specs.declared.frame_fault.FrameFault.{FrameFault}
+use Rattle.lapd_sides.specs.User.{user_takes, received}
+use Rattle.lapd_sides.specs.ShowsUser.{HasDone}
+use Rattle.lapd_sides.proofs.ReadFrames.{info_fits}
+use Rattle.lapd_sides.proofs.user_side.UserSide.take_behind.Goals as goal
+
+pub receive_behind-requires : goal.receive_behind-requires
+receive_behind-requires c = record { fits = info_fits side.Network c.read.result _ (c.args.bytes.now, c.read.ensures.exact) c.in-Ok.is }
+
+pub returns-in-Ok-clause-taken : goal.returns-in-Ok-clause-taken
+unfolding user_takes
+returns-in-Ok-clause-taken c = λ is.
+    let h = c.receive_behind.ensures.received is in
+    record {
+      given = h.given;
+      appended = h.appended;
+      does = λ config s shown.
+          subst (λ (r : Result Fields FrameFault). HasDone c.receive_behind.new.self config h.given (received config c.args.now r s)) (sym c.in-Ok.is ∙ c.read.ensures.exact)
+          (h.does config s shown);
+    }

@@ -1,0 +1,102 @@
+-- Effects that are appended to the earlier ones, and the room for those of a usual step.
+use Rattle.std.proofs.Common.{◌≡◌, ◌≤◌, ◌+◌, ℕ, true, List, ◌++◌, length, map, Some, Result, append_assoc, refl, sym, ap, subst, ◌∙◌, arith}
+use Rattle.std.specs.Prelude.{nat_le}
+use Rattle.std.specs.List.{filter_map}
+use Rattle.std.proofs.lemmas.Bool.{and_parts, leb-true}
+use Rattle.std.proofs.lemmas.List.{append_cancel_left}
+use Rattle.lapd_frame.specs.declared.Side.{Side}
+use Rattle.lapd_frame.specs.Frame.{Fields}
+use Rattle.lapd_link.specs.Link.{LinkRepresents}
+use Rattle.lapd_link.specs.declared.link.Link.{Link}
+use Rattle.lapd_link.proofs.BetweenSteps.{end_of, shows_end}
+use Rattle.lapd_link_definition.specs.declared.out.Out.{Out}
+use Rattle.lapd_link_definition.specs.End.{End}
+use Rattle.lapd_link_definition.specs.Input.{Input, Establish, Heard}
+use Rattle.lapd_link_machine.specs.Bounds.{most_outputs}
+use Rattle.lapd_table.specs.declared.link_id.LinkId.{LinkId}
+use Rattle.lapd_table.specs.declared.link_table.LinkTable.{LinkTable}
+use Rattle.lapd_table.specs.LinkId.{setup_for}
+use Rattle.lapd_table.specs.LinkTable.{link_at, side_of, StepsAt}
+use Rattle.lapd_sides_links.specs.declared.acts.TheConstants.{MOST_FRAMES, MOST_PRIMITIVES}
+use Rattle.lapd_sides_links.specs.declared.link_set.LinkSet.{LinkSet}
+use Rattle.lapd_sides_links.specs.declared.primitive.Primitive.TheVariants.{Of}
+use Rattle.lapd_sides_links.specs.declared.side_fault.SideKind.{SideKind}
+use Rattle.lapd_sides_links.specs.Effects.{Appends, Effects, and_then, no_effects, what_of}
+use Rattle.lapd_sides_links.specs.Links.{Links, Reaction, in_links, link_acts}
+use Rattle.lapd_sides_links.specs.Rooms.{AddsAtMost, HasRoomFor, HasUsualRoom, has_usual_room}
+use Rattle.lapd_sides_links.specs.Shown.{made_by, HaveActed, LinksDo}
+use Rattle.lapd_sides_links.proofs.Acting.{same_effects}
+
+-- ---- Effects in order.
+
+-- effects are appended in any grouping
+pub in_order : (before e f : Effects) → and_then (and_then before e) f ≡ and_then before (and_then e f)
+in_order before e f = rw (append_assoc before.frames e.frames f.frames, append_assoc before.primitives e.primitives f.primitives) refl
+
+-- the effects before and after determine those that were appended
+pub same_appended : (before a b : Effects) → and_then before a ≡ and_then before b → a ≡ b
+same_appended before a b h = same_effects a b.frames b.primitives
+    (append_cancel_left before.frames a.frames b.frames (ap (λ (e : Effects). e.frames) h))
+    (append_cancel_left before.primitives a.primitives b.primitives (ap (λ (e : Effects). e.primitives) h))
+
+-- a step whose effects were appended has these effects alone
+pub acted_alone : (side : Side) (s : LinkSet) (before after given : Effects) (outcome : Result (Reaction Links) SideKind) → after ≡ and_then before given
+    → HaveActed side s before after outcome → HaveActed side s no_effects given outcome
+acted_alone side s before after given outcome appended h = record {
+  acted = h.acted;
+  is = h.is;
+  shown = h.shown;
+  given = same_appended before given h.acted.effects (sym appended ∙ h.given);
+}
+
+-- The outputs of a step of a link are appended: the link represents some end after it.
+pub appended : (old table : LinkTable) (id : LinkId) (input : Input) (octets : List ℕ) (outs : List Out) (before after : Effects) → StepsAt old table id input outs
+    → ((link : Link) (e : End) → link_at table id ≡ Some link → LinkRepresents link e → after.frames ≡ before.frames ++ filter_map (made_by (setup_for (side_of table) id) e octets) outs)
+    → after.primitives ≡ before.primitives ++ map (Of id) (filter_map (what_of octets) outs)
+    → Appends before after
+appended old table id input octets outs before after steps frames primitives =
+    let link = steps.after in
+    let e = end_of link.machine in
+    let given : Effects = record {
+      frames = filter_map (made_by (setup_for (side_of table) id) e octets) outs;
+      primitives = map (Of id) (filter_map (what_of octets) outs);
+    } in (
+      given,
+      same_effects after (before.frames ++ given.frames) (before.primitives ++ given.primitives)
+          (frames link e steps.changes.there (shows_end link.machine link.between)) primitives,
+    )
+
+-- ---- Room.
+
+pub usual_room : (acts : Effects) → has_usual_room acts ≡ true → HasUsualRoom acts
+usual_room acts h =
+    let both = and_parts (nat_le (length acts.frames + 2) MOST_FRAMES) (nat_le (length acts.primitives + 2) MOST_PRIMITIVES) h in
+    record { frames = leb-true _ _ both.0; primitives = leb-true _ _ both.1 }
+
+two_outputs : (input : Input) → 2 ≤ most_outputs input
+two_outputs Establish = omega arith
+two_outputs input = omega arith
+
+-- room for any step for this input is room for a usual one
+pub room_for_usual : (input : Input) (acts : Effects) → HasRoomFor input acts → HasUsualRoom acts
+room_for_usual input acts room = record {
+  frames = omega (arith, room.frames, two_outputs input);
+  primitives = omega (arith, room.primitives);
+}
+
+pub adds_at_most : (input : Input) (old new : Effects) → length new.frames ≤ length old.frames + 2 → length new.primitives ≤ length old.primitives + 2 → AddsAtMost input old new
+adds_at_most input old new frames primitives = record {
+  frames = omega (arith, frames, two_outputs input);
+  primitives = omega (arith, primitives);
+}
+
+-- ---- A frame for the link that was found.
+
+-- the link with this id processes a frame with this information
+abbrev hears : ℕ → LinkId → Fields → List ℕ → Side → Links → Result (Reaction Links) SideKind
+hears now id frame octets side = in_links id (link_acts side id now (Heard frame.control frame.address.role) octets)
+
+pub do_as_heard : (now : ℕ) (found id : LinkId) (same_id : found ≡ id) (frame : Fields) (octets : List ℕ) (same : octets ≡ frame.info) (old new : LinkSet) (before after : Effects)
+    → LinksDo old new before after (hears now found frame octets) → LinksDo old new before after (hears now id frame frame.info)
+do_as_heard now found id same_id frame octets same old new before after h =
+    subst (λ (i : LinkId). LinksDo old new before after (hears now i frame frame.info)) same_id (subst (λ (o : List ℕ). LinksDo old new before after (hears now found frame o)) same h)
