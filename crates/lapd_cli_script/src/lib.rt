@@ -6,7 +6,8 @@
 //! and [`put_octets`].
 //!
 //! A line ends with a line feed, which the last line may lack. Empty lines and lines that begin
-//! with `#` are skipped but counted. Single spaces separate the words of a line.
+//! with `#` are skipped but counted. Single spaces separate the words of a line. [`first_line`]
+//! cuts a text at its first line feed.
 #![tactic(auto)]
 
 mod print;
@@ -15,5 +16,5 @@ mod words;
 
 pub use lapd_port::PortFault;
 pub use print::{put_hex, put_line, put_number, put_octets, put_word};
-pub use script::{Command, LineFault, ScriptFault, is_passed_over, walk};
+pub use script::{Command, LineFault, ScriptFault, first_line, is_passed_over, walk};
 pub use words::{Words, number_of};

@@ -256,11 +256,13 @@ pub fn is_passed_over(line: &[u8]) -> bool
     matches!(line, [] | [b'#', ..])
 }
 
-// The octets before the first line feed, and those after it.
-fn first_line(octets: &[u8]) -> Option<(&[u8], &[u8])>
+/// The octets before the first line feed, and those after it. Returns `None` if there is no line
+/// feed.
+pub fn first_line(octets: &[u8]) -> Option<(&[u8], &[u8])>
     ensures found { IfSome result (λ parts. HasNoFeed parts.0.now
         × (octets.now ≡ parts.0.now ++ 10 ∷ parts.1.now)) }
     ensures none { IfNone result (HasNoFeed octets.now) }
+    ensures shorter { IfSome result (λ parts. length parts.1.now < length octets.now) }
 {
     let end = memchr(b'\n', octets)?;
     Some((&octets[..end], &octets[end + 1..]))
