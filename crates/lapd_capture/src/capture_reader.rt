@@ -592,7 +592,8 @@ impl<R: Read> CaptureReader<R> {
     /// When an enhanced packet block of this length was captured.
     fn block_moment(&self, count: usize, head: &[u8; LEAST_BLOCK]) -> Option<u64>
         requires { length self.now.body.items ≡ min (count - 16) MOST_BODY }
-        ensures { (left : List ℕ) → result ≡ block_moment count head.now (reading_of self.now left) }
+        ensures { (left : List ℕ)
+            → result ≡ block_moment count head.now (reading_of self.now left) }
     {
         if count < 32 {
             return None;

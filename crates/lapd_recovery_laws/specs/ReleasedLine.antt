@@ -26,4 +26,5 @@ pub record IsDown (w : World) : Type 0 where
 -- any more the link is released.
 pub record ComesDown (r : Reading) (w : World) : Type 0 where
   pub few : (moves : List Move) → AreOwn r moves w → length moves ≤ 6
-  pub down : (moves : List Move) → AreOwn r moves w → Rests r (run r moves w) → IsDown (run r moves w)
+  pub down : (moves : List Move) → AreOwn r moves w → Rests r (run r moves w)
+      → IsDown (run r moves w)

@@ -21,7 +21,8 @@ network_after config known side_steps =
 
 abbrev pub user_after : Config → Option ℕ → Lcg → List SideStep → User
 user_after config fixed random side_steps =
-    (stepped_by_all (user_behaviour config) side_steps (new_view (new_user config fixed random))).now
+    (stepped_by_all (user_behaviour config) side_steps
+    (new_view (new_user config fixed random))).now
 
 -- no link has this id, by the definition and in any table of links that represents it
 pub record IsAbsent (side : Side) (links : Links) (id : LinkId) : Type 0 where
