@@ -1,11 +1,10 @@
 //! The output of a line, as notes of a ladder.
 
-ghost use Rattle.std.specs.Prelude.{◌≡◌, ◌<◌, ◌∷◌, ◌++◌, IfNone, IfSome, OnOk, length};
-ghost use Rattle.lapd_cli_script.specs.WalkState.{HasNoFeed};
+ghost use Rattle.std.specs.Prelude.{◌≡◌, ◌++◌, OnOk};
 ghost use Rattle.lapd_cli_link_commands.specs.PairLadder.{noted_line, notes_in};
 
 use lapd_cli_ladder::push_note;
-use memchr::memchr;
+use lapd_cli_script::first_line;
 use std::alloc::{AllocError, Global};
 
 /// Appends the lines of a text as notes, except trace lines.
@@ -19,17 +18,6 @@ pub(crate) fn push_notes(alloc: Global, drawn: &mut Vec<u8>, text: &[u8]) -> Res
         rest = behind;
     }
     push_noted(alloc, drawn, rest)
-}
-
-/// The octets before the first line feed, and those after it.
-fn first_line(octets: &[u8]) -> Option<(&[u8], &[u8])>
-    ensures none { IfNone result (HasNoFeed octets.now) }
-    ensures parts { IfSome result (λ parts. HasNoFeed parts.0.now
-        × (octets.now ≡ parts.0.now ++ 10 ∷ parts.1.now)) }
-    ensures shorter { IfSome result (λ parts. length parts.1.now < length octets.now) }
-{
-    let end = memchr(b'\n', octets)?;
-    Some((&octets[..end], &octets[end + 1..]))
 }
 
 /// Appends a line as a note, unless it is empty or a trace line.

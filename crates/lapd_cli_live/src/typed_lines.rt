@@ -1,10 +1,9 @@
 //! Typed lines, assembled from octets as these arrive.
 
-ghost use Rattle.std.specs.Prelude.{◌≡◌, ◌++◌, ◌∷◌, [], option_map, IfOk, IfSome, IfNone, OnOk};
-ghost use Rattle.lapd_cli_script.specs.WalkState.{HasNoFeed};
+ghost use Rattle.std.specs.Prelude.{◌≡◌, ◌++◌, [], option_map, IfOk, OnOk};
 ghost use Rattle.lapd_cli_live.specs.Typed.{IsFirstLine};
 
-use memchr::memchr;
+use lapd_cli_script::first_line;
 use std::alloc::{AllocError, Global};
 
 /// The octets that were typed and not returned yet.
@@ -60,16 +59,6 @@ impl TypedLines {
     {
         self.text.as_slice()
     }
-}
-
-/// The octets before the first line feed, and those after it.
-fn first_line(octets: &[u8]) -> Option<(&[u8], &[u8])>
-    ensures matched { IfSome result (λ parts. HasNoFeed parts.0.now
-        × (octets.now ≡ parts.0.now ++ 10 ∷ parts.1.now)) }
-    ensures none { IfNone result (HasNoFeed octets.now) }
-{
-    let end = memchr(b'\n', octets)?;
-    Some((&octets[..end], &octets[end + 1..]))
 }
 
 /// A copy of these octets.
