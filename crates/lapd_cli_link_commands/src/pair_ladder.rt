@@ -66,7 +66,7 @@ pub fn draw_pair<R: Read, W: Write>(
     }
 }
 
-/// Executes the script, below the line above the ladder.
+/// Executes the script below the line above the ladder, and then prints the closing lines.
 fn draw_moves<R: Read, W: Write>(
     alloc: Global,
     script: &mut R,
@@ -78,31 +78,16 @@ fn draw_moves<R: Read, W: Write>(
         (new_world user network) result (lines_of octets) (W.contents out.old)
         (W.contents out.new)) }
 {
-    match Mover::new(alloc, user, network) {
-        Ok(mover) => {
-            let mut drawer = Drawer {
-                alloc,
-                settler: Settler { mover },
-                text: Vec::new(alloc),
-                drawn: Vec::new(alloc),
-            };
-            draw_to_close(alloc, &mut drawer, script, out)
-        }
-        Err(_) => Err(ScriptFault::Memory),
-    }
-}
-
-/// Executes the script, and then prints the closing lines.
-fn draw_to_close<R: Read, W: Write>(
-    alloc: Global,
-    drawer: &mut Drawer,
-    script: &mut R,
-    out: &mut W,
-) -> Result<(), ScriptFault>
-    ensures { (w : World) → IsDrawer drawer.old w → IfSome (R.remaining script.old) (λ octets.
-        ClosesAs drawn_step w result (lines_of octets) (W.contents out.old) (W.contents out.new)) }
-{
-    match walk(alloc, drawer, script, out) {
+    let Ok(mover) = Mover::new(alloc, user, network) else {
+        return Err(ScriptFault::Memory);
+    };
+    let mut drawer = Drawer {
+        alloc,
+        settler: Settler { mover },
+        text: Vec::new(alloc),
+        drawn: Vec::new(alloc),
+    };
+    match walk(alloc, &mut drawer, script, out) {
         Ok(()) => drawer.settler.mover.close(out),
         Err(fault) => Err(fault),
     }

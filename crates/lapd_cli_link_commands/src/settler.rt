@@ -40,26 +40,11 @@ pub fn pair<R: Read, W: Write>(
     ensures { IfSome (R.remaining script.old) (λ octets. PairEndsAs (new_world user network) result
         (lines_of octets) (W.contents out.old) (W.contents out.new)) }
 {
-    match Mover::new(alloc, user, network) {
-        Ok(mover) => {
-            let mut settler = Settler { mover };
-            walk_to_close(alloc, &mut settler, script, out)
-        }
-        Err(_) => Err(ScriptFault::Memory),
-    }
-}
-
-/// Executes the script, and then prints the closing lines.
-fn walk_to_close<R: Read, W: Write>(
-    alloc: Global,
-    settler: &mut Settler,
-    script: &mut R,
-    out: &mut W,
-) -> Result<(), ScriptFault>
-    ensures { (w : World) → IsSettler settler.old w → IfSome (R.remaining script.old) (λ octets.
-        PairEndsAs w result (lines_of octets) (W.contents out.old) (W.contents out.new)) }
-{
-    match walk(alloc, settler, script, out) {
+    let Ok(mover) = Mover::new(alloc, user, network) else {
+        return Err(ScriptFault::Memory);
+    };
+    let mut settler = Settler { mover };
+    match walk(alloc, &mut settler, script, out) {
         Ok(()) => settler.mover.close(out),
         Err(fault) => Err(fault),
     }
