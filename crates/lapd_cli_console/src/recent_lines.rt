@@ -1,12 +1,13 @@
 //! A reader that keeps the lines it read last.
 
-ghost use Rattle.std.specs.Prelude.{◌≡◌, ◌<◌, length, IfSome, None};
+ghost use Rattle.std.specs.Prelude.{◌≡◌, None};
 ghost use Rattle.std.specs.Io.{ReadsAtMost};
 ghost use Rattle.std.specs.Io.KnownBytes.{ReadConsumes};
 ghost use Rattle.lapd_cli_console.specs.Fault.{Remembers};
 
 use arrayvec::ArrayVec;
-use memchr::{memchr, memrchr};
+use lapd_cli_script::first_line;
+use memchr::memrchr;
 use std::io::{self, ErrorKind, Read};
 
 /// The number of kept octets of a read: as many as running a script reads at a time.
@@ -72,7 +73,7 @@ impl<R: Read> RecentLines<R> {
         for part in octets.chunks(PART) {
             self.forget_ended();
             let _ = self.part.try_extend_from_slice(part);
-            lengthen(&mut self.head, first_line(part));
+            lengthen(&mut self.head, before_feed(part));
         }
     }
 
@@ -126,25 +127,17 @@ fn lengthen(head: &mut ArrayVec<u8, HEAD>, octets: &[u8]) {
 fn feeds_in(octets: &[u8]) -> u64 {
     let mut feeds: u64 = 0;
     let mut rest = octets;
-    while let Some(behind) = behind_feed(rest) {
+    while let Some((_line, behind)) = first_line(rest) {
         feeds = feeds.saturating_add(1);
         rest = behind;
     }
     feeds
 }
 
-/// The octets after the first line feed.
-fn behind_feed(octets: &[u8]) -> Option<&[u8]>
-    ensures { IfSome result (λ behind. length behind.now < length octets.now) }
-{
-    let end = memchr(b'\n', octets)?;
-    Some(&octets[end + 1..])
-}
-
 /// The octets before the first line feed; all if there is none.
-fn first_line(octets: &[u8]) -> &[u8] {
-    match memchr(b'\n', octets) {
-        Some(end) => &octets[..end],
+fn before_feed(octets: &[u8]) -> &[u8] {
+    match first_line(octets) {
+        Some((line, _behind)) => line,
         None => octets,
     }
 }
@@ -153,7 +146,8 @@ fn first_line(octets: &[u8]) -> &[u8] {
 fn line_at(octets: &[u8], feeds: u64) -> Option<&[u8]> {
     let mut rest = octets;
     for _feed in 0..feeds {
-        rest = behind_feed(rest)?;
+        let (_line, behind) = first_line(rest)?;
+        rest = behind;
     }
-    Some(first_line(rest))
+    Some(before_feed(rest))
 }

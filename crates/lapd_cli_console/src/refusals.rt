@@ -1,8 +1,9 @@
 //! A writer that notes the first refusal.
 
-ghost use Rattle.std.specs.Prelude.{◌≡◌, ◌<◌, length, IfSome};
+ghost use Rattle.std.specs.Prelude.{◌≡◌};
 
 use arrayvec::ArrayVec;
+use lapd_cli_script::first_line;
 use memchr::memchr;
 use std::io::{self, Write};
 
@@ -155,12 +156,4 @@ fn behind_moment(line: &[u8]) -> &[u8] {
     } else {
         &[]
     }
-}
-
-/// The octets before the first line feed, and those after it.
-fn first_line(octets: &[u8]) -> Option<(&[u8], &[u8])>
-    ensures { IfSome result (λ parts. length parts.1.now < length octets.now) }
-{
-    let end = memchr(b'\n', octets)?;
-    Some((&octets[..end], &octets[end + 1..]))
 }

@@ -1,5 +1,5 @@
 use Rattle.std.proofs.Common.{length}
 use Rattle.lapd_cli_console.proofs.recent_lines.feeds_in.Given as goal
 
-abbrev pub decreases-loop-behind : goal.decreases-loop-behind
-decreases-loop-behind l = length l.rest
+abbrev pub decreases-loop-line : goal.decreases-loop-line
+decreases-loop-line l = length l.rest
