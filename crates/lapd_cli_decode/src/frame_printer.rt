@@ -259,7 +259,8 @@ impl FramePrinter {
         octets: &[u8],
         out: &mut W,
     ) -> Result<(), LineFault>
-        ensures { PrintEnds (line_with (said_if is_followed said.now) packet from octets.now self.old)
+        ensures { PrintEnds
+            (line_with (said_if is_followed said.now) packet from octets.now self.old)
             (after_shown packet.moment self.old) result self.new (W.contents out.old)
             (W.contents out.new) }
     {
