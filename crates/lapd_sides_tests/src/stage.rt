@@ -112,10 +112,9 @@ impl Stage {
         let before = self.digest();
         notes.result.clear();
         self.step(words, &mut notes.result);
-        let refused = matches!(
-            notes.result.as_str(),
-            "no memory" | "refused B3 Memory;" | "refused U3 Memory;"
-        );
+        let result = notes.result.as_str();
+        let refused = result.starts_with("no memory")
+            || matches!(result, "refused B3 Memory;" | "refused U3 Memory;");
         if refused && self.digest() == before {
             notes.met.clear();
             notes.met.put(words);

@@ -212,10 +212,7 @@ impl Talk {
                     text.put("not usual;");
                 }
             }
-            None => {
-                self.acts.clear();
-                text.put("no memory");
-            }
+            None => text.put("no memory"),
         }
     }
 
@@ -231,10 +228,7 @@ impl Talk {
                     text.put("not at once;");
                 }
             }
-            _ => {
-                self.acts.clear();
-                text.put("no memory");
-            }
+            _ => text.put("no memory"),
         }
     }
 
