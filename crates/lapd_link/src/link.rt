@@ -1,4 +1,4 @@
-ghost use Rattle.std.specs.Prelude.{◌≡◌, ◌<◌, ◌≢◌, [], IfOk, IfErr, IfNone, IfSome, OnOk, OnErr};
+ghost use Rattle.std.specs.Prelude.{◌≡◌, ◌<◌, ◌≢◌, [], false, IfOk, IfErr, IfNone, IfSome, OnOk, OnErr};
 ghost use Rattle.lapd_link_machine.specs.Sent.{IsBetweenSteps};
 
 use lapd_frame::{Address, Control, Role, Sapi, Side, Tei};
@@ -41,8 +41,8 @@ impl Link {
     ghost use Rattle.lapd_link.specs.Link.{LinkRepresents, Setup, setup_of, Steps, Refuses, IsForLink, is_address_of};
     ghost use Rattle.lapd_link.specs.SentFrame.{HasFramesOf};
     ghost use Rattle.lapd_link_machine.specs.Bounds.{IsBounded};
-    ghost use Rattle.lapd_link_machine.specs.Given.{given_outs};
-    ghost use Rattle.lapd_link_machine.specs.Usual.{usual_outs};
+    ghost use Rattle.lapd_link_machine.specs.Given.{given_outs, is_sent_at_once};
+    ghost use Rattle.lapd_link_machine.specs.Usual.{is_usual, usual_outs};
 
     /// Makes a link in state 4, of this side, for `sapi` (not management) and `tei` (not the group
     /// TEI). It allocates its I queue.
@@ -124,11 +124,13 @@ impl Link {
 
     /// Handles a frame with this control field and role, if its step is usual
     /// ([`Machine::usual_step`]). The step is that of [`Link::handle`], and its outputs are
-    /// returned as values. Otherwise it returns `None`, and the link is unchanged.
+    /// returned as values. For any other frame it returns `None`, and the link is unchanged.
     #[inline(always)]
     pub fn usual_step(&mut self, control: &Control, role: Role) -> Option<UsualOuts>
         ensures ok { IfSome result (λ outs. Steps self.old self.new (Heard control.now role)
             (usual_outs outs)) }
+        ensures declined { IfNone result ((e : End) → LinkRepresents self.old e
+            → is_usual control.now role e ≡ false) }
         ensures unchanged { IfNone result (self.new ≡ self.old) }
         ensures setup { setup_of self.new ≡ setup_of self.old }
     {
@@ -191,12 +193,14 @@ impl Link {
     }
 
     /// Queues a message of layer 3, if it is sent at once ([`Machine::give_at_once`]). The step is
-    /// that of [`Link::give`], and its outputs are returned as values. Otherwise the message is
-    /// returned, and the link is unchanged.
+    /// that of [`Link::give`], and its outputs are returned as values. A message that waits or is
+    /// refused is returned, and the link is unchanged.
     #[inline(always)]
     pub fn give_at_once(&mut self, message: Vec<u8>) -> Result<GivenOuts, Vec<u8>>
         ensures ok { IfOk result (λ outs. Steps self.old self.new (Give message.items)
             (given_outs outs)) }
+        ensures declined { OnErr result ((e : End) → LinkRepresents self.old e
+            → is_sent_at_once message.items e ≡ false) }
         ensures returned { IfErr result (λ back. back ≡ message) }
         ensures unchanged { OnErr result (self.new ≡ self.old) }
         ensures setup { setup_of self.new ≡ setup_of self.old }

@@ -1,10 +1,11 @@
 -- A usual step: nothing is unsent, so its end sends at most the pending acknowledgement.
-use Rattle.std.proofs.Common.{◌≡◌, ◌-◌, ◌≤◌, ◌+◌, ◌++◌, ℕ, nat_lt, Bool, true, false, ◌&&◌, if◌then◌else◌, List, [], length, Option, Some, None, IfSome, IfNone, refl, sym, ap, ◌∙◌, append_assoc, append-nil, arith}
+use Rattle.std.proofs.Common.{◌≡◌, ◌-◌, ◌≤◌, ◌+◌, ◌++◌, ◌==◌, ℕ, nat_lt, Bool, true, false, ◌&&◌, not, if◌then◌else◌, List, [], length, Option, Some, None, IfSome, IfNone, refl, sym, ap, ◌∙◌, append_assoc, append-nil, arith}
 use Rattle.std.proofs.lemmas.Bool.Decides.{nat_tests}
 use Rattle.lapd_frame.specs.declared.Role.{Role}
 use Rattle.lapd_frame.specs.declared.Control.{Control}
+use Rattle.lapd_frame.specs.declared.Control.TheVariants.{Rej}
 use Rattle.lapd_mod128.specs.Counting.{Tagged}
-use Rattle.lapd_supervision.specs.StateVariables.{StateVariables, AreTags, may_send, outstanding}
+use Rattle.lapd_supervision.specs.StateVariables.{StateVariables, AreTags, is_accepted, is_rejected, i_frame_response, poll_response, may_send, outstanding}
 use Rattle.lapd_link_definition.specs.declared.state.State.{State}
 use Rattle.lapd_link_definition.specs.declared.state.State.TheVariants.{MultipleFrameEstablished}
 use Rattle.lapd_link_definition.specs.declared.out.Out.{Out}
@@ -19,7 +20,7 @@ use Rattle.lapd_link_machine.specs.declared.machine.Machine.{Machine}
 use Rattle.lapd_link_machine.specs.Represents.{Represents}
 use Rattle.lapd_link_machine.specs.Sent.{SentAreOutstanding, IsBetweenSteps, sent_in_state}
 use Rattle.lapd_link_machine.specs.declared.machine.usual.UsualOuts.{UsualOuts}
-use Rattle.lapd_link_machine.specs.Usual.{IsIdle, usual_outs}
+use Rattle.lapd_link_machine.specs.Usual.{is_idle, is_idle_machine, is_usual, is_usual_frame, IsIdle, usual_outs}
 use Rattle.lapd_link_machine.proofs.BetweenSteps.{end_of, shows_end, stays_between, step_done}
 use Rattle.lapd_link_machine.proofs.Tails.{tail_waiting}
 
@@ -27,6 +28,14 @@ pub neither : (a b : Bool) → (a && (b && false)) ≡ false
 neither true true = refl
 neither true false = refl
 neither false b = refl
+
+-- a conjunction with a false part
+pub second_is_false : (a b : Bool) → b ≡ false → (a && b) ≡ false
+second_is_false true b h = h
+second_is_false false b h = refl
+
+pub third_is_false : (a b c : Bool) → c ≡ false → (a && (b && c)) ≡ false
+third_is_false a b c h = second_is_false a (b && c) (second_is_false b c h)
 
 all_sent : (next first given sent waiting : ℕ) → next ≡ first + sent → first ≤ given → given - first ≡ waiting → sent ≡ waiting → nat_lt next given ≡ false
 all_sent next first given sent waiting n within w same = grind (arith, nat_tests)
@@ -85,9 +94,46 @@ pub else_ends : (m : Machine) (outs : List Out) (test : Bool) (x y : StepState) 
 else_ends m outs true x y q h = cc
 else_ends m outs false x y q h = h
 
+pub if_none : {X : Type 0} (o : Option X) (P Q : Type 0) → (P → Q) → IfNone o P → IfNone o Q
+if_none None P Q f h = f h
+if_none (Some x) P Q f h = h
+
 pub if_some : {X : Type 0} (o : Option X) (P Q : X → Type 0) → ((x : X) → P x → Q x) → IfSome o P → IfSome o Q
 if_some None P Q f h = h
 if_some (Some x) P Q f h = f x h
+
+-- an accepted frame without a poll is not answered
+pub accepted_is_not_answered : (ns : ℕ) (v : StateVariables) → is_accepted ns v ≡ true → i_frame_response Tagged ns false v ≡ None
+unfolding is_accepted i_frame_response is_rejected poll_response
+accepted_is_not_answered ns v h = by v.own_busy (ns == v.vr) v.rejecting h
+  where
+    by : (busy next rejecting : Bool) → (not busy && next) ≡ true → (if not busy && not next && not rejecting then Some (Rej v.vr false) else None) ≡ None
+    by true next rejecting h = cc
+    by false true rejecting h = refl
+    by false false rejecting h = cc
+
+-- ---- The steps that are not usual.
+
+unsent_left : (next first given sent waiting : ℕ) → next ≡ first + sent → first ≤ given → given - first ≡ waiting → sent ≤ waiting → (sent == waiting) ≡ false → nat_lt next given ≡ true
+unsent_left next first given sent waiting n within w most differ = grind (arith, nat_tests)
+
+neither_idle : (a b c : Bool) → (a && b) ≡ false → (b ≡ false → c ≡ false) → (a && c) ≡ false
+neither_idle true true c h f = cc
+neither_idle true false c h f = f refl
+neither_idle false b c h f = refl
+
+-- an end is not idle if its machine is not
+pub idle_only_if : (m : Machine) (e : End) → m.queue.sent ≤ length m.queue.messages → Represents m [] (begin e) → is_idle_machine m ≡ false → is_idle e ≡ false
+unfolding begin
+idle_only_if m e most h busy =
+    rw h.state (neither_idle (is_established m.state) (m.queue.sent == length m.queue.messages) (not (nat_lt e.next (length e.given))) busy
+    (λ differ. rw (unsent_left e.next e.first (length e.given) m.queue.sent (length m.queue.messages) h.queue.next_is h.queue.within (tail_waiting _ _ _ _ h.queue) most differ) refl))
+
+-- a frame whose step is not usual for the machine's variables
+pub not_usual : (o : Option UsualOuts) (control : Control) (role : Role) (m : Machine) → IfNone o (is_usual_frame control role m.window ≡ false)
+    → IfNone o ((e : End) → Represents m [] (begin e) → is_usual control role e ≡ false)
+unfolding begin
+not_usual o control role m = if_none o _ _ (λ no_frame e h. second_is_false (is_idle e) _ (ap (is_usual_frame control role) h.window ∙ no_frame))
 
 -- a machine stays between two steps
 pub stays_between_when_usual : (o : Option UsualOuts) (control : Control) (role : Role) (m n : Machine) → IsBetweenSteps m

@@ -1,9 +1,18 @@
--- The outputs of a usual step, which are returned as values in place of a list.
-use Rattle.std.specs.Prelude.{◌≡◌, List, [], ◌∷◌, ◌++◌, length}
+-- The usual steps: the frames that make one, and its outputs, which are returned as values in place
+-- of a list.
+use Rattle.std.specs.Prelude.{◌≡◌, ◌==◌, ◌&&◌, nat_lt, not, Bool, true, false, List, [], ◌∷◌, ◌++◌, length}
+use Rattle.lapd_frame.specs.declared.Control.{Control}
+use Rattle.lapd_frame.specs.declared.Control.TheVariants.{I, Rr}
+use Rattle.lapd_frame.specs.declared.Role.{Role}
+use Rattle.lapd_frame.specs.declared.Role.TheVariants.{Command, Answer}
+use Rattle.lapd_mod128.specs.Counting.{Tagged}
+use Rattle.lapd_supervision.specs.StateVariables.{StateVariables, is_accepted, is_valid_nr}
 use Rattle.lapd_timers.specs.declared.timer.Timer.TheVariants.{T200, T203}
 use Rattle.lapd_link_definition.specs.declared.state.State.TheVariants.{MultipleFrameEstablished}
 use Rattle.lapd_link_definition.specs.declared.out.Out.{Out}
 use Rattle.lapd_link_definition.specs.declared.out.Out.TheVariants.{Up, Acknowledged, Start, Stop}
+use Rattle.lapd_link_definition.specs.End.{End}
+use Rattle.lapd_link_definition.specs.EndOfStep.{is_established}
 use Rattle.lapd_link_definition.specs.Procedures.{out_where, counted, response_of}
 use Rattle.lapd_link_machine.specs.declared.machine.Machine.{Machine}
 use Rattle.lapd_link_machine.specs.declared.machine.usual.NrEffect.{NrEffect}
@@ -22,7 +31,31 @@ abbrev pub usual_outs : UsualOuts → List Out
 usual_outs u = response_of u.response ++ out_where u.is_up Up ++ nr_outs u.nr
     ++ response_of u.acknowledgement
 
+-- ---- The frames that make a usual step.
+
+-- state 7, and no message is unsent
+abbrev pub is_idle : End → Bool
+is_idle e = is_established e.state && not (nat_lt e.next (length e.given))
+
+-- The frame is an I command with P=0 that is accepted while the peer is not busy (Q.921 5.6.2), an
+-- RR command with P=1, or an RR response with F=0 (5.6.3), and its N(R) is valid.
+abbrev pub is_usual_frame : Control → Role → StateVariables → Bool
+is_usual_frame (I ns nr false) Command v =
+    not v.peer_busy && (is_accepted ns v && is_valid_nr Tagged nr v)
+is_usual_frame (Rr nr true) Command v = is_valid_nr Tagged nr v
+is_usual_frame (Rr nr false) Answer v = is_valid_nr Tagged nr v
+is_usual_frame control role v = false
+
+-- a received frame makes a usual step of this end
+abbrev pub is_usual : Control → Role → End → Bool
+is_usual control role e = is_idle e && is_usual_frame control role e.window
+
+-- ---- The machine.
+
 -- state 7, and every message in the queue is sent
+abbrev pub is_idle_machine : Machine → Bool
+is_idle_machine m = is_established m.state && (m.queue.sent == length m.queue.messages)
+
 pub record IsIdle (m : Machine) : Type 0 where
   pub state : m.state ≡ MultipleFrameEstablished
   pub sent : m.queue.sent ≡ length m.queue.messages

@@ -1,8 +1,9 @@
 -- How code represents the common part of both sides, and how its steps are specified.
-use Rattle.std.specs.Prelude.{◌≡◌, ℕ, List, [], Option, Some, None, option_map, Result, Ok, Err}
+use Rattle.std.specs.Prelude.{◌≡◌, ℕ, Bool, false, List, [], Option, Some, None, option_map, Result, Ok, Err}
 use Rattle.lapd_frame.specs.declared.Side.{Side}
 use Rattle.lapd_frame.specs.declared.Address.{Address}
 use Rattle.lapd_frame.specs.declared.fault_kind.FaultKind.{FaultKind}
+use Rattle.lapd_frame.specs.declared.frame_fault.FrameFault.{FrameFault}
 use Rattle.lapd_frame.specs.Frame.{Fields}
 use Rattle.lapd_link.specs.Link.{LinkRepresents}
 use Rattle.lapd_link.specs.declared.link.Link.{Link}
@@ -23,7 +24,7 @@ use Rattle.lapd_sides.specs.declared.links_and_timer.Expired.TheVariants as expi
 use Rattle.lapd_sides.specs.declared.links_and_timer.LinksAndTimer.{LinksAndTimer}
 use Rattle.lapd_sides_links.specs.Effects.{Effects, and_then, no_effects, stopped}
 use Rattle.lapd_sides_links.specs.Expiries.{IsDue}
-use Rattle.lapd_sides_links.specs.Links.{Links, Linked, Reaction, Served, in_links, link_acts, link_expires}
+use Rattle.lapd_sides_links.specs.Links.{Links, Linked, Reaction, Served, in_links, link_acts, link_expires, takes_usually}
 use Rattle.lapd_sides_links.specs.Shown.{ShowLinks}
 use Rattle.lapd_sides.specs.Management.{links_with, manages, one_more}
 
@@ -116,6 +117,18 @@ pub record ReceiveBehind (old new : LinksAndTimer) (before after : Effects)
   pub given : Effects
   pub appended : after ≡ and_then before given
   pub received : Receive old new given step
+
+-- ---- Usual steps.
+
+-- the frame makes a usual step of the link that it is addressed to
+abbrev pub is_taken_usually : Fields → Links → Bool
+is_taken_usually frame links =
+    takes_usually frame.control frame.address.role (links (id_of_address frame.address))
+
+-- octets that were read as such a frame
+abbrev pub are_taken_usually : Result Fields FrameFault → Links → Bool
+are_taken_usually (Ok frame) links = is_taken_usually frame links
+are_taken_usually (Err fault) links = false
 
 -- ---- Expired timers.
 

@@ -23,7 +23,7 @@ pub enum EitherSide {
 }
 
 impl EitherSide {
-    ghost use Rattle.lapd_sides.specs.Either.{side_of, Takes, TakesBehind, Answers, AnswersBehind, Expires, StaysIdle, SetsDurations, HasNextDeadline, HasTable, HasTimers, HasDiscarded};
+    ghost use Rattle.lapd_sides.specs.Either.{side_of, Takes, TakesBehind, TakesNoneBehind, Answers, AnswersBehind, GivesNoneBehind, Expires, StaysIdle, SetsDurations, HasNextDeadline, HasTable, HasTimers, HasDiscarded};
 
     /// Whether this is the network side or the user side.
     pub fn side(&self) -> Side
@@ -54,14 +54,15 @@ impl EitherSide {
     }
 
     /// Processes octets received from the line at the time `now`, in milliseconds, as
-    /// [`EitherSide::take`] does, if they are a frame whose step in its link is usual, but appends
-    /// the results to those in `acts`. Otherwise, and if `acts` has no room for them, it returns
-    /// `false`, and nothing is changed: then call [`EitherSide::take`]. So a program that has not
-    /// fetched all results need not move them first.
+    /// [`EitherSide::take`] does, if they are a frame whose step in its link is usual and `acts`
+    /// has room for the results, which are appended to those in it. Otherwise it returns `false`,
+    /// and nothing is changed: then call [`EitherSide::take`]. So a program that has not fetched
+    /// all results need not move them first.
     pub fn take_behind(&mut self, bytes: &[u8], now: u64, acts: &mut Acts) -> bool
         ensures side { side_of self.new ≡ side_of self.old }
         ensures taken { result ≡ true → TakesBehind bytes.now now self.old self.new
             acts.old acts.new }
+        ensures declined { result ≡ false → TakesNoneBehind bytes.now self.old acts.old }
         ensures unchanged { result ≡ false → self.new ≡ self.old }
         ensures nothing { result ≡ false → acts.new ≡ acts.old }
     {
@@ -128,9 +129,9 @@ impl EitherSide {
         }
     }
 
-    /// Submits a layer 3 message to a link at the time `now`, if it is sent at once, as
-    /// [`EitherSide::request`] does, but appends the results to those in `acts`. Otherwise, and if
-    /// `acts` has no room for them, the message is returned, and nothing is changed: then call
+    /// Submits a layer 3 message to a link at the time `now`, as [`EitherSide::request`] does, if
+    /// it is sent at once and `acts` has room for the results, which are appended to those in it.
+    /// Otherwise the message is returned, and nothing is changed: then call
     /// [`EitherSide::request`].
     pub fn give_behind(
         &mut self,
@@ -142,6 +143,7 @@ impl EitherSide {
         ensures side { side_of self.new ≡ side_of self.old }
         ensures given { OnOk result (AnswersBehind (Request.Give id message) now self.old self.new
             acts.old acts.new) }
+        ensures declined { OnErr result (GivesNoneBehind id message.items self.old acts.old) }
         ensures returned { IfErr result (λ back. back ≡ message) }
         ensures unchanged { OnErr result (self.new ≡ self.old) }
         ensures nothing { OnErr result (acts.new ≡ acts.old) }

@@ -1,6 +1,6 @@
 //! The network side.
 
-ghost use Rattle.std.specs.Prelude.{◌≡◌, ◌≤◌, ◌<◌, ℕ, true, false, List, length, [], Some, None, Ok, Err, OnOk, OnErr, IfOk, IfErr, option_copied};
+ghost use Rattle.std.specs.Prelude.{◌≡◌, ◌≤◌, ◌<◌, ◌&&◌, ℕ, true, false, List, length, [], Some, None, Ok, Err, OnOk, OnErr, IfOk, IfErr, option_copied};
 ghost use Rattle.std.specs.List.{All};
 ghost use Rattle.lapd_frame.specs.Reading.{frame_at};
 ghost use Rattle.lapd_link_definition.specs.Input.{input_of, Give};
@@ -8,11 +8,12 @@ ghost use Rattle.lapd_tei.specs.Assigner.{AssignerState, assigner_step};
 ghost use Rattle.lapd_tei.specs.Out.{tei_given};
 ghost use Rattle.lapd_table.specs.LinkTable.{IsFor};
 ghost use Rattle.lapd_sides_links.specs.Effects.{no_effects};
-ghost use Rattle.lapd_sides_links.specs.Rooms.{IsEmpty};
+ghost use Rattle.lapd_sides_links.specs.Rooms.{has_usual_room, IsEmpty};
 ghost use Rattle.lapd_sides_links.specs.Expiries.{IsNextDeadline, of_served};
+ghost use Rattle.lapd_sides_links.specs.Links.{gives_at_once};
 ghost use Rattle.lapd_sides.specs.Calls.{WasRead};
 ghost use Rattle.lapd_sides.specs.Requests.{message_of, without_message};
-ghost use Rattle.lapd_sides.specs.Shows.{ShowEnds};
+ghost use Rattle.lapd_sides.specs.Shows.{are_taken_usually, is_taken_usually, ShowEnds};
 ghost use Rattle.lapd_sides.specs.Network.{Network, new_network, network_takes, network_requested, assigner_acts, link_of_network, frame_received, unit_requested, unit_to_group, given_for, given_for_frame, given_for_message};
 
 use crate::links_and_timer::{Expired, LinksAndTimer, carries_message, without_message};
@@ -79,13 +80,15 @@ impl NetSide {
         self.take_frame(&frame, now, acts)
     }
 
-    /// Processes octets received from the line at the time `now`, if they are a frame whose step
-    /// in its link is usual ([`lapd_link::Link::usual_step`]), as `take` does, but appends the
-    /// results to those in `acts`. Otherwise, and if `acts` has no room for them, it returns
-    /// `false`, and nothing is changed: then call `take`.
+    /// Processes octets received from the line at the time `now`, as `take` does, if they are a
+    /// frame whose step in its link is usual ([`lapd_link::Link::usual_step`]) and `acts` has room
+    /// for the results, which are appended to those in it. Otherwise it returns `false`, and
+    /// nothing is changed: then call `take`.
     pub fn take_behind(&mut self, bytes: &[u8], now: u64, acts: &mut Acts) -> bool
         ensures taken { result ≡ true → NetworkDoesBehind self.old self.new acts.old acts.new
             (λ config. network_takes config bytes.now now) }
+        ensures declined { result ≡ false → EachShown self.old (λ s. (has_usual_room acts.old
+            && are_taken_usually (frame_at Side.User bytes.now) s.served.links) ≡ false) }
         ensures unchanged { result ≡ false → self.new ≡ self.old }
         ensures nothing { result ≡ false → acts.new ≡ acts.old }
     {
@@ -102,6 +105,8 @@ impl NetSide {
         requires fits { length frame.now.info ≤ N201 }
         ensures received { result ≡ true → NetworkDoesBehind self.old self.new acts.old acts.new
             (λ config. frame_received config now frame.now) }
+        ensures declined { result ≡ false → EachShown self.old (λ s. (has_usual_room acts.old
+            && is_taken_usually frame.now s.served.links) ≡ false) }
         ensures unchanged { result ≡ false → self.new ≡ self.old }
         ensures nothing { result ≡ false → acts.new ≡ acts.old }
     {
@@ -347,9 +352,9 @@ impl NetSide {
         self.served.links.give(&id, message, now, acts)
     }
 
-    /// Submits a layer 3 message to a link at the time `now`, if it is sent at once, as `request`
-    /// does, but appends the results to those in `acts`. Otherwise, and if `acts` has no room for
-    /// them, the message is returned, and nothing is changed: then call `request`.
+    /// Submits a layer 3 message to a link at the time `now`, as `request` does, if it is sent at
+    /// once and `acts` has room for the results, which are appended to those in it. Otherwise the
+    /// message is returned, and nothing is changed: then call `request`.
     pub fn give_behind(
         &mut self,
         id: LinkId,
@@ -359,6 +364,8 @@ impl NetSide {
     ) -> Result<(), Vec<u8>>
         ensures given { OnOk result (GrantsBehind self.old self.new acts.old acts.new
             (λ config. network_requested config (Request.Give id message) now)) }
+        ensures declined { OnErr result (EachShown self.old (λ s. (has_usual_room acts.old
+            && gives_at_once message.items (s.served.links id)) ≡ false)) }
         ensures returned { IfErr result (λ back. back ≡ message) }
         ensures unchanged { OnErr result (self.new ≡ self.old) }
         ensures nothing { OnErr result (acts.new ≡ acts.old) }

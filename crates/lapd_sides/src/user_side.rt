@@ -1,6 +1,6 @@
 //! The user side.
 
-ghost use Rattle.std.specs.Prelude.{◌≡◌, ◌≤◌, ◌<◌, ◌+◌, ◌++◌, ℕ, true, false, List, length, [], Some, None, Ok, Err, OnOk, OnErr, IfOk, IfErr, IfSome, option_copied};
+ghost use Rattle.std.specs.Prelude.{◌≡◌, ◌&&◌, ◌≤◌, ◌<◌, ◌+◌, ◌++◌, ℕ, true, false, List, length, [], Some, None, Ok, Err, OnOk, OnErr, IfOk, IfErr, IfSome, option_copied};
 ghost use Rattle.std.specs.List.{All};
 ghost use Rattle.lapd_frame.specs.Reading.{frame_at};
 ghost use Rattle.lapd_link_definition.specs.Input.{input_of, Establish, Release, UnitData, Give};
@@ -14,11 +14,11 @@ ghost use Rattle.lapd_sides_links.specs.declared.acts.TheConstants.{MOST_PRIMITI
 ghost use Rattle.lapd_sides_links.specs.Effects.{no_effects};
 ghost use Rattle.lapd_sides_links.specs.Expiries.{IsNextDeadline, of_served};
 ghost use Rattle.lapd_sides_links.specs.Links.{of_sapi};
-ghost use Rattle.lapd_sides_links.specs.Rooms.{HasRoomFor, AddsAtMost, IsEmpty};
+ghost use Rattle.lapd_sides_links.specs.Rooms.{has_usual_room, HasRoomFor, AddsAtMost, IsEmpty};
 ghost use Rattle.lapd_sides.specs.Calls.{WasRead};
 ghost use Rattle.lapd_sides.specs.Requests.{message_of, without_message};
-ghost use Rattle.lapd_sides.specs.Shows.{ShowEnds};
-ghost use Rattle.lapd_sides.specs.User.{User, seeded, sends_message, new_user, user_takes, user_requested, terminal_acts, assigned, pending_after, establishes_pending, establishes, gives_up_pending, primitive_of_group, primitive_of_sapi, link_of_user, frame_received, data_received, for_layer_3, got_for, got_for_frame, got_for_message, wants, forgets, gives_up, has_tei, with_tei_or};
+ghost use Rattle.lapd_sides.specs.Shows.{are_taken_usually, is_taken_usually, ShowEnds};
+ghost use Rattle.lapd_sides.specs.User.{User, gives_at_once_by_user, seeded, sends_message, new_user, user_takes, user_requested, terminal_acts, assigned, pending_after, establishes_pending, establishes, gives_up_pending, primitive_of_group, primitive_of_sapi, link_of_user, frame_received, data_received, for_layer_3, got_for, got_for_frame, got_for_message, wants, forgets, gives_up, has_tei, with_tei_or};
 
 use crate::links_and_timer::{
     Expired, LinksAndTimer, MOST_TEI_OUTPUTS, carries_message, is_unit_to_group, without_message,
@@ -96,13 +96,15 @@ impl UserSide {
         self.take_frame(&frame, now, acts)
     }
 
-    /// Processes octets received from the line at the time `now`, if they are a frame whose step
-    /// in its link is usual ([`lapd_link::Link::usual_step`]), as `take` does, but appends the
-    /// results to those in `acts`. Otherwise, and if `acts` has no room for them, it returns
-    /// `false`, and nothing is changed: then call `take`.
+    /// Processes octets received from the line at the time `now`, as `take` does, if they are a
+    /// frame whose step in its link is usual ([`lapd_link::Link::usual_step`]) and `acts` has room
+    /// for the results, which are appended to those in it. Otherwise it returns `false`, and
+    /// nothing is changed: then call `take`.
     pub fn take_behind(&mut self, bytes: &[u8], now: u64, acts: &mut Acts) -> bool
         ensures taken { result ≡ true → UserDoesBehind self.old self.new acts.old acts.new
             (λ config. user_takes config bytes.now now) }
+        ensures declined { result ≡ false → EachShown self.old (λ s. (has_usual_room acts.old
+            && are_taken_usually (frame_at Side.Network bytes.now) s.served.links) ≡ false) }
         ensures unchanged { result ≡ false → self.new ≡ self.old }
         ensures nothing { result ≡ false → acts.new ≡ acts.old }
     {
@@ -119,6 +121,8 @@ impl UserSide {
         requires fits { length frame.now.info ≤ N201 }
         ensures received { result ≡ true → UserDoesBehind self.old self.new acts.old acts.new
             (λ config. frame_received config now frame.now) }
+        ensures declined { result ≡ false → EachShown self.old (λ s. (has_usual_room acts.old
+            && is_taken_usually frame.now s.served.links) ≡ false) }
         ensures unchanged { result ≡ false → self.new ≡ self.old }
         ensures nothing { result ≡ false → acts.new ≡ acts.old }
     {
@@ -297,9 +301,9 @@ impl UserSide {
         }
     }
 
-    /// Submits a layer 3 message to a link at the time `now`, if it is sent at once, as `request`
-    /// does, but appends the results to those in `acts`. Otherwise, and if `acts` has no room for
-    /// them, the message is returned, and nothing is changed: then call `request`.
+    /// Submits a layer 3 message to a link at the time `now`, as `request` does, if it is sent at
+    /// once and `acts` has room for the results, which are appended to those in it. Otherwise the
+    /// message is returned, and nothing is changed: then call `request`.
     pub fn give_behind(
         &mut self,
         id: LinkId,
@@ -309,6 +313,8 @@ impl UserSide {
     ) -> Result<(), Vec<u8>>
         ensures given { OnOk result (GrantsBehind self.old self.new acts.old acts.new
             (λ config. user_requested config (Request.Give id message) now)) }
+        ensures declined { OnErr result (EachShown self.old (λ s. (has_usual_room acts.old
+            && gives_at_once_by_user id.sapi message.items s) ≡ false)) }
         ensures returned { IfErr result (λ back. back ≡ message) }
         ensures unchanged { OnErr result (self.new ≡ self.old) }
         ensures nothing { OnErr result (acts.new ≡ acts.old) }

@@ -1,10 +1,15 @@
 -- Effects that are appended to the earlier ones, and the room for those of a usual step.
-use Rattle.std.proofs.Common.{◌≡◌, ◌≤◌, ◌+◌, ℕ, true, List, ◌++◌, length, map, Some, Result, append_assoc, refl, sym, ap, subst, ◌∙◌, arith}
-use Rattle.std.specs.Prelude.{nat_le}
+use Rattle.std.proofs.Common.{◌≡◌, ◌≤◌, ◌+◌, ℕ, Bool, true, false, ◌&&◌, List, ◌++◌, length, map, Option, Some, None, Result, append_assoc, refl, sym, ap, subst, ◌∙◌, arith}
+use Rattle.std.specs.Prelude.{nat_le, IsSomeAnd}
 use Rattle.std.specs.List.{filter_map}
 use Rattle.std.proofs.lemmas.Bool.{and_parts, leb-true}
+use Rattle.std.proofs.Math.Bool.{and-false}
 use Rattle.std.proofs.lemmas.List.{append_cancel_left}
+use Rattle.lapd_frame.specs.declared.Control.{Control}
+use Rattle.lapd_frame.specs.declared.Control.TheVariants.{Ui}
+use Rattle.lapd_frame.specs.declared.Role.{Role}
 use Rattle.lapd_frame.specs.declared.Side.{Side}
+use Rattle.lapd_timers.specs.Due.{Timers}
 use Rattle.lapd_frame.specs.Frame.{Fields}
 use Rattle.lapd_link.specs.Link.{LinkRepresents}
 use Rattle.lapd_link.specs.declared.link.Link.{Link}
@@ -13,18 +18,20 @@ use Rattle.lapd_link_definition.specs.declared.out.Out.{Out}
 use Rattle.lapd_link_definition.specs.End.{End}
 use Rattle.lapd_link_definition.specs.Input.{Input, Establish, Heard}
 use Rattle.lapd_link_machine.specs.Bounds.{most_outputs}
+use Rattle.lapd_link_machine.specs.Given.{is_sent_at_once}
+use Rattle.lapd_link_machine.specs.Usual.{is_idle, is_usual}
 use Rattle.lapd_table.specs.declared.link_id.LinkId.{LinkId}
 use Rattle.lapd_table.specs.declared.link_table.LinkTable.{LinkTable}
 use Rattle.lapd_table.specs.LinkId.{setup_for}
-use Rattle.lapd_table.specs.LinkTable.{link_at, side_of, StepsAt}
+use Rattle.lapd_table.specs.LinkTable.{link_at, side_of, NotAtOnceAt, NotUsualAt, StepsAt}
 use Rattle.lapd_sides_links.specs.declared.acts.TheConstants.{MOST_FRAMES, MOST_PRIMITIVES}
 use Rattle.lapd_sides_links.specs.declared.link_set.LinkSet.{LinkSet}
 use Rattle.lapd_sides_links.specs.declared.primitive.Primitive.TheVariants.{Of}
 use Rattle.lapd_sides_links.specs.declared.side_fault.SideKind.{SideKind}
 use Rattle.lapd_sides_links.specs.Effects.{Appends, Effects, and_then, no_effects, what_of}
-use Rattle.lapd_sides_links.specs.Links.{Links, Reaction, in_links, link_acts}
+use Rattle.lapd_sides_links.specs.Links.{Linked, Links, Reaction, gives_at_once, in_links, link_acts, takes_usually}
 use Rattle.lapd_sides_links.specs.Rooms.{AddsAtMost, HasRoomFor, HasUsualRoom, has_usual_room}
-use Rattle.lapd_sides_links.specs.Shown.{made_by, HaveActed, LinksDo}
+use Rattle.lapd_sides_links.specs.Shown.{made_by, timers_at, HaveActed, IsLinked, LinksDo, LinksHaveNone, ShowLinks}
 use Rattle.lapd_sides_links.proofs.Acting.{same_effects}
 
 -- ---- Effects in order.
@@ -100,3 +107,42 @@ pub do_as_heard : (now : ℕ) (found id : LinkId) (same_id : found ≡ id) (fram
     → LinksDo old new before after (hears now found frame octets) → LinksDo old new before after (hears now id frame frame.info)
 do_as_heard now found id same_id frame octets same old new before after h =
     subst (λ (i : LinkId). LinksDo old new before after (hears now i frame frame.info)) same_id (subst (λ (o : List ℕ). LinksDo old new before after (hears now found frame o)) same h)
+
+-- ---- The steps that are not made.
+
+-- no link with this id has such a step, since the table's link has none
+pub none_taken : (s : LinkSet) (id : LinkId) (control : Control) (role : Role) → NotUsualAt s.table id control role → LinksHaveNone s (λ links. takes_usually control role (links id))
+none_taken s id control role h side links shown = by (link_at s.table id) (timers_at s.link_timers id) (links id) h (shown.each id)
+  where
+    by : (link : Option Link) (timers : Option Timers) (l : Option Linked) → IsSomeAnd link (λ link. (e : End) → LinkRepresents link e → is_usual control role e ≡ false) → IsLinked link timers l → takes_usually control role l ≡ false
+    by link timers None none is = refl
+    by None timers (Some l) none is = absurd none
+    by (Some link) (Some timers) (Some l) none is = none l.end is.0
+    by (Some link) None (Some l) none is = absurd is
+
+pub none_given : (s : LinkSet) (id : LinkId) (message : List ℕ) → NotAtOnceAt s.table id message → LinksHaveNone s (λ links. gives_at_once message (links id))
+none_given s id message h side links shown = by (link_at s.table id) (timers_at s.link_timers id) (links id) h (shown.each id)
+  where
+    by : (link : Option Link) (timers : Option Timers) (l : Option Linked) → IsSomeAnd link (λ link. (e : End) → LinkRepresents link e → is_sent_at_once message e ≡ false) → IsLinked link timers l → gives_at_once message l ≡ false
+    by link timers None none is = refl
+    by None timers (Some l) none is = absurd none
+    by (Some link) (Some timers) (Some l) none is = none l.end is.0
+    by (Some link) None (Some l) none is = absurd is
+
+-- the link does not exist
+pub no_link : (s : LinkSet) (id : LinkId) → link_at s.table id ≡ None → (side : Side) (links : Links) → ShowLinks side s links → links id ≡ None
+no_link s id absent side links shown = by (link_at s.table id) (timers_at s.link_timers id) (links id) absent (shown.each id)
+  where
+    by : (link : Option Link) (timers : Option Timers) (l : Option Linked) → link ≡ None → IsLinked link timers l → l ≡ None
+    by link timers None gone is = refl
+    by None timers (Some l) gone is = absurd is
+    by (Some link) timers (Some l) gone is = absurd (cc)
+
+-- a UI frame makes no usual step
+pub unit_is_not_usual : (p : Bool) (role : Role) (l : Option Linked) → takes_usually (Ui p) role l ≡ false
+unit_is_not_usual p role None = refl
+unit_is_not_usual p role (Some l) = and-false (is_idle l.end)
+
+-- whether or not there is room
+pub none_with_room : (s : LinkSet) (room : Bool) (has : Links → Bool) → LinksHaveNone s has → LinksHaveNone s (λ links. room && has links)
+none_with_room s room has h side links shown = rw (h side links shown) (and-false room)

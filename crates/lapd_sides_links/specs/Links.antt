@@ -5,6 +5,8 @@ use Rattle.lapd_timers.specs.declared.timer.Timer.{Timer}
 use Rattle.lapd_timers.specs.declared.timer.Timer.TheVariants.{T200, T201, T202, T203}
 use Rattle.lapd_timers.specs.Due.{Timers, all_stopped, with_durations}
 use Rattle.lapd_timers.specs.Durations.{Lengths}
+use Rattle.lapd_frame.specs.declared.Control.{Control}
+use Rattle.lapd_frame.specs.declared.Role.{Role}
 use Rattle.lapd_frame.specs.declared.Sapi.{Sapi}
 use Rattle.lapd_frame.specs.declared.Sapi.TheVariants.{Call, Packet, Management}
 use Rattle.lapd_frame.specs.declared.Side.{Side}
@@ -13,9 +15,11 @@ use Rattle.lapd_link_definition.specs.declared.event.LinkFault.{LinkFault}
 use Rattle.lapd_link_definition.specs.declared.state.State.{State}
 use Rattle.lapd_link_definition.specs.declared.state.State.TheVariants as state
 use Rattle.lapd_link_definition.specs.End.{End, StepState, new_end}
-use Rattle.lapd_link_definition.specs.Input.{Input, Expiry}
+use Rattle.lapd_link_definition.specs.Input.{Input, Expiry, Heard}
 use Rattle.lapd_link_definition.specs.Parameters.{Parameters}
 use Rattle.lapd_link_definition.specs.Table.{step}
+use Rattle.lapd_link_machine.specs.Given.{is_sent_at_once}
+use Rattle.lapd_link_machine.specs.Usual.{is_usual}
 use Rattle.lapd_tei.specs.Assigner.{is_held}
 use Rattle.lapd_tei.specs.Message.{group_tei}
 use Rattle.lapd_table.specs.declared.link_id.LinkId.{LinkId}
@@ -119,6 +123,23 @@ where_there id links (Some l) does = in_place id links (does l)
 unfoldable pub in_links : LinkId → (Linked → Result (Reaction Linked) LinkFault) → Links
     → Result (Reaction Links) SideKind
 in_links id does links = where_there id links (links id) does
+
+-- ---- Usual steps, and messages that are sent at once.
+
+-- the link exists, and this frame makes a usual step of it
+abbrev pub takes_usually : Control → Role → Option Linked → Bool
+takes_usually control role None = false
+takes_usually control role (Some l) = is_usual control role l.end
+
+-- an input that is such a frame
+abbrev pub takes_input_usually : Input → Option Linked → Bool
+takes_input_usually (Heard control role) l = takes_usually control role l
+takes_input_usually input l = false
+
+-- the link exists, and sends this message at once
+abbrev pub gives_at_once : List ℕ → Option Linked → Bool
+gives_at_once message None = false
+gives_at_once message (Some l) = is_sent_at_once message l.end
 
 -- ---- Durations.
 

@@ -1,5 +1,5 @@
 -- How the links of a side in code represent those of the definition.
-use Rattle.std.specs.Prelude.{◌≡◌, ℕ, List, drop, Option, Some, None, option_map, IfSome, Result, Ok, Err}
+use Rattle.std.specs.Prelude.{◌≡◌, ℕ, Bool, false, List, drop, Option, Some, None, option_map, IfSome, Result, Ok, Err}
 use Rattle.lapd_timers.specs.Due.{Timers}
 use Rattle.lapd_frame.specs.declared.Side.{Side}
 use Rattle.lapd_frame.specs.Frame.{spelling}
@@ -70,6 +70,11 @@ abbrev pub LinksRefuseAs : LinkSet → (Side → Links → Result (Reaction Link
     → Type 0
 LinksRefuseAs old step kind = (side : Side) (links : Links) → ShowLinks side old links
     → step side links ≡ Err kind
+
+-- the links have no step of this kind
+abbrev pub LinksHaveNone : LinkSet → (Links → Bool) → Type 0
+LinksHaveNone old has = (side : Side) (links : Links) → ShowLinks side old links
+    → has links ≡ false
 
 -- the links change in this way
 abbrev pub Becomes : LinkSet → LinkSet → (Links → Links) → Type 0

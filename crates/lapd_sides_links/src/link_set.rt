@@ -1,6 +1,6 @@
 //! The links of a side with their timers.
 
-ghost use Rattle.std.specs.Prelude.{◌≡◌, ◌≢◌, ◌≤◌, ◌<◌, ◌+◌, ◌++◌, length, map, option_map, [], true, false, Some, None, IsSome, IfSome, option_copied, IfOk, IfErr, OnOk, OnErr};
+ghost use Rattle.std.specs.Prelude.{◌≡◌, ◌≢◌, ◌≤◌, ◌<◌, ◌+◌, ◌++◌, ◌&&◌, length, map, option_map, [], true, false, Some, None, IsSome, IfSome, option_copied, IfOk, IfErr, OnOk, OnErr};
 ghost use Rattle.std.specs.List.{filter_map};
 ghost use Rattle.lapd_frame.specs.declared.Side.{Side};
 ghost use Rattle.lapd_link.specs.Link.{LinkRepresents, setup_of};
@@ -18,8 +18,8 @@ ghost use Rattle.lapd_sides_links.specs.declared.acts.TheConstants.{MOST_FRAMES,
 ghost use Rattle.lapd_sides_links.specs.declared.primitive.Primitive.TheVariants.{Of};
 ghost use Rattle.lapd_sides_links.specs.Effects.{timed, what_of, Appends};
 ghost use Rattle.lapd_sides_links.specs.Expiries.{IsFirst, IsPast, IsTimerOf, Runs, of_links};
-ghost use Rattle.lapd_sides_links.specs.Links.{Links, IsOfLink, no_links, of_sapi, with_link, with_tei, without_tei, release_at_removal, primitives_of, primitives_at_removal, primitive_of_tei, links_of_held, links_with_durations, in_links, link_acts, link_expires};
-ghost use Rattle.lapd_sides_links.specs.Rooms.{HasRoomFor, HasUsualRoom, AddsAtMost};
+ghost use Rattle.lapd_sides_links.specs.Links.{Links, IsOfLink, no_links, of_sapi, with_link, with_tei, without_tei, release_at_removal, primitives_of, primitives_at_removal, primitive_of_tei, links_of_held, links_with_durations, in_links, link_acts, link_expires, gives_at_once, takes_input_usually, takes_usually};
+ghost use Rattle.lapd_sides_links.specs.Rooms.{HasRoomFor, HasUsualRoom, has_usual_room, AddsAtMost};
 
 use crate::delivery::{deliver_all, put_frames};
 use crate::link_timers::LinkTimers;
@@ -46,7 +46,7 @@ pub struct LinkSet {
 }
 
 impl LinkSet {
-    ghost use Rattle.lapd_sides_links.specs.Shown.{timers_at, made_by, HasNewLink, ShowLinks, LinksDo, LinksRefuseAs, Becomes, ShowsLinksAsBefore};
+    ghost use Rattle.lapd_sides_links.specs.Shown.{timers_at, made_by, HasNewLink, ShowLinks, LinksDo, LinksHaveNone, LinksRefuseAs, Becomes, ShowsLinksAsBefore};
 
     /// Creates a set without links, and allocates room for the timers of all links that can exist.
     ///
@@ -387,9 +387,9 @@ impl LinkSet {
         }
     }
 
-    /// Processes a frame in the link with this id, at the time `now`, if its step is usual. The
-    /// results are appended to `acts`. Otherwise, and if `acts` has no room for them, it returns
-    /// `false`, and nothing is changed.
+    /// Processes a frame in the link with this id, at the time `now`, if its step is usual and
+    /// `acts` has room for the results, which are appended. Otherwise it returns `false`, and
+    /// nothing is changed.
     #[inline(always)]
     pub fn act_behind(&mut self, id: &LinkId, frame: &Frame<'_>, now: u64, acts: &mut Acts) -> bool
         requires fits { length frame.now.info ≤ N201 }
@@ -397,6 +397,9 @@ impl LinkSet {
             (λ side. in_links id.now (link_acts side id.now now
             (Heard frame.now.control frame.now.address.role) frame.now.info)) }
         ensures appended { result ≡ true → Appends acts.old acts.new }
+        ensures declined { result ≡ false → LinksHaveNone self.old
+            (λ links. has_usual_room acts.old
+            && takes_usually frame.now.control frame.now.address.role (links id.now)) }
         ensures unchanged { result ≡ false → self.new ≡ self.old }
         ensures nothing { result ≡ false → acts.new ≡ acts.old }
     {
@@ -428,6 +431,8 @@ impl LinkSet {
             (λ side. in_links key.now.id (link_acts side key.now.id now
             (input_of event.now) octets.now)) }
         ensures appended { result ≡ true → Appends acts.old acts.new }
+        ensures declined { result ≡ false → LinksHaveNone self.old
+            (λ links. takes_input_usually (input_of event.now) (links key.now.id)) }
         ensures unchanged { result ≡ false → self.new ≡ self.old }
         ensures nothing { result ≡ false → acts.new ≡ acts.old }
         ensures key { IsKey self.new.table key.now }
@@ -563,6 +568,8 @@ impl LinkSet {
         ensures ok { OnOk result (LinksDo self.old self.new acts.old acts.new
             (λ side. in_links key.now.id (link_acts side key.now.id now (Give message.items) []))) }
         ensures appended { OnOk result (Appends acts.old acts.new) }
+        ensures declined { OnErr result (LinksHaveNone self.old
+            (λ links. gives_at_once message.items (links key.now.id))) }
         ensures returned { IfErr result (λ back. back ≡ message) }
         ensures unchanged { OnErr result (self.new ≡ self.old) }
         ensures nothing { OnErr result (acts.new ≡ acts.old) }
@@ -607,9 +614,9 @@ impl LinkSet {
         }
     }
 
-    /// Submits a layer 3 message to the link with this id, at the time `now`, if it is sent at once.
-    /// The results are appended to `acts`. Otherwise, and if `acts` has no room for them, the
-    /// message is returned, and nothing is changed.
+    /// Submits a layer 3 message to the link with this id, at the time `now`, if it is sent at once
+    /// and `acts` has room for the results, which are appended. Otherwise the message is returned,
+    /// and nothing is changed.
     #[inline(always)]
     pub fn give_behind(
         &mut self,
@@ -621,6 +628,8 @@ impl LinkSet {
         ensures ok { OnOk result (LinksDo self.old self.new acts.old acts.new
             (λ side. in_links id.now (link_acts side id.now now (Give message.items) []))) }
         ensures appended { OnOk result (Appends acts.old acts.new) }
+        ensures declined { OnErr result (LinksHaveNone self.old
+            (λ links. has_usual_room acts.old && gives_at_once message.items (links id.now))) }
         ensures returned { IfErr result (λ back. back ≡ message) }
         ensures unchanged { OnErr result (self.new ≡ self.old) }
         ensures nothing { OnErr result (acts.new ≡ acts.old) }

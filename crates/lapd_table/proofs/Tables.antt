@@ -1,5 +1,5 @@
 -- How a step of a link changes its table.
-use Rattle.std.proofs.Common.{◌≡◌, ℕ, List, [], true, false, Option, Some, None, Result, Ok, Err, IsSome, IfNone, IfSome, IfOk, IfErr, OnOk, OnErr, Bor, option_copied, set, Contains, ◌↔◌, refl, sym, ap, subst, ◌∙◌, inl, inr, eq-eqb}
+use Rattle.std.proofs.Common.{◌≡◌, ℕ, List, [], true, false, Option, Some, None, Result, Ok, Err, IsSome, IfSome, IfOk, IfErr, OnOk, OnErr, Bor, option_copied, set, Contains, ◌↔◌, refl, sym, ap, subst, ◌∙◌, inl, inr, eq-eqb}
 use Rattle.std.specs.Prelude.{◌==◌, option_and_then, is_some, IsSomeAnd}
 use Rattle.std.proofs.Props.{props}
 use Rattle.std.proofs.lemmas.Bool.{and_from, cases_eq}
@@ -54,10 +54,6 @@ on_err (Err e) P Q f h = f h
 pub if_err : {A E : Type 0} (r : Result A E) (P Q : E → Type 0) → ((e : E) → P e → Q e) → IfErr r P → IfErr r Q
 if_err (Ok a) P Q f h = tt
 if_err (Err e) P Q f h = f e h
-
-pub if_none : {A : Type 0} (o : Option A) (P Q : Type 0) → (P → Q) → IfNone o P → IfNone o Q
-if_none None P Q f h = f h
-if_none (Some a) P Q f h = h
 
 pub is_some_of : {A : Type 0} (o : Option A) (a : A) → o ≡ Some a → IsSome o
 is_some_of o a h = ap is_some h
@@ -130,10 +126,14 @@ module _ (old : LinkTable) (id : LinkId) (key : ℕ) (there : key_of old.keys id
           changes = changed old new id (Some after) side finds;
         }
 
+    -- a property of the link that was found
+    pub is_so_at : (IsSo : Link → Type 0) → IsSo before → IsSomeAnd (link_at old id) IsSo
+    is_so_at IsSo h =
+        let P : Option Link → Type 0 = λ o. IsSomeAnd o IsSo in
+        subst P (sym before_at) h
+
     pub refuses_at : (input : Input) (fault : LinkFault) → Refuses before input fault → RefusesAt old id input fault
-    refuses_at input fault refuses =
-        let P : Option Link → Type 0 = λ o. IsSomeAnd o (λ link. Refuses link input fault) in
-        subst P (sym before_at) refuses
+    refuses_at input fault = is_so_at (λ link. Refuses link input fault)
 
 -- ---- The link under a key is written back as it was.
 

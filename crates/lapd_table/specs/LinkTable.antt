@@ -1,17 +1,22 @@
 -- A table as a map from SAPI and TEI to a link, by which its calls are specified.
-use Rattle.std.specs.Prelude.{◌≡◌, ◌≢◌, ℕ, List, Option, Some, None, Result, Ok, Err, IsSome, IsSomeAnd, option_and_then, true, ⊤}
+use Rattle.std.specs.Prelude.{◌≡◌, ◌≢◌, ℕ, List, Option, Some, None, Result, Ok, Err, IsSome, IsSomeAnd, option_and_then, true, false, ⊤}
 use Rattle.slab.specs.Slab as slab
 use Rattle.lapd_frame.specs.declared.Side.{Side}
 use Rattle.lapd_frame.specs.Address.{other_side}
 use Rattle.lapd_frame.specs.declared.fault_kind.FaultKind.{FaultKind}
-use Rattle.lapd_link.specs.Link.{Steps, Refuses}
+use Rattle.lapd_frame.specs.declared.Control.{Control}
+use Rattle.lapd_frame.specs.declared.Role.{Role}
+use Rattle.lapd_link.specs.Link.{LinkRepresents, Steps, Refuses}
 use Rattle.lapd_link.specs.declared.link.Link.{Link}
 use Rattle.lapd_frame.specs.Fault.{is_for_link}
 use Rattle.lapd_link_definition.specs.declared.event.Event.{Event}
 use Rattle.lapd_link_definition.specs.declared.event.Event.TheVariants as event
 use Rattle.lapd_link_definition.specs.declared.event.LinkFault.{LinkFault}
 use Rattle.lapd_link_definition.specs.declared.out.Out.{Out}
+use Rattle.lapd_link_definition.specs.End.{End}
 use Rattle.lapd_link_definition.specs.Input.{Input}
+use Rattle.lapd_link_machine.specs.Given.{is_sent_at_once}
+use Rattle.lapd_link_machine.specs.Usual.{is_usual}
 use Rattle.lapd_table.specs.declared.link_id.LinkId.{LinkId}
 use Rattle.lapd_table.specs.declared.link_key.LinkKey.{LinkKey}
 use Rattle.lapd_table.specs.declared.link_table.LinkTable.{LinkTable}
@@ -59,6 +64,20 @@ pub record StepsAt (old new : LinkTable) (id : LinkId) (input : Input) (outs : L
 -- the existing link refuses
 abbrev pub RefusesAt : LinkTable → LinkId → Input → LinkFault → Type 0
 RefusesAt table id input fault = IsSomeAnd (link_at table id) (λ link. Refuses link input fault)
+
+-- ---- A step that is not made, because the general one is to be.
+
+-- this frame makes no usual step of the existing link
+abbrev pub NotUsualAt : LinkTable → LinkId → Control → Role → Type 0
+NotUsualAt table id control role = IsSomeAnd (link_at table id)
+    (λ link. (e : End) → LinkRepresents link e → is_usual control role e ≡ false)
+
+-- the existing link does not send this message at once
+abbrev pub NotAtOnceAt : LinkTable → LinkId → List ℕ → Type 0
+NotAtOnceAt table id message = IsSomeAnd (link_at table id)
+    (λ link. (e : End) → LinkRepresents link e → is_sent_at_once message e ≡ false)
+
+-- ---- Events.
 
 -- the event is for the link with this SAPI and TEI: a frame with its address, or a fault that
 -- concerns a link (F4 to F7)

@@ -32,7 +32,7 @@ pub struct LinkTable {
 
 impl LinkTable {
     ghost use Rattle.lapd_table.specs.declared.link_id.LinkId.{LinkId};
-    ghost use Rattle.lapd_table.specs.LinkTable.{side_of, link_at, Changes, IsUnchanged, StepsAt, RefusesAt, IsFor, IsKey, HasDispatched, IsForNoLink, IsNotAdded};
+    ghost use Rattle.lapd_table.specs.LinkTable.{side_of, link_at, Changes, IsUnchanged, StepsAt, RefusesAt, IsFor, IsKey, NotUsualAt, NotAtOnceAt, HasDispatched, IsForNoLink, IsNotAdded};
 
     /// Creates an empty table for links of this side. It allocates nothing until a link is added;
     /// `alloc` is used then.
@@ -357,7 +357,7 @@ impl LinkTable {
     }
 
     /// Handles a frame for the link with this key, if its step is usual ([`Link::usual_step`]).
-    /// Otherwise it returns `None`, and the table is unchanged.
+    /// For any other frame it returns `None`, and the table is unchanged.
     #[inline(always)]
     pub fn usual_step_at(
         &mut self,
@@ -368,6 +368,7 @@ impl LinkTable {
         requires key { IsKey self.old key.now }
         ensures ok { IfSome result (λ outs. StepsAt self.old self.new key.now.id
             (Heard control.now role) (usual_outs outs)) }
+        ensures declined { IfNone result (NotUsualAt self.old key.now.id control.now role) }
         ensures unchanged { IfNone result (self.new ≡ self.old) }
         ensures key { IsKey self.new key.now }
     {
@@ -446,12 +447,13 @@ impl LinkTable {
     }
 
     /// Submits a message to the link with this key, if it is sent at once ([`Link::give_at_once`]).
-    /// Otherwise the message is returned, and the table is unchanged.
+    /// A message that waits or is refused is returned, and the table is unchanged.
     #[inline(always)]
     pub fn give_at_once_at(&mut self, key: &LinkKey, message: Vec<u8>) -> Result<GivenOuts, Vec<u8>>
         requires key { IsKey self.old key.now }
         ensures ok { IfOk result (λ outs. StepsAt self.old self.new key.now.id
             (Give message.items) (given_outs outs)) }
+        ensures declined { OnErr result (NotAtOnceAt self.old key.now.id message.items) }
         ensures returned { IfErr result (λ back. back ≡ message) }
         ensures unchanged { OnErr result (self.new ≡ self.old) }
         ensures key { IsKey self.new key.now }

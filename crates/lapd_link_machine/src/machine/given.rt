@@ -1,7 +1,7 @@
 //! A message of layer 3 that is sent at once: in state 7, with no other message unsent and the
 //! window open. Its outputs are returned as values, which costs less than a list.
 
-ghost use Rattle.std.specs.Prelude.{◌≡◌, ◌+◌, ◌++◌, ◌==◌, List, [], length, true, false, IfErr, IfOk, OnErr};
+ghost use Rattle.std.specs.Prelude.{◌≡◌, ◌+◌, ◌++◌, ◌==◌, ◌&&◌, List, [], length, true, false, IfErr, IfOk, OnErr};
 ghost use Rattle.lapd_mod128.specs.Counting.{Tagged};
 ghost use Rattle.lapd_supervision.specs.StateVariables.{AreTags, may_send};
 ghost use Rattle.lapd_link_definition.specs.declared.state.State.TheVariants.{MultipleFrameEstablished};
@@ -9,8 +9,8 @@ ghost use Rattle.lapd_link_definition.specs.EndOfStep.{end_step};
 ghost use Rattle.lapd_link_definition.specs.End.{End, StepState, begin};
 ghost use Rattle.lapd_link_definition.specs.Procedures.{ensure_t200, queue_up};
 ghost use Rattle.lapd_link_definition.specs.declared.out.Out.{Out};
-ghost use Rattle.lapd_link_machine.specs.Given.{given_outs, send_outs};
-ghost use Rattle.lapd_link_machine.specs.Usual.{IsIdle};
+ghost use Rattle.lapd_link_machine.specs.Given.{given_outs, send_outs, sends_at_once};
+ghost use Rattle.lapd_link_machine.specs.Usual.{is_idle_machine, IsIdle};
 
 use crate::machine::Machine;
 use lapd_frame::Control;
@@ -50,6 +50,8 @@ impl Machine {
             (queue_up message.items (begin e)))) }
         ensures room { IfOk result (λ outs.
             (length self.old.queue.messages == self.old.queue.room) ≡ false) }
+        ensures declined { OnErr result ((e : End) → Represents self.old [] (begin e)
+            → sends_at_once e ≡ false) }
         ensures numbers { AreTags self.new.window }
         ensures returned { IfErr result (λ back. back ≡ message) }
         ensures unchanged { OnErr result (self.new ≡ self.old) }
@@ -70,6 +72,8 @@ impl Machine {
             (queue_up message.items (begin e)))) }
         ensures room { IfOk result (λ outs.
             (length self.old.queue.messages == self.old.queue.room) ≡ false) }
+        ensures declined { OnErr result ((e : End) → Represents self.old [] (begin e)
+            → sends_at_once e ≡ false) }
         ensures returned { IfErr result (λ back. back ≡ message) }
         ensures unchanged { OnErr result (self.new ≡ self.old) }
     {
@@ -84,6 +88,8 @@ impl Machine {
 
     /// Whether a message is sent at once if it is queued.
     fn is_open(&self) -> bool
+        ensures exactly { result ≡ (is_idle_machine self.now
+            && may_send Tagged self.now.params.k self.now.window) }
         ensures idle { result ≡ true → IsIdle self.now }
         ensures window_open { result ≡ true → may_send Tagged self.now.params.k self.now.window ≡ true }
     {

@@ -15,7 +15,7 @@ ghost use Rattle.lapd_link_definition.specs.declared.out.Out.{Out};
 ghost use Rattle.lapd_link_definition.specs.declared.out.Out.TheVariants.{Up, Start, Stop};
 ghost use Rattle.lapd_link_definition.specs.Procedures.{stop, start, out_where, response_of};
 ghost use Rattle.lapd_link_definition.specs.Established.{acknowledge_with_timers, multiple_frame_established};
-ghost use Rattle.lapd_link_machine.specs.Usual.{nr_outs, usual_outs, IsIdle};
+ghost use Rattle.lapd_link_machine.specs.Usual.{is_idle_machine, is_usual, is_usual_frame, nr_outs, usual_outs, IsIdle};
 
 use crate::machine::Machine;
 use lapd_frame::{Control, Number, Role};
@@ -157,6 +157,7 @@ impl Machine {
             × ((s : StepState) → Represents (record (self.old) { window = window })
             (response_of response ++ out_where is_up Up) s → Represents self.new (usual_outs outs)
             (end_step Tagged (acknowledge_with_timers Tagged nr s)))) }
+        ensures declined { IfNone result (is_valid_nr Tagged nr window ≡ false) }
         ensures unchanged { IfNone result (self.new ≡ self.old) }
     {
         match window.take_nr(nr) {
@@ -183,13 +184,15 @@ impl Machine {
         ensures step { IfSome result (λ outs. (s : StepState) → Represents self.old [] s
             → Represents self.new (usual_outs outs) (end_step Tagged
             (multiple_frame_established Tagged (Heard (I ns nr false) Command) s))) }
+        ensures declined { IfNone result
+            (is_usual_frame (I ns nr false) Command self.old.window ≡ false) }
         ensures unchanged { IfNone result (self.new ≡ self.old) }
     {
         if self.window.peer_busy() {
             return None;
         }
         let (window, receipt) = self.window.take_ns(ns, false);
-        if !receipt.accepted || receipt.answer.is_some() {
+        if !receipt.accepted {
             return None;
         }
         self.acknowledge_and_end(window, nr, None, true)
@@ -203,6 +206,8 @@ impl Machine {
         ensures step { IfSome result (λ outs. (s : StepState) → Represents self.old [] s
             → Represents self.new (usual_outs outs) (end_step Tagged
             (multiple_frame_established Tagged (Heard (Rr nr false) Answer) s))) }
+        ensures declined { IfNone result
+            (is_usual_frame (Rr nr false) Answer self.old.window ≡ false) }
         ensures unchanged { IfNone result (self.new ≡ self.old) }
     {
         let window = self.window.peer(false);
@@ -217,6 +222,8 @@ impl Machine {
         ensures step { IfSome result (λ outs. (s : StepState) → Represents self.old [] s
             → Represents self.new (usual_outs outs) (end_step Tagged
             (multiple_frame_established Tagged (Heard (Rr nr true) Command) s))) }
+        ensures declined { IfNone result
+            (is_usual_frame (Rr nr true) Command self.old.window ≡ false) }
         ensures unchanged { IfNone result (self.new ≡ self.old) }
     {
         let (window, response) = self.window.peer(false).answer_poll();
@@ -233,6 +240,8 @@ impl Machine {
         ensures step { IfSome result (λ outs. (e : End) → Represents self.old [] (begin e)
             → Represents self.new (usual_outs outs) (end_step Tagged
             (row Tagged e.state (Heard control.now role) (begin e)))) }
+        ensures declined { IfNone result ((e : End) → Represents self.old [] (begin e)
+            → is_usual control.now role e ≡ false) }
         ensures numbers { AreTags self.new.window }
         ensures unchanged { IfNone result (self.new ≡ self.old) }
     {
@@ -250,6 +259,8 @@ impl Machine {
         ensures step { IfSome result (λ outs. (e : End) → Represents self.old [] (begin e)
             → Represents self.new (usual_outs outs) (end_step Tagged
             (row Tagged e.state (Heard control.now role) (begin e)))) }
+        ensures declined { IfNone result ((e : End) → Represents self.old [] (begin e)
+            → is_usual control.now role e ≡ false) }
         ensures unchanged { IfNone result (self.new ≡ self.old) }
     {
         if !self.is_idle() {
@@ -269,6 +280,8 @@ impl Machine {
         ensures step { IfSome result (λ outs. (e : End) → Represents self.old [] (begin e)
             → Represents self.new (usual_outs outs) (end_step Tagged
             (row Tagged e.state (Heard control.now Command) (begin e)))) }
+        ensures declined { IfNone result
+            (is_usual_frame control.now Command self.old.window ≡ false) }
         ensures unchanged { IfNone result (self.new ≡ self.old) }
     {
         match control {
@@ -292,6 +305,8 @@ impl Machine {
         ensures step { IfSome result (λ outs. (e : End) → Represents self.old [] (begin e)
             → Represents self.new (usual_outs outs) (end_step Tagged
             (row Tagged e.state (Heard control.now Answer) (begin e)))) }
+        ensures declined { IfNone result
+            (is_usual_frame control.now Answer self.old.window ≡ false) }
         ensures unchanged { IfNone result (self.new ≡ self.old) }
     {
         match control {
@@ -302,7 +317,8 @@ impl Machine {
 
     /// Whether the state is 7, and no message is unsent.
     pub(crate) fn is_idle(&self) -> bool
-        ensures { result ≡ true → IsIdle self.now }
+        ensures exactly { result ≡ is_idle_machine self.now }
+        ensures idle { result ≡ true → IsIdle self.now }
     {
         match self.state {
             State::MultipleFrameEstablished => self.queue.sent() == self.queue.len(),

@@ -4,7 +4,7 @@ use Rattle.lapd_supervision.specs.StateVariables.{with_peer_busy, without_ack_pe
 use Rattle.lapd_supervision.proofs.Outstanding.{outstanding_with_peer_busy, outstanding_without_ack_pending}
 use Rattle.lapd_link_definition.specs.Procedures.{set_peer_busy, enquiry_response}
 use Rattle.lapd_link_definition.specs.Established.{multiple_frame_established, rr_nr, poll_or_final}
-use Rattle.lapd_link_machine.proofs.Usual.{then_ends, if_some}
+use Rattle.lapd_link_machine.proofs.Usual.{then_ends, if_none, if_some}
 use Rattle.lapd_link_machine.proofs.machine.Machine.usual_poll.Goals as goal
 
 pub acknowledge_and_end-requires-clause-counted : goal.acknowledge_and_end-requires-clause-counted
@@ -29,3 +29,8 @@ returns-clause-step c = if_some c.acknowledge_and_end.result _ _ (λ outs step s
       room = h.room;
       put = rw (h.put, peer, c.answer_poll-window.ensures.control) refl;
     }))) c.acknowledge_and_end.ensures.step
+
+pub returns-clause-declined : goal.returns-clause-declined
+unfolding is_valid_nr with_peer_busy without_ack_pending
+returns-clause-declined c = if_none c.acknowledge_and_end.result _ _
+    (λ invalid. ap (is_valid_nr Tagged c.args.nr) (sym (c.answer_poll-window.ensures.window ∙ ap without_ack_pending c.peer.ensures)) ∙ invalid) c.acknowledge_and_end.ensures.declined

@@ -1,4 +1,6 @@
-use Rattle.std.proofs.Common.{sym, ap, ◌∙◌}
+use Rattle.std.proofs.Common.{sym, ap, subst, ◌∙◌}
+use Rattle.lapd_sides.specs.declared.either_side.EitherSide.{EitherSide}
+use Rattle.lapd_sides.specs.Either.{GivesNoneBehind}
 use Rattle.lapd_table.proofs.Tables.{on_err}
 use Rattle.lapd_sides.specs.declared.either_side.EitherSide.TheVariants.{Network, User}
 use Rattle.lapd_sides.specs.declared.net_side.NetSide.{NetSide}
@@ -20,3 +22,9 @@ returns-in-User-clause-given c =
 
 pub returns-in-User-clause-unchanged : goal.returns-in-User-clause-unchanged
 returns-in-User-clause-unchanged c = on_err c.give_behind-in-User.result _ _ (λ same. ap (λ (s : UserSide). User s) same ∙ sym c.in-User.is) c.give_behind-in-User.ensures.unchanged
+
+pub returns-in-Network-clause-declined : goal.returns-in-Network-clause-declined
+returns-in-Network-clause-declined c = on_err c.give_behind.result _ _ (λ h. subst (λ (x : EitherSide). GivesNoneBehind c.args.id c.args.message.items x c.args.acts.now) (sym c.in-Network.is) h) c.give_behind.ensures.declined
+
+pub returns-in-User-clause-declined : goal.returns-in-User-clause-declined
+returns-in-User-clause-declined c = on_err c.give_behind-in-User.result _ _ (λ h. subst (λ (x : EitherSide). GivesNoneBehind c.args.id c.args.message.items x c.args.acts.now) (sym c.in-User.is) h) c.give_behind-in-User.ensures.declined

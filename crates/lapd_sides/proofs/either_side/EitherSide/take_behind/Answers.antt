@@ -1,4 +1,6 @@
-use Rattle.std.proofs.Common.{sym, ap, ◌∙◌}
+use Rattle.std.proofs.Common.{sym, ap, subst, ◌∙◌}
+use Rattle.lapd_sides.specs.declared.either_side.EitherSide.{EitherSide}
+use Rattle.lapd_sides.specs.Either.{TakesNoneBehind}
 use Rattle.lapd_sides.specs.declared.either_side.EitherSide.TheVariants.{Network, User}
 use Rattle.lapd_sides.specs.declared.net_side.NetSide.{NetSide}
 use Rattle.lapd_sides.specs.declared.user_side.UserSide.{UserSide}
@@ -17,3 +19,9 @@ returns-in-User-clause-taken c = λ is.
 
 pub returns-in-User-clause-unchanged : goal.returns-in-User-clause-unchanged
 returns-in-User-clause-unchanged c = λ is. ap (λ (s : UserSide). User s) (c.take_behind-in-User.ensures.unchanged is) ∙ sym c.in-User.is
+
+pub returns-in-Network-clause-declined : goal.returns-in-Network-clause-declined
+returns-in-Network-clause-declined c = λ is. subst (λ (x : EitherSide). TakesNoneBehind c.args.bytes.now x c.args.acts.now) (sym c.in-Network.is) (c.take_behind.ensures.declined is)
+
+pub returns-in-User-clause-declined : goal.returns-in-User-clause-declined
+returns-in-User-clause-declined c = λ is. subst (λ (x : EitherSide). TakesNoneBehind c.args.bytes.now x c.args.acts.now) (sym c.in-User.is) (c.take_behind-in-User.ensures.declined is)

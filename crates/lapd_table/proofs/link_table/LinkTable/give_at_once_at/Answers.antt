@@ -1,6 +1,6 @@
 use Rattle.std.proofs.Common.{refl}
 use Rattle.lapd_table.specs.LinkTable.{IsKey}
-use Rattle.lapd_table.proofs.Tables.{has_link, on_ok_all, on_err, after_index, steps_at, same_by}
+use Rattle.lapd_table.proofs.Tables.{has_link, on_ok_all, on_err, after_index, is_so_at, steps_at, same_by}
 use Rattle.lapd_table.proofs.link_table.LinkTable.give_at_once_at.Goals as goal
 
 pub index_mut-requires : goal.index_mut-requires
@@ -26,3 +26,8 @@ returns-clause-unchanged c = on_err c.give_at_once.result _ _
 pub returns-clause-key : goal.returns-clause-key
 unfolding IsKey
 returns-clause-key c = c.requires.key
+
+pub returns-clause-declined : goal.returns-clause-declined
+unfolding IsKey
+returns-clause-declined c = on_err c.give_at_once.result _ _
+    (is_so_at c.args.self.now c.args.key.now.id c.args.key.now.place c.requires.key _ c.index_mut.ensures.value _) c.give_at_once.ensures.declined

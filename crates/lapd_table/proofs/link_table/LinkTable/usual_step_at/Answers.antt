@@ -1,7 +1,7 @@
 use Rattle.std.proofs.Common.{refl}
 use Rattle.lapd_table.specs.LinkTable.{IsKey}
-use Rattle.lapd_link_machine.proofs.Usual.{if_some}
-use Rattle.lapd_table.proofs.Tables.{has_link, if_none, after_index, steps_at, same_by}
+use Rattle.lapd_link_machine.proofs.Usual.{if_none, if_some}
+use Rattle.lapd_table.proofs.Tables.{has_link, after_index, is_so_at, steps_at, same_by}
 use Rattle.lapd_table.proofs.link_table.LinkTable.usual_step_at.Goals as goal
 
 pub index_mut-requires : goal.index_mut-requires
@@ -27,3 +27,8 @@ returns-clause-unchanged c = if_none c.usual_step.result _ _
 pub returns-clause-key : goal.returns-clause-key
 unfolding IsKey
 returns-clause-key c = c.requires.key
+
+pub returns-clause-declined : goal.returns-clause-declined
+unfolding IsKey
+returns-clause-declined c = if_none c.usual_step.result _ _
+    (is_so_at c.args.self.now c.args.key.now.id c.args.key.now.place c.requires.key _ c.index_mut.ensures.value _) c.usual_step.ensures.declined
