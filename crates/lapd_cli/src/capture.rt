@@ -8,9 +8,8 @@ use lapd_cli_decode::{
     CaptureReader, CaptureStop, CaptureStyle, Follow, ReadFault, Seen, decode_capture,
     follow_capture,
 };
-use lapd_cli_io::{KindReason, Reason};
 use lapd_cli_options::DecodeOptions;
-use lapd_cli_script::ScriptFault;
+use lapd_cli_script::{KindReason, Reason, ScriptFault};
 use std::fmt::Display;
 use std::fs::File;
 use std::io::{BufWriter, ErrorKind, Read, Write};

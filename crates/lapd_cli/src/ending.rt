@@ -4,10 +4,10 @@
 ghost use Rattle.std.specs.Prelude.{◌≡◌, ◌&&◌, IfNone, IfSome, if◌then◌else◌};
 ghost use Rattle.lapd_cli_script.specs.Script.{status_of as status_of_fault};
 
-use lapd_cli_console::{Script, reason};
-use lapd_cli_io::{KindReason, NoTaps, Reason, words_of};
+use lapd_cli_console::{FaultReport, Script};
+use lapd_cli_io::NoTaps;
 use lapd_cli_options::{Clock, NoInvocation, WordsFault};
-use lapd_cli_script::ScriptFault;
+use lapd_cli_script::{Reason, ScriptFault};
 use std::io::{self, ErrorKind};
 use std::process::ExitCode;
 
@@ -36,25 +36,17 @@ pub enum Stop {
 /// The facts that are known when a script has ended.
 #[derive(Clone, Copy)]
 pub struct Ending<'a> {
-    /// The command that executed the script.
-    pub script: Script,
+    /// What the report of a fault needs.
+    pub report: FaultReport<'a>,
     /// The clock of the command.
     pub clock: Clock<'a>,
     /// The address of `net` or `user`; empty for other commands.
     pub address: &'a str,
     /// Whether the exit status reports refused lines (`--strict`).
     pub strict: bool,
-    /// The bad line; empty if no line was bad, or if it is no longer kept.
-    pub line: &'a [u8],
     /// The printed text of the first refused line; empty if no line was refused, or without
     /// `--strict`.
     pub refusal: &'a [u8],
-    /// Why the last failed read of the script failed.
-    pub input: Option<ErrorKind>,
-    /// Why the last failed write failed.
-    pub output: Option<ErrorKind>,
-    /// The name of the output, for messages.
-    pub output_name: &'a str,
 }
 
 /// Reports how a script ended, and returns the exit status.
@@ -73,7 +65,7 @@ pub fn print_ending(rt: &HostRuntime, ending: &Ending<'_>, ended: &Result<(), St
             Some(ScriptFault::Device)
         }
         Err(Stop::Script(fault)) => {
-            print_fault(rt, ending, *fault);
+            ending.report.print(rt, *fault);
             Some(*fault)
         }
         Err(Stop::Unmet) => {
@@ -112,26 +104,9 @@ fn print_refusal(rt: &HostRuntime, ending: &Ending<'_>) {
     }
 }
 
-// Reports the fault that ended a script, and the reason. Prints nothing if the reader of standard
-// output has closed it.
-fn print_fault(rt: &HostRuntime, ending: &Ending<'_>, fault: ScriptFault) {
-    if fault == ScriptFault::Device && ending.output == Some(ErrorKind::BrokenPipe) {
-        return;
-    }
-    let _ = eprintln!(rt; "{fault}");
-    match fault {
-        ScriptFault::BadLine(_) => print_bad_line(rt, ending),
-        ScriptFault::Device => print_device(rt, ending),
-        ScriptFault::Port(fault) => {
-            let _ = eprintln!(rt; "{}", words_of(fault));
-        }
-        ScriptFault::Memory => {}
-    }
-}
-
 // Reports why the connection could not be established.
 fn print_no_connection(rt: &HostRuntime, ending: &Ending<'_>, error: &io::Error) {
-    let (what, whom) = match ending.script {
+    let (what, whom) = match ending.report.script {
         Script::Net | Script::LiveNet => ("listen on", ending.address),
         Script::User | Script::LiveUser => ("connect to", ending.address),
         _ => ("connect to", "itself"),
@@ -162,37 +137,6 @@ fn print_no_taps(rt: &HostRuntime, ending: &Ending<'_>, taps: &NoTaps) {
         }
         NoTaps::Memory => {}
     }
-}
-
-// Reports what is wrong with the bad line, if it is known.
-fn print_bad_line(rt: &HostRuntime, ending: &Ending<'_>) {
-    if !ending.line.is_empty() {
-        print_reason(rt, ending.script, ending.line);
-    }
-}
-
-// Reports what is wrong with a line of this script. If a `tick` has a valid form, it takes the
-// clock past its end.
-fn print_reason(rt: &HostRuntime, script: Script, line: &[u8]) {
-    let _ = match reason(rt.alloc(), script, line) {
-        Ok(Some(reason)) => eprintln!(rt; "{reason}"),
-        Ok(None) if line.starts_with(b"tick ") => eprintln!(rt;
-            "the clock ends at 1,000,000,000,000,000 ms"
-        ),
-        _ => Ok(()),
-    };
-}
-
-// Reports which stream failed, and why.
-fn print_device(rt: &HostRuntime, ending: &Ending<'_>) {
-    let _ = match (ending.input, ending.output, ending.script) {
-        (Some(kind), _, _) => eprintln!(rt; "standard input: {}", KindReason(kind)),
-        (None, Some(kind), _) => eprintln!(rt; "{}: {}", ending.output_name, KindReason(kind)),
-        (None, None, Script::Loop) => eprintln!(rt;
-            "a frame did not return over the program's connection to itself, or 1,000,000 reads did not reach the script's end"
-        ),
-        (None, None, _) => eprintln!(rt; "1,000,000 reads did not reach the script's end"),
-    };
 }
 
 // A printed line as text; empty if it is not UTF-8.

@@ -2,13 +2,14 @@
 
 use crate::ending::Stop;
 use crate::live::do_live;
+use lapd_cli_answer::answer;
 use lapd_cli_console::Script;
 use lapd_cli_decode::{
     Drawing, Filter, Follow, FrameStyle, FrameTime, Layout, LineForm, LinesStyle, Style,
     decode_good_lines, decode_lines, print_lines,
 };
 use lapd_cli_io::{Notes, connection};
-use lapd_cli_link_commands::{answer, bus, draw_pair, loop_over, pair};
+use lapd_cli_link_commands::{bus, draw_pair, loop_over, pair};
 use lapd_cli_options::{
     Clock, Color, DecodeOptions, Interface, Invocation, Job, LinkEnd, Params, PrintedLayout,
     PrintedTime, Side,

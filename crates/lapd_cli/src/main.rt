@@ -24,10 +24,9 @@ use capture::{do_capture, print_no_file};
 use ending::{Ending, Stop, print_ending, print_memory, print_no_invocation, print_words_fault};
 use greeting::Greeting;
 use job::{do_job, script_of};
-use lapd_cli_console::{RecentLines, Refusals, Session, Watched};
-use lapd_cli_io::Reason;
+use lapd_cli_console::{FaultReport, RecentLines, Refusals, Session, Watched};
 use lapd_cli_options::{Clock, Invocation, Job, parse_words, words};
-use lapd_cli_script::ScriptFault;
+use lapd_cli_script::{Reason, ScriptFault};
 use picture::{Output, begin_picture, end_picture};
 use std::fs::File;
 use std::io::{BufWriter, IsTerminal, Read, Write};
@@ -133,15 +132,17 @@ fn do_script<R: Read + Drop, O: Write + Drop>(
     let output = watched.fault();
     let refusals = watched.into_inner();
     let ending = Ending {
-        script: script_of(&chosen.job, &chosen.clock),
+        report: FaultReport {
+            script: script_of(&chosen.job, &chosen.clock),
+            line: bad_line(&recent, &ended),
+            input: recent.fault(),
+            output,
+            output_name: name,
+        },
         clock: chosen.clock,
         address: chosen.address.unwrap_or(""),
         strict: chosen.strict,
-        line: bad_line(&recent, &ended),
         refusal: refusals.first().unwrap_or(&[]),
-        input: recent.fault(),
-        output,
-        output_name: name,
     };
     print_ending(rt, &ending, &ended)
 }

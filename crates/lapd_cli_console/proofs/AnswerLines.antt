@@ -7,7 +7,7 @@ use Rattle.std.specs.Str.{bytes_eq}
 use Rattle.lapd_cli_script.specs.Line.{words_of, HasNoSpace, octets_behind}
 use Rattle.lapd_cli_script.specs.Script.{with_first, outcome_of, is_passed_over, LineOutcome}
 use Rattle.lapd_cli_script.proofs.WordsOf.{one_word}
-use Rattle.lapd_cli_link_commands.specs.Answer.{Session, alone, answer_step, answer_word, answer_words, busy, receive, link_step, state_line, with_octets}
+use Rattle.lapd_cli_answer.specs.Answer.{Session, alone, answer_step, answer_word, answer_words, busy, receive, link_step, state_line, with_octets}
 use Rattle.lapd_link.specs.Input.{Expiry, Establish, Release, BusyOn, BusyOff, UnitData, Give}
 use Rattle.lapd_link.specs.declared.Timer.TheVariants.{T200, T203}
 use Rattle.lapd_cli_console.specs.declared.form.Argument.{Argument}

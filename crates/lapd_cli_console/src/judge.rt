@@ -4,7 +4,7 @@ ghost use Rattle.std.specs.Prelude.{◌≡◌, ◌∷◌, [], drop, is_none, is_
 ghost use Rattle.std.specs.Str.{is_utf8 as is_utf8_octets};
 ghost use Rattle.lapd_cli_script.specs.Line.{HasNoSpace, words_of};
 ghost use Rattle.lapd_cli_script.specs.Script.{outcome_of};
-ghost use Rattle.lapd_cli_link_commands.specs.Answer.{Session, answer_step};
+ghost use Rattle.lapd_cli_answer.specs.Answer.{Session, answer_step};
 ghost use Rattle.lapd_cli_console.specs.Forms.{are_arguments, are_words_of, begin_with_words as arguments_begin_with_words, by_arguments, is_line_of, is_argument, parsed_octet, parsed_octets, text_and_last, without_percent as digits_of_percent};
 
 use crate::complaint::Complaint;

@@ -7,12 +7,14 @@
 //!   its number.
 //! - [`Watched`] is a writer that remembers how a write failed, and [`Refusals`] one that notes the
 //!   first line that begins with `refused`.
+//! - [`FaultReport`] prints the fault that ended a script, and its reason.
 //! - [`Session`] reads typed lines, and passes on those with a valid form; [`tidied`] removes
 //!   needless characters from a typed line.
 #![tactic(auto)]
 
 mod complaint;
 mod cuts;
+mod fault_report;
 mod form;
 mod help;
 mod judge;
@@ -26,6 +28,7 @@ mod shown;
 mod typed_line;
 mod watched;
 
+pub use fault_report::FaultReport;
 pub use form::{Argument, Form};
 pub use help::put_help;
 pub use judge::reason;

@@ -1,7 +1,7 @@
 //! The TCP connections of the program, and their notes on standard error.
 
-use crate::lost::words_of;
 use crate::notes::Notes;
+use lapd_cli_script::port_reason;
 use lapd_port::PortFault;
 use std::io::{self, ErrorKind};
 use std::net::{SocketAddr, TcpListener, TcpStream};
@@ -82,7 +82,7 @@ pub fn made(rt: &HostRuntime, notes: &Notes<'_>, address: &str) -> io::Result<Tc
 /// Notes that the other side has closed the connection, if it has and everything it sent was read.
 pub fn print_closed(notes: &Notes<'_>, stream: &TcpStream) {
     if is_closed(stream) {
-        notes.print(words_of(PortFault::End));
+        notes.print(port_reason(PortFault::End));
     }
 }
 

@@ -10,10 +10,10 @@ use crate::door::Door;
 use crate::frame_stream::FrameStream;
 use crate::further::{Further, INCOMING, Incoming};
 use crate::input::Input;
-use crate::lost::words_of;
 use crate::notes::Notes;
 use crate::peers::{LostPeer, Peers};
 use lapd_cli_outside::{Impairment, Lines, Outside, Sending, Woken, is_reached};
+use lapd_cli_script::port_reason;
 use lapd_port::{MOST_OCTETS, PortFault};
 use lapd_table::LinkId;
 use lapd_timers::earlier;
@@ -120,7 +120,7 @@ impl<'a> Connections<'a> {
     /// was read.
     pub fn print_closed(&self) {
         if self.further.is_nowhere() && self.peers.is_closed() {
-            self.notes.print(words_of(PortFault::End));
+            self.notes.print(port_reason(PortFault::End));
         }
     }
 

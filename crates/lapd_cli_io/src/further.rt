@@ -4,7 +4,7 @@ use crate::dialler::{Attempt, Dialler};
 use crate::door::Door;
 use crate::lost::Lost;
 use crate::notes::Notes;
-use crate::reason::Reason;
+use lapd_cli_script::Reason;
 use mio::net::TcpStream;
 use mio::{Poll, Token};
 use std::io;

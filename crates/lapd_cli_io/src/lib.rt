@@ -19,12 +19,9 @@ mod input;
 mod lost;
 mod notes;
 mod peers;
-mod reason;
 mod taps;
 
 pub use connecting::{ConnectionSetup, connect_side};
 pub use connections::Connections;
-pub use lost::words_of;
 pub use notes::Notes;
-pub use reason::{KindReason, Reason};
 pub use taps::{NoTaps, TapSetup, Taps};

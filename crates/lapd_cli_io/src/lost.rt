@@ -1,3 +1,4 @@
+use lapd_cli_script::port_reason;
 use lapd_port::PortFault;
 use std::fmt;
 
@@ -25,21 +26,9 @@ impl Lost {
 impl fmt::Display for Lost {
     fn fmt<W: fmt::Write>(&self, f: &mut fmt::Formatter<W>) -> fmt::Result {
         match self {
-            Lost::Port(fault) => f.write_str(words_of(*fault)),
+            Lost::Port(fault) => f.write_str(port_reason(*fault)),
             Lost::NotTaken => f.write_str("the other side did not accept a whole frame at once"),
             Lost::Idle(limit) => write!(f, "no complete frame was received for {limit} ms"),
         }
-    }
-}
-
-/// A fault of a connection, in words.
-pub fn words_of(fault: PortFault) -> &'static str {
-    match fault {
-        PortFault::End => "the other side has closed the connection",
-        PortFault::BadLength => "received a bad frame length (not 3 to 264)",
-        PortFault::Cut => "the other side closed the connection inside a frame",
-        PortFault::Device => "the connection failed",
-        PortFault::TooManyTurns => "no complete frame after 4,096 reads or writes",
-        PortFault::Failed => "the connection had already failed",
     }
 }

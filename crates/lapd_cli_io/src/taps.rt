@@ -3,10 +3,10 @@
 ghost use Rattle.std.specs.Prelude.{◌≤◌, length};
 
 use crate::notes::Notes;
-use crate::reason::Reason;
 use lapd_capture::{CaptureWriter, gsmtap_of};
 use lapd_cli_decode::FrameDrawer;
 use lapd_cli_outside::Tap;
+use lapd_cli_script::Reason;
 use lapd_frame::Side;
 use lapd_port::MOST_OCTETS;
 use std::fs::{self, File};

@@ -1,4 +1,3 @@
-pub mod Answer
 pub mod Bus
 pub mod BusLines
 pub mod BusMoves
@@ -6,11 +5,7 @@ pub mod Crossing
 pub mod Loop
 pub mod LoopState
 pub mod Moves
-pub mod Outputs
 pub mod Pair
 pub mod PairLadder
 pub mod RepresentsLadder
 pub mod RepresentsWorld
-pub mod Session
-pub mod PrintedOutput
-pub mod PrintedOutputs

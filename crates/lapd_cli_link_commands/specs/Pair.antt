@@ -24,10 +24,10 @@ use Rattle.lapd_pair_laws.specs.Histories.{History}
 use Rattle.lapd_pair_laws.specs.Move.{PairEvent, Move, Refusal, Station, UnitData, NothingThere, NotRunning, NotYet, Refused}
 use Rattle.lapd_pair_laws.specs.World.{Happened, World, happens, view_of}
 use Rattle.lapd_cli_link_commands.specs.declared.mover.Figures.{Figures}
-use Rattle.lapd_cli_link_commands.specs.Answer.{messages_of}
+use Rattle.lapd_cli_answer.specs.Answer.{messages_of}
 use Rattle.lapd_cli_link_commands.specs.Moves.{move_of_line}
-use Rattle.lapd_cli_link_commands.specs.Outputs.{refusal_line}
-use Rattle.lapd_cli_link_commands.specs.PrintedOutput.{OutputOctets, PrintedOutput, Sent, Primitive, printed_output}
+use Rattle.lapd_cli_answer.specs.Outputs.{refusal_line}
+use Rattle.lapd_cli_answer.specs.PrintedOutput.{OutputOctets, PrintedOutput, Sent, Primitive, printed_output}
 
 -- ---- The output of one side in a move.
 

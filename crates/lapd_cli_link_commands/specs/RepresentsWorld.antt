@@ -7,10 +7,10 @@ use Rattle.lapd_trace.specs.Trace.{frame_line}
 use Rattle.lapd_pair_laws.specs.Move.{Station}
 use Rattle.lapd_cli_link_commands.specs.declared.mover.Mover.{Mover}
 use Rattle.lapd_cli_link_commands.specs.declared.settler.Settler.{Settler}
-use Rattle.lapd_cli_link_commands.specs.Answer.{messages_of}
+use Rattle.lapd_cli_answer.specs.Answer.{messages_of}
 use Rattle.lapd_cli_link_commands.specs.Pair.{side_line, output_octets_of}
-use Rattle.lapd_cli_link_commands.specs.PrintedOutput.{OutputOctets}
-use Rattle.lapd_cli_link_commands.specs.PrintedOutputs.{made_output}
+use Rattle.lapd_cli_answer.specs.PrintedOutput.{OutputOctets}
+use Rattle.lapd_cli_answer.specs.PrintedOutputs.{made_output}
 use Rattle.lapd_pair.specs.Runs.{PairRepresents}
 use Rattle.lapd_pair_laws.specs.World.{World}
 

@@ -4,8 +4,7 @@ ghost use Rattle.std.specs.Prelude.{◌≡◌, ◌<◌, IfSome, None, Some};
 ghost use Rattle.lapd_cli_script.specs.Line.{number_behind, parsed_number, words_of};
 ghost use Rattle.lapd_cli_link_commands.specs.BusMoves.{move_of, move_by, receive, nothing_behind, terminal_and_reference, tei_at, tei_behind, reference_of, digit_value};
 
-use crate::words::is;
-use lapd_cli_script::{Words, number_of};
+use lapd_cli_script::{Words, is_word, number_of};
 use lapd_tei::{BusMove, Tei};
 
 /// The move that a line names; `None` if the line is not valid.
@@ -21,25 +20,25 @@ pub fn move_of(line: &[u8]) -> Option<BusMove>
 fn move_by(word: &[u8], behind: Words<'_>) -> Option<BusMove>
     ensures { result ≡ move_by word.now behind.entry }
 {
-    if is(word, b"ask") {
+    if is_word(word, b"ask") {
         let (t, ri) = terminal_and_reference(behind)?;
         Some(BusMove::Ask(t, ri))
-    } else if is(word, b"t202") {
+    } else if is_word(word, b"t202") {
         let (t, ri) = terminal_and_reference(behind)?;
         Some(BusMove::T202(t, ri))
-    } else if is(word, b"hear") {
+    } else if is_word(word, b"hear") {
         receive(behind)
-    } else if is(word, b"drop") {
+    } else if is_word(word, b"drop") {
         Some(BusMove::Drop(place_alone(behind)?))
-    } else if is(word, b"hear-up") {
+    } else if is_word(word, b"hear-up") {
         Some(BusMove::HearUp(place_alone(behind)?))
-    } else if is(word, b"drop-up") {
+    } else if is_word(word, b"drop-up") {
         Some(BusMove::DropUp(place_alone(behind)?))
-    } else if is(word, b"check") {
+    } else if is_word(word, b"check") {
         Some(BusMove::Check(tei_alone(behind)?))
-    } else if is(word, b"t201") {
+    } else if is_word(word, b"t201") {
         t201(behind)
-    } else if is(word, b"leave") {
+    } else if is_word(word, b"leave") {
         Some(BusMove::Leave(place_alone(behind)?))
     } else {
         None

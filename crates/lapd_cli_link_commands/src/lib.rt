@@ -1,11 +1,8 @@
-//! The commands of the program `lapd`, over any reader and writer.
+//! The commands `pair`, `loop` and `bus` of the program `lapd`, over any reader and writer.
 //!
-//! - [`answer`] executes a script on one end of a data link of the ISDN D channel (ITU-T Q.921),
-//!   and prints the outputs of each line. Begin with the definition `answer_word` in
-//!   specs/Answer.antt, which has a row for each word.
-//! - [`pair`] executes a script of moves on two ends and the line between them: `move_named` in
-//!   specs/Moves.antt has a row for each word, and `pair_step` in specs/Pair.antt one each for
-//!   `settle` and `recover`. [`Mover`] makes the moves alone, and [`draw_pair`] draws them: an arrow
+//! - [`pair`] executes a script of moves on two ends of a data link of the ISDN D channel (ITU-T
+//!   Q.921) and the line between them: `move_named` in specs/Moves.antt has a row for each word, and
+//!   `pair_step` in specs/Pair.antt one each for `settle` and `recover`. [`Mover`] makes the moves alone, and [`draw_pair`] draws them: an arrow
 //!   for each frame that arrives or is lost (`drawn_step` in specs/PairLadder.antt).
 //! - [`loop_over`] is the command `loop`: two ends whose frames are sent through a port and must be
 //!   received from it unchanged (`loop_step` in specs/LoopState.antt).
@@ -15,7 +12,6 @@
 //! Each ends as [`lapd_cli_script::walk`] does.
 #![tactic(auto)]
 
-mod answerer;
 mod bus_lines;
 mod bus_moves;
 mod bus_runner;
@@ -25,14 +21,10 @@ mod move_lines;
 mod mover;
 mod moves;
 mod notes;
-mod outputs;
 mod pair_ladder;
-mod printed_output;
 mod settler;
 mod taken;
-mod words;
 
-pub use answerer::{Answerer, answer};
 pub use bus_runner::bus;
 pub use lapd_cli_script::ScriptFault;
 pub use lapd_link::{Link, Params, Side};

@@ -1,16 +1,16 @@
 //! The printed lines of the moves of two ends.
 
 ghost use Rattle.std.specs.Prelude.{◌≡◌, ◌∷◌, ◌++◌, IsOkUnless, OnOk};
-ghost use Rattle.lapd_cli_link_commands.specs.Answer.{messages_of};
+ghost use Rattle.lapd_cli_answer.specs.Answer.{messages_of};
 ghost use Rattle.lapd_cli_link_commands.specs.Pair.{side_name as name_of, output_octets_of};
 ghost use Rattle.lapd_cli_link_commands.specs.RepresentsWorld.{made_side_line, made_side_lines};
-ghost use Rattle.lapd_cli_link_commands.specs.PrintedOutputs.{phrase_line};
+ghost use Rattle.lapd_cli_answer.specs.PrintedOutputs.{phrase_line};
 ghost use Rattle.lapd_pair.specs.Runs.{PairRepresents};
 ghost use Rattle.lapd_cli_script.specs.Line.{text_line};
 ghost use Rattle.lapd_trace.specs.Trace.{frame_line};
 ghost use Rattle.lapd_pair_laws.specs.World.{World, view_of};
 
-use crate::printed_output::{OutputOctets, Phrase, PrintedOutput, put_phrase};
+use lapd_cli_answer::{OutputOctets, Phrase, PrintedOutput, put_phrase};
 use lapd_cli_script::{LineFault, put_line};
 use lapd_frame::{Frame, Side};
 use lapd_link::Out;

@@ -10,7 +10,7 @@ ghost use Rattle.lapd_pair_laws.specs.World.{World, new_world};
 
 use crate::move_lines::write_lines;
 use crate::moves::read_move;
-use crate::outputs::put_refusal;
+use lapd_cli_answer::put_refusal;
 use lapd_cli_script::{Command, LineFault, ScriptFault, put_line, put_number};
 use lapd_frame::Side;
 use lapd_link::{Outs, Params};

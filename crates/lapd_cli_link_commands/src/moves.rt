@@ -5,8 +5,7 @@ ghost use Rattle.lapd_cli_link_commands.specs.Moves.{bare_move, busy_move, move_
 ghost use Rattle.lapd_pair.specs.Moves.{move_of};
 ghost use Rattle.lapd_cli_script.specs.Line.{Reads};
 
-use crate::words::is;
-use lapd_cli_script::{LineFault, Words};
+use lapd_cli_script::{LineFault, Words, is_word};
 use lapd_frame::Side;
 use lapd_pair::Move;
 use std::alloc::Global;
@@ -47,25 +46,25 @@ fn side_of(name: &[u8]) -> Option<Side>
 fn move_by(alloc: Global, word: &[u8], side: Side, behind: Words<'_>) -> Result<Move, LineFault>
     ensures { Reads move_of result (move_named word.now side behind.entry) }
 {
-    if is(word, b"give") {
+    if is_word(word, b"give") {
         Ok(Move::Give(side, behind.octets(alloc)?))
-    } else if is(word, b"establish") {
+    } else if is_word(word, b"establish") {
         alone(behind, Move::Establish(side))
-    } else if is(word, b"release") {
+    } else if is_word(word, b"release") {
         alone(behind, Move::Release(side))
-    } else if is(word, b"deliver") {
+    } else if is_word(word, b"deliver") {
         alone(behind, Move::Deliver(side))
-    } else if is(word, b"lose") {
+    } else if is_word(word, b"lose") {
         Ok(Move::Lose(side, behind.number()? as usize))
-    } else if is(word, b"expire200") {
+    } else if is_word(word, b"expire200") {
         alone(behind, Move::Expire200(side))
-    } else if is(word, b"expire203") {
+    } else if is_word(word, b"expire203") {
         alone(behind, Move::Expire203(side))
-    } else if is(word, b"busy") {
+    } else if is_word(word, b"busy") {
         busy(behind, side)
-    } else if is(word, b"unit") {
+    } else if is_word(word, b"unit") {
         Ok(Move::Unit(side, behind.octets(alloc)?))
-    } else if is(word, b"restart") {
+    } else if is_word(word, b"restart") {
         alone(behind, Move::Restart(side))
     } else {
         Err(LineFault::Bad)

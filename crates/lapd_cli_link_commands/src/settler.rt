@@ -8,8 +8,7 @@ ghost use Rattle.lapd_cli_script.specs.Script.{lines_of};
 ghost use Rattle.lapd_pair_laws.specs.World.{World, new_world};
 
 use crate::mover::Mover;
-use crate::words::is;
-use lapd_cli_script::{Command, LineFault, ScriptFault, walk};
+use lapd_cli_script::{Command, LineFault, ScriptFault, is_word, walk};
 use lapd_link::Params;
 use std::alloc::Global;
 use std::io::{Read, Write};
@@ -60,9 +59,9 @@ impl Command for Settler {
     ghost represents = { IsSettler };
 
     fn run<W: Write>(&mut self, line: &[u8], out: &mut W) -> Result<(), LineFault> {
-        if is(line, b"settle") {
+        if is_word(line, b"settle") {
             self.mover.settle(out)
-        } else if is(line, b"recover") {
+        } else if is_word(line, b"recover") {
             self.mover.recover(out)
         } else {
             self.mover.run(line, out)

@@ -8,13 +8,17 @@
 //! A line ends with a line feed, which the last line may lack. Empty lines and lines that begin
 //! with `#` are skipped but counted. Single spaces separate the words of a line. [`first_line`]
 //! cuts a text at its first line feed.
+//!
+//! [`Reason`] and [`port_reason`] say in words why a system call or a connection failed.
 #![tactic(auto)]
 
 mod print;
+mod reason;
 mod script;
 mod words;
 
 pub use lapd_port::PortFault;
 pub use print::{put_hex, put_line, put_number, put_octets, put_word};
+pub use reason::{KindReason, Reason, port_reason};
 pub use script::{Command, LineFault, ScriptFault, first_line, is_passed_over, walk};
-pub use words::{Words, number_of};
+pub use words::{Words, is_word, number_of};

@@ -1,6 +1,6 @@
 //! The words of a script's line.
 
-ghost use Rattle.std.specs.Prelude.{◌≡◌, ◌∷◌, ◌++◌, ◌-◌, MatchOption, None, Some, [], if◌then◌else◌, OnErr, ⊤};
+ghost use Rattle.std.specs.Prelude.{◌≡◌, ◌∷◌, ◌++◌, ◌-◌, MatchOption, None, Some, [], bytes_eq, if◌then◌else◌, OnErr, ⊤};
 ghost use Rattle.lapd_cli_script.specs.Line.{HasNoSpace, Reads, is_digit, nothing_of, number_behind, parsed_number, octets_behind, octets_of, words_of};
 
 use crate::script::LineFault;
@@ -156,6 +156,13 @@ fn fill_with(octets: &mut Vec<u8>, digits: &[u8]) -> Result<(), LineFault>
             Err(LineFault::Bad)
         }
     }
+}
+
+/// Whether the word is `name`.
+pub fn is_word(word: &[u8], name: &[u8]) -> bool
+    ensures { result ≡ bytes_eq word.now name.now }
+{
+    word == name
 }
 
 /// The number below 2^64 that these decimal digits spell. Leading zeros are allowed. Returns `None`

@@ -1,10 +1,11 @@
 //! Running a command over any reader, writer and port.
 
+use lapd_cli_answer::answer;
 use lapd_cli_decode::{
     Drawing, Filter, Follow, FrameStyle, FrameTime, Layout, LineForm, LinesStyle, Style,
     decode_lines, print_lines,
 };
-use lapd_cli_link_commands::{answer, bus, draw_pair, loop_over, pair};
+use lapd_cli_link_commands::{bus, draw_pair, loop_over, pair};
 use lapd_cli_options::{DecodeOptions, Interface, Invocation, Job, LinkEnd, PrintedLayout};
 use lapd_cli_script::ScriptFault;
 use lapd_cli_side_commands::{Config, Port, SideRun, Sink, Source, net, user};

@@ -1,0 +1,5 @@
+pub mod Answer
+pub mod Outputs
+pub mod PrintedOutput
+pub mod PrintedOutputs
+pub mod Session

@@ -1,0 +1,67 @@
+//! The report on standard error of a fault that ended a script.
+
+use crate::judge::reason;
+use crate::script::Script;
+use lapd_cli_script::{KindReason, ScriptFault, port_reason};
+use std::io::ErrorKind;
+
+/// What is known about a script that has ended, and about its streams.
+#[derive(Clone, Copy)]
+pub struct FaultReport<'a> {
+    /// The command that executed the script.
+    pub script: Script,
+    /// The bad line; empty if no line was bad, or if it is no longer kept.
+    pub line: &'a [u8],
+    /// Why the last failed read of the script failed.
+    pub input: Option<ErrorKind>,
+    /// Why the last failed write failed.
+    pub output: Option<ErrorKind>,
+    /// The name of the output, for messages.
+    pub output_name: &'a str,
+}
+
+impl FaultReport<'_> {
+    /// Prints the fault on the first line and the reason on the second. Prints nothing if the
+    /// reader of standard output has closed it. Failed writes to standard error are ignored.
+    pub fn print(&self, rt: &HostRuntime, fault: ScriptFault) {
+        if fault == ScriptFault::Device && self.output == Some(ErrorKind::BrokenPipe) {
+            return;
+        }
+        let _ = eprintln!(rt; "{fault}");
+        match fault {
+            ScriptFault::BadLine(_) => self.print_bad_line(rt),
+            ScriptFault::Device => self.print_device(rt),
+            ScriptFault::Port(fault) => {
+                let _ = eprintln!(rt; "{}", port_reason(fault));
+            }
+            ScriptFault::Memory => {}
+        }
+    }
+
+    // Reports what is wrong with the bad line, if it is known. If a `tick` has a valid form, it
+    // takes the clock past its end.
+    fn print_bad_line(&self, rt: &HostRuntime) {
+        if self.line.is_empty() {
+            return;
+        }
+        let _ = match reason(rt.alloc(), self.script, self.line) {
+            Ok(Some(reason)) => eprintln!(rt; "{reason}"),
+            Ok(None) if self.line.starts_with(b"tick ") => eprintln!(rt;
+                "the clock ends at 1,000,000,000,000,000 ms"
+            ),
+            _ => Ok(()),
+        };
+    }
+
+    // Reports which stream failed, and why.
+    fn print_device(&self, rt: &HostRuntime) {
+        let _ = match (self.input, self.output, self.script) {
+            (Some(kind), _, _) => eprintln!(rt; "standard input: {}", KindReason(kind)),
+            (None, Some(kind), _) => eprintln!(rt; "{}: {}", self.output_name, KindReason(kind)),
+            (None, None, Script::Loop) => eprintln!(rt;
+                "a frame did not return over the program's connection to itself, or 1,000,000 reads did not reach the script's end"
+            ),
+            (None, None, _) => eprintln!(rt; "1,000,000 reads did not reach the script's end"),
+        };
+    }
+}
