@@ -1,14 +1,18 @@
 """Shared by the tools: the command line, how a tool ends, running programs, and lapd at work."""
 
 import argparse
+import hashlib
 import os
 import re
 import select
 import shlex
+import shutil
 import signal
 import socket
 import subprocess
 import sys
+import tempfile
+import time
 
 sys.dont_write_bytecode = True
 TOP = os.path.dirname(os.path.dirname(os.path.realpath(__file__)))
@@ -116,10 +120,74 @@ def rows_below(name):
     return found
 
 
+def made_of(name):
+    """What a crate is made of: the files and folders that ./lapd looks at, an empty line, the rows
+    of the crates up to this one and the sums of their files."""
+    below = rows_below(name)
+    rows = ["crates.txt", *(f"crates/{it}" for it in below), "", *below.values()]
+    for folder in (f"{name}/{it}" for name in below for it in ("src", "specs", "proofs")):
+        walked = os.walk(f"{TOP}/crates/{folder}")
+        for path in sorted(f"{at}/{it}" for at, _, files in walked for it in files):
+            with open(path, "rb") as file:
+                checksum = hashlib.sha256(file.read()).hexdigest()
+            rows.append(f"{checksum} {os.path.relpath(path, TOP)}")
+    return "\n".join(rows) + "\n"
+
+
+def why_build(made, sources, now):
+    """Why a file has to be made, or None if it is up to date: the file of sources has what it was
+    made of, which is compared with the text for now."""
+    if not os.path.isfile(made):
+        return "is not built yet"
+    try:
+        with open(sources, encoding="utf-8") as file:
+            return None if file.read() == now else "has changed since it was built"
+    except OSError:
+        return "was built from unknown sources"
+
+
 def rt(crate, *words, **how):
     """Starts rt in the crate's folder, without input. Its output and its errors are one text."""
     how |= {"stdin": subprocess.DEVNULL, "stdout": subprocess.PIPE, "stderr": subprocess.STDOUT}
     return subprocess.Popen(["rt", *words], cwd=f"{TOP}/crates/{crate}", text=True, **how)
+
+
+def running(room, words):
+    """The program of this folder that runs with these words, or with any one word if they are
+    `None`; `None` if no such program runs."""
+    for process in filter(str.isdigit, os.listdir("/proc")):
+        try:
+            with open(f"/proc/{process}/cmdline", "rb") as file:
+                line = file.read().decode(errors="replace").rstrip("\0").split("\0")
+        except OSError:
+            continue
+        count = len(words) if words else 1
+        is_ours = line[-count:] == words if words else "::" in line[-1]
+        if is_ours and len(line) > count and line[-count - 1].startswith(f"{room}/"):
+            return line[-count - 1]
+    return None
+
+
+def compiled(crate, flags, words, to):
+    """Compiles a crate from source, without a proof. `rt try` compiles it and runs it, with these
+    words or, if they are `None`, each of its tests, and while it runs, its program is copied to
+    this file. Returns the end of what rt printed if it ended before, else `None`."""
+    with tempfile.TemporaryDirectory(prefix="lapd-try-") as room:
+        line = ["rt", "try", *flags, "--seconds", "900", *(["--", *words] if words else [])]
+        how = {"stdin": subprocess.DEVNULL, "stdout": subprocess.PIPE, "stderr": subprocess.STDOUT}
+        how |= {"cwd": f"{TOP}/crates/{crate}", "env": {**os.environ, "TMPDIR": room}}
+        process = subprocess.Popen(line, **how)
+        try:
+            while not (found := running(room, words)):
+                if process.poll() is not None:
+                    said = process.stdout.read().decode(errors="replace").rstrip()
+                    return "\n".join(said.split("\n")[-3:])
+                time.sleep(0.05)
+            shutil.copy(found, to)
+        finally:
+            process.terminate()
+            process.wait()
+    return None
 
 
 def prove(*words):
