@@ -168,14 +168,14 @@ def running(room, words):
     return None
 
 
-def compiled(crate, flags, words, to):
+def compiled(crate, flags, words, to, top=TOP):
     """Compiles a crate from source, without a proof. `rt try` compiles it and runs it, with these
     words or, if they are `None`, each of its tests, and while it runs, its program is copied to
     this file. Returns the end of what rt printed if it ended before, else `None`."""
     with tempfile.TemporaryDirectory(prefix="lapd-try-") as room:
         line = ["rt", "try", *flags, "--seconds", "900", *(["--", *words] if words else [])]
         how = {"stdin": subprocess.DEVNULL, "stdout": subprocess.PIPE, "stderr": subprocess.STDOUT}
-        how |= {"cwd": f"{TOP}/crates/{crate}", "env": {**os.environ, "TMPDIR": room}}
+        how |= {"cwd": f"{top}/crates/{crate}", "env": {**os.environ, "TMPDIR": room}}
         process = subprocess.Popen(line, **how)
         try:
             while not (found := running(room, words)):
