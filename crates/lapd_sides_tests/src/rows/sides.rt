@@ -143,6 +143,22 @@ net 64
 shows: network;discarded 0;holds 64;
 exact: yes
 
+# the usual frames of state 7, and some that are not: a final, a frame out of sequence, a busy peer
+net 64 packets
+0 take 00817f: 008173;0 64 established;
+0 take 40817f: 408173;16 64 established;
+1 take 00810101: 00810101;
+3 take 02810101: 0 64 report A;
+4 take 00810200aa: 00810900;
+5 take 0081000008: 00810102;0 64 data 08;
+6 take 02810500
+7 take 0081020009: 00810104;0 64 data 09;
+8 take 40810101: 40810101;
+1006 tick: 02810105;
+1007 take 008153: 008173;0 64 released;
+shows: network;discarded 0;next 10008;holds 64;
+exact: yes
+
 # frames that are discarded are counted
 net 64
 0 take 00
