@@ -5,7 +5,7 @@ use Rattle.lapd_cli_live.specs.declared.service.Until.{Until}
 use Rattle.lapd_cli_outside.specs.IoEvents.{Adds, Arrives, IoEvent, FindsNone, Reads, Sends, Waits}
 use Rattle.lapd_cli_live.specs.Log.{LiveState, io_events_in, moment_of}
 use Rattle.lapd_cli_live.specs.Steps.{CatchesUp, LooksInVain, Receives, TakesAll, TakesMost}
-use Rattle.lapd_cli_live.specs.PromptLine.{Arrival, ExpiresInTime, HasAllThatArrived, IsPrompt, arrived_by, frames_received}
+use Rattle.lapd_cli_live.specs.PromptLine.{Arrival, ExpiresInTime, HasAllThatArrived, IsPrompt, IsPromptAfter, StartsWithEarlier, frames_received, one_left, three_at_once, three_received}
 
 received_before : (io_events : List IoEvent) (now : ℕ) → frames_received (io_events ++ (Reads now ∷ FindsNone ∷ [])) ≡ frames_received io_events
 received_before [] now = refl
@@ -14,6 +14,18 @@ received_before (Reads at ∷ io_events) now = received_before io_events now
 received_before (FindsNone ∷ io_events) now = received_before io_events now
 received_before (Waits until woken ∷ io_events) now = received_before io_events now
 received_before (Sends frame ∷ io_events) now = received_before io_events now
+
+-- a look right after a reading of the clock is prompt, wherever it is
+prompt_at : (clock : Option ℕ) (received : List (List ℕ)) (arrivals : List Arrival) (before rest : List IoEvent) (now : ℕ)
+    → IsPromptAfter clock received arrivals (before ++ (Reads now ∷ FindsNone ∷ rest)) → StartsWithEarlier now arrivals (received ++ frames_received before)
+prompt_at clock received arrivals [] rest now h = subst (λ (frames : List (List ℕ)). StartsWithEarlier now arrivals frames) (sym (append-nil received)) h.0
+prompt_at clock received arrivals (Arrives frame ∷ before) rest now h =
+    subst (λ (frames : List (List ℕ)). StartsWithEarlier now arrivals frames) (append_assoc received (frame ∷ []) (frames_received before))
+    (prompt_at None (received ++ frame ∷ []) arrivals before rest now h)
+prompt_at clock received arrivals (Reads at ∷ before) rest now h = prompt_at (Some at) received arrivals before rest now h
+prompt_at clock received arrivals (FindsNone ∷ before) rest now h = prompt_at None received arrivals before rest now h.1
+prompt_at clock received arrivals (Waits until woken ∷ before) rest now h = prompt_at None received arrivals before rest now h
+prompt_at clock received arrivals (Sends frame ∷ before) rest now h = prompt_at None received arrivals before rest now h
 
 -- if the calls are recorded by now, they were recorded before
 pub record Knew (a b : Option (List IoEvent)) (io_events more : List IoEvent) : Type 0 where
@@ -36,10 +48,12 @@ has_all arrivals a b io_events rest known looks are all prompt =
     let before : Knew a.io_events b.io_events io_events (Reads now ∷ FindsNone ∷ []) = knew a.io_events b.io_events io_events (Reads now ∷ FindsNone ∷ []) are looks.happen.io_events in
     let whole : known ≡ before.before ++ (Reads now ∷ FindsNone ∷ rest) =
     all ∙ ap (λ (x : List IoEvent). x ++ rest) before.is ∙ append_assoc before.before (Reads now ∷ FindsNone ∷ []) rest in
+    let earlier : StartsWithEarlier now arrivals (frames_received before.before) =
+    prompt_at None [] arrivals before.before rest now (subst (λ (x : List IoEvent). IsPrompt arrivals x) whole prompt) in
     record {
       io_events = io_events;
       are = are;
-      received = ap frames_received before.is ∙ received_before before.before now ∙ prompt before.before rest now whole;
+      received = record { more = earlier.more; are = ap frames_received before.is ∙ received_before before.before now ∙ earlier.are };
     }
 
 in_time : (arrivals : List Arrival) (until : Until) (a b : LiveState) (io_events rest known : List IoEvent) → Receives until a b → b.io_events ≡ Some io_events
@@ -59,3 +73,14 @@ expires_in_time arrivals until a b io_events caught known prompt =
       moment = caught.due.moment;
       in_time = in_time arrivals until a caught.received before.before (io_events_in caught.due.events) io_events caught.receives before.was before.is prompt;
     }
+
+-- ---- The worked line.
+
+-- three frames of a millisecond may arrive after three looks in it
+pub three_are_prompt : IsPrompt three_at_once three_received
+three_are_prompt =
+    (record { more = []; are = refl }, (record { more = (1 ∷ []) ∷ []; are = refl }, (record { more = (1 ∷ []) ∷ (2 ∷ []) ∷ []; are = refl }, (record { more = []; are = refl }, tt))))
+
+-- a frame of an earlier millisecond may not
+pub one_left_is_late : IsPrompt three_at_once one_left → ⊥
+one_left_is_late h = let are : (1 ∷ []) ∷ (2 ∷ []) ∷ [] ≡ (1 ∷ []) ∷ (2 ∷ []) ∷ (3 ∷ []) ∷ h.0.more = h.0.are in cc
