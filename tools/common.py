@@ -1,6 +1,7 @@
 """Shared by the tools: the command line, how a tool ends, running programs, and lapd at work."""
 
 import argparse
+import contextlib
 import hashlib
 import os
 import re
@@ -178,16 +179,19 @@ def compiled(crate, flags, words, to, top=TOP):
         how |= {"cwd": f"{top}/crates/{crate}", "env": {**os.environ, "TMPDIR": room}}
         process = subprocess.Popen(line, **how)
         try:
-            while not (found := running(room, words)):
-                if process.poll() is not None:
+            while True:
+                if found := running(room, words):
+                    # It may have ended meanwhile, as a test may; then the next one is seen.
+                    with contextlib.suppress(FileNotFoundError):
+                        shutil.copy(found, to)
+                        return None
+                elif process.poll() is not None:
                     said = process.stdout.read().decode(errors="replace").rstrip()
                     return "\n".join(said.split("\n")[-3:])
                 time.sleep(0.05)
-            shutil.copy(found, to)
         finally:
             process.terminate()
             process.wait()
-    return None
 
 
 def prove(*words):
