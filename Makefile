@@ -1,9 +1,11 @@
-# make            proves and builds the program lapd, with progress (about 30 minutes on four cores the first time, 13 GB of disk)
+# make            proves and builds the program lapd, with progress (about half an hour on four cores the first time, 6 GB of disk)
 # make test       runs the tests from source, before any proof; make test-long runs the long ones, with drawn inputs
 # make check      proves everything, runs all tests and tries the must-fail edits: the gate
 # make install    installs what `make` built: program, manual page and completions, under DESTDIR and PREFIX
 # make uninstall  removes them
+# make clean      removes what was built in this clone
 # make -C c       proves and builds liblapd for C
+# make help       prints this
 # Each of these is a command below, or a script of tools/ with -h for its usage.
 
 PREFIX = /usr/local
@@ -36,4 +38,10 @@ install:
 uninstall:
 	rm -f $(INSTALLED)
 
-.PHONY: all test test-long check install uninstall
+clean:
+	rm -rf crates/*/out c/out c/libpri/out
+
+help:
+	@sed -n 's/^# //p' Makefile
+
+.PHONY: all test test-long check install uninstall clean help
