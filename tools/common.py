@@ -2,6 +2,7 @@
 
 import argparse
 import contextlib
+import glob
 import hashlib
 import os
 import re
@@ -13,6 +14,7 @@ import socket
 import subprocess
 import sys
 import tempfile
+import threading
 import time
 
 sys.dont_write_bytecode = True
@@ -55,6 +57,31 @@ def stopped(number, _frame):
     for it in SIGNALS:
         signal.signal(it, lambda *_: None)
     sys.exit(128 + number)
+
+
+def end_children():
+    """Ends the programs that this tool runs."""
+    for path in glob.glob("/proc/self/task/*/children"):
+        with open(path, encoding="utf-8") as file:
+            for process in file.read().split():
+                with contextlib.suppress(ProcessLookupError):
+                    os.kill(int(process), signal.SIGTERM)
+
+
+@contextlib.contextmanager
+def reporting(what):
+    """Reports while something goes on, every half minute, how long it has taken."""
+    begun, ended = time.monotonic(), threading.Event()
+
+    def report():
+        while not ended.wait(30):
+            say(f"lapd: {what}, {clock(time.monotonic() - begun)} so far")
+
+    threading.Thread(target=report, daemon=True).start()
+    try:
+        yield
+    finally:
+        ended.set()
 
 
 def options_of(text):
