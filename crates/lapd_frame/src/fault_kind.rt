@@ -2,12 +2,13 @@ ghost use Rattle.std.specs.Prelude.{◌≡◌, Some};
 ghost use Rattle.lapd_frame.specs.Fault.{fault_name, is_for_link, kind_of};
 
 use lapd_field::FieldFault;
-use std::error::Error;
 use std::fmt;
+use thiserror::Error;
 
 /// A fault of octets that do not form a valid frame. The faults are listed in the order in which
 /// they are checked.
-#[derive(Clone, Copy, Debug, PartialEq, Eq)]
+// Its text is printed by hand: what `thiserror` prints has no contract.
+#[derive(Clone, Copy, Debug, PartialEq, Eq, Error)]
 pub enum FaultKind {
     /// F1: too few octets (Q.921 2.9 b).
     TooShort,
@@ -65,8 +66,6 @@ impl fmt::Display for FaultKind {
         f.write_str(self.name())
     }
 }
-
-impl Error for FaultKind {}
 
 impl From<FieldFault> for FaultKind {
     ghost from_gives = { λ fault kind. kind ≡ kind_of fault };

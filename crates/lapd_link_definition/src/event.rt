@@ -1,7 +1,8 @@
-ghost use Rattle.std.specs.Prelude.{◌≡◌};
+ghost use Rattle.std.specs.Prelude.{◌≡◌, Some};
 ghost use Rattle.lapd_link_definition.specs.Refusal.{refusal_name};
 
 use lapd_frame::{FaultKind, Frame};
+use std::fmt;
 use thiserror::Error;
 
 /// An event of an end.
@@ -33,19 +34,14 @@ pub enum Event<'a> {
 #[derive(Clone, Copy, Debug, PartialEq, Eq, Error)]
 pub enum LinkFault {
     /// L1: a message for a link that is not established.
-    #[error("L1 NotEstablished")]
     NotEstablished,
     /// L2: the I queue is full.
-    #[error("L2 QueueFull")]
     QueueFull,
     /// L3: a message of more than 260 octets.
-    #[error("L3 TooLong")]
     TooLong,
     /// L4: the link is being released.
-    #[error("L4 Releasing")]
     Releasing,
     /// L5: layer 3 is establishing the link.
-    #[error("L5 LayerThreeEstablishing")]
     LayerThreeEstablishing,
 }
 
@@ -71,5 +67,13 @@ impl LinkFault {
             LinkFault::Releasing => "L4 Releasing",
             LinkFault::LayerThreeEstablishing => "L5 LayerThreeEstablishing",
         }
+    }
+}
+
+impl fmt::Display for LinkFault {
+    ghost output = { λ fault. Some (refusal_name fault) };
+
+    fn fmt<W: fmt::Write>(&self, f: &mut fmt::Formatter<W>) -> fmt::Result {
+        f.write_str(self.name())
     }
 }

@@ -12,10 +12,10 @@
 
 mod act;
 mod fate;
-mod frame_octets;
 mod laws;
 mod line;
 mod log;
+mod marks;
 mod moves;
 mod pair;
 mod pair_fault;
@@ -24,7 +24,6 @@ mod recorded_link;
 mod settled;
 
 pub use fate::{Ending, Fate};
-pub use frame_octets::FrameOctets;
 pub use lapd_link::{Link, LinkFault, Out, Outs, Params, Side};
 pub use laws::sent_outputs_of_moves_have_frames;
 pub use moves::Move;

@@ -3,8 +3,9 @@ ghost use Rattle.std.specs.List.{remove};
 ghost use Rattle.std.specs.Vec.{vec_len};
 ghost use Rattle.lapd_pair.specs.Marks.{left_of};
 
-use crate::frame_octets::{FrameOctets, marked_place};
-use lapd_frame::{Frame, Role, Side, write_over};
+use crate::marks::marked_place;
+use arrayvec::ArrayVec;
+use lapd_frame::{Frame, MOST_OCTETS, Role, Side, write_over};
 use std::alloc::{AllocError, Global};
 
 /// From this many removed frames on, reusing their slots may be worth moving the frames in transit.
@@ -23,7 +24,7 @@ const MANY: usize = 32;
 /// last search of its kind ended. Each search reads a frame once, and again only if it stops at it.
 #[derive(Drop)]
 pub struct Line {
-    frames: Vec<FrameOctets>,
+    frames: Vec<ArrayVec<u8, MOST_OCTETS>>,
     /// The number of removed frames at the front.
     first: usize,
     /// The index after the last frame in transit. Slots from here on are free.
@@ -61,7 +62,7 @@ impl Line {
     }
 
     /// The octets of the frames in transit, in order.
-    pub fn frames(&self) -> &[FrameOctets]
+    pub fn frames(&self) -> &[ArrayVec<u8, MOST_OCTETS>]
         ensures octets { map (λ frame. frame.items) result.now ≡ octets_on self.now }
         ensures len { length result.now + self.now.first ≡ self.now.end }
     {
@@ -105,7 +106,7 @@ impl Line {
         ensures room { (n : ℕ) → HasRoomFor n self.old → HasRoomFor n self.new }
     {
         if self.end == self.frames.len() {
-            self.frames.push_reserved(FrameOctets::new());
+            self.frames.push_reserved(ArrayVec::new());
         }
     }
 
@@ -116,7 +117,7 @@ impl Line {
         ensures some { IfSome result (λ octets. (from : Side) (frames : List Flight)
             → IsOn from self.now frames → IsFirst from octets.now frames) }
     {
-        self.frames().first().map(FrameOctets::as_slice)
+        self.frames().first().map(ArrayVec::as_slice)
     }
 
     /// Removes the first frame. Does nothing if no frame is in transit.
@@ -292,7 +293,7 @@ fn left_of(place: usize, count: usize) -> usize
 
 /// Moves the frame at index `first + place` to index `first`. The frames between move back by one
 /// slot.
-fn to_first(frames: &mut [FrameOctets], first: usize, place: usize)
+fn to_first(frames: &mut [ArrayVec<u8, MOST_OCTETS>], first: usize, place: usize)
     requires { first + place < length frames.old }
     ensures { drop (first + 1) frames.new ≡ remove (drop first frames.old) place }
 {
@@ -301,7 +302,7 @@ fn to_first(frames: &mut [FrameOctets], first: usize, place: usize)
 
 /// Moves the frame at index `at` to the last slot before `end`. The frames between move forward by
 /// one slot.
-fn to_last(frames: &mut [FrameOctets], at: usize, end: usize)
+fn to_last(frames: &mut [ArrayVec<u8, MOST_OCTETS>], at: usize, end: usize)
     requires before { at < end }
     requires within { end ≤ length frames.old }
     ensures { take (end - 1) frames.new ≡ remove (take end frames.old) at }
@@ -310,7 +311,7 @@ fn to_last(frames: &mut [FrameOctets], at: usize, end: usize)
 }
 
 /// Swaps the `count` frames from index `from` on with the first `count` frames.
-fn to_front(frames: &mut [FrameOctets], from: usize, count: usize)
+fn to_front(frames: &mut [ArrayVec<u8, MOST_OCTETS>], from: usize, count: usize)
     requires apart { count ≤ from }
     requires within { from + count ≤ length frames.old }
     ensures { take count frames.new ≡ take count (drop from frames.old) }

@@ -5,14 +5,14 @@ ghost use Rattle.lapd_mod128.specs.Counting.{Tagged};
 ghost use Rattle.lapd_pair.specs.Pair.{IsReached};
 
 use crate::fate::Fate;
-use crate::frame_octets::FrameOctets;
 use crate::line::Line;
 use crate::moves::Move;
 use crate::pair_fault::{PairFault, RunFault};
 use crate::received::Received;
 use crate::recorded_link::RecordedLink;
 use crate::settled::Settled;
-use lapd_frame::Side;
+use arrayvec::ArrayVec;
+use lapd_frame::{MOST_OCTETS, Side};
 use lapd_link::{Link, Outs, Params, Timer};
 use std::alloc::{AllocError, Global};
 
@@ -260,7 +260,7 @@ impl Pair {
     }
 
     /// The octets of the frames in transit to this side, in order.
-    pub fn line(&self, to: Side) -> &[FrameOctets]
+    pub fn line(&self, to: Side) -> &[ArrayVec<u8, MOST_OCTETS>]
         ensures { (w : World) → PairRepresents self.now w
             → map (λ frame. frame.items) result.now ≡ map
             (λ frame. spelling (other_side to) (fields_of frame)) (view_of to w).incoming }

@@ -6,11 +6,12 @@
 use crate::draws::MoveDraws;
 use crate::made::new_pair;
 use crate::watch::{Watch, verdict};
+use arrayvec::ArrayVec;
 use lapd_follow::{Remark, Remarks};
-use lapd_frame::Side;
+use lapd_frame::{MOST_OCTETS, Side};
 use lapd_link::Recovery;
 use lapd_link::Recovery::{Enquiry, LastMessage};
-use lapd_pair::{FrameOctets, Move, Pair};
+use lapd_pair::{Move, Pair};
 use lapd_testing::Text;
 use std::alloc::Global;
 use std::test::Fail;
@@ -129,7 +130,12 @@ fn make(pair: &mut Pair, mv: &Move, listener: &mut Listener) {
 }
 
 /// Shows frames to this side to the listener.
-fn show(frames: Option<&[FrameOctets]>, to: Side, is_sent: bool, listener: &mut Listener) {
+fn show(
+    frames: Option<&[ArrayVec<u8, MOST_OCTETS>]>,
+    to: Side,
+    is_sent: bool,
+    listener: &mut Listener,
+) {
     for frame in frames.unwrap_or(&[]) {
         listener.take(to, is_sent, frame.as_slice());
     }

@@ -45,7 +45,7 @@ use Rattle.lapd_link.specs.SentFrame.{link_parts}
 use Rattle.lapd_sides_links.specs.declared.config.Config.{Config}
 use Rattle.lapd_sides_links.specs.declared.side_fault.SideKind.{SideKind}
 use Rattle.lapd_sides_links.specs.Effects.{Effects, sent_by, timed, timed_by, stopped, message_sent}
-use Rattle.lapd_sides_links.specs.Links.{Links, Linked, Reaction, Served, acted, link_acts, link_expires, in_place, where_there, in_links, with_link, new_linked, parameters_for, is_link_of, with_tei, without_tei}
+use Rattle.lapd_sides_links.specs.Links.{Links, Linked, Reaction, Served, acted, link_acts, link_expires, in_place, where_there, in_links, with_link, new_linked, or_new, parameters_for, is_link_of, with_tei, without_tei}
 use Rattle.lapd_sides.specs.Management.{links_with, links_without, manages}
 use Rattle.lapd_sides_laws.specs.ExactTimers.{HasExactTimers, HaveExactTimers, RunByState, IsOctet, AreOctets}
 use Rattle.lapd_sides_laws.proofs.Timed.{is_on}
@@ -299,12 +299,18 @@ module _ (side : Side) (id : LinkId) where
 
 -- ---- Links join and are removed.
 
+or_new_exact : (p : Parameters) (lengths : Lengths) (o : Option Linked) → OfSome o → OfSome (or_new (new_linked p lengths) o)
+or_new_exact p lengths None h = some_is_exact _ (new_is_exact p lengths)
+or_new_exact p lengths (Some l) h = h
+
 pub fresh_or : (test : Bool) (config : Config) (id : LinkId) (o : Option Linked) → OfSome o → OfSome (if test then Some (new_linked (parameters_for config id.sapi) config.durations) else o)
 fresh_or test config id o h = if_either OfSome test (Some (new_linked (parameters_for config id.sapi) config.durations)) o (some_is_exact _ (new_is_exact (parameters_for config id.sapi) config.durations)) h
 
 pub with_tei_exact : (config : Config) (tei : ℕ) (links : Links) → HaveExactTimers links → HaveExactTimers (with_tei config tei links)
 unfolding with_tei
-with_tei_exact config tei links all id = fresh_or (is_link_of config tei id) config id (links id) (all id)
+with_tei_exact config tei links all id =
+    let parameters = parameters_for config id.sapi in
+    if_either OfSome (is_link_of config tei id) (or_new (new_linked parameters config.durations) (links id)) (links id) (or_new_exact parameters config.durations (links id) (all id)) (all id)
 
 with_given : (config : Config) (given : Option ℕ) (links : Links) → HaveExactTimers links → HaveExactTimers (links_with config given links)
 with_given config None links all = all

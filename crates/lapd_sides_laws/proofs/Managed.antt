@@ -20,7 +20,7 @@ use Rattle.lapd_sides_links.specs.declared.primitive.Primitive.{Primitive}
 use Rattle.lapd_sides_links.specs.declared.primitive.What.{What}
 use Rattle.lapd_sides_links.specs.declared.primitive.What.TheVariants as what
 use Rattle.lapd_sides_links.specs.Effects.{message_sent, outcome_of}
-use Rattle.lapd_sides_links.specs.Links.{Links, Linked, Served, of_sapi, is_served, new_linked, parameters_for, with_tei, without_tei, release_at_removal, primitives_of, primitives_at_removal, primitive_of_tei, Reaction, with_link, is_link_of}
+use Rattle.lapd_sides_links.specs.Links.{Links, Linked, Served, of_sapi, is_served, new_linked, or_new, parameters_for, with_tei, without_tei, release_at_removal, primitives_of, primitives_at_removal, primitive_of_tei, Reaction, with_link, is_link_of}
 use Rattle.lapd_sides.specs.Management.{links_with, links_without, removal_primitives, manages}
 use Rattle.lapd_sides_laws.specs.Owed.{PassesBy, IsRemoval, AreSilent}
 use Rattle.lapd_sides_laws.specs.Addressed.{is_for}
@@ -110,10 +110,10 @@ pub with_other : (config : Config) (id : LinkId) (given : Option ℕ) (links : L
 unfolding with_tei
 with_other config id None links other = refl
 with_other config id (Some t) links other =
-    ap (λ (b : Bool). if b then Some (new_linked (parameters_for config id.sapi) config.durations) else links id) (and_not (is_served config id.sapi) (id.tei == t) (let h = other t refl in grind (arith, nat_tests)))
+    ap (λ (b : Bool). if b then or_new (new_linked (parameters_for config id.sapi) config.durations) (links id) else links id) (and_not (is_served config id.sapi) (id.tei == t) (let h = other t refl in grind (arith, nat_tests)))
 
-given_by : (test : Bool) (fresh : Linked) (o : Option Linked) → o ≡ None → ((if test then Some fresh else o) ≡ None) ⊎ ((if test then Some fresh else o) ≡ Some fresh)
-given_by true fresh o none = inr refl
+given_by : (test : Bool) (fresh : Linked) (o : Option Linked) → o ≡ None → ((if test then or_new fresh o else o) ≡ None) ⊎ ((if test then or_new fresh o else o) ≡ Some fresh)
+given_by true fresh o none = inr (ap (or_new fresh) none)
 given_by false fresh o none = inl none
 
 with_given : (config : Config) (id : LinkId) (given : Option ℕ) (links : Links) → links id ≡ None

@@ -12,7 +12,7 @@ use Rattle.lapd_table.specs.declared.link_id.LinkId.{LinkId}
 use Rattle.lapd_sides_links.specs.declared.config.Config.{Config}
 use Rattle.lapd_sides_links.specs.declared.primitive.What.{What}
 use Rattle.lapd_sides_links.specs.Effects.{Effects, outcome_of}
-use Rattle.lapd_sides_links.specs.Links.{Links, Linked, Served, of_sapi, is_served, is_link_of, with_tei, primitives_of, primitives_at_removal, release_at_removal, primitive_of_tei}
+use Rattle.lapd_sides_links.specs.Links.{Links, Linked, Served, of_sapi, is_served, is_link_of, or_new, with_tei, primitives_of, primitives_at_removal, release_at_removal, primitive_of_tei}
 use Rattle.lapd_sides.specs.Management.{links_with, links_without, removal_primitives, manages}
 use Rattle.lapd_sides_laws.specs.Interface.{fresh_link}
 use Rattle.lapd_sides_laws.specs.Premises.{is_assignment}
@@ -62,7 +62,7 @@ module _ (side : Side) (config : Config) (now : ℕ) (outs : List TeiOut) (s : S
   ]
 
   with_by : (k : LinkId) (t : ℕ) (test : Bool) → tei_given outs ≡ Some t → is_link_of config t k ≡ test → freed_here k.tei (tei_freed outs) ≡ false
-      → is_some (if test then Some (fresh_link config k) else s.links k) ≡ true → Q k.tei
+      → is_some (if test then or_new (fresh_link config k) (s.links k) else s.links k) ≡ true → Q k.tei
   with_by k t true given is preserved there =
       let same : t ≡ k.tei = (let tested = (both_of (is_served config k.sapi) (k.tei == t) is).1 in grind (arith, nat_tests, tested)) in
       subst Q same (own.given t given)

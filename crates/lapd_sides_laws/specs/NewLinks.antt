@@ -1,5 +1,4 @@
--- A TEI that a side assigns or obtains has no links before, so those that the side then adds
--- replace none.
+-- A TEI that a side assigns or obtains has no links before, so all that it has then are new.
 use Rattle.std.specs.Prelude.{◌≡◌, ℕ, List, Option, Some, None}
 use Rattle.rand_pcg.specs.Lcg.{Lcg}
 use Rattle.lapd_frame.specs.declared.Side.{Side}

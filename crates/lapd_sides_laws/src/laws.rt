@@ -312,8 +312,7 @@ pub fn management_timers_run_while_it_waits()
         → IsAwaited T201 s.served.timers next }
 {}
 
-/// A TEI has no links when a side assigns or obtains it. So the links that the side then adds
-/// replace no others.
+/// A TEI has no links when a side assigns or obtains it. So all links that it has then are new.
 ///
 /// This holds for a newly created side after any steps, whatever octets arrive, and needs no
 /// premise: a TEI may be removed and assigned again. `given_for` and `got_for` are the TEI that

@@ -39,7 +39,7 @@ use Rattle.lapd_sides_links.proofs.Dues.{deadline_stays, same_past, same_runs}
 
 -- ---- The link does not exist.
 
-nothing_linked : (link : Option Link) (t : Option Timers) (l : Option Linked) → link ≡ None → IsLinked link t l → l ≡ None
+pub nothing_linked : (link : Option Link) (t : Option Timers) (l : Option Linked) → link ≡ None → IsLinked link t l → l ≡ None
 nothing_linked None t None e h = refl
 nothing_linked None t (Some l) e h = absurd h
 nothing_linked (Some link) t l e h = absurd (cc)

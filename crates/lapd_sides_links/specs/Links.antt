@@ -163,13 +163,24 @@ served_with_durations durations s = record {
 abbrev pub new_linked : Parameters → Lengths → Linked
 new_linked parameters lengths = record { end = new_end parameters; timers = all_stopped lengths }
 
+-- the existing link, or else the new one
+abbrev pub or_new : Linked → Option Linked → Option Linked
+or_new new None = Some new
+or_new new (Some l) = Some l
+
+-- adds a link, unless one with this id exists
+abbrev pub with_new_link : LinkId → Linked → Links → Links
+with_new_link id new links = λ other. if id_eq other id then or_new new (links other)
+    else links other
+
 -- the links of a TEI: of SAPI 0, and of SAPI 16 if it is served
 abbrev pub is_link_of : Config → ℕ → LinkId → Bool
 is_link_of config tei id = is_served config id.sapi && (id.tei == tei)
 
 unfoldable pub with_tei : Config → ℕ → Links → Links
 with_tei config tei links = λ id. if is_link_of config tei id
-    then Some (new_linked (parameters_for config id.sapi) config.durations) else links id
+    then or_new (new_linked (parameters_for config id.sapi) config.durations) (links id)
+    else links id
 
 unfoldable pub without_tei : ℕ → Links → Links
 without_tei tei links = λ id. if id.tei == tei then None else links id

@@ -7,11 +7,9 @@ use Rattle.lapd_link.specs.Link.{LinkRepresents, Setup}
 use Rattle.lapd_link.specs.SentFrame.{made_frame}
 use Rattle.lapd_link.specs.declared.link.Link.{Link}
 use Rattle.lapd_link_definition.specs.declared.out.Out.{Out}
-use Rattle.lapd_link_definition.specs.End.{End, new_end}
-use Rattle.lapd_link_definition.specs.Parameters.{Parameters}
+use Rattle.lapd_link_definition.specs.End.{End}
 use Rattle.lapd_table.specs.declared.link_id.LinkId.{LinkId}
-use Rattle.lapd_table.specs.declared.link_table.LinkTable.{LinkTable}
-use Rattle.lapd_table.specs.LinkTable.{side_of, link_at, Changes}
+use Rattle.lapd_table.specs.LinkTable.{side_of, link_at}
 use Rattle.lapd_sides_links.specs.declared.link_set.LinkSet.{LinkSet}
 use Rattle.lapd_sides_links.specs.declared.timer_places.TimerPlaces.{TimerPlaces}
 use Rattle.lapd_sides_links.specs.declared.side_fault.SideKind.{SideKind}
@@ -49,12 +47,6 @@ pub record HaveActed (side : Side) (s : LinkSet) (before after : Effects)
   pub is : outcome ≡ Ok acted
   pub shown : ShowLinks side s acted.after
   pub given : after ≡ and_then before acted.effects
-
--- A table has a new link with this SAPI and TEI, in state 4, and every other is unchanged.
-pub record HasNewLink (old new : LinkTable) (id : LinkId) (parameters : Parameters) : Type 0 where
-  pub link : Link
-  pub represents : LinkRepresents link (new_end parameters)
-  pub changes : Changes old new id (Some link)
 
 -- ---- The effect of a call, whatever links it finds.
 

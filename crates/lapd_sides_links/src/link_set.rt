@@ -1,9 +1,9 @@
 //! The links of a side with their timers.
 
-ghost use Rattle.std.specs.Prelude.{◌≡◌, ◌≢◌, ◌≤◌, ◌<◌, ◌+◌, ◌++◌, ◌&&◌, length, map, option_map, [], true, false, Some, None, IsSome, IfSome, option_copied, IfOk, IfErr, OnOk, OnErr};
+ghost use Rattle.std.specs.Prelude.{◌≡◌, ◌≢◌, ◌≤◌, ◌<◌, ◌+◌, ◌++◌, ◌&&◌, length, map, option_map, [], true, false, Some, None, is_none, IfSome, option_copied, IfOk, IfErr, OnOk, OnErr};
 ghost use Rattle.std.specs.List.{filter_map};
 ghost use Rattle.lapd_frame.specs.declared.Side.{Side};
-ghost use Rattle.lapd_link.specs.Link.{LinkRepresents, setup_of};
+ghost use Rattle.lapd_link.specs.Link.{LinkRepresents};
 ghost use Rattle.lapd_link.specs.declared.link.Link.{Link};
 ghost use Rattle.lapd_link_machine.specs.Bounds.{primitive_count};
 ghost use Rattle.lapd_link_machine.specs.Given.{given_outs};
@@ -12,13 +12,13 @@ ghost use Rattle.lapd_link_definition.specs.End.{End};
 ghost use Rattle.lapd_link_definition.specs.Input.{input_of, Give, Heard, UnitData};
 ghost use Rattle.lapd_link_definition.specs.Input as input;
 ghost use Rattle.lapd_table.specs.declared.link_id.LinkId.{LinkId};
-ghost use Rattle.lapd_table.specs.LinkTable.{link_at, side_of, Changes, IsFor, IsKey, IsUnchanged};
+ghost use Rattle.lapd_table.specs.LinkTable.{link_at, side_of, IsFor, IsKey};
 ghost use Rattle.lapd_table.specs.LinkId.{setup_for};
 ghost use Rattle.lapd_sides_links.specs.declared.acts.TheConstants.{MOST_FRAMES, MOST_PRIMITIVES};
 ghost use Rattle.lapd_sides_links.specs.declared.primitive.Primitive.TheVariants.{Of};
 ghost use Rattle.lapd_sides_links.specs.Effects.{timed, what_of, Appends};
 ghost use Rattle.lapd_sides_links.specs.Expiries.{IsFirst, IsPast, IsTimerOf, Runs, of_links};
-ghost use Rattle.lapd_sides_links.specs.Links.{Links, IsOfLink, no_links, of_sapi, with_link, with_tei, without_tei, release_at_removal, primitives_of, primitives_at_removal, primitive_of_tei, links_of_held, links_with_durations, in_links, link_acts, link_expires, gives_at_once, takes_input_usually, takes_usually};
+ghost use Rattle.lapd_sides_links.specs.Links.{Links, IsOfLink, new_linked, no_links, of_sapi, with_link, with_new_link, with_tei, without_tei, release_at_removal, primitives_of, primitives_at_removal, primitive_of_tei, links_of_held, links_with_durations, in_links, link_acts, link_expires, gives_at_once, takes_input_usually, takes_usually};
 ghost use Rattle.lapd_sides_links.specs.Rooms.{HasRoomFor, HasUsualRoom, has_usual_room, AddsAtMost};
 
 use crate::delivery::{deliver_all, put_frames};
@@ -46,7 +46,7 @@ pub struct LinkSet {
 }
 
 impl LinkSet {
-    ghost use Rattle.lapd_sides_links.specs.Shown.{timers_at, made_by, HasNewLink, ShowLinks, LinksDo, LinksHaveNone, LinksRefuseAs, Becomes, ShowsLinksAsBefore};
+    ghost use Rattle.lapd_sides_links.specs.Shown.{timers_at, made_by, ShowLinks, LinksDo, LinksHaveNone, LinksRefuseAs, Becomes, ShowsLinksAsBefore};
 
     /// Creates a set without links, and allocates room for the timers of all links that can exist.
     ///
@@ -64,7 +64,7 @@ impl LinkSet {
     }
 
     /// Adds the links of a TEI, in state 4 and with no timer running: of SAPI 0, and of SAPI 16 if
-    /// it is served. They replace the links of this TEI, if it has any.
+    /// it is served. A link that exists is unchanged.
     ///
     /// # Errors
     ///
@@ -75,62 +75,50 @@ impl LinkSet {
         ensures unchanged { OnErr result (ShowsLinksAsBefore self.old self.new) }
     {
         let call = name(Sapi::Call, tei);
-        let replaced = self.insert(alloc, &call, config.params0)?;
-        if config.sapi16 {
-            let packet = name(Sapi::Packet, tei);
-            let Ok(_) = self.insert(alloc, &packet, config.params16) else {
-                self.put_back(&call, replaced);
-                return Err(AllocError);
-            };
-            self.link_timers.reset(&call, config.durations);
-            self.link_timers.reset(&packet, config.durations);
+        let is_added = self.add(alloc, &call, config.params0, config.durations)?;
+        if !config.sapi16 {
             return Ok(());
         }
-        self.link_timers.reset(&call, config.durations);
+        let packet = name(Sapi::Packet, tei);
+        let Ok(_) = self.add(alloc, &packet, config.params16, config.durations) else {
+            if is_added {
+                self.remove(&call);
+            }
+            return Err(AllocError);
+        };
         Ok(())
     }
 
-    /// Stores a new link in state 4, of SAPI 0 or 16 and TEI 0 to 126. Returns the link that it
-    /// replaces, if one exists. Its timers are unchanged.
+    /// Adds a link of SAPI 0 or 16 and TEI 0 to 126, in state 4 and with no timer running, unless a
+    /// link with this id exists. Returns whether it was added.
     ///
     /// # Errors
     ///
     /// `AllocError` if an allocation failed. Nothing is changed.
-    fn insert(
+    fn add(
         &mut self,
         alloc: Global,
         id: &LinkId,
         params: Params,
-    ) -> Result<Option<Link>, AllocError>
+        durations: Durations,
+    ) -> Result<bool, AllocError>
         requires sapi { id.now.sapi ≢ Sapi.Management }
         requires tei { id.now.tei < 127 }
-        ensures replaced { IfOk result (λ replaced. replaced ≡ link_at self.old.table id.now) }
-        ensures ok { OnOk result (HasNewLink self.old.table self.new.table id.now params) }
-        ensures unchanged { OnErr result (IsUnchanged self.old.table self.new.table) }
-        ensures timers { self.new.link_timers ≡ self.old.link_timers }
+        ensures ok { OnOk result (Becomes self.old self.new
+            (with_new_link id.now (new_linked params durations))) }
+        ensures added { IfOk result (λ is_added. (side : Side) (links : Links)
+            → ShowLinks side self.old links → is_added ≡ is_none (links id.now)) }
+        ensures unchanged { OnErr result (ShowsLinksAsBefore self.old self.new) }
     {
-        let link = Link::new(alloc, self.table.side(), id.sapi, id.tei, params)?;
-        self.table.insert(link)
-    }
-
-    /// Puts back the link that the link with this id replaced, or removes the link if it replaced
-    /// none. Its timers are unchanged.
-    fn put_back(&mut self, id: &LinkId, replaced: Option<Link>)
-        requires there { IsSome (link_at self.old.table id.now) }
-        requires its { IfSome replaced (λ link. setup_of link
-            ≡ setup_for (side_of self.old.table) id.now) }
-        ensures table { Changes self.old.table self.new.table id.now replaced }
-        ensures timers { self.new.link_timers ≡ self.old.link_timers }
-    {
-        match replaced {
-            Some(link) => match self.table.insert(link) {
-                Ok(_) => {}
-                Err(AllocError) => unreachable!(),
-            },
-            None => {
-                let _new = self.table.remove(*id);
-            }
+        if self.table.link(*id).is_some() {
+            return Ok(false);
         }
+        let link = Link::new(alloc, self.table.side(), id.sapi, id.tei, params)?;
+        if self.table.add(link).is_err() {
+            return Err(AllocError);
+        }
+        self.link_timers.reset(id, durations);
+        Ok(true)
     }
 
     /// Adds the links of all held TEIs to an empty set.

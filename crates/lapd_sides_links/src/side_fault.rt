@@ -4,11 +4,12 @@ ghost use Rattle.std.specs.Prelude.{◌≡◌, Some};
 ghost use Rattle.lapd_sides_links.specs.Texts.{kind_text};
 
 use lapd_link::LinkFault;
-use std::error::Error;
 use std::fmt;
+use thiserror::Error;
 
 /// Why a side refuses a call. The side is unchanged.
-#[derive(Clone, Copy, Debug, PartialEq, Eq)]
+// Its text, and that of `SideFault`, are printed by hand: what `thiserror` prints has no contract.
+#[derive(Clone, Copy, Debug, PartialEq, Eq, Error)]
 pub enum SideKind {
     /// B1: no link has this id.
     NoLink,
@@ -19,7 +20,7 @@ pub enum SideKind {
 }
 
 /// A refusal, with the message or unit data that the caller passed, unchanged.
-#[derive(Debug, Drop)]
+#[derive(Debug, Drop, Error)]
 pub struct SideFault {
     /// The reason.
     pub kind: SideKind,
@@ -39,8 +40,6 @@ impl fmt::Display for SideKind {
     }
 }
 
-impl Error for SideKind {}
-
 impl fmt::Display for SideFault {
     ghost output = { λ fault. Some (kind_text fault.kind) };
 
@@ -49,8 +48,6 @@ impl fmt::Display for SideFault {
         write!(f, "{kind}")
     }
 }
-
-impl Error for SideFault {}
 
 /// Builds a refusal that returns the message.
 pub fn refused(kind: SideKind, message: Vec<u8>) -> SideFault

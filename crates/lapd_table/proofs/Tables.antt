@@ -289,21 +289,6 @@ module _ (old : LinkTable) (link : Link) (side : (setup_of link).side ≡ side_o
         unchanged old new same_side (λ i. ap (λ l. found_in l new.keys i) same_links ∙ ap (λ k. found_in back k i) same_keys
         ∙ same_found old.side old.links old.keys old.index back keys as_before_links as_before_keys i)
 
--- a link takes the place of another one with its SAPI and TEI
-module _ (old : LinkTable) (link : Link) (side : (setup_of link).side ≡ side_of old) (id : LinkId) (its : id ≡ id_of_setup (setup_of link)) (key : ℕ) (there : key_of old.keys id ≡ Some key)
-    (before : Link) (was : slab.get old.links key ≡ Some before) (after : Link) (is : after ≡ link) where
-  same_setup : setup_of after ≡ setup_of before
-  same_setup = ap setup_of is ∙ setup_in old link side ∙ ap (setup_for old.side) (sym its) ∙ sym (before_setup old id key there before was)
-
-  pub replaced_index : IsIndex old.side (slab.with_value old.links key after) old.keys
-  replaced_index = after_index old id key there before was after same_setup
-
-  pub replaced : (new : LinkTable) → new.side ≡ old.side → new.links ≡ slab.with_value old.links key after → new.keys ≡ old.keys → Changes old new (id_of_setup (setup_of link)) (Some link)
-  replaced new same_side same_links same_keys =
-      let now = changed old new id (Some after) same_side (finds old id key there before was after same_setup new same_side same_links same_keys) in
-      let Here : LinkId → Type 0 = λ i. Changes old new i (Some link) in
-      subst Here its (subst (λ l. Changes old new id (Some l)) is now)
-
 -- only the slab tried to allocate
 pub with_room : (old new : LinkTable) → new.side ≡ old.side → slab.SameValues old.links new.links → new.keys ≡ old.keys → IsUnchanged old new
 with_room old new side preserved keys =

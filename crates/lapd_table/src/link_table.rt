@@ -17,7 +17,6 @@ use lapd_link::{Event, GivenOuts, Link, LinkFault, Outs, Refused, UsualOuts};
 use slab::Slab;
 use std::alloc::{AllocError, Global};
 use std::collections::BTreeMap;
-use std::mem::replace;
 
 /// The links of one side of the interface, each under its SAPI and TEI.
 #[derive(Drop)]
@@ -79,34 +78,6 @@ impl LinkTable {
         match self.store(id, link) {
             Ok(()) => Ok(()),
             Err(link) => Err((TableFault::Memory, link)),
-        }
-    }
-
-    /// Stores a link, and returns the link with this SAPI and TEI that it replaces, if one exists.
-    /// The link must belong to the table's side ([`LinkTable::side`]). To replace a link allocates
-    /// nothing.
-    ///
-    /// # Errors
-    ///
-    /// `AllocError` if no such link exists and an allocation failed. The table is unchanged.
-    pub fn insert(&mut self, link: Link) -> Result<Option<Link>, AllocError>
-        requires side { (setup_of link).side ≡ side_of self.old }
-        ensures replaced { IfOk result (λ replaced. replaced
-            ≡ link_at self.old (id_of_setup (setup_of link))) }
-        ensures ok { OnOk result (Changes self.old self.new (id_of_setup (setup_of link))
-            (Some link)) }
-        ensures new { OnErr result (link_at self.old (id_of_setup (setup_of link)) ≡ None) }
-        ensures unchanged { OnErr result (IsUnchanged self.old self.new) }
-    {
-        let id = LinkId::of_link(&link);
-        match self.keys.get(&id).copied() {
-            Some(key) => Ok(Some(replace(&mut self.links[key], link))),
-            None => {
-                let Ok(()) = self.store(id, link) else {
-                    return Err(AllocError);
-                };
-                Ok(None)
-            }
         }
     }
 

@@ -1,7 +1,8 @@
-ghost use Rattle.std.specs.Prelude.{◌≡◌};
+ghost use Rattle.std.specs.Prelude.{◌≡◌, Some};
 ghost use Rattle.lapd_tei.specs.Bus.{bus_fault_name};
 
 use lapd_frame::Tei;
+use std::fmt;
 use thiserror::Error;
 
 /// A move on a bus. Terminals and messages are numbered from 0; messages in the order of sending,
@@ -36,13 +37,10 @@ pub enum BusMove {
 #[derive(Clone, Copy, Debug, PartialEq, Eq, Error)]
 pub enum BusFault {
     /// U1: the message or terminal does not exist, or the timer does not run.
-    #[error("U1 NothingThere")]
     NothingThere,
     /// U2: the terminal has received this message before.
-    #[error("U2 HeardBefore")]
     HeardBefore,
     /// U3: an allocation failed.
-    #[error("U3 Memory")]
     Memory,
 }
 
@@ -56,5 +54,13 @@ impl BusFault {
             BusFault::HeardBefore => "U2 HeardBefore",
             BusFault::Memory => "U3 Memory",
         }
+    }
+}
+
+impl fmt::Display for BusFault {
+    ghost output = { λ fault. Some (bus_fault_name fault) };
+
+    fn fmt<W: fmt::Write>(&self, f: &mut fmt::Formatter<W>) -> fmt::Result {
+        f.write_str(self.name())
     }
 }

@@ -6,7 +6,7 @@ use Rattle.arrayvec.specs.ArrayVec.{ArrayVec}
 use Rattle.lapd_frame.specs.Reading.{frame_at}
 use Rattle.lapd_pair.specs.Marks.{is_read_marked}
 use Rattle.lapd_pair.proofs.Lines.{place_or_all, place_within, position_or_len-map}
-use Rattle.lapd_pair.proofs.frame_octets.marked_place.Goals as goal
+use Rattle.lapd_pair.proofs.marks.marked_place.Goals as goal
 
 pub returns : goal.returns
 returns c =

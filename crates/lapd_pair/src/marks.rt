@@ -5,9 +5,6 @@ ghost use Rattle.lapd_pair.specs.Marks.{is_read_marked, place_of_marked};
 use arrayvec::ArrayVec;
 use lapd_frame::{MOST_OCTETS, Role, Side, read};
 
-/// The octets of one frame.
-pub type FrameOctets = ArrayVec<u8, MOST_OCTETS>;
-
 /// Whether octets that `from` sent form a frame of this role with its P or F bit set (Q.921 3.5.1).
 pub fn is_marked(octets: &[u8], from: Side, role: Role) -> bool
     ensures { result ≡ is_read_marked role (frame_at from octets.now) }
@@ -25,7 +22,7 @@ pub fn is_marked(octets: &[u8], from: Side, role: Role) -> bool
 
 /// The index of the first of these frames that has this role and its P or F bit set, from 0, or the
 /// number of frames if none has. `from` sent them.
-pub fn marked_place(frames: &[FrameOctets], from: Side, role: Role) -> usize
+pub fn marked_place(frames: &[ArrayVec<u8, MOST_OCTETS>], from: Side, role: Role) -> usize
     ensures { result ≡ place_of_marked role from (map (λ frame. frame.items) frames.now) }
 {
     frames
