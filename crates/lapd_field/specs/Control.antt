@@ -5,6 +5,8 @@ use Rattle.lapd_field.specs.declared.control.Control.{Control}
 use Rattle.lapd_field.specs.declared.control.Control.TheVariants.{I, Rr, Rnr, Rej, Sabme, Dm, Ui, Disc, Ua, Frmr, Xid}
 use Rattle.lapd_field.specs.declared.field_fault.FieldFault.{FieldFault}
 use Rattle.lapd_field.specs.declared.field_fault.FieldFault.TheVariants.{TooShort, Undefined}
+use Rattle.lapd_field.specs.declared.message_field.MessageField.{MessageField}
+use Rattle.lapd_field.specs.declared.response.Response.{Response}
 
 abbrev pub bit : Bool → ℕ
 bit false = 0
@@ -91,3 +93,21 @@ abbrev pub control_at : List ℕ → Result (Control × ℕ) FieldFault
 control_at [] = Err TooShort
 control_at (first ∷ rest) = if has_second first then with_second first rest
     else with_length (unnumbered_at first) 1
+
+-- ---- Control fields by their numbers.
+
+-- RR, or RNR if busy
+abbrev pub ready_field : Bool → ℕ → Bool → Control
+ready_field false nr pf = Rr nr pf
+ready_field true nr pf = Rnr nr pf
+
+-- the first octet of this field
+abbrev pub ready_octet : Bool → ℕ
+ready_octet false = 0x01
+ready_octet true = 0x05
+
+abbrev pub field_of_response : Response → Control
+field_of_response r = ready_field r.is_busy r.nr r.f
+
+abbrev pub field_of_message : MessageField → Control
+field_of_message m = I m.ns m.nr false

@@ -162,10 +162,19 @@ fn two_octets(first: u8, nr: Number, pf: bool) -> ArrayVec<u8, 2>
 {
     let mut octets = ArrayVec::new();
     octets.push(first);
-    octets.push(if pf {
+    octets.push(nr_octet(nr, pf));
+    octets
+}
+
+/// The octet of N(R) and P/F, the second one of an I or S field.
+#[inline(always)]
+pub(crate) fn nr_octet(nr: Number, pf: bool) -> u8
+    ensures octet { result ≡ nr * 2 + bit pf }
+    ensures grammar { nr ≤ 127 }
+{
+    if pf {
         nr.value() * 2 + 1
     } else {
         nr.value() * 2
-    });
-    octets
+    }
 }

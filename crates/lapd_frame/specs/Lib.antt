@@ -3,4 +3,5 @@ pub use Rattle.lapd_field.specs.Control
 pub mod Fault
 pub mod Frame
 pub mod FrmrInfo
+pub mod PredictedFrame
 pub mod Reading

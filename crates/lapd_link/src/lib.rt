@@ -47,7 +47,8 @@ mod link;
 mod sent_frame;
 
 pub use lapd_frame::{
-    Address, Control, FaultKind, Frame, FrameFault, Number, Role, Sapi, Side, Tei,
+    Address, Control, FaultKind, Frame, FrameFault, MessageField, Number, PredictedKind, Response,
+    Role, Sapi, Side, Tei,
 };
 pub use lapd_link_definition::{Event, Letter, LinkFault, Out, Params, Recovery, Refused, State};
 pub use lapd_link_machine::{GivenOuts, MOST_OUTPUTS, NrEffect, Outs, SendEffect, UsualOuts};

@@ -1,7 +1,7 @@
 ghost use Rattle.std.specs.Prelude.{◌≡◌, ◌<◌, ◌≢◌, [], false, IfOk, IfErr, IfNone, IfSome, OnOk, OnErr};
 ghost use Rattle.lapd_link_machine.specs.Sent.{IsBetweenSteps};
 
-use lapd_frame::{Address, Control, Role, Sapi, Side, Tei};
+use lapd_frame::{Address, Number, PredictedKind, Sapi, Side, Tei};
 use lapd_link_definition::{Event, LinkFault, Params, Refused, State};
 use lapd_link_machine::{GivenOuts, Machine, Outs, UsualOuts};
 use lapd_queue::IQueue;
@@ -43,6 +43,7 @@ impl Link {
     ghost use Rattle.lapd_link_machine.specs.Bounds.{IsBounded};
     ghost use Rattle.lapd_link_machine.specs.Given.{given_outs, is_sent_at_once};
     ghost use Rattle.lapd_link_machine.specs.Usual.{is_usual, usual_outs};
+    ghost use Rattle.lapd_frame.specs.PredictedFrame.{predicted_control, predicted_role};
 
     /// Makes a link in state 4, of this side, for `sapi` (not management) and `tei` (not the group
     /// TEI). It allocates its I queue.
@@ -122,19 +123,19 @@ impl Link {
         }
     }
 
-    /// Handles a frame with this control field and role, if its step is usual
-    /// ([`Machine::usual_step`]). The step is that of [`Link::handle`], and its outputs are
-    /// returned as values. For any other frame it returns `None`, and the link is unchanged.
+    /// Handles a frame of this kind with this N(R), if its step is usual ([`Machine::usual_step`]).
+    /// The step is that of [`Link::handle`], and its outputs are returned as values. For any other
+    /// frame it returns `None`, and the link is unchanged.
     #[inline(always)]
-    pub fn usual_step(&mut self, control: &Control, role: Role) -> Option<UsualOuts>
-        ensures ok { IfSome result (λ outs. Steps self.old self.new (Heard control.now role)
-            (usual_outs outs)) }
+    pub fn usual_step(&mut self, kind: PredictedKind, nr: Number) -> Option<UsualOuts>
+        ensures ok { IfSome result (λ outs. Steps self.old self.new
+            (Heard (predicted_control kind nr) (predicted_role kind)) (usual_outs outs)) }
         ensures declined { IfNone result ((e : End) → LinkRepresents self.old e
-            → is_usual control.now role e ≡ false) }
+            → is_usual (predicted_control kind nr) (predicted_role kind) e ≡ false) }
         ensures unchanged { IfNone result (self.new ≡ self.old) }
         ensures setup { setup_of self.new ≡ setup_of self.old }
     {
-        self.machine.usual_step(control, role)
+        self.machine.usual_step(kind, nr)
     }
 
     /// Queues a message of layer 3 (DL-DATA request), and returns what to do for it, in order. Does

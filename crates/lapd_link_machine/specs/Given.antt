@@ -1,6 +1,7 @@
 -- The messages that are sent at once, and their outputs, which are returned as values in place of a
 -- list.
 use Rattle.std.specs.Prelude.{ℕ, ◌==◌, ◌&&◌, not, Bool, is_some, List, [], ◌∷◌, ◌++◌}
+use Rattle.lapd_frame.specs.Control.{field_of_message}
 use Rattle.lapd_mod128.specs.Counting.{Tagged}
 use Rattle.lapd_supervision.specs.StateVariables.{may_send}
 use Rattle.lapd_timers.specs.declared.timer.Timer.TheVariants.{T200, T203}
@@ -36,4 +37,4 @@ send_outs (Starts stops) = out_where stops (Stop T203) ++ Start T200 ∷ []
 
 -- the outputs of the step
 abbrev pub given_outs : GivenOuts → List Out
-given_outs g = SendMessage g.place g.control ∷ [] ++ send_outs g.effect
+given_outs g = SendMessage g.place (field_of_message g.field) ∷ [] ++ send_outs g.effect

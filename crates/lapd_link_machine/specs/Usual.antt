@@ -1,6 +1,8 @@
 -- The usual steps: the frames that make one, and its outputs, which are returned as values in place
 -- of a list.
-use Rattle.std.specs.Prelude.{◌≡◌, ◌==◌, ◌&&◌, nat_lt, not, Bool, true, false, List, [], ◌∷◌, ◌++◌, length}
+use Rattle.std.specs.Prelude.{◌≡◌, ◌==◌, ◌&&◌, nat_lt, not, Bool, true, false, List, [], ◌∷◌, ◌++◌, length, Option, option_map}
+use Rattle.lapd_frame.specs.Control.{field_of_response}
+use Rattle.lapd_frame.specs.declared.Response.{Response}
 use Rattle.lapd_frame.specs.declared.Control.{Control}
 use Rattle.lapd_frame.specs.declared.Control.TheVariants.{I, Rr}
 use Rattle.lapd_frame.specs.declared.Role.{Role}
@@ -26,10 +28,14 @@ nr_outs (All count stops) =
 nr_outs (Part count) = counted count Acknowledged ++ Start T200 ∷ []
 nr_outs Nothing = []
 
+-- the output of a response, if there is one
+abbrev pub response_outs : Option Response → List Out
+response_outs response = response_of (option_map field_of_response response)
+
 -- the outputs of the step
 abbrev pub usual_outs : UsualOuts → List Out
-usual_outs u = response_of u.response ++ out_where u.is_up Up ++ nr_outs u.nr
-    ++ response_of u.acknowledgement
+usual_outs u = response_outs u.response ++ out_where u.is_up Up ++ nr_outs u.nr
+    ++ response_outs u.acknowledgement
 
 -- ---- The frames that make a usual step.
 

@@ -1,17 +1,18 @@
 -- The calls of a side of either kind whose effects are appended to the earlier ones.
-use Rattle.std.proofs.Common.{◌≡◌, ◌==◌, ◌&&◌, ℕ, Bool, true, false, List, Option, Result, Ok, Err, sym, subst}
+use Rattle.std.proofs.Common.{◌≡◌, ℕ, false, List, Result, Ok, Err, refl, sym, subst}
 use Rattle.std.specs.Prelude.{OnOk}
-use Rattle.std.proofs.lemmas.Bool.{and_parts}
 use Rattle.std.proofs.Math.Bool.{and-false}
-use Rattle.lapd_frame.specs.declared.Control.{Control}
-use Rattle.lapd_frame.specs.declared.Control.TheVariants.{Ui}
-use Rattle.lapd_frame.specs.declared.Role.{Role}
+use Rattle.lapd_frame.specs.declared.frame_fault.FrameFault.{FrameFault}
+use Rattle.lapd_frame.specs.declared.predicted_frame.PredictedFrame.{PredictedFrame}
+use Rattle.lapd_frame.specs.declared.predicted_frame.PredictedKind.{PredictedKind}
+use Rattle.lapd_frame.specs.declared.predicted_frame.PredictedKind.TheVariants.{Message, Acknowledgement, Poll}
 use Rattle.lapd_frame.specs.Frame.{Fields}
+use Rattle.lapd_frame.specs.PredictedFrame.{is_read_predictable, predicted_control, predicted_fields}
 use Rattle.lapd_table.specs.LinkId.{id_of_address}
-use Rattle.lapd_tei.specs.Message.{group_tei}
 use Rattle.lapd_sides_links.specs.Effects.{Effects}
-use Rattle.lapd_sides_links.specs.Links.{Linked, Links, takes_usually}
-use Rattle.lapd_sides_links.proofs.Behind.{unit_is_not_usual}
+use Rattle.lapd_sides_links.specs.declared.config.Config.{Config}
+use Rattle.lapd_sides_links.specs.Links.{Links, is_served}
+use Rattle.lapd_sides_links.proofs.Behind.{not_predicted}
 use Rattle.lapd_sides.specs.declared.either_side.EitherSide.{EitherSide}
 use Rattle.lapd_sides.specs.declared.either_side.EitherSide.TheVariants.{Network, User}
 use Rattle.lapd_sides.specs.declared.net_side.NetSide.{NetSide}
@@ -20,25 +21,33 @@ use Rattle.lapd_sides.specs.declared.request.Request.{Request}
 use Rattle.lapd_sides.specs.Either.{AnswersBehind, TakesBehind}
 use Rattle.lapd_sides.specs.Management.{carries_message, is_management, is_ui, is_unit_to_group}
 use Rattle.lapd_sides.specs.Network.{network_requested, network_takes}
-use Rattle.lapd_sides.specs.Shows.{is_taken_usually}
+use Rattle.lapd_sides.specs.Shows.{are_taken_usually}
 use Rattle.lapd_sides.specs.ShowsNetwork as network
 use Rattle.lapd_sides.specs.ShowsUser as user
-use Rattle.lapd_sides.specs.User.{user_requested, user_takes}
+use Rattle.lapd_sides.specs.User.{for_layer_3, user_requested, user_takes}
 
--- ---- The frames that make no usual step.
+-- ---- The frames that are predicted, and those that make no usual step.
 
-no_step_of_ui : (control : Control) (role : Role) (l : Option Linked) → is_ui control ≡ true → takes_usually control role l ≡ false
-no_step_of_ui (Ui p) role l h = unit_is_not_usual p role l
-no_step_of_ui control role l h = absurd (cc)
+not_ui : (kind : PredictedKind) (nr : ℕ) → is_ui (predicted_control kind nr) ≡ false
+not_ui (Message ns) nr = refl
+not_ui Acknowledgement nr = refl
+not_ui Poll nr = refl
 
--- unit data to all terminals
-pub group_unit_is_not_usual : (room : Bool) (frame : Fields) (links : Links) → is_unit_to_group frame ≡ true → (room && is_taken_usually frame links) ≡ false
-group_unit_is_not_usual room frame links h =
-    rw (no_step_of_ui frame.control frame.address.role (links (id_of_address frame.address)) (and_parts (is_ui frame.control) (frame.address.tei == group_tei) h).0) (and-false room)
+predicted_is_no_group_unit : (p : PredictedFrame) → is_unit_to_group (predicted_fields p) ≡ false
+predicted_is_no_group_unit p = rw (not_ui p.kind p.nr) refl
 
--- a TEI message
-pub message_is_not_usual : (room : Bool) (frame : Fields) (links : Links) → carries_message frame ≡ true → (room && is_taken_usually frame links) ≡ false
-message_is_not_usual room frame links h = group_unit_is_not_usual room frame links (and_parts (is_management frame.address.sapi) (is_unit_to_group frame) h).1
+-- a frame that is predicted is no TEI message
+pub predicted_is_no_message : (p : PredictedFrame) → carries_message (predicted_fields p) ≡ false
+predicted_is_no_message p = rw (predicted_is_no_group_unit p) (and-false (is_management p.sapi))
+
+-- nor is it unit data to all terminals
+pub predicted_is_not_for_layer_3 : (config : Config) (p : PredictedFrame) → for_layer_3 config (predicted_fields p) ≡ false
+predicted_is_not_for_layer_3 config p = rw (predicted_is_no_group_unit p) (and-false (is_served config p.sapi))
+
+-- octets that are not read as a frame of such a kind make no usual step
+pub not_read_as_predictable : (read : Result Fields FrameFault) (links : Links) → is_read_predictable read ≡ false → are_taken_usually read links ≡ false
+not_read_as_predictable (Ok frame) links h = not_predicted frame.control frame.address.role (links (id_of_address frame.address)) h
+not_read_as_predictable (Err fault) links h = refl
 
 -- ---- The side is a network side.
 

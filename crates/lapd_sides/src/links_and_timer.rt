@@ -4,6 +4,7 @@ ghost use Rattle.std.specs.Prelude.{◌≡◌, ◌≤◌, ◌<◌, ◌+◌, ◌+
 ghost use Rattle.std.specs.List.{All, filter_map};
 ghost use Rattle.lapd_timers.specs.Due.{all_stopped};
 ghost use Rattle.lapd_frame.specs.Fault.{is_for_link};
+ghost use Rattle.lapd_frame.specs.PredictedFrame.{predicted_fields};
 ghost use Rattle.lapd_link_definition.specs.Input.{input_of};
 ghost use Rattle.lapd_table.specs.LinkTable.{IsFor};
 ghost use Rattle.lapd_tei.specs.Out.{IsInRange, tei_given, tei_freed};
@@ -17,7 +18,7 @@ ghost use Rattle.lapd_sides.specs.Requests.{without_message};
 ghost use Rattle.lapd_sides.specs.Shows.{ShowServed, Become, ShowAsBefore, CarryOut, Receive, ReceiveBehind, StepLinks, ExpireFirst, frame_on_links, fault_on_links, is_taken_usually, with_given_links};
 
 use crate::{Acts, Config, Primitive, RunningTimer, SideFault, SideKind};
-use lapd_frame::{Control, Frame, FrameFault, N201, Sapi, Side, Tei};
+use lapd_frame::{Control, Frame, FrameFault, N201, PredictedFrame, Sapi, Side, Tei};
 use lapd_link::Event;
 use lapd_sides_links::{LinkSet, due};
 use lapd_table::LinkId;
@@ -134,16 +135,20 @@ impl LinksAndTimer {
     /// Passes a frame to the link that it is addressed to, if its step is usual and `acts` has room
     /// for the results, which are appended. Otherwise it returns `false`, and nothing is changed.
     #[inline(always)]
-    pub fn receive_behind(&mut self, frame: &Frame<'_>, now: u64, acts: &mut Acts) -> bool
-        requires fits { length frame.now.info ≤ N201 }
+    pub fn receive_behind(&mut self, frame: &PredictedFrame<'_>, now: u64, acts: &mut Acts) -> bool
+        requires fits { length frame.now.info.now ≤ N201 }
         ensures received { result ≡ true → ReceiveBehind self.old self.new acts.old acts.new
-            (frame_on_links now frame.now) }
+            (frame_on_links now (predicted_fields frame.now)) }
         ensures declined { result ≡ false → LinksHaveNone self.old.links
-            (λ links. has_usual_room acts.old && is_taken_usually frame.now links) }
+            (λ links. has_usual_room acts.old
+            && is_taken_usually (predicted_fields frame.now) links) }
         ensures unchanged { result ≡ false → self.new ≡ self.old }
         ensures nothing { result ≡ false → acts.new ≡ acts.old }
     {
-        let id = LinkId::of_address(&frame.address());
+        let id = LinkId {
+            sapi: frame.sapi,
+            tei: frame.tei,
+        };
         self.links.act_behind(&id, frame, now, acts)
     }
 

@@ -13,12 +13,14 @@ ghost use Rattle.lapd_sides_links.specs.Expiries.{IsNextDeadline, of_served};
 ghost use Rattle.lapd_sides_links.specs.Links.{gives_at_once};
 ghost use Rattle.lapd_sides.specs.Calls.{WasRead};
 ghost use Rattle.lapd_sides.specs.Requests.{message_of, without_message};
-ghost use Rattle.lapd_sides.specs.Shows.{are_taken_usually, is_taken_usually, ShowEnds};
+ghost use Rattle.lapd_sides.specs.Shows.{are_taken_usually, ShowEnds};
 ghost use Rattle.lapd_sides.specs.Network.{Network, new_network, network_takes, network_requested, assigner_acts, link_of_network, frame_received, unit_requested, unit_to_group, given_for, given_for_frame, given_for_message};
 
 use crate::links_and_timer::{Expired, LinksAndTimer, carries_message, without_message};
 use crate::{Acts, Config, Durations, Request, SideFault, SideKind};
-use lapd_frame::{Address, Control, Frame, FrameFault, N201, Role, Sapi, Side, Tei, read};
+use lapd_frame::{
+    Address, Control, Frame, FrameFault, N201, Role, Sapi, Side, Tei, read, read_predicted,
+};
 use lapd_link::{Event, LinkFault};
 use lapd_sides_links::{next_deadline, refused};
 use lapd_table::{LinkId, LinkTable};
@@ -92,28 +94,9 @@ impl NetSide {
         ensures unchanged { result ≡ false → self.new ≡ self.old }
         ensures nothing { result ≡ false → acts.new ≡ acts.old }
     {
-        match read(bytes, Side::User) {
-            Ok(frame) => self.receive_behind(&frame, now, acts),
-            Err(_) => false,
-        }
-    }
-
-    /// Passes a frame that is not a TEI message to the link that it is addressed to, if its step is
-    /// usual.
-    #[inline(always)]
-    fn receive_behind(&mut self, frame: &Frame<'_>, now: u64, acts: &mut Acts) -> bool
-        requires fits { length frame.now.info ≤ N201 }
-        ensures received { result ≡ true → NetworkDoesBehind self.old self.new acts.old acts.new
-            (λ config. frame_received config now frame.now) }
-        ensures declined { result ≡ false → EachShown self.old (λ s. (has_usual_room acts.old
-            && is_taken_usually frame.now s.served.links) ≡ false) }
-        ensures unchanged { result ≡ false → self.new ≡ self.old }
-        ensures nothing { result ≡ false → acts.new ≡ acts.old }
-    {
-        if carries_message(frame) {
-            false
-        } else {
-            self.served.receive_behind(frame, now, acts)
+        match read_predicted(bytes, Side::User) {
+            Some(frame) => self.served.receive_behind(&frame, now, acts),
+            None => false,
         }
     }
 

@@ -17,7 +17,7 @@ ghost use Rattle.lapd_sides_links.specs.Links.{of_sapi};
 ghost use Rattle.lapd_sides_links.specs.Rooms.{has_usual_room, HasRoomFor, AddsAtMost, IsEmpty};
 ghost use Rattle.lapd_sides.specs.Calls.{WasRead};
 ghost use Rattle.lapd_sides.specs.Requests.{message_of, without_message};
-ghost use Rattle.lapd_sides.specs.Shows.{are_taken_usually, is_taken_usually, ShowEnds};
+ghost use Rattle.lapd_sides.specs.Shows.{are_taken_usually, ShowEnds};
 ghost use Rattle.lapd_sides.specs.User.{User, gives_at_once_by_user, seeded, sends_message, new_user, user_takes, user_requested, terminal_acts, assigned, pending_after, establishes_pending, establishes, gives_up_pending, primitive_of_group, primitive_of_sapi, link_of_user, frame_received, data_received, for_layer_3, got_for, got_for_frame, got_for_message, wants, forgets, gives_up, has_tei, with_tei_or};
 
 use crate::links_and_timer::{
@@ -26,7 +26,7 @@ use crate::links_and_timer::{
 use crate::pending_establishments::PendingEstablishments;
 use crate::references::References;
 use crate::{Acts, Config, Durations, Octets, Primitive, Request, SideFault, SideKind, What};
-use lapd_frame::{Frame, FrameFault, N201, Sapi, Side, Tei, read};
+use lapd_frame::{Frame, FrameFault, N201, Sapi, Side, Tei, read, read_predicted};
 use lapd_link::{Event, LinkFault};
 use lapd_sides_links::{next_deadline, refused};
 use lapd_table::{LinkId, LinkTable};
@@ -108,30 +108,9 @@ impl UserSide {
         ensures unchanged { result ≡ false → self.new ≡ self.old }
         ensures nothing { result ≡ false → acts.new ≡ acts.old }
     {
-        match read(bytes, Side::Network) {
-            Ok(frame) => self.receive_behind(&frame, now, acts),
-            Err(_) => false,
-        }
-    }
-
-    /// Passes a frame that is neither a TEI message nor unit data to all terminals to the link that
-    /// it is addressed to, if its step is usual.
-    #[inline(always)]
-    fn receive_behind(&mut self, frame: &Frame<'_>, now: u64, acts: &mut Acts) -> bool
-        requires fits { length frame.now.info ≤ N201 }
-        ensures received { result ≡ true → UserDoesBehind self.old self.new acts.old acts.new
-            (λ config. frame_received config now frame.now) }
-        ensures declined { result ≡ false → EachShown self.old (λ s. (has_usual_room acts.old
-            && is_taken_usually frame.now s.served.links) ≡ false) }
-        ensures unchanged { result ≡ false → self.new ≡ self.old }
-        ensures nothing { result ≡ false → acts.new ≡ acts.old }
-    {
-        if carries_message(frame) {
-            false
-        } else if is_for_layer_3(&self.config, frame) {
-            false
-        } else {
-            self.served.receive_behind(frame, now, acts)
+        match read_predicted(bytes, Side::Network) {
+            Some(frame) => self.served.receive_behind(&frame, now, acts),
+            None => false,
         }
     }
 

@@ -6,11 +6,12 @@ use Rattle.std.proofs.lemmas.Bool.{and_parts, leb-true}
 use Rattle.std.proofs.Math.Bool.{and-false}
 use Rattle.std.proofs.lemmas.List.{append_cancel_left}
 use Rattle.lapd_frame.specs.declared.Control.{Control}
-use Rattle.lapd_frame.specs.declared.Control.TheVariants.{Ui}
+use Rattle.lapd_frame.specs.declared.Control.TheVariants.{I, Rr, Rnr, Rej, Sabme, Dm, Ui, Disc, Ua, Frmr, Xid}
 use Rattle.lapd_frame.specs.declared.Role.{Role}
+use Rattle.lapd_frame.specs.declared.Role.TheVariants.{Command, Answer}
 use Rattle.lapd_frame.specs.declared.Side.{Side}
 use Rattle.lapd_timers.specs.Due.{Timers}
-use Rattle.lapd_frame.specs.Frame.{Fields}
+use Rattle.lapd_frame.specs.PredictedFrame.{is_predictable}
 use Rattle.lapd_link.specs.Link.{LinkRepresents}
 use Rattle.lapd_link.specs.declared.link.Link.{Link}
 use Rattle.lapd_link.proofs.BetweenSteps.{end_of, shows_end}
@@ -19,7 +20,7 @@ use Rattle.lapd_link_definition.specs.End.{End}
 use Rattle.lapd_link_definition.specs.Input.{Input, Establish, Heard}
 use Rattle.lapd_link_machine.specs.Bounds.{most_outputs}
 use Rattle.lapd_link_machine.specs.Given.{is_sent_at_once}
-use Rattle.lapd_link_machine.specs.Usual.{is_idle, is_usual}
+use Rattle.lapd_link_machine.specs.Usual.{is_idle, is_usual, is_usual_frame}
 use Rattle.lapd_table.specs.declared.link_id.LinkId.{LinkId}
 use Rattle.lapd_table.specs.declared.link_table.LinkTable.{LinkTable}
 use Rattle.lapd_table.specs.LinkId.{setup_for}
@@ -100,13 +101,13 @@ adds_at_most input old new frames primitives = record {
 -- ---- A frame for the link that was found.
 
 -- the link with this id processes a frame with this information
-abbrev hears : ℕ → LinkId → Fields → List ℕ → Side → Links → Result (Reaction Links) SideKind
-hears now id frame octets side = in_links id (link_acts side id now (Heard frame.control frame.address.role) octets)
+abbrev hears : ℕ → LinkId → Control → Role → List ℕ → Side → Links → Result (Reaction Links) SideKind
+hears now id control role octets side = in_links id (link_acts side id now (Heard control role) octets)
 
-pub do_as_heard : (now : ℕ) (found id : LinkId) (same_id : found ≡ id) (frame : Fields) (octets : List ℕ) (same : octets ≡ frame.info) (old new : LinkSet) (before after : Effects)
-    → LinksDo old new before after (hears now found frame octets) → LinksDo old new before after (hears now id frame frame.info)
-do_as_heard now found id same_id frame octets same old new before after h =
-    subst (λ (i : LinkId). LinksDo old new before after (hears now i frame frame.info)) same_id (subst (λ (o : List ℕ). LinksDo old new before after (hears now found frame o)) same h)
+pub do_as_found : (now : ℕ) (found id : LinkId) (same : found ≡ id) (control : Control) (role : Role) (octets : List ℕ) (old new : LinkSet) (before after : Effects)
+    → LinksDo old new before after (hears now found control role octets) → LinksDo old new before after (hears now id control role octets)
+do_as_found now found id same control role octets old new before after h =
+    subst (λ (i : LinkId). LinksDo old new before after (hears now i control role octets)) same h
 
 -- ---- The steps that are not made.
 
@@ -138,10 +139,29 @@ no_link s id absent side links shown = by (link_at s.table id) (timers_at s.link
     by None timers (Some l) gone is = absurd is
     by (Some link) timers (Some l) gone is = absurd (cc)
 
--- a UI frame makes no usual step
-pub unit_is_not_usual : (p : Bool) (role : Role) (l : Option Linked) → takes_usually (Ui p) role l ≡ false
-unit_is_not_usual p role None = refl
-unit_is_not_usual p role (Some l) = and-false (is_idle l.end)
+-- a frame of no kind that is predicted makes no usual step
+not_usual_frame : (control : Control) (role : Role) (e : End) → is_predictable control role ≡ false → is_usual_frame control role e.window ≡ false
+not_usual_frame (I ns nr false) Command e h = cc
+not_usual_frame (I ns nr true) Command e h = refl
+not_usual_frame (I ns nr false) Answer e h = refl
+not_usual_frame (I ns nr true) Answer e h = refl
+not_usual_frame (Rr nr true) Command e h = cc
+not_usual_frame (Rr nr false) Command e h = refl
+not_usual_frame (Rr nr true) Answer e h = refl
+not_usual_frame (Rr nr false) Answer e h = cc
+not_usual_frame (Rnr nr pf) role e h = refl
+not_usual_frame (Rej nr pf) role e h = refl
+not_usual_frame (Sabme p) role e h = refl
+not_usual_frame (Dm f) role e h = refl
+not_usual_frame (Ui p) role e h = refl
+not_usual_frame (Disc p) role e h = refl
+not_usual_frame (Ua f) role e h = refl
+not_usual_frame (Frmr f) role e h = refl
+not_usual_frame (Xid pf) role e h = refl
+
+pub not_predicted : (control : Control) (role : Role) (l : Option Linked) → is_predictable control role ≡ false → takes_usually control role l ≡ false
+not_predicted control role None h = refl
+not_predicted control role (Some l) h = rw (not_usual_frame control role l.end h) (and-false (is_idle l.end))
 
 -- whether or not there is room
 pub none_with_room : (s : LinkSet) (room : Bool) (has : Links → Bool) → LinksHaveNone s has → LinksHaveNone s (λ links. room && has links)

@@ -4,6 +4,7 @@ use Rattle.std.specs.Prelude.{Vec}
 use Rattle.std.specs.Global.{Global}
 use Rattle.std.specs.List.{filter_map}
 use Rattle.std.proofs.lemmas.List.Elements.{filter_map-append}
+use Rattle.lapd_frame.specs.Control.{field_of_message}
 use Rattle.lapd_frame.specs.declared.Control.{Control}
 use Rattle.lapd_timers.specs.Due.{Timers}
 use Rattle.lapd_link.specs.Link.{Setup}
@@ -34,10 +35,10 @@ module _ (setup : Setup) (e : End) (octets : List ℕ) where
   no_frame_of_effect (Starts true) = refl
   no_frame_of_effect (Starts false) = refl
 
-  pub given_frames_put : (g : GivenOuts) (f0 f1 : List (List ℕ)) → f1 ≡ f0 ++ made (SendMessage g.place g.control ∷ []) → f1 ≡ f0 ++ made (given_outs g)
+  pub given_frames_put : (g : GivenOuts) (f0 f1 : List (List ℕ)) → f1 ≡ f0 ++ made (SendMessage g.place (field_of_message g.field) ∷ []) → f1 ≡ f0 ++ made (given_outs g)
   given_frames_put g f0 f1 a =
-      a ∙ ap (λ (l : List (List ℕ)). f0 ++ l) (sym (filter_map-append (made_by setup e octets) (SendMessage g.place g.control ∷ []) (send_outs g.effect)
-      ∙ rw (no_frame_of_effect g.effect) (append-nil (made (SendMessage g.place g.control ∷ [])))))
+      a ∙ ap (λ (l : List (List ℕ)). f0 ++ l) (sym (filter_map-append (made_by setup e octets) (SendMessage g.place (field_of_message g.field) ∷ []) (send_outs g.effect)
+      ∙ rw (no_frame_of_effect g.effect) (append-nil (made (SendMessage g.place (field_of_message g.field) ∷ [])))))
 
 module _ (id : LinkId) where
   abbrev delivered : List Out → List Primitive
@@ -49,7 +50,7 @@ module _ (id : LinkId) where
   nothing_delivered place control (Starts false) = refl
 
   pub given_primitives_put : (g : GivenOuts) (p0 p1 : List Primitive) → p1 ≡ p0 → p1 ≡ p0 ++ delivered (given_outs g)
-  given_primitives_put g p0 p1 a = a ∙ (sym (append-nil p0) ∙ ap (λ (l : List Primitive). p0 ++ l) (sym (nothing_delivered g.place g.control g.effect)))
+  given_primitives_put g p0 p1 a = a ∙ (sym (append-nil p0) ∙ ap (λ (l : List Primitive). p0 ++ l) (sym (nothing_delivered g.place (field_of_message g.field) g.effect)))
 
 module _ (now : ℕ) where
   pub given_timed : (g : GivenOuts) (o : Option Timers) → option_map (timed now (send_outs g.effect)) o ≡ option_map (timed now (given_outs g)) o

@@ -3,18 +3,18 @@ use Rattle.std.proofs.Common.{◌≡◌, ℕ, nat_lt, Bool, true, false, List, [
 use Rattle.std.specs.List.{filter_map}
 use Rattle.std.proofs.lemmas.List.{map-append}
 use Rattle.std.proofs.lemmas.List.Elements.{filter_map-append}
-use Rattle.lapd_frame.specs.declared.Control.{Control}
+use Rattle.lapd_frame.specs.declared.Response.{Response}
 use Rattle.lapd_timers.specs.declared.timer.Timer.TheVariants.{T200, T203}
 use Rattle.lapd_timers.specs.Due.{Timers}
 use Rattle.lapd_link.specs.Link.{Setup}
 use Rattle.lapd_link_definition.specs.declared.out.Out.{Out}
 use Rattle.lapd_link_definition.specs.declared.out.Out.TheVariants.{Up, Acknowledged, Start, Stop}
 use Rattle.lapd_link_definition.specs.End.{End}
-use Rattle.lapd_link_definition.specs.Procedures.{out_where, counted, response_of}
+use Rattle.lapd_link_definition.specs.Procedures.{out_where, counted}
 use Rattle.lapd_link_machine.specs.declared.machine.usual.NrEffect.{NrEffect}
 use Rattle.lapd_link_machine.specs.declared.machine.usual.NrEffect.TheVariants.{All, Part, Nothing}
 use Rattle.lapd_link_machine.specs.declared.machine.usual.UsualOuts.{UsualOuts}
-use Rattle.lapd_link_machine.specs.Usual.{nr_outs, usual_outs}
+use Rattle.lapd_link_machine.specs.Usual.{nr_outs, response_outs, usual_outs}
 use Rattle.lapd_table.specs.declared.link_id.LinkId.{LinkId}
 use Rattle.lapd_sides_links.specs.declared.primitive.Primitive.{Primitive}
 use Rattle.lapd_sides_links.specs.declared.primitive.Primitive.TheVariants.{Of}
@@ -54,20 +54,20 @@ module _ (setup : Setup) (e : End) (octets : List ℕ) where
   no_frame_of_nr (Part count) = no_frame_of_part (nat_lt 0 count) count
   no_frame_of_nr Nothing = refl
 
-  frames_of : (u : UsualOuts) → made (usual_outs u) ≡ made (response_of u.response) ++ made (response_of u.acknowledgement)
+  frames_of : (u : UsualOuts) → made (usual_outs u) ≡ made (response_outs u.response) ++ made (response_outs u.acknowledgement)
   frames_of u =
       let f = made_by setup e octets in
-      filter_map-append f (response_of u.response ++ out_where u.is_up Up ++ nr_outs u.nr) (response_of u.acknowledgement)
-      ∙ ap (λ (l : List (List ℕ)). l ++ made (response_of u.acknowledgement))
-      (filter_map-append f (response_of u.response ++ out_where u.is_up Up) (nr_outs u.nr)
-      ∙ ap (λ (l : List (List ℕ)). l ++ made (nr_outs u.nr)) (filter_map-append f (response_of u.response) (out_where u.is_up Up))
-      ∙ rw (no_frame_of_nr u.nr, no_frame_of_message u.is_up) (nil_twice (made (response_of u.response))))
+      filter_map-append f (response_outs u.response ++ out_where u.is_up Up ++ nr_outs u.nr) (response_outs u.acknowledgement)
+      ∙ ap (λ (l : List (List ℕ)). l ++ made (response_outs u.acknowledgement))
+      (filter_map-append f (response_outs u.response ++ out_where u.is_up Up) (nr_outs u.nr)
+      ∙ ap (λ (l : List (List ℕ)). l ++ made (nr_outs u.nr)) (filter_map-append f (response_outs u.response) (out_where u.is_up Up))
+      ∙ rw (no_frame_of_nr u.nr, no_frame_of_message u.is_up) (nil_twice (made (response_outs u.response))))
 
-  pub usual_frames_put : (u : UsualOuts) (f0 f1 f2 f3 f4 : List (List ℕ)) → f1 ≡ f0 ++ made (response_of u.response) → f2 ≡ f1 → f3 ≡ f2 → f4 ≡ f3 ++ made (response_of u.acknowledgement)
+  pub usual_frames_put : (u : UsualOuts) (f0 f1 f2 f3 f4 : List (List ℕ)) → f1 ≡ f0 ++ made (response_outs u.response) → f2 ≡ f1 → f3 ≡ f2 → f4 ≡ f3 ++ made (response_outs u.acknowledgement)
       → f4 ≡ f0 ++ made (usual_outs u)
   usual_frames_put u f0 f1 f2 f3 f4 a b c d =
-      d ∙ ap (λ (l : List (List ℕ)). l ++ made (response_of u.acknowledgement)) (c ∙ b ∙ a)
-      ∙ append_assoc f0 (made (response_of u.response)) (made (response_of u.acknowledgement))
+      d ∙ ap (λ (l : List (List ℕ)). l ++ made (response_outs u.acknowledgement)) (c ∙ b ∙ a)
+      ∙ append_assoc f0 (made (response_outs u.response)) (made (response_outs u.acknowledgement))
       ∙ ap (λ (l : List (List ℕ)). f0 ++ l) (sym (frames_of u))
 
 -- ---- Primitives: the message, and the acknowledged messages.
@@ -79,9 +79,9 @@ module _ (id : LinkId) (octets : List ℕ) where
   delivered_behind : (xs ys : List Out) → delivered (xs ++ ys) ≡ delivered xs ++ delivered ys
   delivered_behind xs ys = ap (map (Of id)) (filter_map-append (what_of octets) xs ys) ∙ map-append (Of id) (filter_map (what_of octets) xs) (filter_map (what_of octets) ys)
 
-  nothing_of_response : (response : Option Control) → delivered (response_of response) ≡ []
+  nothing_of_response : (response : Option Response) → delivered (response_outs response) ≡ []
   nothing_of_response None = refl
-  nothing_of_response (Some control) = refl
+  nothing_of_response (Some r) = refl
 
   pub delivered_of_all : (some stops : Bool) (n : ℕ) → delivered (out_where some (Acknowledged n) ++ out_where stops (Stop T200) ++ Start T203 ∷ []) ≡ delivered (out_where some (Acknowledged n))
   delivered_of_all true true n = refl
@@ -95,10 +95,10 @@ module _ (id : LinkId) (octets : List ℕ) where
 
   primitives_of : (u : UsualOuts) → delivered (usual_outs u) ≡ delivered (out_where u.is_up Up) ++ delivered (nr_outs u.nr)
   primitives_of u =
-      delivered_behind (response_of u.response ++ out_where u.is_up Up ++ nr_outs u.nr) (response_of u.acknowledgement)
-      ∙ rw (nothing_of_response u.acknowledgement) (append-nil (delivered (response_of u.response ++ out_where u.is_up Up ++ nr_outs u.nr)))
-      ∙ delivered_behind (response_of u.response ++ out_where u.is_up Up) (nr_outs u.nr)
-      ∙ ap (λ (l : List Primitive). l ++ delivered (nr_outs u.nr)) (delivered_behind (response_of u.response) (out_where u.is_up Up) ∙ ap (λ (l : List Primitive). l ++ delivered (out_where u.is_up Up)) (nothing_of_response u.response))
+      delivered_behind (response_outs u.response ++ out_where u.is_up Up ++ nr_outs u.nr) (response_outs u.acknowledgement)
+      ∙ rw (nothing_of_response u.acknowledgement) (append-nil (delivered (response_outs u.response ++ out_where u.is_up Up ++ nr_outs u.nr)))
+      ∙ delivered_behind (response_outs u.response ++ out_where u.is_up Up) (nr_outs u.nr)
+      ∙ ap (λ (l : List Primitive). l ++ delivered (nr_outs u.nr)) (delivered_behind (response_outs u.response) (out_where u.is_up Up) ∙ ap (λ (l : List Primitive). l ++ delivered (out_where u.is_up Up)) (nothing_of_response u.response))
 
   pub usual_primitives_put : (u : UsualOuts) (p0 p1 p2 p3 p4 : List Primitive) → p1 ≡ p0 → p2 ≡ p1 ++ delivered (out_where u.is_up Up) → p3 ≡ p2 ++ delivered (nr_outs u.nr) → p4 ≡ p3
       → p4 ≡ p0 ++ delivered (usual_outs u)
@@ -114,9 +114,9 @@ module _ (now : ℕ) where
   timed_behind [] ys t = refl
   timed_behind (x ∷ xs) ys t = timed_behind xs ys _
 
-  untimed_response : (response : Option Control) (t : Timers) → timed now (response_of response) t ≡ t
+  untimed_response : (response : Option Response) (t : Timers) → timed now (response_outs response) t ≡ t
   untimed_response None t = refl
-  untimed_response (Some control) t = refl
+  untimed_response (Some r) t = refl
 
   untimed_message : (up : Bool) (t : Timers) → timed now (out_where up Up) t ≡ t
   untimed_message true t = refl
@@ -128,10 +128,10 @@ module _ (now : ℕ) where
 
   timed_of : (u : UsualOuts) (t : Timers) → timed now (usual_outs u) t ≡ timed now (nr_outs u.nr) t
   timed_of u t =
-      timed_behind (response_of u.response ++ out_where u.is_up Up ++ nr_outs u.nr) (response_of u.acknowledgement) t
+      timed_behind (response_outs u.response ++ out_where u.is_up Up ++ nr_outs u.nr) (response_outs u.acknowledgement) t
       ∙ untimed_response u.acknowledgement _
-      ∙ timed_behind (response_of u.response ++ out_where u.is_up Up) (nr_outs u.nr) t
-      ∙ ap (timed now (nr_outs u.nr)) (timed_behind (response_of u.response) (out_where u.is_up Up) t ∙ untimed_message u.is_up _ ∙ untimed_response u.response t)
+      ∙ timed_behind (response_outs u.response ++ out_where u.is_up Up) (nr_outs u.nr) t
+      ∙ ap (timed now (nr_outs u.nr)) (timed_behind (response_outs u.response) (out_where u.is_up Up) t ∙ untimed_message u.is_up _ ∙ untimed_response u.response t)
 
   same_timed : (xs ys : List Out) → ((t : Timers) → timed now xs t ≡ timed now ys t) → (o : Option Timers) → option_map (timed now xs) o ≡ option_map (timed now ys) o
   same_timed xs ys same None = refl

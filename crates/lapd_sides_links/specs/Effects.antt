@@ -1,7 +1,7 @@
 -- The effects of an event on a side, made from the outputs of a step of a link or of TEI
 -- management: the frames to send, as octets, the primitives for the layers above, and the running
 -- timers with their deadlines (Q.921 4.1, 5.9).
-use Rattle.std.specs.Prelude.{◌≡◌, ℕ, ◌≤◌, List, [], ◌∷◌, ◌++◌, length, map, drop, Option, Some, None, option_map}
+use Rattle.std.specs.Prelude.{◌≡◌, ℕ, ◌≤◌, Bool, true, false, List, [], ◌∷◌, ◌++◌, length, map, drop, Option, Some, None, option_map}
 use Rattle.std.specs.List.{filter_map}
 use Rattle.lapd_timers.specs.declared.timer.Timer.{Timer}
 use Rattle.lapd_timers.specs.Due.{Timers, with_deadline, deadline_from}
@@ -122,3 +122,8 @@ managed_by now other s = s
 abbrev pub managed : ℕ → List TeiOut → Timers → Timers
 managed now [] s = s
 managed now (output ∷ outs) s = managed now outs (managed_by now output s)
+
+-- A timer is started, and another one stopped first if so.
+abbrev pub restart_outs : Bool → Timer → Timer → List Out
+restart_outs true stop start = out.Stop stop ∷ out.Start start ∷ []
+restart_outs false stop start = out.Start start ∷ []

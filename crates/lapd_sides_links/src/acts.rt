@@ -177,6 +177,24 @@ impl Acts {
         self.frames[place].write(frame, from);
     }
 
+    /// Appends a frame by the four octets of its address and control field, and its information, at
+    /// most 260 octets.
+    #[inline(always)]
+    pub(crate) fn put_parts(&mut self, header: [u8; 4], info: &[u8])
+        requires room { length self.old.frames < MOST_FRAMES }
+        requires fits { length info.now ≤ N201 }
+        ensures { self.new ≡ record self.old {
+          frames = self.old.frames ++ (header ++ info.now) ∷ [];
+        } }
+    {
+        let place = next_place(
+            &mut self.frames,
+            &mut self.first_frame,
+            &mut self.frames_end,
+        );
+        self.frames[place].write_parts(header, info);
+    }
+
     /// Appends the octets of a TEI management message, as this side sends it.
     pub fn put_message(&mut self, from: Side, message: &TeiMessage)
         requires room { length self.old.frames < MOST_FRAMES }

@@ -1,8 +1,8 @@
-ghost use Rattle.std.specs.Prelude.{◌≡◌, ◌≤◌, [], length};
+ghost use Rattle.std.specs.Prelude.{◌≡◌, ◌≤◌, ◌+◌, ◌++◌, [], length, take, drop};
 ghost use Rattle.lapd_frame.specs.Frame.{spelling};
 ghost use Rattle.lapd_sides_links.specs.Effects.{HasLeastOctets};
 
-use lapd_frame::{Frame, MOST_OCTETS, Side, write};
+use lapd_frame::{Frame, MOST_OCTETS, N201, Side, write};
 use std::marker::Model;
 
 /// The octets of a frame, at most 264 (Q.921 2.2, 5.9.3).
@@ -56,6 +56,19 @@ impl FrameOctets {
         self.len = len;
     }
 
+    /// Replaces the octets by the four of an address and a control field, and the information
+    /// after them, at most 260.
+    #[inline(always)]
+    pub(crate) fn write_parts(&mut self, header: [u8; 4], info: &[u8])
+        requires { length info.now ≤ N201 }
+        ensures written { self.new.items ≡ header ++ info.now }
+        ensures least { length header ≡ 4 → HasLeastOctets self.new.items }
+    {
+        put(&mut self.room, 0, &header);
+        put(&mut self.room, 4, info);
+        self.len = 4 + info.len();
+    }
+
     /// Replaces the octets by these, at most 264.
     #[inline(always)]
     pub(crate) fn set(&mut self, octets: &[u8])
@@ -65,4 +78,14 @@ impl FrameOctets {
         self.room[..octets.len()].copy_from_slice(octets);
         self.len = octets.len();
     }
+}
+
+/// Writes octets into `room` from this place on.
+#[inline(always)]
+fn put(room: &mut [u8; MOST_OCTETS], at: usize, octets: &[u8])
+    requires { at + length octets.now ≤ MOST_OCTETS }
+    ensures { room.new ≡ take at room.old ++ octets.now
+        ++ drop (at + length octets.now) room.old }
+{
+    room[at..at + octets.len()].copy_from_slice(octets);
 }

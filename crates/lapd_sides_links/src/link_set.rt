@@ -3,6 +3,7 @@
 ghost use Rattle.std.specs.Prelude.{◌≡◌, ◌≢◌, ◌≤◌, ◌<◌, ◌+◌, ◌++◌, ◌&&◌, length, map, option_map, [], true, false, Some, None, is_none, IfSome, option_copied, IfOk, IfErr, OnOk, OnErr};
 ghost use Rattle.std.specs.List.{filter_map};
 ghost use Rattle.lapd_frame.specs.declared.Side.{Side};
+ghost use Rattle.lapd_frame.specs.PredictedFrame.{predicted_control, predicted_role};
 ghost use Rattle.lapd_link.specs.Link.{LinkRepresents};
 ghost use Rattle.lapd_link.specs.declared.link.Link.{Link};
 ghost use Rattle.lapd_link_machine.specs.Bounds.{primitive_count};
@@ -26,7 +27,7 @@ use crate::link_timers::LinkTimers;
 use crate::side_fault::refused;
 use crate::usual::{deliver_acknowledged, deliver_message, put_message_frame, put_response};
 use crate::{Acts, Config, Primitive, RunningTimer, SideFault, SideKind, What};
-use lapd_frame::{Frame, N201};
+use lapd_frame::{N201, Number, PredictedFrame, PredictedKind};
 use lapd_link::{
     Event, GivenOuts, Link, LinkFault, Outs, Params, Sapi, Side, State, Tei, UsualOuts,
 };
@@ -307,7 +308,7 @@ impl LinkSet {
             → timers_at self.new.link_timers other ≡ timers_at self.old.link_timers other }
         ensures table { self.new.table ≡ self.old.table }
     {
-        put_message_frame(self.table.link_at(key), outs.place, outs.control, acts);
+        put_message_frame(self.table.link_at(key), outs.place, outs.field, acts);
         self.link_timers.apply_send(key.id(), outs.effect, now);
     }
 
@@ -379,21 +380,29 @@ impl LinkSet {
     /// `acts` has room for the results, which are appended. Otherwise it returns `false`, and
     /// nothing is changed.
     #[inline(always)]
-    pub fn act_behind(&mut self, id: &LinkId, frame: &Frame<'_>, now: u64, acts: &mut Acts) -> bool
-        requires fits { length frame.now.info ≤ N201 }
+    pub fn act_behind(
+        &mut self,
+        id: &LinkId,
+        frame: &PredictedFrame<'_>,
+        now: u64,
+        acts: &mut Acts,
+    ) -> bool
+        requires fits { length frame.now.info.now ≤ N201 }
         ensures ok { result ≡ true → LinksDo self.old self.new acts.old acts.new
             (λ side. in_links id.now (link_acts side id.now now
-            (Heard frame.now.control frame.now.address.role) frame.now.info)) }
+            (Heard (predicted_control frame.now.kind frame.now.nr) (predicted_role frame.now.kind))
+            frame.now.info.now)) }
         ensures appended { result ≡ true → Appends acts.old acts.new }
         ensures declined { result ≡ false → LinksHaveNone self.old
-            (λ links. has_usual_room acts.old
-            && takes_usually frame.now.control frame.now.address.role (links id.now)) }
+            (λ links. has_usual_room acts.old && takes_usually
+            (predicted_control frame.now.kind frame.now.nr) (predicted_role frame.now.kind)
+            (links id.now)) }
         ensures unchanged { result ≡ false → self.new ≡ self.old }
         ensures nothing { result ≡ false → acts.new ≡ acts.old }
     {
         if acts.has_usual_room() {
             match self.table.find(id) {
-                Some(key) => self.act_usually(&key, &Event::Heard(frame), frame.info(), now, acts),
+                Some(key) => self.act_predicted(&key, frame.kind, frame.nr, frame.info, now, acts),
                 None => false,
             }
         } else {
@@ -430,10 +439,40 @@ impl LinkSet {
         let Event::Heard(frame) = event else {
             return false;
         };
-        match self
-            .table
-            .usual_step_at(key, &frame.control(), frame.address().role)
-        {
+        match PredictedFrame::of(frame) {
+            Some(frame) => self.act_predicted(key, frame.kind, frame.nr, octets, now, acts),
+            None => false,
+        }
+    }
+
+    /// Processes a frame of this kind with this N(R) and information in a link that has been found,
+    /// if its step is usual. Otherwise it returns `false`, and nothing is changed.
+    #[inline(always)]
+    fn act_predicted(
+        &mut self,
+        key: &LinkKey,
+        kind: PredictedKind,
+        nr: Number,
+        octets: &[u8],
+        now: u64,
+        acts: &mut Acts,
+    ) -> bool
+        requires key { IsKey self.old.table key.now }
+        requires fits { length octets.now ≤ N201 }
+        requires room { HasUsualRoom acts.old }
+        ensures ok { result ≡ true → LinksDo self.old self.new acts.old acts.new
+            (λ side. in_links key.now.id (link_acts side key.now.id now
+            (Heard (predicted_control kind nr) (predicted_role kind)) octets.now)) }
+        ensures appended { result ≡ true → Appends acts.old acts.new }
+        ensures declined { result ≡ false → LinksHaveNone self.old (λ links. takes_usually
+            (predicted_control kind nr) (predicted_role kind) (links key.now.id)) }
+        ensures unchanged { result ≡ false → self.new ≡ self.old }
+        ensures nothing { result ≡ false → acts.new ≡ acts.old }
+        ensures key { IsKey self.new.table key.now }
+        ensures most_frames { length acts.new.frames ≤ length acts.old.frames + 2 }
+        ensures most_primitives { length acts.new.primitives ≤ length acts.old.primitives + 2 }
+    {
+        match self.table.usual_step_at(key, kind, nr) {
             Some(outs) => {
                 self.carry_out_usual(key, &outs, octets, now, acts);
                 true

@@ -6,7 +6,7 @@ ghost use Rattle.lapd_link_machine.specs.Given.{send_outs};
 ghost use Rattle.lapd_link_machine.specs.Usual.{nr_outs};
 ghost use Rattle.lapd_table.specs.declared.link_id.LinkId.{LinkId};
 ghost use Rattle.lapd_sides_links.specs.declared.tournament.TheConstants.{PLACES};
-ghost use Rattle.lapd_sides_links.specs.Effects.{timed, stopped};
+ghost use Rattle.lapd_sides_links.specs.Effects.{restart_outs, timed, stopped};
 ghost use Rattle.lapd_sides_links.specs.Expiries.{IsFirst, IsPast, Runs};
 ghost use Rattle.lapd_sides_links.specs.Places.{AreStopped, expiry_at};
 ghost use Rattle.lapd_sides_links.specs.TimersAtPlaces.{placed, of_places, entry_place, RunsForPlaced};
@@ -116,14 +116,10 @@ impl LinkTimers {
     {
         match nr {
             NrEffect::All { count: _, stops } => {
-                if stops {
-                    self.apply_outputs(id, &[Out::Stop(Timer::T200), Out::Start(Timer::T203)], now);
-                } else {
-                    self.apply_outputs(id, &[Out::Start(Timer::T203)], now);
-                }
+                self.restart(id, stops, Timer::T200, Timer::T203, now);
             }
             NrEffect::Part { count: _ } => {
-                self.apply_outputs(id, &[Out::Start(Timer::T200)], now);
+                self.restart(id, false, Timer::T203, Timer::T200, now);
             }
             NrEffect::Nothing => {}
         }
@@ -138,14 +134,22 @@ impl LinkTimers {
     {
         match effect {
             SendEffect::Starts { stops } => {
-                if stops {
-                    self.apply_outputs(id, &[Out::Stop(Timer::T203), Out::Start(Timer::T200)], now);
-                } else {
-                    self.apply_outputs(id, &[Out::Start(Timer::T200)], now);
-                }
+                self.restart(id, stops, Timer::T203, Timer::T200, now);
             }
             SendEffect::Nothing => {}
         }
+    }
+
+    /// Starts a timer of one link, and stops another one first if `stops`.
+    #[inline(always)]
+    fn restart(&mut self, id: &LinkId, stops: bool, stop: Timer, start: Timer, now: u64)
+        ensures own { placed self.new id.now
+            ≡ option_map (timed now (restart_outs stops stop start)) (placed self.old id.now) }
+        ensures others { (other : LinkId) → other ≢ id.now
+            → placed self.new other ≡ placed self.old other }
+    {
+        self.places.restart(id, stops, stop, start, now);
+        enter(&mut self.expiries, id, self.places.get(id));
     }
 
     /// Stops a timer of one link.

@@ -3,7 +3,7 @@
 ghost use Rattle.std.specs.Prelude.{◌≡◌, ◌≢◌, ◌<◌, Some, map, option_map, option_copied, IfOk, IfSome};
 ghost use Rattle.lapd_timers.specs.Due.{all_stopped, with_durations};
 ghost use Rattle.lapd_table.specs.declared.link_id.LinkId.{LinkId};
-ghost use Rattle.lapd_sides_links.specs.Effects.{timed, stopped};
+ghost use Rattle.lapd_sides_links.specs.Effects.{restart_outs, timed, stopped};
 ghost use Rattle.lapd_sides_links.specs.Places.{HasPlaces, AreStopped};
 
 use crate::delivery::apply_outputs;
@@ -113,6 +113,26 @@ impl TimerPlaces {
         }
     }
 
+    /// Starts a timer of one link, and stops another one first if `stops`.
+    #[inline(always)]
+    pub fn restart(&mut self, id: &LinkId, stops: bool, stop: Timer, start: Timer, now: u64)
+        ensures own { placed self.new id.now
+            ≡ option_map (timed now (restart_outs stops stop start)) (placed self.old id.now) }
+        ensures others { (other : LinkId) → other ≢ id.now
+            → placed self.new other ≡ placed self.old other }
+    {
+        let tei = usize::from(id.tei.value());
+        match id.sapi {
+            Sapi::Call if tei < self.call.len() => {
+                restart(&mut self.call[tei], stops, stop, start, now);
+            }
+            Sapi::Packet if tei < self.packet.len() => {
+                restart(&mut self.packet[tei], stops, stop, start, now);
+            }
+            _ => {}
+        }
+    }
+
     /// Stops a timer of one link.
     pub fn stop(&mut self, id: &LinkId, timer: Timer)
         ensures own { placed self.new id.now ≡ option_map (stopped timer) (placed self.old id.now) }
@@ -149,4 +169,15 @@ fn stop_all(timers: &mut TimerSet)
     ensures { timers.new ≡ all_stopped timers.old.durations }
 {
     *timers = TimerSet::new(timers.durations());
+}
+
+/// Starts a timer, and stops another one first if `stops`.
+#[inline(always)]
+fn restart(timers: &mut TimerSet, stops: bool, stop: Timer, start: Timer, now: u64)
+    ensures { timers.new ≡ timed now (restart_outs stops stop start) timers.old }
+{
+    if stops {
+        timers.stop(stop);
+    }
+    timers.start(start, now);
 }

@@ -2,50 +2,67 @@
 
 ghost use Rattle.std.specs.Prelude.{◌≡◌, ◌≤◌, ◌<◌, ◌+◌, ◌++◌, ◌∷◌, [], length, map, ℕ, List};
 ghost use Rattle.std.specs.List.{filter_map};
+ghost use Rattle.lapd_frame.specs.Control.{field_of_message};
 ghost use Rattle.lapd_link.specs.Link.{LinkRepresents, setup_of};
-ghost use Rattle.lapd_link_machine.specs.Usual.{nr_outs};
+ghost use Rattle.lapd_link.specs.SentFrame.{link_address};
+ghost use Rattle.lapd_link_machine.specs.Usual.{nr_outs, response_outs};
 ghost use Rattle.lapd_link_definition.specs.declared.out.Out.TheVariants as out;
 ghost use Rattle.lapd_link_definition.specs.End.{End};
-ghost use Rattle.lapd_link_definition.specs.Procedures.{counted, out_where, response_of};
+ghost use Rattle.lapd_link_definition.specs.Procedures.{counted, out_where};
 ghost use Rattle.lapd_sides_links.specs.declared.acts.TheConstants.{MOST_FRAMES, MOST_PRIMITIVES};
 ghost use Rattle.lapd_sides_links.specs.declared.primitive.Primitive.TheVariants.{Of};
 ghost use Rattle.lapd_sides_links.specs.Effects.{what_of};
 ghost use Rattle.lapd_sides_links.specs.Shown.{made_by};
 
 use crate::{Acts, Primitive, What};
-use lapd_frame::{Control, N201, Role};
-use lapd_link::{Link, NrEffect, Out};
+use lapd_frame::{Address, MessageField, N201, Response, Role};
+use lapd_link::{Link, NrEffect};
 use lapd_table::LinkId;
 
 /// Appends the frame of this response, if there is one.
 #[inline(always)]
-pub fn put_response(link: &Link, response: Option<Control>, acts: &mut Acts)
+pub fn put_response(link: &Link, response: Option<Response>, acts: &mut Acts)
     requires { length acts.old.frames < MOST_FRAMES }
     ensures frames { (e : End) (octets : List ℕ) → LinkRepresents link.now e → acts.new.frames
         ≡ acts.old.frames ++ filter_map (made_by (setup_of link.now) e octets)
-        (response_of response) }
+        (response_outs response) }
     ensures primitives { acts.new.primitives ≡ acts.old.primitives }
     ensures at_most { length acts.new.frames ≤ length acts.old.frames + 1 }
 {
-    if let Some(control) = response {
-        if let Some(frame) = link.frame(&Out::Send(Role::Answer, control), &[]) {
-            acts.put(link.side(), &frame);
-        }
+    if let Some(response) = response {
+        let header = response.octets(address_of(link, Role::Answer), link.side());
+        acts.put_parts(header, &[]);
     }
 }
 
 /// Appends the I frame with the message at this place of the queue.
 #[inline(always)]
-pub fn put_message_frame(link: &Link, place: u16, control: Control, acts: &mut Acts)
+pub fn put_message_frame(link: &Link, place: u16, field: MessageField, acts: &mut Acts)
     requires { length acts.old.frames < MOST_FRAMES }
     ensures frames { (e : End) (octets : List ℕ) → LinkRepresents link.now e → acts.new.frames
         ≡ acts.old.frames ++ filter_map (made_by (setup_of link.now) e octets)
-        (out.SendMessage place control ∷ []) }
+        (out.SendMessage place (field_of_message field) ∷ []) }
     ensures primitives { acts.new.primitives ≡ acts.old.primitives }
     ensures at_most { length acts.new.frames ≤ length acts.old.frames + 1 }
 {
-    if let Some(frame) = link.frame(&Out::SendMessage(place, control), &[]) {
-        acts.put(link.side(), &frame);
+    match link.queue().get(place) {
+        Some(message) if message.len() <= N201 => {
+            let header = field.octets(address_of(link, Role::Command), link.side());
+            acts.put_parts(header, message);
+        }
+        _ => {}
+    }
+}
+
+/// The address of the link's frames with this role.
+#[inline(always)]
+fn address_of(link: &Link, role: Role) -> Address
+    ensures { result ≡ link_address (setup_of link.now) role }
+{
+    Address {
+        sapi: link.sapi(),
+        tei: link.tei(),
+        role,
     }
 }
 

@@ -1,9 +1,10 @@
 ghost use Rattle.std.specs.Prelude.{◌≡◌, ◌<◌, ◌≤◌, ◌&&◌, true, false, not, Some, IfSome, is_some};
+ghost use Rattle.lapd_field.specs.Control.{field_of_message, field_of_response};
 ghost use Rattle.lapd_mod128.specs.Counting.{Tagged, after};
 ghost use Rattle.lapd_supervision.specs.StateVariables.{initial_variables, without_exceptions, with_zero_counters, status_frame, acknowledgement, without_ack_pending, is_accepted, is_rejected, poll_response, after_i_frame, i_frame_response, is_valid_nr, with_va, acknowledged_count, acknowledges_all, with_vs, may_send, next_i_frame, last_i_frame, after_sending, with_own_busy, with_peer_busy};
 
 use crate::{Advance, Receipt};
-use lapd_field::{Control, Number};
+use lapd_field::{Control, MessageField, Number, Response};
 use lapd_mod128::Seq;
 use std::marker::Model;
 
@@ -175,8 +176,22 @@ impl Window {
         ensures window { result.0 ≡ without_ack_pending self }
         ensures control { result.1 ≡ acknowledgement self }
     {
-        let nr = number(self.vr);
-        (self.nothing_pending(), Control::Rr { nr, pf: false })
+        let (window, response) = self.acknowledge_response();
+        (window, response.control())
+    }
+
+    /// As [`Window::acknowledge`], but the response is returned by its numbers.
+    #[inline(always)]
+    pub fn acknowledge_response(self) -> (Window, Response)
+        ensures window { result.0 ≡ without_ack_pending self }
+        ensures response { field_of_response result.1 ≡ acknowledgement self }
+    {
+        let response = Response {
+            is_busy: false,
+            nr: number(self.vr),
+            f: false,
+        };
+        (self.nothing_pending(), response)
     }
 }
 
@@ -189,8 +204,23 @@ impl Window {
         ensures window { result.0 ≡ without_ack_pending self }
         ensures control { result.1 ≡ status_frame true self }
     {
-        let answer = self.status(true);
-        (self.nothing_pending(), answer)
+        let (window, response) = self.answer_poll_response();
+        (window, response.control())
+    }
+
+    /// As [`Window::answer_poll`], but the response is returned by its numbers.
+    #[inline(always)]
+    #[tactic(auto, unfolding(crate::specs::StateVariables::status_frame, crate::specs::StateVariables::without_ack_pending))]
+    pub fn answer_poll_response(self) -> (Window, Response)
+        ensures window { result.0 ≡ without_ack_pending self }
+        ensures response { field_of_response result.1 ≡ status_frame true self }
+    {
+        let response = Response {
+            is_busy: self.own_busy,
+            nr: number(self.vr),
+            f: true,
+        };
+        (self.nothing_pending(), response)
     }
 
     /// The command that requests the peer's status: RR with P=1, or RNR if own busy (Q.921 5.6.7);
@@ -364,16 +394,25 @@ impl Window {
         ensures window { result.0 ≡ after_sending Tagged self }
         ensures control { result.1 ≡ next_i_frame self }
     {
-        let control = Control::I {
+        let (window, field) = self.send_message();
+        (window, field.control())
+    }
+
+    /// As [`Window::send`], but the control field is returned by its numbers.
+    #[inline(always)]
+    pub fn send_message(self) -> (Window, MessageField)
+        ensures window { result.0 ≡ after_sending Tagged self }
+        ensures field { field_of_message result.1 ≡ next_i_frame self }
+    {
+        let field = MessageField {
             ns: number(self.vs),
             nr: number(self.vr),
-            p: false,
         };
         let window = Window {
             vs: self.vs.next(),
             ..self.nothing_pending()
         };
-        (window, control)
+        (window, field)
     }
 
     /// The last sent I frame again, with P=1: N(S) = V(S) - 1; V(S) is unchanged, ack pending false

@@ -14,8 +14,9 @@ mod link_table;
 mod table_fault;
 
 pub use lapd_link::{
-    Address, Control, Event, FaultKind, Frame, GivenOuts, Letter, Link, LinkFault, NrEffect, Out,
-    Outs, Params, Refused, Role, Sapi, SendEffect, Side, Tei, Timer, UsualOuts,
+    Address, Control, Event, FaultKind, Frame, GivenOuts, Letter, Link, LinkFault, MessageField,
+    NrEffect, Number, Out, Outs, Params, PredictedKind, Refused, Response, Role, Sapi, SendEffect,
+    Side, Tei, Timer, UsualOuts,
 };
 pub use laws::{calls_are_steps, link_is_as_it_is_alone};
 pub use link_id::LinkId;

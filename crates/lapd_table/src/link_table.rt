@@ -1,6 +1,7 @@
 ghost use Rattle.std.specs.Prelude.{◌≡◌, None, Some, Ok, Err, [], IsSome, IfNone, IfSome, IfOk, IfErr, OnOk, OnErr, option_copied, ◌↔◌, Contains};
 ghost use Rattle.std.specs.List.Sorted.{IsStrictlySortedBy};
 ghost use Rattle.std.proofs.Props.{props};
+ghost use Rattle.lapd_frame.specs.PredictedFrame.{predicted_control, predicted_role};
 ghost use Rattle.lapd_link_definition.specs.End.{End};
 ghost use Rattle.lapd_link_definition.specs.Input.{input_of, Give, Heard};
 ghost use Rattle.lapd_link_definition.specs.Refusal.{refused};
@@ -12,7 +13,7 @@ ghost use Rattle.lapd_table.specs.LinkId.{id_cmp, id_of_setup, setup_for};
 ghost use Rattle.lapd_table.specs.Index.{IsIndex, key_of};
 
 use crate::{LinkId, LinkKey, TableFault};
-use lapd_frame::{Control, FrameFault, Role, Side, read};
+use lapd_frame::{FrameFault, Number, PredictedKind, Side, read};
 use lapd_link::{Event, GivenOuts, Link, LinkFault, Outs, Refused, UsualOuts};
 use slab::Slab;
 use std::alloc::{AllocError, Global};
@@ -327,23 +328,24 @@ impl LinkTable {
         self.handle_under(key.place, key.id, event, outs)
     }
 
-    /// Handles a frame for the link with this key, if its step is usual ([`Link::usual_step`]).
-    /// For any other frame it returns `None`, and the table is unchanged.
+    /// Handles a frame of this kind with this N(R) for the link with this key, if its step is usual
+    /// ([`Link::usual_step`]). For any other frame it returns `None`, and the table is unchanged.
     #[inline(always)]
     pub fn usual_step_at(
         &mut self,
         key: &LinkKey,
-        control: &Control,
-        role: Role,
+        kind: PredictedKind,
+        nr: Number,
     ) -> Option<UsualOuts>
         requires key { IsKey self.old key.now }
         ensures ok { IfSome result (λ outs. StepsAt self.old self.new key.now.id
-            (Heard control.now role) (usual_outs outs)) }
-        ensures declined { IfNone result (NotUsualAt self.old key.now.id control.now role) }
+            (Heard (predicted_control kind nr) (predicted_role kind)) (usual_outs outs)) }
+        ensures declined { IfNone result (NotUsualAt self.old key.now.id
+            (predicted_control kind nr) (predicted_role kind)) }
         ensures unchanged { IfNone result (self.new ≡ self.old) }
         ensures key { IsKey self.new key.now }
     {
-        self.links[key.place].usual_step(control, role)
+        self.links[key.place].usual_step(kind, nr)
     }
 
     /// Submits a layer 3 message to an existing link. Does not allocate. For speed, pass the

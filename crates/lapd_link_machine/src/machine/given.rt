@@ -13,7 +13,7 @@ ghost use Rattle.lapd_link_machine.specs.Given.{given_outs, send_outs, sends_at_
 ghost use Rattle.lapd_link_machine.specs.Usual.{is_idle_machine, IsIdle};
 
 use crate::machine::Machine;
-use lapd_frame::Control;
+use lapd_frame::MessageField;
 
 /// The effect of a sent I frame on the timers (Q.921 5.6.1).
 #[derive(Clone, Copy)]
@@ -30,7 +30,7 @@ pub struct GivenOuts {
     /// The place of the message in the queue.
     pub place: u16,
     /// The control field of its I frame.
-    pub control: Control,
+    pub field: MessageField,
     /// The effect on the timers.
     pub effect: SendEffect,
 }
@@ -106,13 +106,13 @@ impl Machine {
             → Represents self.new (given_outs result) (end_step Tagged s) }
     {
         let place = self.queue.sent();
-        let (window, control) = self.window.send();
+        let (window, field) = self.window.send_message();
         self.window = window;
         self.queue.sent_one();
         let effect = self.ensure_t200_quietly();
         GivenOuts {
             place,
-            control,
+            field,
             effect,
         }
     }

@@ -2,6 +2,7 @@
 //! are returned as values, which costs less than a list.
 
 ghost use Rattle.std.specs.Prelude.{◌≡◌, ◌++◌, ◌∷◌, [], List, true, false, IfNone, IfSome};
+ghost use Rattle.lapd_frame.specs.PredictedFrame.{predicted_control, predicted_role};
 ghost use Rattle.lapd_frame.specs.declared.Role.TheVariants.{Command, Answer};
 ghost use Rattle.lapd_frame.specs.declared.Control.TheVariants.{I, Rr};
 ghost use Rattle.lapd_timers.specs.declared.timer.Timer.TheVariants.{T200, T203};
@@ -13,12 +14,12 @@ ghost use Rattle.lapd_link_definition.specs.Input.{Heard};
 ghost use Rattle.lapd_link_definition.specs.Table.{row};
 ghost use Rattle.lapd_link_definition.specs.declared.out.Out.{Out};
 ghost use Rattle.lapd_link_definition.specs.declared.out.Out.TheVariants.{Up, Start, Stop};
-ghost use Rattle.lapd_link_definition.specs.Procedures.{stop, start, out_where, response_of};
+ghost use Rattle.lapd_link_definition.specs.Procedures.{stop, start, out_where};
 ghost use Rattle.lapd_link_definition.specs.Established.{acknowledge_with_timers, multiple_frame_established};
-ghost use Rattle.lapd_link_machine.specs.Usual.{is_idle_machine, is_usual, is_usual_frame, nr_outs, usual_outs, IsIdle};
+ghost use Rattle.lapd_link_machine.specs.Usual.{is_idle_machine, is_usual, is_usual_frame, nr_outs, response_outs, usual_outs, IsIdle};
 
 use crate::machine::Machine;
-use lapd_frame::{Control, Number, Role};
+use lapd_frame::{Number, PredictedKind, Response};
 use lapd_link_definition::State;
 use lapd_supervision::{Advance, Window};
 
@@ -37,13 +38,13 @@ pub enum NrEffect {
 #[derive(Clone, Copy)]
 pub struct UsualOuts {
     /// The response to a poll.
-    pub response: Option<Control>,
+    pub response: Option<Response>,
     /// Whether the information of the frame is delivered to layer 3.
     pub is_up: bool,
     /// The effect of the N(R).
     pub nr: NrEffect,
     /// The RR that acknowledges an I frame.
-    pub acknowledgement: Option<Control>,
+    pub acknowledgement: Option<Response>,
 }
 
 /// Actions that return their output.
@@ -127,15 +128,15 @@ impl Machine {
 
     /// Ends the step: no message is unsent, so at most the pending acknowledgement is sent.
     #[inline(always)]
-    fn end_quietly(&mut self) -> Option<Control>
+    fn end_quietly(&mut self) -> Option<Response>
         requires idle { IsIdle self.old }
         ensures step { (s : StepState) (outs : List Out) → Represents self.old outs s
-            → Represents self.new (outs ++ response_of result) (end_step Tagged s) }
+            → Represents self.new (outs ++ response_outs result) (end_step Tagged s) }
     {
         if self.window.ack_pending() {
-            let (window, control) = self.window.acknowledge();
+            let (window, response) = self.window.acknowledge_response();
             self.window = window;
-            Some(control)
+            Some(response)
         } else {
             None
         }
@@ -148,14 +149,15 @@ impl Machine {
         &mut self,
         window: Window,
         nr: Number,
-        response: Option<Control>,
+        response: Option<Response>,
         is_up: bool,
     ) -> Option<UsualOuts>
         requires idle { IsIdle self.old }
         requires counted { self.old.queue.sent ≡ outstanding Tagged window }
         ensures step { IfSome result (λ outs. (is_valid_nr Tagged nr window ≡ true)
             × ((s : StepState) → Represents (record (self.old) { window = window })
-            (response_of response ++ out_where is_up Up) s → Represents self.new (usual_outs outs)
+            (response_outs response ++ out_where is_up Up) s
+            → Represents self.new (usual_outs outs)
             (end_step Tagged (acknowledge_with_timers Tagged nr s)))) }
         ensures declined { IfNone result (is_valid_nr Tagged nr window ≡ false) }
         ensures unchanged { IfNone result (self.new ≡ self.old) }
@@ -226,92 +228,50 @@ impl Machine {
             (is_usual_frame (Rr nr true) Command self.old.window ≡ false) }
         ensures unchanged { IfNone result (self.new ≡ self.old) }
     {
-        let (window, response) = self.window.peer(false).answer_poll();
+        let (window, response) = self.window.peer(false).answer_poll_response();
         self.acknowledge_and_end(window, nr, Some(response), false)
     }
 
-    /// Makes the step of a received frame, if it is usual: in state 7 with no message unsent, an I
-    /// command with P=0 that is in sequence while both ends are ready, an RR response with F=0, or
-    /// an RR command with P=1, each with a valid N(R). Otherwise it returns `None`, and the machine
-    /// is unchanged.
+    /// Makes the step of a received frame of this kind with this N(R), if it is usual: in state 7
+    /// with no message unsent, an I command with P=0 that is in sequence while both ends are ready,
+    /// an RR response with F=0, or an RR command with P=1, each with a valid N(R). Otherwise it
+    /// returns `None`, and the machine is unchanged.
     #[inline(always)]
-    pub fn usual_step(&mut self, control: &Control, role: Role) -> Option<UsualOuts>
+    pub fn usual_step(&mut self, kind: PredictedKind, nr: Number) -> Option<UsualOuts>
         requires between { IsBetweenSteps self.old }
         ensures step { IfSome result (λ outs. (e : End) → Represents self.old [] (begin e)
-            → Represents self.new (usual_outs outs) (end_step Tagged
-            (row Tagged e.state (Heard control.now role) (begin e)))) }
+            → Represents self.new (usual_outs outs) (end_step Tagged (row Tagged e.state
+            (Heard (predicted_control kind nr) (predicted_role kind)) (begin e)))) }
         ensures declined { IfNone result ((e : End) → Represents self.old [] (begin e)
-            → is_usual control.now role e ≡ false) }
+            → is_usual (predicted_control kind nr) (predicted_role kind) e ≡ false) }
         ensures numbers { AreTags self.new.window }
         ensures unchanged { IfNone result (self.new ≡ self.old) }
     {
-        let outs = self.usual_row(control, role);
+        let outs = self.usual_row(kind, nr);
         prove!(self.window.vs().value() < 128);
         prove!(self.window.va().value() < 128);
         prove!(self.window.vr().value() < 128);
         outs
     }
 
-    /// Makes the step, by the role.
+    /// Makes the step, by the kind.
     #[inline(always)]
-    fn usual_row(&mut self, control: &Control, role: Role) -> Option<UsualOuts>
+    fn usual_row(&mut self, kind: PredictedKind, nr: Number) -> Option<UsualOuts>
         requires between { IsBetweenSteps self.old }
         ensures step { IfSome result (λ outs. (e : End) → Represents self.old [] (begin e)
-            → Represents self.new (usual_outs outs) (end_step Tagged
-            (row Tagged e.state (Heard control.now role) (begin e)))) }
+            → Represents self.new (usual_outs outs) (end_step Tagged (row Tagged e.state
+            (Heard (predicted_control kind nr) (predicted_role kind)) (begin e)))) }
         ensures declined { IfNone result ((e : End) → Represents self.old [] (begin e)
-            → is_usual control.now role e ≡ false) }
+            → is_usual (predicted_control kind nr) (predicted_role kind) e ≡ false) }
         ensures unchanged { IfNone result (self.new ≡ self.old) }
     {
         if !self.is_idle() {
             return None;
         }
-        match role {
-            Role::Command => self.usual_command(control),
-            Role::Answer => self.usual_answer(control),
-        }
-    }
-
-    /// Receives a command.
-    #[inline(always)]
-    fn usual_command(&mut self, control: &Control) -> Option<UsualOuts>
-        requires idle { IsIdle self.old }
-        requires counted { SentAreOutstanding self.old }
-        ensures step { IfSome result (λ outs. (e : End) → Represents self.old [] (begin e)
-            → Represents self.new (usual_outs outs) (end_step Tagged
-            (row Tagged e.state (Heard control.now Command) (begin e)))) }
-        ensures declined { IfNone result
-            (is_usual_frame control.now Command self.old.window ≡ false) }
-        ensures unchanged { IfNone result (self.new ≡ self.old) }
-    {
-        match control {
-            Control::I { ns, nr, p } => {
-                if *p {
-                    None
-                } else {
-                    self.usual_i_frame(*ns, *nr)
-                }
-            }
-            Control::Rr { nr, pf } => { if *pf { self.usual_poll(*nr) } else { None } }
-            _ => None,
-        }
-    }
-
-    /// Receives a response.
-    #[inline(always)]
-    fn usual_answer(&mut self, control: &Control) -> Option<UsualOuts>
-        requires idle { IsIdle self.old }
-        requires counted { SentAreOutstanding self.old }
-        ensures step { IfSome result (λ outs. (e : End) → Represents self.old [] (begin e)
-            → Represents self.new (usual_outs outs) (end_step Tagged
-            (row Tagged e.state (Heard control.now Answer) (begin e)))) }
-        ensures declined { IfNone result
-            (is_usual_frame control.now Answer self.old.window ≡ false) }
-        ensures unchanged { IfNone result (self.new ≡ self.old) }
-    {
-        match control {
-            Control::Rr { nr, pf } => { if *pf { None } else { self.usual_response(*nr) } }
-            _ => None,
+        match kind {
+            PredictedKind::Message(ns) => self.usual_i_frame(ns, nr),
+            PredictedKind::Acknowledgement => self.usual_response(nr),
+            PredictedKind::Poll => self.usual_poll(nr),
         }
     }
 

@@ -143,6 +143,21 @@ net 64
 shows: network;discarded 0;holds 64;
 exact: yes
 
+# header prediction: a poll, an RR and an I frame, but no other RR, I response or longer RR
+net 64
+0 take 00817f: 008173;0 64 established;
+1 take-behind 00810101: 008173;00810101;0 64 established;
+2 take-behind 02810100: 008173;00810101;0 64 established;
+3 take-behind 00810100: not usual;008173;00810101;0 64 established;
+4 take-behind 02810101: not usual;008173;00810101;0 64 established;
+5 take-behind 02810000aa: not usual;008173;00810101;0 64 established;
+6 take-behind 0081010155: not usual;008173;00810101;0 64 established;
+7 take-behind 008101: not usual;008173;00810101;0 64 established;
+8 take-behind 00810000aa: 008173;00810101;00810102;0 64 established;0 64 data aa;
+9 give-behind 0 64 07: 008173;00810101;00810102;0281000207;0 64 established;0 64 data aa;
+shows: network;discarded 0;next 1009;holds 64;
+exact: yes
+
 # the usual frames of state 7, and some that are not: a final, a frame out of sequence, a busy peer
 net 64 packets
 0 take 00817f: 008173;0 64 established;

@@ -13,14 +13,14 @@ returns-then-ack_pending c = record {
         parameters = h.parameters;
         state = h.state;
         rc = h.rc;
-        window = ap without_ack_pending h.window ∙ sym c.acknowledge-window.ensures.window;
+        window = ap without_ack_pending h.window ∙ sym c.acknowledge_response-window.ensures.window;
         layer3_initiated = h.layer3_initiated;
         release_pending = h.release_pending;
         t200 = h.t200;
         t203 = h.t203;
         queue = h.queue;
         room = h.room;
-        put = rw (h.put, ap acknowledgement h.window, c.acknowledge-window.ensures.control) refl;
+        put = rw (h.put, ap acknowledgement h.window, c.acknowledge_response-window.ensures.response) refl;
       });
 }
 

@@ -1,22 +1,41 @@
-use Rattle.std.proofs.Common.{refl, sym, ◌∙◌}
-use Rattle.lapd_link_machine.proofs.Usual.{counted_when_idle, idle_only_if, not_usual}
+use Rattle.std.proofs.Common.{true, false, refl, sym, ◌∙◌}
+use Rattle.lapd_frame.specs.declared.Role.TheVariants.{Command, Answer}
+use Rattle.lapd_frame.specs.declared.Control.TheVariants.{I, Rr}
+use Rattle.lapd_link_machine.proofs.Usual.{counted_when_idle, idle_only_if, not_usual, usual_of_row}
 use Rattle.lapd_link_machine.proofs.machine.Machine.usual_row.Goals as goal
 
-pub usual_command-requires : goal.usual_command-requires
-usual_command-requires c =
+pub usual_i_frame-requires : goal.usual_i_frame-requires
+usual_i_frame-requires c =
     let idle = c.is_idle.ensures.idle c.if-not-is_idle.false in
     record { idle = idle; counted = counted_when_idle c.args.self.now c.requires.between idle }
 
-pub usual_answer-requires : goal.usual_answer-requires
-usual_answer-requires c =
+pub usual_response-requires : goal.usual_response-requires
+usual_response-requires c =
+    let idle = c.is_idle.ensures.idle c.if-not-is_idle.false in
+    record { idle = idle; counted = counted_when_idle c.args.self.now c.requires.between idle }
+
+pub usual_poll-requires : goal.usual_poll-requires
+usual_poll-requires c =
     let idle = c.is_idle.ensures.idle c.if-not-is_idle.false in
     record { idle = idle; counted = counted_when_idle c.args.self.now c.requires.between idle }
 
 pub returns-then-not-is_idle-clause-declined : goal.returns-then-not-is_idle-clause-declined
 returns-then-not-is_idle-clause-declined c = λ e h. rw (idle_only_if c.args.self.now e c.requires.between.within h (sym c.is_idle.ensures.exactly ∙ c.if-not-is_idle.true)) refl
 
-pub returns-in-Command-clause-declined : goal.returns-in-Command-clause-declined
-returns-in-Command-clause-declined c = rw c.in-Command.is (not_usual c.usual_command.result _ _ c.args.self.now c.usual_command.ensures.declined)
+pub returns-in-Message-clause-step : goal.returns-in-Message-clause-step
+returns-in-Message-clause-step c = rw c.in-Message.is (usual_of_row c.usual_i_frame.result (I c.in-Message.ns c.args.nr false) Command _ _ (c.is_idle.ensures.idle c.if-not-is_idle.false) refl c.usual_i_frame.ensures.step)
 
-pub returns-in-Answer-clause-declined : goal.returns-in-Answer-clause-declined
-returns-in-Answer-clause-declined c = rw c.in-Answer.is (not_usual c.usual_answer.result _ _ c.args.self.now c.usual_answer.ensures.declined)
+pub returns-in-Acknowledgement-clause-step : goal.returns-in-Acknowledgement-clause-step
+returns-in-Acknowledgement-clause-step c = rw c.in-Acknowledgement.is (usual_of_row c.usual_response.result (Rr c.args.nr false) Answer _ _ (c.is_idle.ensures.idle c.if-not-is_idle.false) refl c.usual_response.ensures.step)
+
+pub returns-in-Poll-clause-step : goal.returns-in-Poll-clause-step
+returns-in-Poll-clause-step c = rw c.in-Poll.is (usual_of_row c.usual_poll.result (Rr c.args.nr true) Command _ _ (c.is_idle.ensures.idle c.if-not-is_idle.false) refl c.usual_poll.ensures.step)
+
+pub returns-in-Message-clause-declined : goal.returns-in-Message-clause-declined
+returns-in-Message-clause-declined c = rw c.in-Message.is (not_usual c.usual_i_frame.result (I c.in-Message.ns c.args.nr false) Command c.args.self.now c.usual_i_frame.ensures.declined)
+
+pub returns-in-Acknowledgement-clause-declined : goal.returns-in-Acknowledgement-clause-declined
+returns-in-Acknowledgement-clause-declined c = rw c.in-Acknowledgement.is (not_usual c.usual_response.result (Rr c.args.nr false) Answer c.args.self.now c.usual_response.ensures.declined)
+
+pub returns-in-Poll-clause-declined : goal.returns-in-Poll-clause-declined
+returns-in-Poll-clause-declined c = rw c.in-Poll.is (not_usual c.usual_poll.result (Rr c.args.nr true) Command c.args.self.now c.usual_poll.ensures.declined)

@@ -1,34 +1,35 @@
-use Rattle.std.proofs.Common.{◌≡◌, ◌&&◌, false, sym, subst, ◌∙◌, Result}
+use Rattle.std.proofs.Common.{◌≡◌, ◌&&◌, false, refl, sym, subst, Result}
 use Rattle.std.proofs.Math.Bool.{and-false}
 use Rattle.lapd_frame.specs.Frame.{Fields}
+use Rattle.lapd_frame.specs.PredictedFrame.{predicted_fields}
 use Rattle.lapd_frame.specs.declared.Side.TheVariants as side
 use Rattle.lapd_frame.specs.declared.frame_fault.FrameFault.{FrameFault}
 use Rattle.lapd_sides_links.specs.Rooms.{has_usual_room}
 use Rattle.lapd_sides.specs.Shows.{are_taken_usually}
 use Rattle.lapd_sides.specs.Network.{network_takes, received}
 use Rattle.lapd_sides.specs.ShowsNetwork.{HasDone}
-use Rattle.lapd_sides.proofs.ReadFrames.{info_fits}
+use Rattle.lapd_sides.proofs.Behind.{not_read_as_predictable, predicted_is_no_message}
+use Rattle.lapd_sides.proofs.Networking.{received_by_link, received_so}
 use Rattle.lapd_sides.proofs.net_side.NetSide.take_behind.Goals as goal
 
-pub receive_behind-requires : goal.receive_behind-requires
-receive_behind-requires c = record { fits = info_fits side.User c.read.result _ (c.args.bytes.now, c.read.ensures.exact) c.in-Ok.is }
-
-pub returns-in-Ok-clause-taken : goal.returns-in-Ok-clause-taken
+pub returns-in-Some-clause-taken : goal.returns-in-Some-clause-taken
 unfolding network_takes
-returns-in-Ok-clause-taken c = λ is.
+returns-in-Some-clause-taken c = λ is.
     let h = c.receive_behind.ensures.received is in
+    let frame = c.in-Some.frame in
     record {
       given = h.given;
       appended = h.appended;
       does = λ config s shown.
-          subst (λ (r : Result Fields FrameFault). HasDone c.receive_behind.new.self config h.given (received config c.args.now r s)) (sym c.in-Ok.is ∙ c.read.ensures.exact)
-          (h.does config s shown);
+          subst (λ (r : Result Fields FrameFault). HasDone (record (c.args.self.now) { served = c.receive_behind.new.self }) config h.given (received config c.args.now r s)) (sym c.in-Some.ensures.found)
+          (received_by_link _ config c.args.now (predicted_fields frame) s false h.given (sym (predicted_is_no_message frame)) refl
+          (received_so c.args.self.now c.receive_behind.new.self config s h.given _ shown (h.received side.Network s.served.links shown.served.links)));
     }
 
-pub returns-in-Ok-clause-declined : goal.returns-in-Ok-clause-declined
-returns-in-Ok-clause-declined c = λ is config s shown.
-    subst (λ (r : Result Fields FrameFault). (has_usual_room c.args.acts.now && are_taken_usually r s.served.links) ≡ false) (sym c.in-Ok.is ∙ c.read.ensures.exact)
-    (c.receive_behind.ensures.declined is config s shown)
+pub returns-in-Some-clause-declined : goal.returns-in-Some-clause-declined
+returns-in-Some-clause-declined c = λ is config s shown.
+    subst (λ (r : Result Fields FrameFault). (has_usual_room c.args.acts.now && are_taken_usually r s.served.links) ≡ false) (sym c.in-Some.ensures.found)
+    (c.receive_behind.ensures.declined is side.Network s.served.links shown.served.links)
 
-pub returns-in-Err-clause-declined : goal.returns-in-Err-clause-declined
-returns-in-Err-clause-declined c = λ is config s shown. rw (sym c.read.ensures.exact ∙ c.in-Err.is) (and-false (has_usual_room c.args.acts.now))
+pub returns-in-None-clause-declined : goal.returns-in-None-clause-declined
+returns-in-None-clause-declined c = λ is config s shown. rw (not_read_as_predictable _ s.served.links c.in-None.ensures.declined) (and-false (has_usual_room c.args.acts.now))
