@@ -4,7 +4,7 @@ use Rattle.std.specs.Prelude.{◌⊎◌}
 use Rattle.lapd_cli_live.specs.declared.service.Until.{Until}
 use Rattle.lapd_cli_outside.specs.IoEvents.{Adds, Arrives, IoEvent, FindsNone, Reads, Sends, Waits}
 use Rattle.lapd_cli_live.specs.Log.{LiveState, io_events_in, moment_of}
-use Rattle.lapd_cli_live.specs.Steps.{CatchesUp, LooksInVain, Receives, TakesAll, TakesMost}
+use Rattle.lapd_cli_live.specs.Steps.{CatchesUp, LooksInVain, Receives, TakesMost}
 use Rattle.lapd_cli_live.specs.PromptLine.{Arrival, ExpiresInTime, HasAllThatArrived, IsPrompt, IsPromptAfter, StartsWithEarlier, frames_received, one_left, three_at_once, three_received}
 
 received_before : (io_events : List IoEvent) (now : ℕ) → frames_received (io_events ++ (Reads now ∷ FindsNone ∷ [])) ≡ frames_received io_events

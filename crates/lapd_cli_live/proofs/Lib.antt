@@ -1,3 +1,4 @@
+pub mod Kept
 pub mod Printers
 pub mod Log
 pub mod Steps
@@ -5,3 +6,4 @@ pub mod WaitingLines
 pub mod InTime
 pub mod StateAnswers
 pub mod Sessions
+pub mod Meanwhile

@@ -1,6 +1,6 @@
 -- Events, one after another.
-use Rattle.std.proofs.Common.{◌≡◌, ℕ, ◌+◌, ◌<◌, List, [], ◌∷◌, ◌++◌, get_or, length, map, take, Option, None, Some, Result, Ok, Err, OnOk, refl, sym, ap, subst, ◌∙◌, append_assoc, append-nil}
-use Rattle.std.specs.Prelude.{Bool, true, false, ◌||◌, flat_map, fold, ⊤}
+use Rattle.std.proofs.Common.{◌≡◌, ℕ, ◌+◌, ◌<◌, List, [], ◌∷◌, ◌++◌, get_or, length, map, take, Option, refl, sym, ap, subst, ◌∙◌, append_assoc, append-nil}
+use Rattle.std.specs.Prelude.{Bool, true, false, ◌||◌, flat_map, fold}
 use Rattle.std.specs.List.{list_any}
 use Rattle.std.proofs.KnownBytes.{Appends-nil, Appends-trans}
 use Rattle.std.specs.Io.KnownBytes.{Appends}
@@ -8,20 +8,20 @@ use Rattle.std.proofs.lemmas.List.{map-append, take-map, take_more}
 use Rattle.std.proofs.Math.Seq.{take-length}
 use Rattle.std.proofs.lemmas.List.Sums.{fold-append}
 use Rattle.std.proofs.lemmas.List.Folds.{list_any-append}
-use Rattle.std.proofs.lemmas.Grind.{flat_map-append}
 use Rattle.lapd_frame.specs.declared.Side.{Side}
 use Rattle.lapd_sides_links.specs.declared.primitive.Primitive.{Primitive}
 use Rattle.lapd_sides_links.specs.Effects.{Effects}
 use Rattle.lapd_sides.specs.declared.either_side.EitherSide.{EitherSide}
 use Rattle.lapd_sides.specs.Either.{side_of}
+use Rattle.lapd_cli_outside.specs.declared.impairment.Impairment.{Impairment}
 use Rattle.lapd_cli_outside.specs.declared.outside.Sending.{Sending}
 use Rattle.lapd_cli_outside.specs.declared.outside.Sending.TheVariants.{Sent as WasSent, Lost as WasLost}
 use Rattle.lapd_cli_live.specs.declared.style.Style.{Style}
 use Rattle.lapd_cli_live.specs.declared.printer.Printer.{Printer}
 use Rattle.lapd_cli_outside.specs.IoEvents.{Adds, IoEvent, Sends, SendsFront, all_sent}
-use Rattle.lapd_cli_live.specs.Entries.{Entry, Outgoing, Prints, Sent, Shown, Delivered, counted, entries_text, entry_text, is_awaited, moment_after, octets_of, outgoing_entry, sent_entry}
+use Rattle.lapd_cli_live.specs.Entries.{Entry, Outgoing, Prints, Shown, Delivered, counted, entries_text, entry_kept, entry_text, is_awaited, moment_after, octets_of, outgoing_entry, sent_entry}
 use Rattle.lapd_cli_live.specs.Printers.{PrintsOn, SendsAll, shown}
-use Rattle.lapd_cli_live.specs.Log.{Around, CarriesOut, CarriesOutAll, Chain, Happen, HappenBeside, IsCarriedOut, LiveEvent, LiveState, Shows, io_events_in, entries_in, moment_of, sending_events, primitive_event}
+use Rattle.lapd_cli_live.specs.Log.{Around, Chain, Happen, IsCarriedOut, LiveEvent, LiveState, Shows, io_events_in, entries_in, sending_events, primitive_event}
 use Rattle.lapd_cli_outside.proofs.IoEvents.{adds_both, adds_none}
 
 -- ---- Events.
@@ -61,6 +61,8 @@ prints_none style own a = record {
   stats = refl;
   awaited = refl;
   matched = or_none a.matched;
+  keeps = refl;
+  kept = refl;
 }
 
 pub prints_both : (style : Style) (own : Side) (xs ys : List Entry) (a b c : Shown) → Prints style own xs a b → Prints style own ys b c
@@ -79,6 +81,9 @@ prints_both style own xs ys a b c p q =
           ∙ ap (λ (matched : Bool). (a.matched || list_any (is_awaited style own a.awaited) xs) || matched) any
           ∙ or_both a.matched (list_any (is_awaited style own a.awaited) xs) (list_any (is_awaited style own a.awaited) ys)
           ∙ ap (λ (matched : Bool). a.matched || matched) (sym (list_any-append (is_awaited style own a.awaited) xs ys));
+      keeps = q.keeps ∙ p.keeps;
+      kept = q.kept ∙ ap (λ (keeps : Bool). fold (entry_kept style own keeps) b.kept ys) p.keeps
+          ∙ ap (λ (kept : List (List ℕ)). fold (entry_kept style own a.keeps) kept ys) p.kept ∙ sym (fold-append (entry_kept style own a.keeps) a.kept xs ys);
     }
 
 prints_as : (style other : Style) (own same : Side) (xs : List Entry) (a b : Shown) → style ≡ other → own ≡ same → Prints style own xs a b
@@ -104,13 +109,14 @@ happen_both xs ys a b c p q = record {
   own = q.own ∙ p.own;
   style = q.style ∙ p.style;
   io_events = subst (Adds a.io_events c.io_events) (sym (io_events_both xs ys)) (adds_both a.io_events b.io_events c.io_events _ _ p.io_events q.io_events);
+  impairment = q.impairment ∙ p.impairment;
   shown = subst (λ (entries : List Entry). Prints a.style (side_of a.side) entries a.shown c.shown) (sym (entries_both xs ys))
       (prints_both a.style (side_of a.side) (entries_in xs) (entries_in ys) a.shown b.shown c.shown p.shown
       (prints_as b.style a.style (side_of b.side) (side_of a.side) (entries_in ys) b.shown c.shown p.style p.own q.shown));
 }
 
 pub happen_none : (a : LiveState) → Happen [] a a
-happen_none a = record { own = refl; style = refl; io_events = adds_none a.io_events; shown = prints_none a.style (side_of a.side) a.shown }
+happen_none a = record { own = refl; style = refl; io_events = adds_none a.io_events; impairment = refl; shown = prints_none a.style (side_of a.side) a.shown }
 
 -- ---- Frames that are sent, and primitives.
 
@@ -143,33 +149,34 @@ entries_of_sent : (outgoing : List Outgoing) → entries_in (flat_map sending_ev
 entries_of_sent [] = refl
 entries_of_sent (first ∷ outgoing) = ap (λ (entries : List Entry). outgoing_entry first ∷ entries) (entries_of_sent outgoing)
 
-pub sends_none : {W : Type 0} (own : Side) (contents : W → Option (List ℕ)) (a : Option (List IoEvent)) (p : Printer W) → SendsAll own [] a a contents p p
-sends_none own contents a p = record { outgoing = []; octets = refl; io_events = adds_none a; prints = prints_on_none contents own p }
+pub sends_none : {W : Type 0} (own : Side) (contents : W → Option (List ℕ)) (a : Option (List IoEvent)) (i : Option Impairment) (p : Printer W) → SendsAll own [] a a i i contents p p
+sends_none own contents a i p = record { outgoing = []; octets = refl; io_events = adds_none a; impairment = refl; prints = prints_on_none contents own p }
 
-pub sends_more : {W : Type 0} (own : Side) (frames : List (List ℕ)) (frame : List ℕ) (sending : Sending) (a b c : Option (List IoEvent))
-    (contents : W → Option (List ℕ)) (p q r : Printer W) → SendsAll own frames a b contents p q → Adds b c (Sends frame ∷ [])
-    → PrintsOn contents own (sent_entry frame sending ∷ []) q r → SendsAll own (frames ++ frame ∷ []) a c contents p r
-sends_more own frames frame sending a b c contents p q r some adds prints =
+pub sends_more : {W : Type 0} (own : Side) (frames : List (List ℕ)) (frame : List ℕ) (sending : Sending) (a b c : Option (List IoEvent)) (i j k : Option Impairment)
+    (contents : W → Option (List ℕ)) (p q r : Printer W) → SendsAll own frames a b i j contents p q → Adds b c (Sends frame ∷ []) → k ≡ j
+    → PrintsOn contents own (sent_entry frame sending ∷ []) q r → SendsAll own (frames ++ frame ∷ []) a c i k contents p r
+sends_more own frames frame sending a b c i j k contents p q r some adds same prints =
     let one : Outgoing = record { octets = frame; sending = sending } in
     record {
       outgoing = some.outgoing ++ one ∷ [];
       octets = map-append octets_of some.outgoing (one ∷ []) ∙ ap (λ xs. xs ++ frame ∷ []) some.octets;
       io_events = subst (Adds a c) (sym (map-append Sends frames (frame ∷ []))) (adds_both a b c _ _ some.io_events adds);
+      impairment = same ∙ some.impairment;
       prints = subst (λ (entries : List Entry). PrintsOn contents own entries p r) (sym (map-append outgoing_entry some.outgoing (one ∷ [])))
           (prints_on_both contents own (map outgoing_entry some.outgoing) (outgoing_entry one ∷ []) p q r some.prints prints);
     }
 
 -- the next of some frames is sent
 pub sends_next : {F W : Type 0} (octets : F → List ℕ) (own : Side) (frames : List F) (at : ℕ) (frame : F) (item : List ℕ) (sending : Sending)
-    (a b c : Option (List IoEvent)) (contents : W → Option (List ℕ)) (p q r : Printer W) → at < length frames → frame ≡ get_or frames at frame
-    → item ≡ octets frame → SendsAll own (map octets (take at frames)) a b contents p q → Adds b c (Sends item ∷ [])
-    → PrintsOn contents own (sent_entry item sending ∷ []) q r → SendsAll own (map octets (take (at + 1) frames)) a c contents p r
-sends_next octets own frames at frame item sending a b c contents p q r within is says some adds prints =
+    (a b c : Option (List IoEvent)) (i j k : Option Impairment) (contents : W → Option (List ℕ)) (p q r : Printer W) → at < length frames → frame ≡ get_or frames at frame
+    → item ≡ octets frame → SendsAll own (map octets (take at frames)) a b i j contents p q → Adds b c (Sends item ∷ []) → k ≡ j
+    → PrintsOn contents own (sent_entry item sending ∷ []) q r → SendsAll own (map octets (take (at + 1) frames)) a c i k contents p r
+sends_next octets own frames at frame item sending a b c i j k contents p q r within is says some adds same prints =
     let one : take (at + 1) frames ≡ take at frames ++ frame ∷ [] = take_more frames at frame within ∙ ap (λ x. take at frames ++ x ∷ []) (sym is) in
     let all : map octets (take (at + 1) frames) ≡ map octets (take at frames) ++ item ∷ [] =
     ap (map octets) one ∙ map-append octets (take at frames) (frame ∷ []) ∙ ap (λ x. map octets (take at frames) ++ x ∷ []) (sym says) in
-    subst (λ (xs : List (List ℕ)). SendsAll own xs a c contents p r) (sym all)
-    (sends_more own (map octets (take at frames)) item sending a b c contents p q r some adds prints)
+    subst (λ (xs : List (List ℕ)). SendsAll own xs a c i k contents p r) (sym all)
+    (sends_more own (map octets (take at frames)) item sending a b c i j k contents p q r some adds same prints)
 
 -- the next of some primitives is printed
 pub next_primitive : {W : Type 0} (own : Side) (primitives : List Primitive) (at : ℕ) (primitive : Primitive) (contents : W → Option (List ℕ)) (p q r : Printer W)
@@ -184,14 +191,14 @@ next_primitive own primitives at primitive contents p q r within is some now =
     (prints_on_both contents own (map Delivered (take at primitives)) (Delivered primitive ∷ []) p q r some now)
 
 -- a running side, by its parts
-abbrev pub live : {W : Type 0} → EitherSide → Option (List IoEvent) → (W → Option (List ℕ)) → Printer W → LiveState
-live side io_events contents printer = record { side = side; style = printer.style; io_events = io_events; shown = shown contents printer }
+abbrev pub live : {W : Type 0} → EitherSide → Option (List IoEvent) → Option Impairment → (W → Option (List ℕ)) → Printer W → LiveState
+live side io_events impairment contents printer = record { side = side; style = printer.style; io_events = io_events; impairment = impairment; shown = shown contents printer }
 
 pub carried : {W : Type 0} (contents : W → Option (List ℕ)) (side : EitherSide) (own : Side) (frames : List (List ℕ)) (primitives : List Primitive) (acts : Effects)
-    (a b : Option (List IoEvent)) (p q r : Printer W) → own ≡ side_of side → frames ≡ acts.frames → primitives ≡ acts.primitives
-    → SendsAll own frames a b contents p q → PrintsOn contents own (map Delivered primitives) q r
-    → IsCarriedOut acts (live side a contents p) (live side b contents r)
-carried contents side own frames primitives acts a b p q r is are same sends matched =
+    (a b : Option (List IoEvent)) (i j : Option Impairment) (p q r : Printer W) → own ≡ side_of side → frames ≡ acts.frames → primitives ≡ acts.primitives
+    → SendsAll own frames a b i j contents p q → PrintsOn contents own (map Delivered primitives) q r
+    → IsCarriedOut acts (live side a i contents p) (live side b j contents r)
+carried contents side own frames primitives acts a b i j p q r is are same sends matched =
     let printed_primitives : PrintsOn contents own (map Delivered acts.primitives) q r =
     subst (λ (x : List Primitive). PrintsOn contents own (map Delivered x) q r) same matched in
     let events : List LiveEvent = flat_map sending_events sends.outgoing ++ map primitive_event acts.primitives in
@@ -216,6 +223,7 @@ carried contents side own frames primitives acts a b p q r is are same sends mat
           own = refl;
           style = prints.style;
           io_events = subst (Adds a b) (sym io_events) sends.io_events;
+          impairment = sends.impairment;
           shown = subst (λ (xs : List Entry). Prints p.style (side_of side) xs (shown contents p) (shown contents r)) (sym entries)
               (subst (λ (x : Side). Prints p.style x (map outgoing_entry sends.outgoing ++ map Delivered acts.primitives) (shown contents p) (shown contents r)) is prints.prints);
         };

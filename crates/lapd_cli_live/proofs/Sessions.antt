@@ -22,7 +22,7 @@ use Rattle.lapd_cli_outside.specs.declared.outside.Lines.TheVariants.{Ignored}
 use Rattle.lapd_cli_live.specs.declared.service.EndReason.{EndReason}
 use Rattle.lapd_cli_live.specs.declared.service.EndReason.TheVariants as end_reason
 use Rattle.lapd_cli_live.specs.Log.{Chain, HappenBeside, LiveState}
-use Rattle.lapd_cli_live.specs.LineDone.{HasOwnTei}
+use Rattle.lapd_cli_live.specs.LineDone.{HasOwnTei, begun, is_expect}
 use Rattle.lapd_cli_live.specs.Typed.{IsFirstLine}
 use Rattle.lapd_cli_live.specs.Sessions.{AreTaken, Awaits, AwaitsInput, AwaitsQuietly, DoesLine, GreetedAndEnds, Greets, AddsMessages, InOrder, LineEnds, LinesEnd, LinesType, ObeysAs, Quits, ReadsPart, RequestEnds, ScriptEnds, ServesOn, Session, SessionEnds, StopsAt, StopsBy, TakesLines, Delivered, Types, TypesLast, TypesOn, stop_of}
 
@@ -373,7 +373,8 @@ reads_none before after (o ∷ part) held consumes none end = absurd (omega arit
 -- ---- The outcome of a line.
 
 pub obeyed_as : (why : Obeyed) (octets : List ℕ) (lines : Lines) (own : ℕ) (asked : LiveLine) (a mid b : LiveState) → HasOwnTei a.side own
-    → live_request_of_line (side_of a.side) own octets ≡ Some (live_request_of asked) → RequestEnds why asked lines a mid → HappenBeside [] mid b → ObeysAs why octets lines a b
+    → live_request_of_line (side_of a.side) own octets ≡ Some (live_request_of asked) → RequestEnds why asked lines (begun (is_expect asked) a) mid
+    → HappenBeside [] mid b → ObeysAs why octets lines a b
 obeyed_as obeyed.Done octets lines own asked a mid b own_is is ends beside = record { own = own; own_is = own_is; asked = asked; is = is; done_at = mid; does = ends; beside = beside }
 obeyed_as obeyed.Unmet octets lines own asked a mid b own_is is ends beside = record { own = own; own_is = own_is; asked = asked; is = is; missed_at = mid; misses = ends; beside = beside }
 obeyed_as obeyed.Bad octets lines own asked a mid b own_is is ends beside = absurd ends

@@ -1,20 +1,21 @@
 -- The lines of `state` and `stats`, put together.
 use Rattle.std.proofs.Common.{◌≡◌, ℕ, ◌+◌, ◌<◌, List, [], ◌∷◌, ◌++◌, get_or, length, take, Option, refl, sym, ap, subst, ◌∙◌}
 use Rattle.std.proofs.lemmas.List.{take_more}
-use Rattle.std.specs.Prelude.{Bool, true, false, ◌==◌, codes, map, Some}
+use Rattle.std.specs.Prelude.{Bool, true, false, ◌==◌, map, Some}
 use Rattle.lapd_timers.specs.Due.{Timers}
 use Rattle.lapd_cli_live_text.specs.LinkText.{management_text}
 use Rattle.lapd_table.specs.declared.link_id.LinkId.{LinkId}
 use Rattle.lapd_sides_links.specs.declared.side_fault.SideKind.TheVariants.{NoLink}
 use Rattle.lapd_sides.specs.declared.either_side.EitherSide.{EitherSide}
 use Rattle.lapd_sides.specs.Either.{side_of}
-use Rattle.lapd_cli_live_text.specs.AwaitedText.{shown_words}
 use Rattle.lapd_cli_outside.specs.declared.outside.Lines.{Lines}
-use Rattle.lapd_cli_live.specs.WaitingLines.{Expects}
-use Rattle.lapd_cli_live.specs.LineDone.{MissesLine}
+use Rattle.lapd_cli_live.specs.Unseen.{has_line}
+use Rattle.lapd_cli_live.specs.WaitingLines.{Expects, behind_line}
+use Rattle.lapd_cli_live.specs.LineDone.{LooksOut}
 use Rattle.lapd_cli_live.specs.declared.printer.Printer.{Printer}
 use Rattle.lapd_cli_outside.specs.IoEvents.{IoEvent}
-use Rattle.lapd_cli_live.specs.Entries.{Named, Worded, refused, stats_entries}
+use Rattle.lapd_cli_outside.specs.declared.impairment.Impairment.{Impairment}
+use Rattle.lapd_cli_live.specs.Entries.{Worded, refused, stats_entries}
 use Rattle.lapd_cli_live.specs.Printers.{PrintsOn}
 use Rattle.lapd_cli_live.specs.Log.{HappenBeside, LiveState, Shows}
 use Rattle.lapd_cli_live.specs.StateLines.{PutsLink, PutsNoLink, PutsState, RefusesLink, StateEach, line_unless_empty, management_events, shown_event}
@@ -33,13 +34,13 @@ refuses_link id a m b none prints = record {
   prints = subst (λ (x : LiveState). HappenBeside (Shows (refused NoLink) ∷ []) x b) none.same prints;
 }
 
-pub counts_printed : {W : Type 0} (contents : W → Option (List ℕ)) (side : EitherSide) (io_events : Option (List IoEvent)) (p q : Printer W) (discarded : ℕ)
+pub counts_printed : {W : Type 0} (contents : W → Option (List ℕ)) (side : EitherSide) (io_events : Option (List IoEvent)) (impairment : Option Impairment) (p q : Printer W) (discarded : ℕ)
     → PrintsOn contents (side_of side) (stats_entries p.stats discarded) p q
-    → HappenBeside (map shown_event (stats_entries p.stats discarded)) (live side io_events contents p) (live side io_events contents q)
-counts_printed contents side io_events p q discarded prints = record {
+    → HappenBeside (map shown_event (stats_entries p.stats discarded)) (live side io_events impairment contents p) (live side io_events impairment contents q)
+counts_printed contents side io_events impairment p q discarded prints = record {
   side = refl;
   moment = prints.prints.now;
-  happen = record { own = refl; style = prints.style; io_events = adds_none io_events; shown = prints.prints };
+  happen = record { own = refl; style = prints.style; io_events = adds_none io_events; impairment = refl; shown = prints.prints };
 }
 
 pub state_more : (ids : List LinkId) (id : LinkId) (matched : Bool) (a b c : LiveState) → StateEach ids a b → PutsState id matched b c → StateEach (ids ++ id ∷ []) a c
@@ -61,14 +62,10 @@ management_printed timers t now (first ∷ words) a b is are some prints =
     subst (λ (x : Option Timers). HappenBeside (management_events x now) a b) (sym is)
     (subst (λ (x : List ℕ). HappenBeside (line_unless_empty x) a b) are prints)
 
--- no line was found, and this is printed
-pub misses_line : (words : List ℕ) (ms : ℕ) (lines : Lines) (matched : Bool) (a m b : LiveState) → matched ≡ false → Expects words ms lines matched a m
-    → HappenBeside (Shows (Named (codes "expected") (shown_words words)) ∷ []) m b → MissesLine words ms lines a b
-misses_line words ms lines matched a m b none expects prints = record {
-  served_to = m;
-  expects = subst (λ (x : Bool). Expects words ms lines x a m) none expects;
-  prints = prints;
+-- no kept line begins with the words
+pub looks_out : (words : List ℕ) (ms : ℕ) (lines : Lines) (matched is : Bool) (a m b : LiveState) → has_line words a.shown.kept ≡ false → m ≡ behind_line words a
+    → Expects words ms lines matched m b → matched ≡ is → LooksOut words ms lines is a b
+looks_out words ms lines matched is a m b none taken expects same = record {
+  none_kept = none;
+  expects = subst (λ (x : LiveState). Expects words ms lines is x b) taken (subst (λ (x : Bool). Expects words ms lines x m b) same expects);
 }
-
-pub misses_from : (words : List ℕ) (ms : ℕ) (lines : Lines) (a m b : LiveState) → m ≡ a → MissesLine words ms lines m b → MissesLine words ms lines a b
-misses_from words ms lines a m b same misses = subst (λ (x : LiveState). MissesLine words ms lines x b) same misses

@@ -1,5 +1,5 @@
 -- The steps of a running side, put together.
-use Rattle.std.proofs.Common.{◌≡◌, ℕ, ◌+◌, ◌<◌, ◌≤◌, List, [], ◌∷◌, ◌++◌, length, Option, None, Some, Result, Ok, Err, OnOk, refl, sym, ap, subst, ◌∙◌, append_assoc, append-nil, inl, inr, arith}
+use Rattle.std.proofs.Common.{◌≡◌, ℕ, ◌+◌, ◌<◌, ◌≤◌, List, [], ◌∷◌, ◌++◌, length, Option, None, Some, Result, Ok, Err, OnOk, refl, sym, ap, subst, ◌∙◌, append_assoc, append-nil, inl, inr}
 use Rattle.std.specs.Prelude.{Bool, true, false, is_some, IfOk, OnErr, ⊤}
 use Rattle.std.proofs.lemmas.List.{length-append}
 use Rattle.lapd_frame.specs.declared.Side.{Side}
@@ -18,10 +18,11 @@ use Rattle.lapd_cli_live.specs.declared.service.EndReason.{EndReason}
 use Rattle.lapd_cli_live.specs.declared.service.EndReason.TheVariants as end_reason
 use Rattle.lapd_cli_outside.specs.declared.outside.Woken.{Woken}
 use Rattle.lapd_cli_outside.specs.IoEvents.{Adds, Arrives, IoEvent, Waits}
-use Rattle.lapd_cli_live.specs.Entries.{Entry, Prints, Received, moment_after, refused}
+use Rattle.lapd_cli_outside.specs.declared.impairment.Impairment.{Impairment}
+use Rattle.lapd_cli_live.specs.Entries.{Entry, Prints, Received, moment_after}
 use Rattle.lapd_cli_live.specs.Printers.{PrintsOn, shown}
-use Rattle.lapd_cli_live.specs.Log.{Around, CarriesOut, CarriesOutAll, Chain, Happen, HappenBeside, IsCarriedOut, LiveEvent, LiveState, ReadsClock, Shows, entries_in, io_events_in, is_matched, moment_of, read_at}
-use Rattle.lapd_cli_live.specs.Steps.{CatchesUp, DoesDue, EndsByFrame, Continues, IsReached, HasReceived, IsAsked, IsServed, Looks, LooksInVain, Receives, Step, TakesAll, TakesAndContinues, TakesAt, TakesFrame, TakesMost, WaitsFor, ended_by, most_frames, refusal_events}
+use Rattle.lapd_cli_live.specs.Log.{Around, CarriesOut, CarriesOutAll, Chain, Happen, HappenBeside, IsCarriedOut, LiveEvent, LiveState, ReadsClock, Shows, is_matched, moment_of, read_at}
+use Rattle.lapd_cli_live.specs.Steps.{CatchesUp, DoesDue, EndsByFrame, Continues, IsReached, HasReceived, IsAsked, IsServed, Looks, LooksInVain, Receives, Step, TakesAndContinues, TakesAt, TakesFrame, WaitsFor, ended_by, most_frames, refusal_events}
 use Rattle.lapd_cli_outside.proofs.IoEvents.{adds_none, adds_same}
 use Rattle.lapd_cli_live.proofs.Log.{chain_more, happen_both, happen_none, live, prints_none}
 
@@ -31,42 +32,44 @@ true_is_not_false is = cc
 -- ---- One event.
 
 -- a call to the surroundings
-pub io_event_happens : (a : LiveState) (io_events : Option (List IoEvent)) (io_event : IoEvent) → Adds a.io_events io_events (io_event ∷ []) → Happen (Around io_event ∷ []) a (record a { io_events = io_events })
-io_event_happens a io_events io_event adds = record { own = refl; style = refl; io_events = adds; shown = prints_none a.style (side_of a.side) a.shown }
+pub io_event_happens : (a : LiveState) (io_events : Option (List IoEvent)) (impairment : Option Impairment) (io_event : IoEvent) → Adds a.io_events io_events (io_event ∷ [])
+    → impairment ≡ a.impairment → Happen (Around io_event ∷ []) a (record a { io_events = io_events; impairment = impairment })
+io_event_happens a io_events impairment io_event adds same = record { own = refl; style = refl; io_events = adds; impairment = same; shown = prints_none a.style (side_of a.side) a.shown }
 
 -- an entry is printed, and the side may have changed
-pub entry_happens : {W : Type 0} (contents : W → Option (List ℕ)) (old new : EitherSide) (own : Side) (a b : Option (List IoEvent)) (p q : Printer W) (entry : Entry)
-    → side_of new ≡ side_of old → own ≡ side_of old → b ≡ a → PrintsOn contents own (entry ∷ []) p q
-    → Happen (Shows entry ∷ []) (live old a contents p) (live new b contents q)
-entry_happens contents old new own a b p q entry is same stays prints = record {
+pub entry_happens : {W : Type 0} (contents : W → Option (List ℕ)) (old new : EitherSide) (own : Side) (a b : Option (List IoEvent)) (i j : Option Impairment) (p q : Printer W) (entry : Entry)
+    → side_of new ≡ side_of old → own ≡ side_of old → b ≡ a → j ≡ i → PrintsOn contents own (entry ∷ []) p q
+    → Happen (Shows entry ∷ []) (live old a i contents p) (live new b j contents q)
+entry_happens contents old new own a b i j p q entry is same stays unchanged prints = record {
   own = is;
   style = prints.style;
   io_events = adds_same a b stays;
+  impairment = unchanged;
   shown = subst (λ (x : Side). Prints p.style x (entry ∷ []) (shown contents p) (shown contents q)) same prints.prints;
 }
 
 -- ---- Receiving.
 
-pub taken_at : {W : Type 0} (contents : W → Option (List ℕ)) (frame : List ℕ) (now : ℕ) (old new : EitherSide) (own : Side) (a b : Option (List IoEvent)) (p q : Printer W)
+pub taken_at : {W : Type 0} (contents : W → Option (List ℕ)) (frame : List ℕ) (now : ℕ) (old new : EitherSide) (own : Side) (a b : Option (List IoEvent)) (i j : Option Impairment) (p q : Printer W)
     (acts : Effects) (c : LiveState) → own ≡ side_of old → PrintsOn contents own (Received frame ∷ []) p q → Takes frame now (Ok tt) old new acts
-    → side_of new ≡ side_of old → b ≡ a → IsCarriedOut acts (live new b contents q) c → TakesAt frame now (live old a contents p) c
-taken_at contents frame now old new own a b p q acts c is prints takes same stays carried = record {
+    → side_of new ≡ side_of old → b ≡ a → j ≡ i → IsCarriedOut acts (live new b j contents q) c → TakesAt frame now (live old a i contents p) c
+taken_at contents frame now old new own a b i j p q acts c is prints takes same stays unchanged carried = record {
   acts = acts;
   takes = subst (λ (x : EitherSide). Takes frame now (Ok tt) old x acts) (sym carried.beside.side) takes;
   given = carried.events;
   carries = carried.carries;
   moment = carried.beside.moment ∙ prints.prints.now;
-  happen = happen_both (Shows (Received frame) ∷ []) carried.events (live old a contents p) (live new b contents q) c
-      (entry_happens contents old new own a b p q (Received frame) same is stays prints) carried.beside.happen;
+  happen = happen_both (Shows (Received frame) ∷ []) carried.events (live old a i contents p) (live new b j contents q) c
+      (entry_happens contents old new own a b i j p q (Received frame) same is stays unchanged prints) carried.beside.happen;
 }
 
-pub looked : (frame : List ℕ) (now : ℕ) (a m b : LiveState) (io_events : Option (List IoEvent)) → ReadsClock now a m → Adds m.io_events io_events (Arrives frame ∷ [])
-    → TakesAt frame now (record m { io_events = io_events }) b → TakesFrame a b
-looked frame now a m b io_events reads adds takes =
+pub looked : (frame : List ℕ) (now : ℕ) (a m b : LiveState) (io_events : Option (List IoEvent)) (impairment : Option Impairment) → ReadsClock now a m
+    → Adds m.io_events io_events (Arrives frame ∷ []) → impairment ≡ m.impairment → TakesAt frame now (record m { io_events = io_events; impairment = impairment }) b → TakesFrame a b
+looked frame now a m b io_events impairment reads adds same takes =
     let is : now ≡ moment_of b = sym (takes.moment ∙ reads.moment) in
     let all : Happen (read_at now ++ (Around (Arrives frame) ∷ Shows (Received frame) ∷ takes.given)) a b =
     happen_both (read_at now) (Around (Arrives frame) ∷ Shows (Received frame) ∷ takes.given) a m b reads.happen
-    (happen_both (Around (Arrives frame) ∷ []) (Shows (Received frame) ∷ takes.given) m (record m { io_events = io_events }) b (io_event_happens m io_events (Arrives frame) adds) takes.happen) in
+    (happen_both (Around (Arrives frame) ∷ []) (Shows (Received frame) ∷ takes.given) m (record m { io_events = io_events; impairment = impairment }) b (io_event_happens m io_events impairment (Arrives frame) adds same) takes.happen) in
     record {
       frame = frame;
       acts = takes.acts;
@@ -159,7 +162,7 @@ none_due now a = record { calls = []; are = refl; events = []; carries = refl; m
 
 -- the side changes, and nothing else
 pub side_changes : (a : LiveState) (side : EitherSide) → side_of side ≡ side_of a.side → Happen [] a (record a { side = side })
-side_changes a side is = record { own = is; style = refl; io_events = adds_none a.io_events; shown = prints_none a.style (side_of a.side) a.shown }
+side_changes a side is = record { own = is; style = refl; io_events = adds_none a.io_events; impairment = refl; shown = prints_none a.style (side_of a.side) a.shown }
 
 pub more_due : (now : ℕ) (a b c : LiveState) (side : EitherSide) (acts : Effects) → SomeDue now a b → Expires now b.side side acts → side_of side ≡ side_of b.side
     → IsCarriedOut acts (record b { side = side }) c → SomeDue now a c
@@ -207,25 +210,25 @@ asked request a b c side result acts refusal d caught answers is carried refuses
 pub beside_none : (a : LiveState) → HappenBeside [] a a
 beside_none a = record { side = refl; moment = refl; happen = happen_none a }
 
-pub beside_printed : {W : Type 0} (contents : W → Option (List ℕ)) (side : EitherSide) (io_events : Option (List IoEvent)) (p q : Printer W) (entry : Entry)
+pub beside_printed : {W : Type 0} (contents : W → Option (List ℕ)) (side : EitherSide) (io_events : Option (List IoEvent)) (impairment : Option Impairment) (p q : Printer W) (entry : Entry)
     → PrintsOn contents (side_of side) (entry ∷ []) p q → moment_after p.moment entry ≡ p.moment
-    → HappenBeside (Shows entry ∷ []) (live side io_events contents p) (live side io_events contents q)
-beside_printed contents side io_events p q entry prints stays = record {
+    → HappenBeside (Shows entry ∷ []) (live side io_events impairment contents p) (live side io_events impairment contents q)
+beside_printed contents side io_events impairment p q entry prints stays = record {
   side = refl;
   moment = prints.prints.now ∙ stays;
-  happen = entry_happens contents side side (side_of side) io_events io_events p q entry refl refl refl prints;
+  happen = entry_happens contents side side (side_of side) io_events io_events impairment impairment p q entry refl refl refl refl prints;
 }
 
 -- ---- Steps.
 
 -- the printed text is passed to the writer, and then the side waits
-pub flushed_and_waited : {W : Type 0} (contents : W → Option (List ℕ)) (side : EitherSide) (a b : Option (List IoEvent)) (p q : Printer W) (until : Option ℕ) (woken : Woken)
-    → PrintsOn contents (side_of side) [] p q → Adds a b (Waits until woken ∷ [])
-    → HappenBeside (Around (Waits until woken) ∷ []) (live side a contents p) (live side b contents q)
-flushed_and_waited contents side a b p q until woken prints adds = record {
+pub flushed_and_waited : {W : Type 0} (contents : W → Option (List ℕ)) (side : EitherSide) (a b : Option (List IoEvent)) (i j : Option Impairment) (p q : Printer W) (until : Option ℕ) (woken : Woken)
+    → PrintsOn contents (side_of side) [] p q → Adds a b (Waits until woken ∷ []) → j ≡ i
+    → HappenBeside (Around (Waits until woken) ∷ []) (live side a i contents p) (live side b j contents q)
+flushed_and_waited contents side a b i j p q until woken prints adds same = record {
   side = refl;
   moment = prints.prints.now;
-  happen = record { own = refl; style = prints.style; io_events = adds; shown = prints.prints };
+  happen = record { own = refl; style = prints.style; io_events = adds; impairment = same; shown = prints.prints };
 }
 
 pub caught_up : (until : Until) (end_reason : Option EndReason) (a b c : LiveState) → HasReceived until end_reason a b → is_some end_reason ≡ false → DoesDue b c → CatchesUp until a c
@@ -289,10 +292,10 @@ on_err (Ok done) P holds = tt
 on_err (Err fault) P holds = holds
 
 -- the printed text is passed to the writer
-pub flushed : {W : Type 0} (contents : W → Option (List ℕ)) (side : EitherSide) (io_events : Option (List IoEvent)) (p q : Printer W)
-    → PrintsOn contents (side_of side) [] p q → HappenBeside [] (live side io_events contents p) (live side io_events contents q)
-flushed contents side io_events p q prints = record {
+pub flushed : {W : Type 0} (contents : W → Option (List ℕ)) (side : EitherSide) (io_events : Option (List IoEvent)) (impairment : Option Impairment) (p q : Printer W)
+    → PrintsOn contents (side_of side) [] p q → HappenBeside [] (live side io_events impairment contents p) (live side io_events impairment contents q)
+flushed contents side io_events impairment p q prints = record {
   side = refl;
   moment = prints.prints.now;
-  happen = record { own = refl; style = prints.style; io_events = adds_none io_events; shown = prints.prints };
+  happen = record { own = refl; style = prints.style; io_events = adds_none io_events; impairment = refl; shown = prints.prints };
 }

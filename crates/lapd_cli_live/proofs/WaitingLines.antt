@@ -1,16 +1,18 @@
 -- The effect of lines that wait, put together.
-use Rattle.std.proofs.Common.{◌≡◌, ◌⊎◌, ℕ, List, [], Option, refl, sym, ap, subst, inl, inr, ◌∙◌}
-use Rattle.std.specs.Prelude.{Bool, false}
+use Rattle.std.proofs.Common.{◌≡◌, ◌⊎◌, ℕ, List, [], Option, sym, ap, subst, inl, inr, ◌∙◌}
+use Rattle.std.specs.Prelude.{Bool, true, false}
 use Rattle.std.specs.Io.KnownBytes.{append_known}
 use Rattle.lapd_sides.specs.declared.either_side.EitherSide.{EitherSide}
 use Rattle.lapd_cli_live.specs.declared.printer.Printer.{Printer}
 use Rattle.lapd_cli_live.specs.declared.service.EndReason.{EndReason}
 use Rattle.lapd_cli_live.specs.declared.service.EndReason.TheVariants as end_reason
 use Rattle.lapd_cli_outside.specs.IoEvents.{IoEvent}
+use Rattle.lapd_cli_outside.specs.declared.impairment.Impairment.{Impairment}
 use Rattle.lapd_cli_live.specs.Entries.{Shown}
 use Rattle.lapd_cli_live.specs.Printers.{Awaits, shown}
 use Rattle.lapd_cli_live.specs.Log.{HappenBeside, LiveState}
-use Rattle.lapd_cli_live.specs.WaitingLines.{awaiting, read_events}
+use Rattle.lapd_cli_live.specs.Unseen.{lines_behind, recent_lines}
+use Rattle.lapd_cli_live.specs.WaitingLines.{awaiting, behind_line, forgetting, keeping, read_events, with_kept}
 use Rattle.lapd_cli_live.proofs.Log.{live}
 use Rattle.lapd_cli_live.proofs.Steps.{beside_none}
 
@@ -18,19 +20,45 @@ use Rattle.lapd_cli_live.proofs.Steps.{beside_none}
 shown_awaiting : {W : Type 0} (contents : W → Option (List ℕ)) (words : List ℕ) (p q : Printer W) → Awaits words p q
     → shown contents q ≡ record (shown contents p) { awaited = words; matched = false }
 shown_awaiting {W = W} contents words p q awaits =
-    ap (λ (x : W). record { text = append_known (contents x) q.text.items; now = q.moment; stats = q.stats; awaited = q.awaited.items; matched = q.is_matched }) awaits.out
-    ∙ ap (λ text. record { text = append_known (contents p.out) text.items; now = q.moment; stats = q.stats; awaited = q.awaited.items; matched = q.is_matched }) awaits.text
-    ∙ ap (λ moment. record { text = append_known (contents p.out) p.text.items; now = moment; stats = q.stats; awaited = q.awaited.items; matched = q.is_matched }) awaits.moment
-    ∙ ap (λ stats. record { text = append_known (contents p.out) p.text.items; now = p.moment; stats = stats; awaited = q.awaited.items; matched = q.is_matched }) awaits.stats
-    ∙ ap (λ (awaited : List ℕ). record { text = append_known (contents p.out) p.text.items; now = p.moment; stats = p.stats; awaited = awaited; matched = q.is_matched }) awaits.awaited
-    ∙ ap (λ (matched : Bool). record { text = append_known (contents p.out) p.text.items; now = p.moment; stats = p.stats; awaited = words; matched = matched }) awaits.matched
+    ap (λ (x : W). record (shown contents q) { text = append_known (contents x) q.text.items }) awaits.out
+    ∙ ap (λ text. record (shown contents q) { text = append_known (contents p.out) text.items }) awaits.text
+    ∙ ap (λ moment. record (shown contents q) { text = append_known (contents p.out) p.text.items; now = moment }) awaits.moment
+    ∙ ap (λ stats. record (shown contents q) { text = append_known (contents p.out) p.text.items; now = p.moment; stats = stats }) awaits.stats
+    ∙ ap (λ (awaited : List ℕ). record (shown contents q) { text = append_known (contents p.out) p.text.items; now = p.moment; stats = p.stats; awaited = awaited }) awaits.awaited
+    ∙ ap (λ (matched : Bool). record (shown contents q) { text = append_known (contents p.out) p.text.items; now = p.moment; stats = p.stats; awaited = words; matched = matched }) awaits.matched
+    ∙ ap (λ unseen. record (shown contents p) { awaited = words; matched = false; keeps = unseen.is_retained; kept = recent_lines unseen }) awaits.unseen
 
 -- a side whose printer awaits a line
-pub is_awaiting : {W : Type 0} (contents : W → Option (List ℕ)) (side : EitherSide) (io_events : Option (List IoEvent)) (words : List ℕ) (p q : Printer W)
-    → Awaits words p q → live side io_events contents q ≡ awaiting words (live side io_events contents p)
-is_awaiting contents side io_events words p q awaits =
-    ap (λ style. record { side = side; style = style; io_events = io_events; shown = shown contents q }) awaits.style
-    ∙ ap (λ (x : Shown). record { side = side; style = p.style; io_events = io_events; shown = x }) (shown_awaiting contents words p q awaits)
+pub is_awaiting : {W : Type 0} (contents : W → Option (List ℕ)) (side : EitherSide) (io_events : Option (List IoEvent)) (impairment : Option Impairment) (words : List ℕ) (p q : Printer W)
+    → Awaits words p q → live side io_events impairment contents q ≡ awaiting words (live side io_events impairment contents p)
+is_awaiting contents side io_events impairment words p q awaits =
+    ap (λ style. record { side = side; style = style; io_events = io_events; impairment = impairment; shown = shown contents q }) awaits.style
+    ∙ ap (λ (x : Shown). record { side = side; style = p.style; io_events = io_events; impairment = impairment; shown = x }) (shown_awaiting contents words p q awaits)
+
+-- a side with other kept lines
+other_kept : {W : Type 0} (contents : W → Option (List ℕ)) (side : EitherSide) (io_events : Option (List IoEvent)) (impairment : Option Impairment) (keeps : Bool) (kept : List (List ℕ))
+    (p q : Printer W) → q ≡ record p { unseen = q.unseen } → q.unseen.is_retained ≡ keeps → recent_lines q.unseen ≡ kept
+    → live side io_events impairment contents q ≡ with_kept keeps kept (live side io_events impairment contents p)
+other_kept contents side io_events impairment keeps kept p q same retained lines =
+    ap (λ printer. live side io_events impairment contents printer) same
+    ∙ ap (λ (x : Bool). with_kept x (recent_lines q.unseen) (live side io_events impairment contents p)) retained
+    ∙ ap (λ (xs : List (List ℕ)). with_kept keeps xs (live side io_events impairment contents p)) lines
+
+pub is_keeping : {W : Type 0} (contents : W → Option (List ℕ)) (side : EitherSide) (io_events : Option (List IoEvent)) (impairment : Option Impairment) (p q : Printer W)
+    → q ≡ record p { unseen = q.unseen } → q.unseen.is_retained ≡ true → recent_lines q.unseen ≡ recent_lines p.unseen
+    → live side io_events impairment contents q ≡ keeping (live side io_events impairment contents p)
+is_keeping contents side io_events impairment p q same retained lines = other_kept contents side io_events impairment true (recent_lines p.unseen) p q same retained lines
+
+pub is_forgetting : {W : Type 0} (contents : W → Option (List ℕ)) (side : EitherSide) (io_events : Option (List IoEvent)) (impairment : Option Impairment) (p q : Printer W)
+    → q ≡ record p { unseen = q.unseen } → q.unseen.is_retained ≡ false → recent_lines q.unseen ≡ []
+    → live side io_events impairment contents q ≡ forgetting (live side io_events impairment contents p)
+is_forgetting contents side io_events impairment p q same retained lines = other_kept contents side io_events impairment false [] p q same retained lines
+
+pub is_behind : {W : Type 0} (contents : W → Option (List ℕ)) (side : EitherSide) (io_events : Option (List IoEvent)) (impairment : Option Impairment) (words : List ℕ) (p q : Printer W)
+    → q ≡ record p { unseen = q.unseen } → q.unseen.is_retained ≡ false → recent_lines q.unseen ≡ lines_behind words (recent_lines p.unseen)
+    → live side io_events impairment contents q ≡ behind_line words (live side io_events impairment contents p)
+is_behind contents side io_events impairment words p q same retained lines =
+    other_kept contents side io_events impairment false (lines_behind words (recent_lines p.unseen)) p q same retained lines
 
 -- `read` prints nothing if a frame was received
 pub read_nothing : (why : EndReason) (a : LiveState) → (why ≡ end_reason.Frame) ⊎ ((why ≡ end_reason.Matched) ⊎ (why ≡ end_reason.Line)) → HappenBeside (read_events why) a a

@@ -20,6 +20,7 @@ use Rattle.lapd_cli_live_text.specs.Stats.{received_counted, received_words, rep
 use Rattle.lapd_cli_outside.specs.declared.outside.Sending.{Sending}
 use Rattle.lapd_cli_outside.specs.declared.outside.Sending.TheVariants as sending
 use Rattle.lapd_cli_live.specs.declared.style.Style.{Style}
+use Rattle.lapd_cli_live.specs.Unseen.{with_line}
 
 -- Lines have this moment from here on. A frame is received, sent, or lost on purpose. A primitive
 -- is passed to layer 3. A line consists of a name and a text, or of words and numbers.
@@ -144,16 +145,29 @@ begins_so awaited line = not (length awaited == 0) && starts_with nat_eq line aw
 abbrev pub is_awaited : Style → Side → List ℕ → Entry → Bool
 is_awaited style own awaited entry = begins_so awaited (line_of style own entry)
 
+-- ---- Lines that are kept for a later `expect`.
+
+-- a printed line is kept, if lines are kept
+abbrev pub line_kept : Bool → List ℕ → List (List ℕ) → List (List ℕ)
+line_kept keeps [] kept = kept
+line_kept keeps (first ∷ line) kept = with_line keeps (first ∷ line) kept
+
+abbrev pub entry_kept : Style → Side → Bool → List (List ℕ) → Entry → List (List ℕ)
+entry_kept style own keeps kept entry = line_kept keeps (line_of style own entry) kept
+
 -- ---- A printer.
 
--- the printed text, if it is known; the moment of the lines; the counts; the awaited words, and
--- whether a line that begins with them was printed
+-- The printed text, if it is known; the moment of the lines; the counts; the awaited words, and
+-- whether a line that begins with them was printed; whether printed lines are kept, and the kept
+-- ones.
 pub record Shown : Type 0 where
   pub text : Option (List ℕ)
   pub now : ℕ
   pub stats : Stats
   pub awaited : List ℕ
   pub matched : Bool
+  pub keeps : Bool
+  pub kept : List (List ℕ)
 
 -- a printer has printed and counted exactly these entries
 pub record Prints (style : Style) (own : Side) (entries : List Entry) (old new : Shown) : Type 0
@@ -164,6 +178,8 @@ pub record Prints (style : Style) (own : Side) (entries : List Entry) (old new :
     pub awaited : new.awaited ≡ old.awaited
     pub matched : new.matched
         ≡ (old.matched || list_any (is_awaited style own old.awaited) entries)
+    pub keeps : new.keeps ≡ old.keeps
+    pub kept : new.kept ≡ fold (entry_kept style own old.keeps) old.kept entries
 
 -- the three lines of statistics, including the number of discarded frames
 abbrev pub stats_entries : Stats → ℕ → List Entry

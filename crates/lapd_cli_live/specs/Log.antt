@@ -7,8 +7,9 @@ use Rattle.lapd_sides.specs.declared.either_side.EitherSide.{EitherSide}
 use Rattle.lapd_sides.specs.Either.{side_of}
 use Rattle.lapd_cli_live.specs.declared.style.Style.{Style}
 use Rattle.lapd_cli_live.specs.declared.live_side.LiveSide.{LiveSide}
-use Rattle.lapd_cli_outside.specs.IoEvents.{Adds, Arrives, IoEvent, FindsNone, Reads, Sends}
-use Rattle.lapd_cli_live.specs.Entries.{Dated, Entry, Outgoing, Prints, Received, Shown, Delivered, octets_of, outgoing_entry}
+use Rattle.lapd_cli_outside.specs.declared.impairment.Impairment.{Impairment}
+use Rattle.lapd_cli_outside.specs.IoEvents.{Adds, IoEvent, Reads, Sends}
+use Rattle.lapd_cli_live.specs.Entries.{Dated, Entry, Outgoing, Prints, Shown, Delivered, octets_of, outgoing_entry}
 use Rattle.lapd_cli_live.specs.Printers.{shown}
 
 -- a call to the surroundings, or an entry that is printed and counted
@@ -27,20 +28,23 @@ entries_in [] = []
 entries_in (Around io_event ∷ events) = entries_in events
 entries_in (Shows entry ∷ events) = entry ∷ entries_in events
 
--- A running side: its style, its calls to the surroundings, if they are recorded, and what it has
--- printed and counted. Its lines have the moment at which the clock was last read.
+-- A running side: its style, its calls to the surroundings, if they are recorded, how its frames
+-- are impaired, if that is known, and what it has printed and counted. Its lines have the moment at
+-- which the clock was last read.
 pub record LiveState : Type 0 where
   pub side : EitherSide
   pub style : Style
   pub io_events : Option (List IoEvent)
+  pub impairment : Option Impairment
   pub shown : Shown
 
-abbrev pub state_of : {O W : Type 0} → (O → Option (List IoEvent)) → (W → Option (List ℕ))
-    → LiveSide O W → LiveState
-state_of io_events contents live = record {
+abbrev pub state_of : {O W : Type 0} → (O → Option (List IoEvent)) → (O → Option Impairment)
+    → (W → Option (List ℕ)) → LiveSide O W → LiveState
+state_of io_events impaired_by contents live = record {
   side = live.side;
   style = live.printer.style;
   io_events = io_events live.outside;
+  impairment = impaired_by live.outside;
   shown = shown contents live.printer;
 }
 
@@ -51,16 +55,18 @@ abbrev pub is_matched : LiveState → Bool
 is_matched s = s.shown.matched
 
 -- this holds for a live side before and after a call
-abbrev pub Between : {O W : Type 0} → (O → Option (List IoEvent)) → (W → Option (List ℕ))
-    → LiveSide O W → LiveSide O W → (LiveState → LiveState → Type 0) → Type 0
-Between io_events contents old new R = R (state_of io_events contents old)
-    (state_of io_events contents new)
+abbrev pub Between : {O W : Type 0} → (O → Option (List IoEvent)) → (O → Option Impairment)
+    → (W → Option (List ℕ)) → LiveSide O W → LiveSide O W
+    → (LiveState → LiveState → Type 0) → Type 0
+Between io_events impaired_by contents old new R = R (state_of io_events impaired_by contents old)
+    (state_of io_events impaired_by contents new)
 
--- exactly these events happen
+-- exactly these events happen, and frames are impaired as before
 pub record Happen (events : List LiveEvent) (a b : LiveState) : Type 0 where
   pub own : side_of b.side ≡ side_of a.side
   pub style : b.style ≡ a.style
   pub io_events : Adds a.io_events b.io_events (io_events_in events)
+  pub impairment : b.impairment ≡ a.impairment
   pub shown : Prints a.style (side_of a.side) (entries_in events) a.shown b.shown
 
 -- they happen, and the side and the moment of its lines are unchanged

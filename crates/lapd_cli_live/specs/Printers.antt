@@ -4,7 +4,9 @@ use Rattle.std.specs.Io.KnownBytes.{append_known}
 use Rattle.lapd_frame.specs.declared.Side.{Side}
 use Rattle.lapd_cli_live.specs.declared.printer.Printer.{Printer}
 use Rattle.lapd_cli_outside.specs.IoEvents.{Adds, IoEvent, all_sent}
-use Rattle.lapd_cli_live.specs.Entries.{Entry, Outgoing, Prints, Shown, begins_so, octets_of, outgoing_entry, printed_line}
+use Rattle.lapd_cli_outside.specs.declared.impairment.Impairment.{Impairment}
+use Rattle.lapd_cli_live.specs.Entries.{Entry, Outgoing, Prints, Shown, begins_so, line_kept, octets_of, outgoing_entry, printed_line}
+use Rattle.lapd_cli_live.specs.Unseen.{recent_lines}
 
 -- the printed text is what the writer has, followed by the text that is not written yet
 abbrev pub shown : {W : Type 0} → (W → Option (List ℕ)) → Printer W → Shown
@@ -14,6 +16,8 @@ shown contents printer = record {
   stats = printer.stats;
   awaited = printer.awaited.items;
   matched = printer.is_matched;
+  keeps = printer.unseen.is_retained;
+  kept = recent_lines printer.unseen;
 }
 
 -- exactly these entries are printed and counted, in the same style
@@ -32,6 +36,9 @@ pub record PutsLine {W : Type 0} (line object : List ℕ) (old new : Printer W) 
   pub text : new.text.items
       ≡ old.text.items ++ printed_line old.style old.moment line object
   pub matched : new.is_matched ≡ (old.is_matched || begins_so old.awaited.items line)
+  pub keeps : new.unseen.is_retained ≡ old.unseen.is_retained
+  pub kept : recent_lines new.unseen
+      ≡ line_kept old.unseen.is_retained line (recent_lines old.unseen)
 
 -- from here on a line that begins with these words is awaited, and none was printed since
 pub record Awaits {W : Type 0} (words : List ℕ) (old new : Printer W) : Type 0 where
@@ -42,12 +49,14 @@ pub record Awaits {W : Type 0} (words : List ℕ) (old new : Printer W) : Type 0
   pub text : new.text ≡ old.text
   pub awaited : new.awaited.items ≡ words
   pub matched : new.is_matched ≡ false
+  pub unseen : new.unseen ≡ old.unseen
 
--- these frames are sent, and each is printed once it is sent
+-- these frames are sent, with the same impairment, and each is printed once it is sent
 pub record SendsAll {W : Type 0} (own : Side) (frames : List (List ℕ))
-    (before after : Option (List IoEvent))
+    (before after : Option (List IoEvent)) (first last : Option Impairment)
     (contents : W → Option (List ℕ)) (old new : Printer W) : Type 0 where
   pub outgoing : List Outgoing
   pub octets : map octets_of outgoing ≡ frames
   pub io_events : Adds before after (all_sent frames)
+  pub impairment : last ≡ first
   pub prints : PrintsOn contents own (map outgoing_entry outgoing) old new

@@ -4,7 +4,7 @@ use Rattle.lapd_cli_live.specs.declared.service.Until.{Until}
 use Rattle.lapd_cli_outside.specs.declared.outside.Woken.TheVariants as woken
 use Rattle.lapd_cli_outside.specs.IoEvents.{Arrives, IoEvent, FindsNone, Reads, Sends, Waits}
 use Rattle.lapd_cli_live.specs.Log.{LiveState, moment_of}
-use Rattle.lapd_cli_live.specs.Steps.{CatchesUp, DoesDue, Receives, TakesMost}
+use Rattle.lapd_cli_live.specs.Steps.{DoesDue, Receives, TakesMost}
 
 -- a frame that arrives at a moment, in milliseconds since the start
 pub record Arrival : Type 0 where

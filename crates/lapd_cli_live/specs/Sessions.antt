@@ -19,6 +19,7 @@ use Rattle.lapd_cli_live.specs.declared.live_side.LiveSide.{LiveSide}
 use Rattle.lapd_cli_live.specs.declared.input.LiveStop.TheVariants.{Script, Unmet}
 use Rattle.lapd_cli_live.specs.declared.obeyed.Obeyed.{Obeyed}
 use Rattle.lapd_cli_live.specs.declared.obeyed.Obeyed.TheVariants as obeyed
+use Rattle.lapd_cli_outside.specs.declared.impairment.Impairment.{Impairment}
 use Rattle.lapd_cli_outside.specs.declared.outside.Lines.{Lines}
 use Rattle.lapd_cli_outside.specs.declared.outside.Lines.TheVariants.{Awaited, Ignored}
 use Rattle.lapd_cli_live.specs.declared.service.EndReason.{EndReason}
@@ -28,8 +29,8 @@ use Rattle.lapd_cli_outside.specs.IoEvents.{IoEvent}
 use Rattle.lapd_cli_live.specs.Typed.{typed_action_of}
 use Rattle.lapd_cli_live.specs.Log.{Chain, HappenBeside, LiveState, state_of}
 use Rattle.lapd_cli_live.specs.Steps.{IsServed}
-use Rattle.lapd_cli_live.specs.WaitingLines.{Runs, service}
-use Rattle.lapd_cli_live.specs.LineDone.{HasOwnTei, LineDone, MissesLine, Obeys}
+use Rattle.lapd_cli_live.specs.WaitingLines.{Runs, keeping, service}
+use Rattle.lapd_cli_live.specs.LineDone.{HasOwnTei, LineDone, MissesLine, Obeys, begun, is_expect}
 
 -- ---- One line.
 
@@ -54,7 +55,7 @@ pub record IsUnmet (octets : List ℕ) (lines : Lines) (a b : LiveState) : Type 
   pub asked : LiveLine
   pub is : live_request_of_line (side_of a.side) own octets ≡ Some (live_request_of asked)
   pub missed_at : LiveState
-  pub misses : RequestEnds obeyed.Unmet asked lines a missed_at
+  pub misses : RequestEnds obeyed.Unmet asked lines (begun (is_expect asked) a) missed_at
   pub beside : HappenBeside [] missed_at b
 
 -- the outcome of a line
@@ -65,9 +66,10 @@ ObeysAs obeyed.Unmet octets lines a b = IsUnmet octets lines a b
 
 -- ---- Waits for input.
 
--- the side runs until a line of input can be read, or the connection is closed
+-- the side runs until a line of input can be read, or the connection is closed; the lines that it
+-- prints are kept for a later `expect`
 abbrev pub AwaitsInput : EndReason → LiveState → LiveState → Type 0
-AwaitsInput end_reason a b = IsServed (service None until.End Awaited) end_reason a b
+AwaitsInput end_reason a b = IsServed (service None until.End Awaited) end_reason (keeping a) b
 
 abbrev pub AwaitsOnce : LiveState → LiveState → Type 0
 AwaitsOnce a b = (end_reason : EndReason) × AwaitsInput end_reason a b
@@ -188,10 +190,10 @@ pub record Session : Type 0 where
   pub live : LiveState
   pub reported : Option (List Delivered)
 
-abbrev pub session_of : {O W P : Type 0} → (O → Option (List IoEvent)) → (W → Option (List ℕ))
-    → (P → Option (List Delivered)) → LiveSide O W → P → Session
-session_of io_events contents reported live person = record {
-  live = state_of io_events contents live;
+abbrev pub session_of : {O W P : Type 0} → (O → Option (List IoEvent)) → (O → Option Impairment)
+    → (W → Option (List ℕ)) → (P → Option (List Delivered)) → LiveSide O W → P → Session
+session_of io_events impaired_by contents reported live person = record {
+  live = state_of io_events impaired_by contents live;
   reported = reported person;
 }
 

@@ -19,13 +19,13 @@ abbrev pub with_line : Bool → List ℕ → List (List ℕ) → List (List ℕ)
 with_line preserved line lines = if preserved
     then (if nat_le 1000 (length lines) then [] else lines) ++ line ∷ [] else lines
 
--- a line begins with these words
+-- a line of a vector begins with these words
 abbrev pub begins_with : List ℕ → Vec ℕ Global → Bool
 begins_with words line = starts_with nat_eq line.items words
 
--- one of the kept lines begins with these words
-abbrev pub has_line : List ℕ → Unseen → Bool
-has_line words unseen = list_any (begins_with words) unseen.lines.items
+-- one of some lines begins with these words
+abbrev pub has_line : List ℕ → List (List ℕ) → Bool
+has_line words lines = list_any (λ line. starts_with nat_eq line words) lines
 
 -- the lines after the first one that begins with these words; none if no line begins so
 abbrev pub lines_behind : List ℕ → List (List ℕ) → List (List ℕ)

@@ -117,7 +117,7 @@ pub fn live_script<R: Read, O: Outside, W: Write>(
     serve_on: bool,
 ) -> (Result<(), LiveStop>, LiveSide<O, W>)
     ensures { IfSome (R.remaining script.old)
-        (λ octets. Between O.io_events W.contents live result.1
+        (λ octets. Between O.io_events O.impaired_by W.contents live result.1
         (ScriptEnds serve_on result.0 (lines_of octets))) }
 {
     let ended = run_script(alloc, &mut live, script, serve_on);
@@ -145,8 +145,8 @@ pub fn live_session<R: Read, P: Person, O: Outside, W: Write>(
 ) -> (Result<(), LiveStop>, LiveSide<O, W>)
     ensures { IfSome (R.remaining lines.old) (λ octets. OnOk result.0
         (GreetedAndEnds P.tidy serve_on (lines_of octets)
-        (session_of O.io_events W.contents P.reported live person.old)
-        (session_of O.io_events W.contents P.reported result.1 person.new))) }
+        (session_of O.io_events O.impaired_by W.contents P.reported live person.old)
+        (session_of O.io_events O.impaired_by W.contents P.reported result.1 person.new))) }
 {
     person.greet();
     match converse(alloc, &mut live, lines, person, serve_on) {
@@ -163,7 +163,7 @@ fn run_script<R: Read, O: Outside, W: Write>(
     serve_on: bool,
 ) -> Result<(), LiveStop>
     ensures { IfSome (R.remaining script.old) (λ octets.
-        Between O.io_events W.contents live.old live.new
+        Between O.io_events O.impaired_by W.contents live.old live.new
         (ScriptEnds serve_on result (lines_of octets))) }
 {
     let mut lines = TypedLines::new(alloc);
@@ -187,7 +187,7 @@ fn do_script_lines<O: Outside, W: Write>(
     lines: &mut TypedLines,
     number: &mut u64,
 ) -> Result<(), LiveStop>
-    ensures { Between O.io_events W.contents live.old live.new
+    ensures { Between O.io_events O.impaired_by W.contents live.old live.new
         (LinesEnd result lines.old.text.items lines.new.text.items number.old number.new) }
 {
     for _line in 0..u64::MAX {
@@ -205,7 +205,7 @@ fn do_script_line<O: Outside, W: Write>(
     line: &[u8],
     number: &mut u64,
 ) -> Result<(), LiveStop>
-    ensures { Between O.io_events W.contents live.old live.new
+    ensures { Between O.io_events O.impaired_by W.contents live.old live.new
         (LineEnds result line.now number.old number.new) }
 {
     let Some(this) = number.checked_add(1) else {
@@ -232,8 +232,8 @@ fn converse<R: Read, P: Person, O: Outside, W: Write>(
 ) -> Result<(), LiveFault>
     ensures { IfSome (R.remaining lines.old) (λ octets. OnOk result
         (SessionEnds P.tidy serve_on (lines_of octets)
-        (session_of O.io_events W.contents P.reported live.old person.old)
-        (session_of O.io_events W.contents P.reported live.new person.new))) }
+        (session_of O.io_events O.impaired_by W.contents P.reported live.old person.old)
+        (session_of O.io_events O.impaired_by W.contents P.reported live.new person.new))) }
 {
     let mut typed = TypedLines::new(alloc);
     for _read in 0..u64::MAX {
@@ -261,8 +261,8 @@ fn do_typed_lines<P: Person, O: Outside, W: Write>(
 ) -> Result<bool, LiveFault>
     ensures { IfOk result (λ goes_on.
         LinesType P.tidy goes_on typed.old.text.items typed.new.text.items
-        (session_of O.io_events W.contents P.reported live.old person.old)
-        (session_of O.io_events W.contents P.reported live.new person.new)) }
+        (session_of O.io_events O.impaired_by W.contents P.reported live.old person.old)
+        (session_of O.io_events O.impaired_by W.contents P.reported live.new person.new)) }
 {
     for _line in 0..u64::MAX {
         let Some(line) = typed.next_line()? else {
@@ -282,8 +282,8 @@ fn do_last<P: Person, O: Outside, W: Write>(
     person: &mut P,
 ) -> Result<bool, LiveFault>
     ensures { IfOk result (λ goes_on. TypesLast P.tidy line.now goes_on
-        (session_of O.io_events W.contents P.reported live.old person.old)
-        (session_of O.io_events W.contents P.reported live.new person.new)) }
+        (session_of O.io_events O.impaired_by W.contents P.reported live.old person.old)
+        (session_of O.io_events O.impaired_by W.contents P.reported live.new person.new)) }
 {
     match line {
         [] => Ok(true),
@@ -298,8 +298,8 @@ fn do_typed<P: Person, O: Outside, W: Write>(
     person: &mut P,
 ) -> Result<bool, LiveFault>
     ensures { IfOk result (λ goes_on. Types P.tidy line.now goes_on
-        (session_of O.io_events W.contents P.reported live.old person.old)
-        (session_of O.io_events W.contents P.reported live.new person.new)) }
+        (session_of O.io_events O.impaired_by W.contents P.reported live.old person.old)
+        (session_of O.io_events O.impaired_by W.contents P.reported live.new person.new)) }
 {
     let line = person.tidied(line)?;
     let line = line.as_slice();
@@ -339,8 +339,8 @@ fn obey_typed<P: Person, O: Outside, W: Write>(
     person: &mut P,
 ) -> Result<(), LiveFault>
     ensures { OnOk result (TypedEnds Obey line.now true
-        (session_of O.io_events W.contents P.reported live.old person.old)
-        (session_of O.io_events W.contents P.reported live.new person.new)) }
+        (session_of O.io_events O.impaired_by W.contents P.reported live.old person.old)
+        (session_of O.io_events O.impaired_by W.contents P.reported live.new person.new)) }
 {
     match live.obey(line, Lines::Awaited)? {
         Obeyed::Bad => {
@@ -356,7 +356,8 @@ fn serve_to_end<O: Outside, W: Write>(
     live: &mut LiveSide<O, W>,
     serve_on: bool,
 ) -> Result<(), LiveFault>
-    ensures { OnOk result (Between O.io_events W.contents live.old live.new (ServesOn serve_on)) }
+    ensures { OnOk result
+        (Between O.io_events O.impaired_by W.contents live.old live.new (ServesOn serve_on)) }
 {
     if serve_on {
         return live.run(None, Lines::Ignored);

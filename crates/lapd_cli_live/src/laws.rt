@@ -1,10 +1,12 @@
 //! Laws of the service.
 
-ghost use Rattle.std.specs.Prelude.{◌≡◌, List, Some};
+ghost use Rattle.std.specs.Prelude.{◌≡◌, ℕ, Bool, List, Some};
 ghost use Rattle.lapd_cli_live.specs.declared.service.Until.{Until};
 ghost use Rattle.lapd_cli_outside.specs.IoEvents.{IoEvent};
+ghost use Rattle.lapd_cli_outside.specs.declared.outside.Lines.{Lines};
 ghost use Rattle.lapd_cli_live.specs.Log.{LiveState};
 ghost use Rattle.lapd_cli_live.specs.Steps.{CatchesUp};
+ghost use Rattle.lapd_cli_live.specs.WaitingLines.{Expects, PrintsMeanwhile};
 ghost use Rattle.lapd_cli_live.specs.PromptLine.{Arrival, ExpiresInTime, IsPrompt, one_left, three_at_once, three_received};
 
 /// No timer expires early. Before the side expires timers for a moment, it receives every frame
@@ -22,4 +24,11 @@ pub fn no_timer_expires_early()
 pub fn prompt_lines_are_computed()
     ensures three { IsPrompt three_at_once three_received }
     ensures left { IsPrompt three_at_once one_left → ⊥ }
+{}
+
+/// While an `expect` serves the side, it finds a line exactly if the side prints one that begins
+/// with the words.
+pub fn expect_finds_what_is_printed()
+    ensures { (words : List ℕ) (ms : ℕ) (lines : Lines) (matched : Bool) (a b : LiveState)
+        → Expects words ms lines matched a b → PrintsMeanwhile words ms matched a b }
 {}

@@ -1,24 +1,23 @@
 //! The lines of input of a side that runs on the real clock, and how each is executed.
 
 ghost use Rattle.std.specs.Prelude.{◌≡◌, IfOk, OnOk};
+ghost use Rattle.lapd_cli_live.specs.LineDone.{is_expect as is_expect_line};
 
 use crate::fault::LiveFault;
 use crate::live_side::LiveSide;
 use crate::obeyed::Obeyed;
 use crate::service::{EndReason, Service, Until};
 use lapd_cli_live_text::{LiveLine, awaited_text, push_link, push_management, read_live_line};
-use lapd_cli_outside::{Lines, Outside};
+use lapd_cli_outside::{Impairment, Lines, Outside};
 use lapd_cli_script::LineFault;
 use lapd_sides::{EitherSide, LinkId, SideKind, Tei};
 use std::io::Write;
 
 impl<O: Outside, W: Write> LiveSide<O, W> {
-    ghost use Rattle.std.specs.Prelude.{[], true, false, Ok, if◌then◌else◌};
-    ghost use Rattle.lapd_cli_live.specs.Log.{Between, HappenBeside};
+    ghost use Rattle.lapd_cli_live.specs.Log.{Between};
     ghost use Rattle.lapd_cli_live.specs.StateLines.{PutsManagement, PutsState, StateEach, StatesAll, StatesCounts, StatesLink};
-    ghost use Rattle.lapd_cli_live.specs.LineDone.{ExpectDone, ExpectsFromHere, HasOwnTei};
+    ghost use Rattle.lapd_cli_live.specs.LineDone.{ExpectDone, HasOwnTei, begun, impaired_as};
     ghost use Rattle.lapd_cli_live.specs.Sessions.{AwaitsInput, ObeysAs, RequestEnds};
-    ghost use Rattle.lapd_cli_live.specs.Unseen.{has_line, recent_lines, lines_behind};
     ghost use Rattle.lapd_cli_live.specs.WaitingLines.{Expects, Reads, Runs};
 
     /// Executes a line of input, without its line feed, and returns what became of it. If `lines`
@@ -30,7 +29,8 @@ impl<O: Outside, W: Write> LiveSide<O, W> {
     ///
     /// `Line(Device)`, `Line(Memory)` and `Port`.
     pub fn obey(&mut self, line: &[u8], lines: Lines) -> Result<Obeyed, LiveFault>
-        ensures { IfOk result (λ obeyed. Between O.io_events W.contents self.old self.new
+        ensures { IfOk result (λ obeyed.
+            Between O.io_events O.impaired_by W.contents self.old self.new
             (ObeysAs obeyed line.now lines)) }
     {
         let side = self.side.side();
@@ -40,7 +40,7 @@ impl<O: Outside, W: Write> LiveSide<O, W> {
             Err(LineFault::Bad) => return Ok(Obeyed::Bad),
             Err(fault) => return Err(LiveFault::Line(fault)),
         };
-        self.begin_line(matches!(&line, LiveLine::Expect(..)));
+        self.begin_line(is_expect(&line));
         match self.do_line(line, lines) {
             Ok(obeyed) => {
                 self.printer.flush()?;
@@ -55,21 +55,20 @@ impl<O: Outside, W: Write> LiveSide<O, W> {
 
     /// Begins a line of input. Unless it is an `expect`, the kept lines are forgotten.
     fn begin_line(&mut self, is_expect: bool)
-        ensures same { self.new ≡ record self.old {
-          printer = record self.old.printer { unseen = self.new.printer.unseen };
-        } }
-        ensures lines { recent_lines self.new.printer.unseen
-            ≡ (if is_expect then recent_lines self.old.printer.unseen else []) }
+        ensures { Between O.io_events O.impaired_by W.contents self.old self.new
+            (λ a b. b ≡ begun is_expect a) }
     {
-        if !is_expect {
-            self.printer.forget_unseen();
+        if is_expect {
+            return;
         }
+        self.printer.forget_unseen();
     }
 
     /// Executes a request. Returns `Unmet` if an expected line was not printed in time, else
     /// `Done`.
     fn do_line(&mut self, line: LiveLine<'_>, lines: Lines) -> Result<Obeyed, LiveFault>
-        ensures { IfOk result (λ obeyed. Between O.io_events W.contents self.old self.new
+        ensures { IfOk result (λ obeyed.
+            Between O.io_events O.impaired_by W.contents self.old self.new
             (RequestEnds obeyed line.entry lines)) }
     {
         match line {
@@ -84,7 +83,7 @@ impl<O: Outside, W: Write> LiveSide<O, W> {
             LiveLine::State(None) => self.put_links()?,
             LiveLine::Stats => self.put_stats()?,
             LiveLine::Ask(request) => self.ask(request)?,
-            LiveLine::Impair(impairment) => self.outside.impair(impairment),
+            LiveLine::Impair(impairment) => self.impair(impairment),
         }
         Ok(Obeyed::Done)
     }
@@ -102,7 +101,8 @@ impl<O: Outside, W: Write> LiveSide<O, W> {
 
     /// Serves the side until a line of input can be read or the connection is closed.
     pub(crate) fn await_input(&mut self) -> Result<EndReason, LiveFault>
-        ensures { IfOk result (λ end_reason. Between O.io_events W.contents self.old self.new
+        ensures { IfOk result (λ end_reason.
+            Between O.io_events O.impaired_by W.contents self.old self.new
             (AwaitsInput end_reason)) }
     {
         self.printer.retain_unseen();
@@ -115,7 +115,8 @@ impl<O: Outside, W: Write> LiveSide<O, W> {
 
     /// Serves the side for `ms` milliseconds, or until the connection is closed.
     pub(crate) fn run(&mut self, ms: Option<u64>, lines: Lines) -> Result<(), LiveFault>
-        ensures { OnOk result (Between O.io_events W.contents self.old self.new (Runs ms lines)) }
+        ensures { OnOk result
+            (Between O.io_events O.impaired_by W.contents self.old self.new (Runs ms lines)) }
     {
         let end = self.end_after(ms)?;
         self.serve(Service {
@@ -129,7 +130,8 @@ impl<O: Outside, W: Write> LiveSide<O, W> {
     /// Serves the side until it has processed the next frame, but for at most `ms` milliseconds if
     /// given.
     fn read(&mut self, ms: Option<u64>, lines: Lines) -> Result<(), LiveFault>
-        ensures { OnOk result (Between O.io_events W.contents self.old self.new (Reads ms lines)) }
+        ensures { OnOk result
+            (Between O.io_events O.impaired_by W.contents self.old self.new (Reads ms lines)) }
     {
         let end = self.end_after(ms)?;
         let service = Service {
@@ -148,16 +150,9 @@ impl<O: Outside, W: Write> LiveSide<O, W> {
     /// `ms` milliseconds among those that are printed while the side is served. Returns whether
     /// there was one, and prints it if not.
     fn expect(&mut self, words: &[u8], ms: u64, lines: Lines) -> Result<bool, LiveFault>
-        ensures done { IfOk result (λ matched. Between O.io_events W.contents self.old self.new
+        ensures { IfOk result (λ matched.
+            Between O.io_events O.impaired_by W.contents self.old self.new
             (ExpectDone words.now ms lines matched)) }
-        ensures seen { has_line words.now self.old.printer.unseen ≡ true
-            → (result ≡ Ok true) × Between O.io_events W.contents self.old self.new
-            (HappenBeside [])
-            × (recent_lines self.new.printer.unseen
-            ≡ lines_behind words.now (recent_lines self.old.printer.unseen)) }
-        ensures unseen { has_line words.now self.old.printer.unseen ≡ false → IfOk result
-            (λ matched. Between O.io_events W.contents self.old self.new
-            (ExpectsFromHere words.now ms lines matched)) }
     {
         if self.printer.take_unseen(words) {
             return Ok(true);
@@ -173,7 +168,8 @@ impl<O: Outside, W: Write> LiveSide<O, W> {
     /// Serves the side until it prints a line that begins with these words, but for at most `ms`
     /// milliseconds. Returns whether it printed one.
     fn await_words(&mut self, words: &[u8], ms: u64, lines: Lines) -> Result<bool, LiveFault>
-        ensures { IfOk result (λ matched. Between O.io_events W.contents self.old self.new
+        ensures { IfOk result (λ matched.
+            Between O.io_events O.impaired_by W.contents self.old self.new
             (Expects words.now ms lines matched)) }
     {
         let end = self.end_after(Some(ms))?;
@@ -186,9 +182,18 @@ impl<O: Outside, W: Write> LiveSide<O, W> {
         Ok(self.printer.end_wait())
     }
 
+    /// Loses and delays frames that are sent so from now on.
+    fn impair(&mut self, impairment: Impairment)
+        ensures { Between O.io_events O.impaired_by W.contents self.old self.new
+            (λ a b. b ≡ impaired_as impairment a) }
+    {
+        self.outside.impair(impairment);
+    }
+
     /// Prints the statistics.
     fn put_stats(&mut self) -> Result<(), LiveFault>
-        ensures { OnOk result (Between O.io_events W.contents self.old self.new StatesCounts) }
+        ensures { OnOk result
+            (Between O.io_events O.impaired_by W.contents self.old self.new StatesCounts) }
     {
         self.catch_up()?;
         let discarded = self.side.discarded();
@@ -198,7 +203,7 @@ impl<O: Outside, W: Write> LiveSide<O, W> {
     /// Prints the state of a link, or that the link does not exist.
     fn put_link(&mut self, id: &LinkId) -> Result<(), LiveFault>
         ensures { OnOk result
-            (Between O.io_events W.contents self.old self.new (StatesLink id.now)) }
+            (Between O.io_events O.impaired_by W.contents self.old self.new (StatesLink id.now)) }
     {
         self.catch_up()?;
         if self.put_state(id)? {
@@ -209,7 +214,8 @@ impl<O: Outside, W: Write> LiveSide<O, W> {
 
     /// Prints the state of each link, and the timer of TEI management if one runs.
     fn put_links(&mut self) -> Result<(), LiveFault>
-        ensures { OnOk result (Between O.io_events W.contents self.old self.new StatesAll) }
+        ensures { OnOk result
+            (Between O.io_events O.impaired_by W.contents self.old self.new StatesAll) }
     {
         self.catch_up()?;
         let ids = self.side.table().ids()?;
@@ -220,7 +226,7 @@ impl<O: Outside, W: Write> LiveSide<O, W> {
     /// Prints the state of each of these links that exists.
     fn put_each(&mut self, ids: &[LinkId]) -> Result<(), LiveFault>
         ensures { OnOk result
-            (Between O.io_events W.contents self.old self.new (StateEach ids.now)) }
+            (Between O.io_events O.impaired_by W.contents self.old self.new (StateEach ids.now)) }
     {
         for id in ids {
             self.put_state(id)?;
@@ -230,7 +236,8 @@ impl<O: Outside, W: Write> LiveSide<O, W> {
 
     /// Prints the time left of TEI management's timer, if one runs.
     fn put_management(&mut self) -> Result<(), LiveFault>
-        ensures { OnOk result (Between O.io_events W.contents self.old self.new PutsManagement) }
+        ensures { OnOk result
+            (Between O.io_events O.impaired_by W.contents self.old self.new PutsManagement) }
     {
         let Some(timers) = self.side.timers(None) else {
             return Ok(());
@@ -248,7 +255,8 @@ impl<O: Outside, W: Write> LiveSide<O, W> {
     /// Prints the state of a link at the printer's moment. Returns `false` if the link does not
     /// exist.
     fn put_state(&mut self, id: &LinkId) -> Result<bool, LiveFault>
-        ensures { IfOk result (λ matched. Between O.io_events W.contents self.old self.new
+        ensures { IfOk result (λ matched.
+            Between O.io_events O.impaired_by W.contents self.old self.new
             (PutsState id.now matched)) }
     {
         let Some(link) = self.side.table().link(*id) else {
@@ -261,4 +269,11 @@ impl<O: Outside, W: Write> LiveSide<O, W> {
         self.printer.put_words(words.as_str())?;
         Ok(true)
     }
+}
+
+/// Whether a line is an `expect`.
+fn is_expect(line: &LiveLine<'_>) -> bool
+    ensures { result ≡ is_expect_line line.now }
+{
+    matches!(line, LiveLine::Expect(..))
 }

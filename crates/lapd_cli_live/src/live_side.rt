@@ -80,7 +80,7 @@ impl<O: Outside, W: Write> LiveSide<O, W> {
     /// Reads the clock. A moment earlier than the last one is a fault.
     pub(crate) fn read_clock(&mut self) -> Result<u64, LiveFault>
         ensures { IfOk result (λ now.
-            Between O.io_events W.contents self.old self.new (ReadsClock now)) }
+            Between O.io_events O.impaired_by W.contents self.old self.new (ReadsClock now)) }
     {
         let now = self.outside.moment()?;
         if now < self.printer.moment() {
@@ -92,7 +92,8 @@ impl<O: Outside, W: Write> LiveSide<O, W> {
 
     /// Sends and prints the output of the last call. On an error, a front of the frames was sent.
     fn carry_out(&mut self) -> Result<(), LiveFault>
-        ensures carried { OnOk result (Between O.io_events W.contents self.old self.new
+        ensures carried { OnOk result
+            (Between O.io_events O.impaired_by W.contents self.old self.new
             (IsCarriedOut self.old.acts)) }
         ensures err { OnErr result (SendsFront self.old.acts.frames (O.io_events self.old.outside)
             (O.io_events self.new.outside)) }
@@ -106,7 +107,8 @@ impl<O: Outside, W: Write> LiveSide<O, W> {
     /// Processes a frame at the moment `now`, and sends and prints the output. `now` was read just
     /// before the frame was received. The octets are read once, for the printer and for the side.
     fn take(&mut self, octets: &[u8], now: u64) -> Result<(), LiveFault>
-        ensures { OnOk result (Between O.io_events W.contents self.old self.new
+        ensures { OnOk result
+            (Between O.io_events O.impaired_by W.contents self.old self.new
             (TakesAt octets.now now)) }
     {
         let own = self.side.side();
@@ -124,8 +126,8 @@ impl<O: Outside, W: Write> LiveSide<O, W> {
 
     /// Processes the next frame that has arrived. Returns `false` if none has.
     fn look(&mut self) -> Result<bool, LiveFault>
-        ensures { IfOk result (λ matched. Between O.io_events W.contents self.old self.new
-            (Looks matched)) }
+        ensures { IfOk result (λ matched.
+            Between O.io_events O.impaired_by W.contents self.old self.new (Looks matched)) }
     {
         let now = self.read_clock()?;
         let mut frame = [0; MOST_OCTETS];
@@ -141,7 +143,8 @@ impl<O: Outside, W: Write> LiveSide<O, W> {
     /// Processes the frames that have arrived, at most 4,096 of them, and none behind one that ends
     /// the service.
     fn receive_all(&mut self, until: Until) -> Result<Option<EndReason>, LiveFault>
-        ensures { IfOk result (λ end_reason. Between O.io_events W.contents self.old self.new
+        ensures { IfOk result (λ end_reason.
+            Between O.io_events O.impaired_by W.contents self.old self.new
             (HasReceived until end_reason)) }
     {
         for _frame in 0..MOST_FRAMES {
@@ -159,7 +162,8 @@ impl<O: Outside, W: Write> LiveSide<O, W> {
     /// Expires all timers that are due at the printer's moment, one after another, and sends and
     /// prints the output. The bound is never reached; it only proves termination.
     fn do_due(&mut self) -> Result<(), LiveFault>
-        ensures { OnOk result (Between O.io_events W.contents self.old self.new DoesDue) }
+        ensures { OnOk result
+            (Between O.io_events O.impaired_by W.contents self.old self.new DoesDue) }
     {
         let now = self.printer.moment();
         for _tick in 0..u64::MAX {
@@ -175,8 +179,8 @@ impl<O: Outside, W: Write> LiveSide<O, W> {
     /// the moment.
     pub(crate) fn catch_up(&mut self) -> Result<u64, LiveFault>
         ensures moment { IfOk result (λ now. now ≡ self.new.printer.moment) }
-        ensures does { OnOk result (Between O.io_events W.contents self.old self.new
-            (CatchesUp Until.End)) }
+        ensures does { OnOk result
+            (Between O.io_events O.impaired_by W.contents self.old self.new (CatchesUp Until.End)) }
     {
         self.receive_all(Until::End)?;
         self.do_due()?;
@@ -190,7 +194,8 @@ impl<O: Outside, W: Write> LiveSide<O, W> {
     ///
     /// Those of [`Outside`], `Device` and `Memory`.
     pub fn ask(&mut self, request: Request) -> Result<(), LiveFault>
-        ensures { OnOk result (Between O.io_events W.contents self.old self.new (IsAsked request)) }
+        ensures { OnOk result
+            (Between O.io_events O.impaired_by W.contents self.old self.new (IsAsked request)) }
     {
         let now = self.catch_up()?;
         let answered = self.side.request(request, now, &mut self.acts);
@@ -203,8 +208,8 @@ impl<O: Outside, W: Write> LiveSide<O, W> {
 
     /// The moment `ms` milliseconds from now, if given.
     pub(crate) fn end_after(&mut self, ms: Option<u64>) -> Result<Option<u64>, LiveFault>
-        ensures { IfOk result (λ end. Between O.io_events W.contents self.old self.new
-            (EndsAfter ms end)) }
+        ensures { IfOk result (λ end.
+            Between O.io_events O.impaired_by W.contents self.old self.new (EndsAfter ms end)) }
     {
         let now = self.read_clock()?;
         match ms {
@@ -216,7 +221,8 @@ impl<O: Outside, W: Write> LiveSide<O, W> {
     /// Waits once, until the next deadline or the end of the service, whichever is first. Then it
     /// reads the clock, so that the next lines have the moment at which the wait ended.
     fn wait(&mut self, service: Service) -> Result<Option<EndReason>, LiveFault>
-        ensures { IfOk result (λ end_reason. Between O.io_events W.contents self.old self.new
+        ensures { IfOk result (λ end_reason.
+            Between O.io_events O.impaired_by W.contents self.old self.new
             (WaitsFor service end_reason)) }
     {
         self.printer.flush()?;
@@ -229,7 +235,8 @@ impl<O: Outside, W: Write> LiveSide<O, W> {
     /// One step: processes the frames that have arrived, expires the timers that are due, and
     /// waits. Returns why the service ends, if it does.
     fn step(&mut self, service: Service) -> Result<Option<EndReason>, LiveFault>
-        ensures { IfOk result (λ end_reason. Between O.io_events W.contents self.old self.new
+        ensures { IfOk result (λ end_reason.
+            Between O.io_events O.impaired_by W.contents self.old self.new
             (λ a b. Step service a b end_reason)) }
     {
         let end_reason = self.receive_all(service.until)?;
@@ -253,7 +260,8 @@ impl<O: Outside, W: Write> LiveSide<O, W> {
     ///
     /// Those of [`Outside`], `Device` and `Memory`.
     pub fn serve(&mut self, service: Service) -> Result<EndReason, LiveFault>
-        ensures { IfOk result (λ end_reason. Between O.io_events W.contents self.old self.new
+        ensures { IfOk result (λ end_reason.
+            Between O.io_events O.impaired_by W.contents self.old self.new
             (IsServed service end_reason)) }
     {
         for _step in 0..u64::MAX {
@@ -271,7 +279,8 @@ fn report_discarded<O: Outside>(
     frame: &Result<Frame<'_>, FrameFault>,
     outside: &mut O,
 )
-    ensures { O.io_events outside.new ≡ O.io_events outside.old }
+    ensures io_events { O.io_events outside.new ≡ O.io_events outside.old }
+    ensures impaired_by { O.impaired_by outside.new ≡ O.impaired_by outside.old }
 {
     match frame {
         Ok(frame) if is_discarded => {
@@ -295,7 +304,8 @@ fn send_all<O: Outside, W: Write>(
     requires { All (λ f. HasLeastOctets f.items) frames.now }
     ensures sent { OnOk result
         (SendsAll own (map (λ f. f.items) frames.now) (O.io_events outside.old)
-        (O.io_events outside.new) W.contents printer.old printer.new) }
+        (O.io_events outside.new) (O.impaired_by outside.old) (O.impaired_by outside.new)
+        W.contents printer.old printer.new) }
     ensures err { OnErr result (SendsFront (map (λ f. f.items) frames.now) (O.io_events outside.old)
         (O.io_events outside.new)) }
 {

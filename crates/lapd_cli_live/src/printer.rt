@@ -147,7 +147,7 @@ impl<W: Write> Printer<W> {
     /// the lines before it, or all lines if there is none.
     pub(crate) fn take_unseen(&mut self, words: &[u8]) -> bool
         ensures same { self.new ≡ record self.old { unseen = self.new.unseen } }
-        ensures matched { result ≡ has_line words.now self.old.unseen }
+        ensures matched { result ≡ has_line words.now (recent_lines self.old.unseen) }
         ensures lines { recent_lines self.new.unseen
             ≡ lines_behind words.now (recent_lines self.old.unseen) }
         ensures preserved { self.new.unseen.is_retained ≡ false }

@@ -74,7 +74,7 @@ impl Unseen {
     /// Returns whether a kept line begins with these words. The first such line is forgotten with
     /// the lines before it, or all lines if there is none. Stops keeping lines.
     pub(crate) fn take(&mut self, words: &[u8]) -> bool
-        ensures matched { result ≡ has_line words.now self.old }
+        ensures matched { result ≡ has_line words.now (recent_lines self.old) }
         ensures lines { recent_lines self.new ≡ lines_behind words.now (recent_lines self.old) }
         ensures preserved { self.new.is_retained ≡ false }
     {

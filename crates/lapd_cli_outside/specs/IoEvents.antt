@@ -1,7 +1,6 @@
 -- The calls of a side to its line and its clock.
-use Rattle.std.specs.Prelude.{◌≡◌, ℕ, ◌≤◌, nat_le, Bool, false, List, [], ◌∷◌, ◌++◌, map, take, Option, None, Some, ⊤}
+use Rattle.std.specs.Prelude.{◌≡◌, ℕ, nat_le, Bool, false, List, [], ◌∷◌, ◌++◌, map, take, Option, None, Some, ⊤}
 use Rattle.lapd_cli_outside.specs.declared.outside.Woken.{Woken}
-use Rattle.lapd_cli_outside.specs.declared.outside.Sending.{Sending}
 
 -- The side reads the clock. It receives a frame that had arrived, or finds that none had. It waits,
 -- until a moment or without limit, and something ends the wait. It sends a frame.

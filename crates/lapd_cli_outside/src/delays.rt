@@ -111,7 +111,8 @@ impl Delays {
     /// `AllocError` if an allocation fails.
     pub(crate) fn put_off(&mut self, frame: &[u8], now: u64) -> Result<(), AllocError>
         requires { IsFrameLength (length frame.now) }
-        ensures { OnOk result (IsPutOff now frame.now self.old self.new) }
+        ensures put_off { OnOk result (IsPutOff now frame.now self.old self.new) }
+        ensures impairment { self.new.impairment ≡ self.old.impairment }
     {
         let moment = self.moment_of_next(now);
         let frame = DelayedFrame::new(self.alloc, moment, frame)?;

@@ -49,8 +49,9 @@ impl<O: Outside> Impaired<O> {
 
     /// Sends the delayed frames that are due.
     fn send_due(&mut self) -> Result<(), PortFault>
-        ensures { OnOk result (AddsSome (O.io_events self.old.inner) (O.io_events self.new.inner)
-            (SendsDue self.old.delays self.new.delays)) }
+        ensures sends { OnOk result (AddsSome (O.io_events self.old.inner)
+            (O.io_events self.new.inner) (SendsDue self.old.delays self.new.delays)) }
+        ensures impairment { self.new.delays.impairment ≡ self.old.delays.impairment }
     {
         let now = self.inner.moment()?;
         while let Some(frame) = self.delays.take_due(now) {
@@ -61,9 +62,10 @@ impl<O: Outside> Impaired<O> {
 
     /// Sends the frames that are due, and waits once, until the next frame is due or until `until`.
     fn wait_once(&mut self, until: Option<u64>, lines: Lines) -> Result<Woken, PortFault>
-        ensures { IfOk result
+        ensures waits { IfOk result
             (λ woken. AddsSome (O.io_events self.old.inner) (O.io_events self.new.inner)
             (WaitsOnce until woken self.old.delays self.new.delays)) }
+        ensures impairment { self.new.delays.impairment ≡ self.old.delays.impairment }
     {
         self.send_due()?;
         let next = earlier(until, self.delays.next_moment());
@@ -85,9 +87,10 @@ impl<O: Outside> Impaired<O> {
 
     /// Waits once, and returns what ended the wait of the side, if it is over.
     fn wait_round(&mut self, until: Option<u64>, lines: Lines) -> Result<(Woken, bool), PortFault>
-        ensures { IfOk result
+        ensures round { IfOk result
             (λ end. AddsSome (O.io_events self.old.inner) (O.io_events self.new.inner)
             (Round until end.0 end.1 self.old.delays self.new.delays)) }
+        ensures impairment { self.new.delays.impairment ≡ self.old.delays.impairment }
     {
         let woken = self.wait_once(until, lines)?;
         let is_over = self.is_over(until, woken)?;
@@ -97,8 +100,9 @@ impl<O: Outside> Impaired<O> {
     /// Delays a frame of 3 to 264 octets.
     fn put_off(&mut self, frame: &[u8]) -> Result<(), PortFault>
         requires { IsFrameLength (length frame.now) }
-        ensures { OnOk result (AddsSome (O.io_events self.old.inner) (O.io_events self.new.inner)
-            (PutsOff frame.now self.old.delays self.new.delays)) }
+        ensures puts_off { OnOk result (AddsSome (O.io_events self.old.inner)
+            (O.io_events self.new.inner) (PutsOff frame.now self.old.delays self.new.delays)) }
+        ensures impairment { self.new.delays.impairment ≡ self.old.delays.impairment }
     {
         let now = self.inner.moment()?;
         match self.delays.put_off(frame, now) {
@@ -109,9 +113,11 @@ impl<O: Outside> Impaired<O> {
 }
 
 impl<O: Outside> Outside for Impaired<O> {
-    ghost use Rattle.std.specs.Prelude.{◌∷◌, []};
+    ghost use Rattle.std.specs.Prelude.{◌∷◌, [], Some};
     ghost use Rattle.lapd_cli_outside.specs.IoEvents.{Adds, Reads};
     ghost use Rattle.lapd_cli_outside.specs.Delays.{AddsSome, PassesFrame, Receives, WaitsOn};
+
+    ghost impaired_by = { λ line. Some line.delays.impairment };
 
     fn moment(&mut self) -> Result<u64, PortFault>
         ensures moment { IfOk result (λ now. Adds (O.io_events self.old.inner)
@@ -126,15 +132,17 @@ impl<O: Outside> Outside for Impaired<O> {
         ensures does { IfOk result (λ count. AddsSome (O.io_events self.old.inner)
             (O.io_events self.new.inner)
             (Receives frame.new count self.old.delays self.new.delays)) }
+        ensures impairment { self.new.delays.impairment ≡ self.old.delays.impairment }
     {
         self.send_due()?;
         self.inner.receive(frame)
     }
 
     fn wait(&mut self, until: Option<u64>, lines: Lines) -> Result<Woken, PortFault>
-        ensures { IfOk result
+        ensures waits { IfOk result
             (λ woken. AddsSome (O.io_events self.old.inner) (O.io_events self.new.inner)
             (WaitsOn until woken self.old.delays self.new.delays)) }
+        ensures impairment { self.new.delays.impairment ≡ self.old.delays.impairment }
     {
         for _sleep in 0..u64::MAX {
             let (woken, is_over) = self.wait_round(until, lines)?;
@@ -147,9 +155,10 @@ impl<O: Outside> Outside for Impaired<O> {
 
     fn send(&mut self, frame: &[u8]) -> Result<Sending, PortFault>
         requires { IsFrameLength (length frame.now) }
-        ensures { IfOk result
+        ensures passes { IfOk result
             (λ sending. AddsSome (O.io_events self.old.inner) (O.io_events self.new.inner)
             (PassesFrame frame.now sending self.old.delays self.new.delays)) }
+        ensures impairment { self.new.delays.impairment ≡ self.old.delays.impairment }
     {
         if self.delays.draw() {
             return Ok(Sending::Lost);

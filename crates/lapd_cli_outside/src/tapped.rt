@@ -66,6 +66,8 @@ impl<O: Outside, T: Tap> Tapped<O, T> {
 impl<O: Outside, T: Tap> Outside for Tapped<O, T> {
     ghost io_events = { λ tapped. O.io_events tapped.inner };
 
+    ghost impaired_by = { λ tapped. O.impaired_by tapped.inner };
+
     fn moment(&mut self) -> Result<u64, PortFault> {
         let now = self.inner.moment()?;
         self.moment = now;

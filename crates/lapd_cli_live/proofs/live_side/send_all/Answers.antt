@@ -3,12 +3,12 @@ use Rattle.lapd_cli_live.proofs.Steps.{on_err}
 use Rattle.lapd_cli_live.proofs.live_side.send_all.Goals as goal
 
 pub loop-frame-init : goal.loop-frame-init
-loop-frame-init g c = sends_none _ _ _ _
+loop-frame-init g c = sends_none _ _ _ _ _
 
 pub loop-frame-preserved : goal.loop-frame-preserved
 loop-frame-preserved g c =
     sends_next (λ f. f.items) c.args.own c.args.frames.now c.loop-frame.frame-index c.frame-item.result c.as_slice-octets.result.now c.in_ok-sending.sending
-    _ _ _ g.W.Write.contents _ _ _ c.loop-frame-test.true c.frame-item.is c.as_slice-octets.ensures.value c.loop-frame.invariant c.in_ok-sending.ensures.io_events c.in_ok-put_sent.ensures
+    _ _ _ _ _ _ g.W.Write.contents _ _ _ c.loop-frame-test.true c.frame-item.is c.as_slice-octets.ensures.value c.loop-frame.invariant c.in_ok-sending.ensures.io_events c.in_ok-sending.ensures.impaired_by c.in_ok-put_sent.ensures
 
 pub returns-in_err-sending-clause-err : goal.returns-in_err-sending-clause-err
 returns-in_err-sending-clause-err g c =

@@ -19,5 +19,5 @@ returns-in-Err g c =
     on_ok c.put_refused.result _ _
     (λ prints. asked _ _ _ _ _ _ _ _ _ c.in_ok-now.ensures.does answers c.request-answered.ensures.side c.in_ok-carry_out.ensures.carried
     (ap refusal_events (sym c.in-Err.is))
-    (beside_printed g.W.Write.contents c.carry_out.new.self.side _ _ _ (refused c.in-Err.fault.kind) prints refl))
+    (beside_printed g.W.Write.contents c.carry_out.new.self.side _ _ _ _ (refused c.in-Err.fault.kind) prints refl))
     (c.put_refused.ensures (side_of c.carry_out.new.self.side))

@@ -1,5 +1,4 @@
-use Rattle.std.proofs.Common.{ℕ, List, ◌++◌, length, refl, sym, ap, ◌∙◌}
-use Rattle.std.specs.Prelude.{◌==◌}
+use Rattle.std.proofs.Common.{ℕ, List, ◌++◌, refl, sym, ap, ◌∙◌}
 use Rattle.std.specs.Option.{option_copied}
 use Rattle.lapd_sides.specs.Either.{side_of}
 use Rattle.lapd_cli_live_text.specs.LinkText.{management_text}
@@ -18,6 +17,6 @@ returns g c =
       prints = management_printed (option_copied c.timers.result) c.in-Some.timers.now _ c.as_str-words.result.now _ _ (ap option_copied c.in-Some.is)
           (c.as_str-words.ensures.value ∙ pushed)
           (sym c.is_empty.ensures ∙ c.if-is_empty.false)
-          (beside_printed g.W.Write.contents c.args.self.now.side _ _ _ _ prints refl);
+          (beside_printed g.W.Write.contents c.args.self.now.side _ _ _ _ _ prints refl);
     })
     (c.put_words.ensures (side_of c.args.self.now.side))

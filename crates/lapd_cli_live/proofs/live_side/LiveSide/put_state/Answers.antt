@@ -26,5 +26,5 @@ returns g c =
         are = c.as_str.ensures.value ∙ c.in_ok-push_link.ensures.shown ∙ ap (λ (front : List ℕ). front ++ text c.moment-now.result) c.new-words.ensures.bytes
             ∙ ap text c.moment-now.ensures;
       };
-      prints = beside_printed g.W.Write.contents c.args.self.now.side _ _ _ _ (c.in_ok-put_words.ensures (side_of c.args.self.now.side)) refl;
+      prints = beside_printed g.W.Write.contents c.args.self.now.side _ _ _ _ _ (c.in_ok-put_words.ensures (side_of c.args.self.now.side)) refl;
     }

@@ -1,8 +1,7 @@
-use Rattle.std.proofs.Common.{◌≡◌, Option, Some, None, sym, subst, ◌∙◌, arith, ap}
-use Rattle.std.specs.Prelude.{Bool, true, false}
-use Rattle.lapd_cli_live.specs.Log.{state_of}
-use Rattle.lapd_cli_live.specs.Steps.{Looks, ended_by}
-use Rattle.lapd_cli_live.proofs.Steps.{ends_by_frame, more_taken, none_taken, takes_all, takes_most, taken_by, looked_in_vain, none_ended, received_by}
+use Rattle.std.proofs.Common.{sym, ◌∙◌, arith, ap}
+use Rattle.std.specs.Prelude.{true}
+use Rattle.lapd_cli_live.specs.Steps.{ended_by}
+use Rattle.lapd_cli_live.proofs.Steps.{more_taken, none_taken, takes_all, takes_most, taken_by, looked_in_vain, none_ended, received_by}
 use Rattle.lapd_cli_live.proofs.live_side.LiveSide.receive_all.Goals as goal
 
 pub loop-frame-init : goal.loop-frame-init

@@ -1,4 +1,4 @@
-use Rattle.std.proofs.Common.{◌≡◌, ℕ, Option, [], ◌∷◌, subst}
+use Rattle.std.proofs.Common.{ℕ, Option, [], ◌∷◌, subst}
 use Rattle.lapd_sides.specs.Either.{side_of}
 use Rattle.lapd_cli_outside.specs.IoEvents.{Adds, Waits}
 use Rattle.lapd_cli_live.proofs.Steps.{flushed_and_waited}
@@ -13,7 +13,7 @@ returns g c =
       is_next = c.next_deadline.ensures;
       woken = c.in_ok-woken.woken;
       waited = _;
-      waits = flushed_and_waited g.W.Write.contents c.args.self.now.side _ _ _ _ _ _ (c.in_ok-flush.ensures.shown (side_of c.args.self.now.side)) adds;
+      waits = flushed_and_waited g.W.Write.contents c.args.self.now.side _ _ _ _ _ _ _ _ (c.in_ok-flush.ensures.shown (side_of c.args.self.now.side)) adds c.in_ok-woken.ensures.impaired_by;
       now = c.in_ok-read_clock.field-0;
       reads = c.in_ok-read_clock.ensures;
       is = c.end_by_wait.ensures;

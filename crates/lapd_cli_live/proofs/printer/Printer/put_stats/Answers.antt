@@ -1,4 +1,4 @@
-use Rattle.std.proofs.Common.{◌≡◌, [], ◌∷◌, subst, ◌∙◌}
+use Rattle.std.proofs.Common.{[], ◌∷◌, subst, ◌∙◌}
 use Rattle.lapd_cli_live_text.specs.declared.stats.Stats.{Stats}
 use Rattle.lapd_cli_live_text.specs.Stats.{received_words, reports_words}
 use Rattle.lapd_cli_live.specs.Entries.{Worded}

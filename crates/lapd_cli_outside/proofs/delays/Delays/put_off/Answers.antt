@@ -1,8 +1,8 @@
 use Rattle.std.proofs.Common.{◌∙◌, refl}
 use Rattle.lapd_cli_outside.proofs.delays.Delays.put_off.Goals as goal
 
-pub returns : goal.returns
-returns c = record {
+pub returns-clause-put_off : goal.returns-clause-put_off
+returns-clause-put_off c = record {
   frame = c.in_ok-frame.frame;
   octets_are = c.in_ok-frame.ensures.octets;
   moment = c.in_ok-frame.ensures.moment ∙ c.moment_of_next-moment.ensures;

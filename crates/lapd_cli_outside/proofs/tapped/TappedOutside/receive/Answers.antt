@@ -1,4 +1,4 @@
-use Rattle.std.proofs.Common.{◌≡◌, ℕ, List, [], ◌∷◌, Option, Some, None, ap, subst, take, ◌∙◌}
+use Rattle.std.proofs.Common.{ℕ, [], ◌∷◌, Option, ap, subst, take, ◌∙◌}
 use Rattle.lapd_frame.specs.declared.Side.{Side}
 use Rattle.lapd_cli_outside.specs.IoEvents.{Adds, received}
 use Rattle.lapd_cli_outside.specs.Passed.{passed_more, passed_frame}
