@@ -27,7 +27,9 @@ ghost use Rattle.lapd_recovery_laws.specs.Timers.{HaveTimersOfStates};
 /// the last two twice; and a poll and a SABME cross while a message waits. While frames are still
 /// lost: a message and the three polls for it, so that the link is established anew and the message
 /// dropped; and a message and only two polls, so that it is received. Without T203, a network that
-/// restarts leaves the ends apart. With a busy end the moves are not few.
+/// restarts leaves the ends apart. With a busy end the moves are not few. The premises of the laws
+/// below hold: after the network's restart the line is held up, and where the poll and the SABME
+/// cross, the world is free.
 pub fn recovery_is_computed()
     ensures restart { (r : Reading) → outcome_of r (run r network_restarts (new_pair 1 Enquiry))
         ≡ both_in_7 11 0 0 }
@@ -85,6 +87,11 @@ pub fn recovery_is_computed()
         → next_move r (run r network_restarts (new_pair 1 Enquiry)) ≡ None }
     ensures held_up { (r : Reading) → outcome_of r (run r busy (new_pair 1 Enquiry)) ≡ held_up }
     ensures busy { (r : Reading) → IsBusy (run r busy (new_pair 1 Enquiry)) }
+    ensures restart_is_held { (r : Reading)
+        → IsAfterOutage 3 (run r network_restarts (new_pair 1 Enquiry))
+        × IsHeldUp (run r network_restarts (new_pair 1 Enquiry)) }
+    ensures poll_met_is_free { (r : Reading)
+        → IsFreeWorld 3 (run r poll_meets_sabme (new_pair 1 Enquiry)) }
 {}
 
 /// After every run, on whole numbers and on tags, the timers that run are those of each end's
