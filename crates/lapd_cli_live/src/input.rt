@@ -104,7 +104,9 @@ pub(crate) enum TypedAction {
 /// runs on after the script, until the connection is closed. Returns the side.
 ///
 /// If the octets of the script are known, as in memory, `Ok` means that all its lines were
-/// executed.
+/// executed. Each `expect` has then found a line that begins with its words, printed in time, or
+/// before, while a line of input was awaited. Each `impair` has set exactly what it names, if the
+/// surroundings know how their frames are impaired ([`Outside`]).
 ///
 /// # Errors
 ///

@@ -43,8 +43,8 @@ pub enum Sending {
 /// The surroundings of a side: the line with the other side behind it, and a clock. Moments are
 /// milliseconds since the start.
 ///
-/// An implementation that records its calls returns them by `io_events`, in order. One that knows
-/// how its frames are impaired returns that by `impaired_by`. Clauses about these hold for such an
+/// An implementation that records its calls returns them by `io_events`, in order. If it knows how
+/// its frames are impaired, it returns that by `impaired_by`. Clauses about these hold for such an
 /// implementation, and all others for every implementation.
 pub trait Outside {
     /// The calls so far, if they are recorded.
