@@ -1,4 +1,7 @@
 mod AnswerLines
+mod GivenPart
+mod KeptLines
 mod Shapes
 mod TextWords
 mod TypedLine
+mod Typed

@@ -1,3 +1,5 @@
 pub mod Fault
 pub mod Forms
+pub mod Recent
 pub mod Tidied
+pub mod Typed

@@ -1,9 +1,10 @@
 //! Laws over the definitions. The functions do nothing when they are called.
 
-ghost use Rattle.std.specs.Prelude.{◌≡◌, codes, false, true};
+ghost use Rattle.std.specs.Prelude.{◌≡◌, ◌∷◌, ◌++◌, [], codes, false, true};
 ghost use Rattle.lapd_cli_console.specs.declared.script.Script.TheVariants.{Answer, LiveNet, LiveUser, Net};
 ghost use Rattle.lapd_cli_console.specs.Forms.{is_line_of};
 ghost use Rattle.lapd_cli_console.specs.Tidied.{tidied_line};
+ghost use Rattle.lapd_cli_console.specs.Typed.{passed_on};
 
 /// The documented examples of typed lines and their tidied form.
 pub fn worked_typed_lines()
@@ -28,4 +29,17 @@ pub fn worked_lines_by_form()
     ensures too_much { is_line_of LiveUser (codes "impair 101%") ≡ false }
     ensures no_words { is_line_of LiveNet (codes "expect 100") ≡ false }
     ensures words { is_line_of LiveNet (codes "expect 0 64  established 100") ≡ true }
+{}
+
+/// Examples of typed octets, and those that a session of `answer` passes on.
+pub fn worked_sessions()
+    ensures last { passed_on Answer (codes "  state") ≡ codes "state" ++ 10 ∷ [] }
+    ensures bad { passed_on Answer
+        (codes "t200" ++ 10 ∷ codes "fram 00" ++ 10 ∷ codes " busy on " ++ 10 ∷ [])
+        ≡ codes "t200" ++ 10 ∷ codes "busy on" ++ 10 ∷ [] }
+    ensures help { passed_on Answer (codes "help" ++ 10 ∷ codes "state" ++ 10 ∷ [])
+        ≡ codes "state" ++ 10 ∷ [] }
+    ensures quit { passed_on Answer
+        (codes "state" ++ 10 ∷ codes "quit" ++ 10 ∷ codes "state" ++ 10 ∷ [])
+        ≡ codes "state" ++ 10 ∷ [] }
 {}
