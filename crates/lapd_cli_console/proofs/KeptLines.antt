@@ -5,6 +5,7 @@ use Rattle.std.proofs.lemmas.Bool.{ne_eqb}
 use Rattle.std.proofs.lemmas.Bool.Decides.{nat_tests}
 use Rattle.std.proofs.lemmas.List.{take_all}
 use Rattle.std.proofs.Math.Seq.{take-append-add, take-length}
+use Rattle.lapd_cli_script.specs.Script.{lines_of, with_first}
 use Rattle.lapd_cli_script.specs.WalkState.{HasNoFeed}
 use Rattle.lapd_cli_console.specs.Recent.{ReadOctets, after_octets, by_count, feeds, is_feed, kept_line, line_begun, line_front, lines_in}
 
@@ -192,3 +193,41 @@ line_kept r number ended (suc place) a b c e h =
 pub on_ok : {T E P : Type 0} (r : Result T E) → IsOk r → OnOk r P → P
 on_ok (Ok x) h k = k
 on_ok (Err e) h k = absurd cc
+
+-- ---- The lines of a script are kept under their numbers.
+
+none_left : (octets : List ℕ) → lines_of octets ≡ [] → octets ≡ []
+none_left [] e = refl
+none_left (o ∷ octets) e = absurd (by_test (is_feed o) (lines_of octets) e)
+  where
+    by_test : (t : Bool) (lines : List (List ℕ)) → cond t ([] ∷ lines) (with_first o lines) ≡ [] → ⊥
+    by_test true lines e = cc
+    by_test false [] e = cc
+    by_test false (line ∷ lines) e = cc
+
+joined : (o : ℕ) (octets : List ℕ) (lines : List (List ℕ)) → lines_of octets ≡ lines
+    → ((n : ℕ) (line : List ℕ) → slice_get (lines_of octets) n ≡ Some line → slice_get (lines_in octets) n ≡ Some line)
+    → (n : ℕ) (line : List ℕ) → slice_get (with_first o lines) n ≡ Some line → slice_get (onto_first o (lines_in octets)) n ≡ Some line
+joined o octets [] e h zero line k = ap (λ x. slice_get (onto_first o (lines_in x)) 0) (none_left octets e) ∙ k
+joined o octets [] e h (suc n) line k = absurd cc
+joined o octets (first ∷ lines) e h zero line k = onto_zero o first (lines_in octets) (h 0 first (ap (λ x. slice_get x 0) e)) ∙ k
+joined o octets (first ∷ lines) e h (suc n) line k = onto_more o n (lines_in octets) ∙ h (suc n) line (ap (λ x. slice_get x (suc n)) e ∙ k)
+
+lines_agree : (octets : List ℕ) (n : ℕ) (line : List ℕ) → slice_get (lines_of octets) n ≡ Some line → slice_get (lines_in octets) n ≡ Some line
+lines_agree [] n line e = absurd cc
+lines_agree (o ∷ octets) n line e = by_test (lines_agree octets) (is_feed o) n line e
+  where
+    by_test : ((n : ℕ) (line : List ℕ) → slice_get (lines_of octets) n ≡ Some line → slice_get (lines_in octets) n ≡ Some line)
+        → (t : Bool) (n : ℕ) (line : List ℕ) → slice_get (cond t ([] ∷ lines_of octets) (with_first o (lines_of octets))) n ≡ Some line
+        → slice_get (cond t ([] ∷ lines_in octets) (onto_first o (lines_in octets))) n ≡ Some line
+    by_test h true zero line k = k
+    by_test h true (suc n) line k = h n line k
+    by_test h false n line k = joined o octets (lines_of octets) refl h n line k
+
+pub line_of_script : (r : ReadOctets) (place : ℕ) (line : List ℕ) → feeds r.before ≤ place → slice_get (lines_of (r.before ++ r.last)) place ≡ Some line
+    → kept_line r (place + 1) ≡ Some (take 4096 line)
+line_of_script r place line h e =
+    let same : place + 1 - 1 ≡ place = omega arith in
+    is_kept r (place + 1) (omega arith)
+    ∙ ap (λ n. option_map (take 4096) (slice_get (lines_in (r.before ++ r.last)) n)) same
+    ∙ ap (option_map (take 4096)) (lines_agree (r.before ++ r.last) place line e)

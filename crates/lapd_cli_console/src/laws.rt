@@ -1,8 +1,10 @@
 //! Laws over the definitions. The functions do nothing when they are called.
 
-ghost use Rattle.std.specs.Prelude.{◌≡◌, ◌∷◌, ◌++◌, [], codes, false, true};
+ghost use Rattle.std.specs.Prelude.{◌≡◌, ◌≤◌, ◌+◌, ◌∷◌, ◌++◌, ℕ, List, Some, [], codes, false, slice_get, take, true};
+ghost use Rattle.lapd_cli_script.specs.Script.{lines_of};
 ghost use Rattle.lapd_cli_console.specs.declared.script.Script.TheVariants.{Answer, LiveNet, LiveUser, Net};
 ghost use Rattle.lapd_cli_console.specs.Forms.{is_line_of};
+ghost use Rattle.lapd_cli_console.specs.Recent.{ReadOctets, feeds, kept_line};
 ghost use Rattle.lapd_cli_console.specs.Tidied.{tidied_line};
 ghost use Rattle.lapd_cli_console.specs.Typed.{passed_on};
 
@@ -42,4 +44,12 @@ pub fn worked_sessions()
     ensures quit { passed_on Answer
         (codes "state" ++ 10 ∷ codes "quit" ++ 10 ∷ codes "state" ++ 10 ∷ [])
         ≡ codes "state" ++ 10 ∷ [] }
+{}
+
+/// A line of a script is kept under its number, counted from 1 as the script's run counts it, unless
+/// it ended before the octets read last.
+pub fn lines_have_the_numbers_of_a_script()
+    ensures { (r : ReadOctets) (place : ℕ) (line : List ℕ) → feeds r.before ≤ place
+        → slice_get (lines_of (r.before ++ r.last)) place ≡ Some line
+        → kept_line r (place + 1) ≡ Some (take 4096 line) }
 {}

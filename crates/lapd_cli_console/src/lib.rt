@@ -33,7 +33,9 @@ pub use fault_report::FaultReport;
 pub use form::{Argument, Form};
 pub use help::put_help;
 pub use judge::reason;
-pub use laws::{worked_lines_by_form, worked_sessions, worked_typed_lines};
+pub use laws::{
+    lines_have_the_numbers_of_a_script, worked_lines_by_form, worked_sessions, worked_typed_lines,
+};
 pub use line_forms::forms;
 pub use recent_lines::RecentLines;
 pub use refusals::Refusals;
