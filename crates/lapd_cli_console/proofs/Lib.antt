@@ -4,4 +4,5 @@ mod KeptLines
 mod Shapes
 mod TextWords
 mod TypedLine
+mod Answered
 mod Typed

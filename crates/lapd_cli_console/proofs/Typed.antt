@@ -19,11 +19,11 @@ use Rattle.lapd_cli_console.specs.Typed.{IsUsedUp, Typing, after_line, before_en
 lines_of-other : (o : ℕ) (octets : List ℕ) → o ≢ 10 → lines_of (o ∷ octets) ≡ with_first o (lines_of octets)
 lines_of-other o octets h = ap (λ b. cond b ([] ∷ lines_of octets) (with_first o (lines_of octets))) (ne_eqb o 10 h)
 
-lines_of-line : (line rest : List ℕ) → HasNoFeed line → lines_of (line ++ 10 ∷ rest) ≡ line ∷ lines_of rest
+pub lines_of-line : (line rest : List ℕ) → HasNoFeed line → lines_of (line ++ 10 ∷ rest) ≡ line ∷ lines_of rest
 lines_of-line [] rest h = refl
 lines_of-line (o ∷ line) rest h = lines_of-other o (line ++ 10 ∷ rest) h.0 ∙ ap (with_first o) (lines_of-line line rest h.1)
 
-lines_of-last : (o : ℕ) (line : List ℕ) → HasNoFeed (o ∷ line) → lines_of (o ∷ line) ≡ (o ∷ line) ∷ []
+pub lines_of-last : (o : ℕ) (line : List ℕ) → HasNoFeed (o ∷ line) → lines_of (o ∷ line) ≡ (o ∷ line) ∷ []
 lines_of-last o [] h = lines_of-other o [] h.0
 lines_of-last o (p ∷ line) h = lines_of-other o (p ∷ line) h.0 ∙ ap (with_first o) (lines_of-last p line h.1)
 

@@ -1,3 +1,5 @@
+pub mod Answered
+pub mod Answers
 pub mod Fault
 pub mod Forms
 pub mod Recent

@@ -8,10 +8,11 @@
 //! - [`Watched`] is a writer that remembers how a write failed, and [`Refusals`] one that notes the
 //!   first line that begins with `refused`.
 //! - [`FaultReport`] prints the fault that ended a script, and its reason.
-//! - [`Session`] reads typed lines, and passes on those with a valid form; [`tidied`] removes
-//!   needless characters from a typed line.
+//! - [`Session`] reads typed lines, and passes on those with a valid form; [`Answers`] are given to
+//!   the others. [`tidied`] removes needless characters from a typed line.
 #![tactic(auto)]
 
+mod answers;
 mod complaint;
 mod cuts;
 mod fault_report;
@@ -29,6 +30,7 @@ mod typed_line;
 mod unreturned;
 mod watched;
 
+pub use answers::{Answers, PrintedAnswers};
 pub use fault_report::FaultReport;
 pub use form::{Argument, Form};
 pub use help::put_help;

@@ -6,28 +6,30 @@ ghost use Rattle.std.specs.Io.KnownBytes.{IsAtEnd, Keeps, ReadConsumes};
 ghost use Rattle.std.specs.IoError.{error_kind};
 ghost use Rattle.lapd_cli_script.specs.Line.{text_line};
 ghost use Rattle.lapd_cli_script.specs.WalkState.{HasNoFeed};
+ghost use Rattle.lapd_cli_console.specs.Answered.{KeepsAnswers, all_answers};
+ghost use Rattle.lapd_cli_console.specs.Answers.{AddsAll, answers_to_line};
+ghost use Rattle.lapd_cli_console.specs.Forms.{is_line_of};
 ghost use Rattle.lapd_cli_console.specs.Typed.{IsReady, IsUsedUp, after_line, left_to_pass, passed_on, typing_of};
 
-use crate::help::put_help;
+use crate::answers::Answers;
 use crate::judge::reason;
 use crate::script::Script;
 use crate::typed_line::tidied;
 use crate::unreturned::Unreturned;
 use lapd_cli_script::first_line;
 use std::alloc::Global;
-use std::io::{self, BufRead, ErrorKind, Read, Write};
+use std::io::{self, BufRead, ErrorKind, Read};
 
 /// A reader of typed lines. It tidies each line ([`tidied`]), and returns those that have a valid
-/// form, each once and in order. For any other line it prints the reason on the error writer, and
-/// reads the next line. `help` prints the forms of the command's lines; `quit` and `exit` end the
-/// input. Failed writes to the error writer are ignored. A failed read loses nothing: the next one
+/// form, each once and in order. It answers `help`, and any other line that is not valid, and reads
+/// the next one; `quit` and `exit` end the input. A failed read loses nothing: the next one
 /// continues.
 #[derive(Drop)]
-pub struct Session<R, E> {
+pub struct Session<R, A> {
     alloc: Global,
     script: Script,
     reader: R,
-    errors: E,
+    answers: A,
     // The typed octets that were not handled yet.
     typed: Vec<u8>,
     // The octets of the line that is passed on, with its line feed, that were not returned yet.
@@ -36,18 +38,19 @@ pub struct Session<R, E> {
     fault: Option<ErrorKind>,
 }
 
-impl<R: BufRead, E: Write> Session<R, E> {
-    /// Reads lines of this command, and reports on the error writer why other lines are refused.
-    pub fn new(alloc: Global, script: Script, reader: R, errors: E) -> Session<R, E>
+impl<R: BufRead, A: Answers> Session<R, A> {
+    /// Reads lines of this command, and answers other lines.
+    pub fn new(alloc: Global, script: Script, reader: R, answers: A) -> Session<R, A>
         ensures passed { left_to_pass R.remaining result
             ≡ option_map (passed_on script) (R.remaining reader) }
+        ensures answers { result.answers ≡ answers }
         ensures fault { result.fault ≡ None }
     {
         Session {
             alloc,
             script,
             reader,
-            errors,
+            answers,
             typed: Vec::new(alloc),
             line: Unreturned::none(alloc),
             is_ended: false,
@@ -66,6 +69,8 @@ impl<R: BufRead, E: Write> Session<R, E> {
     fn fill(&mut self) -> io::Result<()>
         ensures left { Keeps (left_to_pass R.remaining self.old)
             (left_to_pass R.remaining self.new) }
+        ensures answers { KeepsAnswers (all_answers R.remaining A.answered self.old)
+            (all_answers R.remaining A.answered self.new) }
         ensures ready { OnOk result (IsReady (typing_of self.new)) }
         ensures fault { self.new.fault ≡ self.old.fault }
     {
@@ -91,6 +96,8 @@ impl<R: BufRead, E: Write> Session<R, E> {
         requires { IsUsedUp (typing_of self.old) }
         ensures left { Keeps (left_to_pass R.remaining self.old)
             (left_to_pass R.remaining self.new) }
+        ensures answers { KeepsAnswers (all_answers R.remaining A.answered self.old)
+            (all_answers R.remaining A.answered self.new) }
         ensures fault { self.new.fault ≡ self.old.fault }
     {
         match first_line(self.typed.as_slice()) {
@@ -110,6 +117,8 @@ impl<R: BufRead, E: Write> Session<R, E> {
         requires no_feed { HasNoFeed self.old.typed.items }
         ensures left { Keeps (left_to_pass R.remaining self.old)
             (left_to_pass R.remaining self.new) }
+        ensures answers { KeepsAnswers (all_answers R.remaining A.answered self.old)
+            (all_answers R.remaining A.answered self.new) }
         ensures fault { self.new.fault ≡ self.old.fault }
     {
         if self.reader.read_until(b'\n', &mut self.typed)? > 0 {
@@ -124,6 +133,9 @@ impl<R: BufRead, E: Write> Session<R, E> {
         requires no_feed { HasNoFeed self.old.typed.items }
         ensures left { IsAtEnd (R.remaining self.old.reader)
             → Keeps (left_to_pass R.remaining self.old) (left_to_pass R.remaining self.new) }
+        ensures answers { IsAtEnd (R.remaining self.old.reader)
+            → KeepsAnswers (all_answers R.remaining A.answered self.old)
+            (all_answers R.remaining A.answered self.new) }
         ensures fault { self.new.fault ≡ self.old.fault }
     {
         if self.typed.is_empty() {
@@ -140,6 +152,9 @@ impl<R: BufRead, E: Write> Session<R, E> {
         ensures ok { OnOk result (typing_of self.new
             ≡ after_line (typing_of self.old) line.items behind.items) }
         ensures err { OnErr result (typing_of self.new ≡ typing_of self.old) }
+        ensures answered { OnOk result (AddsAll (A.answered self.old.answers)
+            (A.answered self.new.answers) (answers_to_line self.old.script line.items)) }
+        ensures unanswered { OnErr result (self.new.answers ≡ self.old.answers) }
         ensures reader { self.new.reader ≡ self.old.reader }
         ensures fault { self.new.fault ≡ self.old.fault }
     {
@@ -154,12 +169,15 @@ impl<R: BufRead, E: Write> Session<R, E> {
         ensures ok { OnOk result (typing_of self.new
             ≡ after_line (typing_of self.old) line.items self.old.typed.items) }
         ensures err { OnErr result (typing_of self.new ≡ typing_of self.old) }
+        ensures answered { OnOk result (AddsAll (A.answered self.old.answers)
+            (A.answered self.new.answers) (answers_to_line self.old.script line.items)) }
+        ensures unanswered { OnErr result (self.new.answers ≡ self.old.answers) }
         ensures reader { self.new.reader ≡ self.old.reader }
         ensures fault { self.new.fault ≡ self.old.fault }
     {
         match line.as_slice() {
             b"help" => {
-                let _ = put_help(self.script, &mut self.errors);
+                self.answers.help(self.script);
                 Ok(())
             }
             b"quit" | b"exit" => {
@@ -168,7 +186,7 @@ impl<R: BufRead, E: Write> Session<R, E> {
             }
             typed => match reason(self.alloc, self.script, typed)? {
                 Some(reason) => {
-                    let _ = writeln!(self.errors, "not executed: {reason}");
+                    self.answers.refuse(reason.as_str());
                     Ok(())
                 }
                 None => self.pass_on(line),
@@ -177,12 +195,17 @@ impl<R: BufRead, E: Write> Session<R, E> {
     }
 
     /// Passes on a line, with its line feed.
+    #[tactic(auto, using(crate::proofs::Answered::passed_unanswered))]
     fn pass_on(&mut self, mut line: Vec<u8>) -> io::Result<()>
+        requires { is_line_of self.old.script line.items ≡ true }
         ensures line { OnOk result (self.new.line ≡ text_line line.items) }
         ensures err { OnErr result (self.new.line ≡ self.old.line) }
+        ensures answered { OnOk result (AddsAll (A.answered self.old.answers)
+            (A.answered self.new.answers) (answers_to_line self.old.script line.items)) }
         ensures ended { self.new.is_ended ≡ self.old.is_ended }
         ensures script { self.new.script ≡ self.old.script }
         ensures typed { self.new.typed ≡ self.old.typed }
+        ensures answers { self.new.answers ≡ self.old.answers }
         ensures reader { self.new.reader ≡ self.old.reader }
         ensures fault { self.new.fault ≡ self.old.fault }
     {
@@ -192,13 +215,15 @@ impl<R: BufRead, E: Write> Session<R, E> {
     }
 }
 
-impl<R: BufRead, E: Write> Read for Session<R, E> {
+impl<R: BufRead, A: Answers> Read for Session<R, A> {
     ghost remaining = { left_to_pass R.remaining };
 
     fn read(&mut self, octets: &mut [u8]) -> io::Result<usize>
         ensures bound { ReadsAtMost result octets.new }
         ensures bytes { ReadConsumes (left_to_pass R.remaining self.old)
             (left_to_pass R.remaining self.new) result octets.new }
+        ensures answers { KeepsAnswers (all_answers R.remaining A.answered self.old)
+            (all_answers R.remaining A.answered self.new) }
         ensures fault { MatchResult result (λ _. self.new.fault ≡ self.old.fault)
             (λ error. self.new.fault ≡ Some (error_kind error)) }
     {
