@@ -127,8 +127,7 @@ pub fn print_no_file<D: Display>(rt: &HostRuntime, file: &str, reason: &D) -> Ex
     ExitCode::from(ScriptFault::Device.status())
 }
 
-// Reports why a capture was not printed to its end. Prints nothing if the reader of standard output
-// has closed it.
+// Reports why a capture was not printed to its end.
 fn print_stop(
     rt: &HostRuntime,
     file: &str,
@@ -143,7 +142,6 @@ fn print_stop(
             return ExitCode::from(UNREADABLE);
         }
         (CaptureStop::Input(kind), _) => return print_no_file(rt, file, &KindReason(kind)),
-        (CaptureStop::Device, Some(ErrorKind::BrokenPipe)) => {}
         (CaptureStop::Device, Some(kind)) => {
             let _ = eprintln!(rt; "{stop}");
             let _ = eprintln!(rt; "{output_name}: {}", KindReason(kind));

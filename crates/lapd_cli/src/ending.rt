@@ -8,6 +8,7 @@ use lapd_cli_console::{FaultReport, Script};
 use lapd_cli_io::NoTaps;
 use lapd_cli_options::{Clock, NoInvocation, WordsFault};
 use lapd_cli_script::{Reason, ScriptFault};
+use std::fmt::Display;
 use std::io::{self, ErrorKind};
 use std::process::ExitCode;
 
@@ -17,6 +18,9 @@ const COMMAND_LINE: u8 = 2;
 /// The exit status after a script with a refused line, or with a frame that violates Q.921, under
 /// `--strict`, and after `expect` has failed.
 const REFUSED: u8 = 5;
+
+/// The reason if a text does not have the form of an address.
+const NO_ADDRESS: &str = "expected HOST:PORT, such as 127.0.0.1:4000";
 
 /// Why a script did not run to its end.
 #[derive(Drop)]
@@ -111,13 +115,23 @@ fn print_no_connection(rt: &HostRuntime, ending: &Ending<'_>, error: &io::Error)
         Script::User | Script::LiveUser => ("connect to", ending.address),
         _ => ("connect to", "itself"),
     };
-    print_impossible(rt, what, whom, error);
+    print_unreachable(rt, what, whom, error);
+}
+
+// Reports a device fault of an address, and why. The system's calls themselves refuse a text that
+// does not have the form of an address.
+fn print_unreachable(rt: &HostRuntime, what: &str, address: &str, error: &io::Error) {
+    if error.kind() == ErrorKind::InvalidInput && error.raw_os_error().is_none() {
+        print_impossible(rt, what, address, &NO_ADDRESS);
+    } else {
+        print_impossible(rt, what, address, &Reason(error));
+    }
 }
 
 // Reports a device fault: what could not be done, with which file or address, and why.
-fn print_impossible(rt: &HostRuntime, what: &str, whom: &str, error: &io::Error) {
+fn print_impossible<D: Display>(rt: &HostRuntime, what: &str, whom: &str, reason: &D) {
     let _ = eprintln!(rt; "{}", ScriptFault::Device);
-    let _ = eprintln!(rt; "cannot {what} {whom}: {}", Reason(error));
+    let _ = eprintln!(rt; "cannot {what} {whom}: {reason}");
 }
 
 // Reports why the capture, the ladder or the GSMTAP socket could not be opened.
@@ -127,13 +141,13 @@ fn print_no_taps(rt: &HostRuntime, ending: &Ending<'_>, taps: &NoTaps) {
     };
     match taps {
         NoTaps::File(error) => {
-            print_impossible(rt, "write", options.pcap.unwrap_or(""), error);
+            print_impossible(rt, "write", options.pcap.unwrap_or(""), &Reason(error));
         }
         NoTaps::Ladder(error) => {
-            print_impossible(rt, "write", options.ladder.unwrap_or(""), error);
+            print_impossible(rt, "write", options.ladder.unwrap_or(""), &Reason(error));
         }
         NoTaps::Socket(error) => {
-            print_impossible(rt, "send to", options.gsmtap.unwrap_or(""), error);
+            print_unreachable(rt, "send to", options.gsmtap.unwrap_or(""), error);
         }
         NoTaps::Memory => {}
     }
@@ -176,9 +190,7 @@ fn show(rt: &HostRuntime, text: &str) -> ExitCode {
     let Err(error) = print!(rt; "{text}") else {
         return ExitCode::SUCCESS;
     };
-    if error.kind() != ErrorKind::BrokenPipe {
-        let _ = eprintln!(rt; "{}", ScriptFault::Device);
-        let _ = eprintln!(rt; "standard output: {}", Reason(&error));
-    }
+    let _ = eprintln!(rt; "{}", ScriptFault::Device);
+    let _ = eprintln!(rt; "standard output: {}", Reason(&error));
     ExitCode::from(ScriptFault::Device.status())
 }

@@ -5,7 +5,7 @@ use crate::live::do_live;
 use lapd_cli_answer::answer;
 use lapd_cli_console::Script;
 use lapd_cli_decode::{
-    Drawing, Filter, Follow, FrameStyle, FrameTime, Layout, LineForm, LinesStyle, Style,
+    Drawing, Filter, Follow, FrameStyle, FrameTime, Layout, LineForm, LinesStyle, Style, decode,
     decode_good_lines, decode_lines, print_lines,
 };
 use lapd_cli_io::{Notes, connection};
@@ -158,6 +158,8 @@ fn do_decode<R: Read, W: Write>(
     }
     let ended = if options.keep_going {
         decode_good_lines(rt.alloc(), script, out, form, frames.style, rt.stderr())
+    } else if is_usual(options) {
+        decode(rt.alloc(), script, out)
     } else {
         decode_lines(rt.alloc(), script, out, form, frames.style)
     };
@@ -177,6 +179,11 @@ fn do_lines<R: Read, W: Write>(
         Ok(_) => Ok(()),
         Err(fault) => Err(Stop::Script(fault)),
     }
+}
+
+// Whether `decode` reads strict lines and prints trace lines, as it does without options.
+fn is_usual(options: DecodeOptions) -> bool {
+    !options.loose && !options.json && !options.names
 }
 
 // The form of the lines that `decode` reads.

@@ -24,7 +24,7 @@ use capture::{do_capture, print_no_file};
 use ending::{Ending, Stop, print_ending, print_memory, print_no_invocation, print_words_fault};
 use greeting::Greeting;
 use job::{do_job, script_of};
-use lapd_cli_console::{FaultReport, RecentLines, Refusals, Session, Watched};
+use lapd_cli_console::{FaultReport, PrintedAnswers, RecentLines, Refusals, Session, Watched};
 use lapd_cli_options::{Clock, Invocation, Job, parse_words, words};
 use lapd_cli_script::{Reason, ScriptFault};
 use picture::{Output, begin_picture, end_picture};
@@ -93,7 +93,8 @@ fn do_lines<O: Write + Drop>(
 ) -> ExitCode {
     if rt.stdin().is_terminal() && has_forms(chosen) {
         let script = script_of(&chosen.job, &chosen.clock);
-        let session = Session::new(rt.alloc(), script, rt.reader(), rt.stderr());
+        let answers = PrintedAnswers::new(rt.stderr());
+        let session = Session::new(rt.alloc(), script, rt.reader(), answers);
         do_script(rt, chosen, Greeting::new(session, rt.stderr()), output)
     } else {
         do_script(rt, chosen, rt.stdin(), output)

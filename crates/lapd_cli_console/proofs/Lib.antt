@@ -1,4 +1,8 @@
 mod AnswerLines
+mod GivenPart
+mod KeptLines
 mod Shapes
 mod TextWords
 mod TypedLine
+mod Answered
+mod Typed

@@ -1,3 +1,7 @@
+pub mod Answered
+pub mod Answers
 pub mod Fault
 pub mod Forms
+pub mod Recent
 pub mod Tidied
+pub mod Typed

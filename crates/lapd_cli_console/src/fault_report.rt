@@ -21,12 +21,9 @@ pub struct FaultReport<'a> {
 }
 
 impl FaultReport<'_> {
-    /// Prints the fault on the first line and the reason on the second. Prints nothing if the
-    /// reader of standard output has closed it. Failed writes to standard error are ignored.
+    /// Prints the fault on the first line and the reason on the second. Failed writes to standard
+    /// error are ignored.
     pub fn print(&self, rt: &HostRuntime, fault: ScriptFault) {
-        if fault == ScriptFault::Device && self.output == Some(ErrorKind::BrokenPipe) {
-            return;
-        }
         let _ = eprintln!(rt; "{fault}");
         match fault {
             ScriptFault::BadLine(_) => self.print_bad_line(rt),

@@ -1,9 +1,12 @@
 //! Laws over the definitions. The functions do nothing when they are called.
 
-ghost use Rattle.std.specs.Prelude.{◌≡◌, codes, false, true};
+ghost use Rattle.std.specs.Prelude.{◌≡◌, ◌≤◌, ◌+◌, ◌∷◌, ◌++◌, ℕ, List, Some, [], codes, false, slice_get, take, true};
+ghost use Rattle.lapd_cli_script.specs.Script.{lines_of};
 ghost use Rattle.lapd_cli_console.specs.declared.script.Script.TheVariants.{Answer, LiveNet, LiveUser, Net};
 ghost use Rattle.lapd_cli_console.specs.Forms.{is_line_of};
+ghost use Rattle.lapd_cli_console.specs.Recent.{ReadOctets, feeds, kept_line};
 ghost use Rattle.lapd_cli_console.specs.Tidied.{tidied_line};
+ghost use Rattle.lapd_cli_console.specs.Typed.{passed_on};
 
 /// The documented examples of typed lines and their tidied form.
 pub fn worked_typed_lines()
@@ -28,4 +31,25 @@ pub fn worked_lines_by_form()
     ensures too_much { is_line_of LiveUser (codes "impair 101%") ≡ false }
     ensures no_words { is_line_of LiveNet (codes "expect 100") ≡ false }
     ensures words { is_line_of LiveNet (codes "expect 0 64  established 100") ≡ true }
+{}
+
+/// Examples of typed octets, and those that a session of `answer` passes on.
+pub fn worked_sessions()
+    ensures last { passed_on Answer (codes "  state") ≡ codes "state" ++ 10 ∷ [] }
+    ensures bad { passed_on Answer
+        (codes "t200" ++ 10 ∷ codes "fram 00" ++ 10 ∷ codes " busy on " ++ 10 ∷ [])
+        ≡ codes "t200" ++ 10 ∷ codes "busy on" ++ 10 ∷ [] }
+    ensures help { passed_on Answer (codes "help" ++ 10 ∷ codes "state" ++ 10 ∷ [])
+        ≡ codes "state" ++ 10 ∷ [] }
+    ensures quit { passed_on Answer
+        (codes "state" ++ 10 ∷ codes "quit" ++ 10 ∷ codes "state" ++ 10 ∷ [])
+        ≡ codes "state" ++ 10 ∷ [] }
+{}
+
+/// A line of a script is kept under its number, counted from 1 as the script's run counts it, unless
+/// it ended before the octets read last.
+pub fn lines_have_the_numbers_of_a_script()
+    ensures { (r : ReadOctets) (place : ℕ) (line : List ℕ) → feeds r.before ≤ place
+        → slice_get (lines_of (r.before ++ r.last)) place ≡ Some line
+        → kept_line r (place + 1) ≡ Some (take 4096 line) }
 {}

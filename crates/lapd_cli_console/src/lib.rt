@@ -8,10 +8,11 @@
 //! - [`Watched`] is a writer that remembers how a write failed, and [`Refusals`] one that notes the
 //!   first line that begins with `refused`.
 //! - [`FaultReport`] prints the fault that ended a script, and its reason.
-//! - [`Session`] reads typed lines, and passes on those with a valid form; [`tidied`] removes
-//!   needless characters from a typed line.
+//! - [`Session`] reads typed lines, and passes on those with a valid form; [`Answers`] are given to
+//!   the others. [`tidied`] removes needless characters from a typed line.
 #![tactic(auto)]
 
+mod answers;
 mod complaint;
 mod cuts;
 mod fault_report;
@@ -26,13 +27,17 @@ mod script;
 mod session;
 mod shown;
 mod typed_line;
+mod unreturned;
 mod watched;
 
+pub use answers::{Answers, PrintedAnswers};
 pub use fault_report::FaultReport;
 pub use form::{Argument, Form};
 pub use help::put_help;
 pub use judge::reason;
-pub use laws::{worked_lines_by_form, worked_typed_lines};
+pub use laws::{
+    lines_have_the_numbers_of_a_script, worked_lines_by_form, worked_sessions, worked_typed_lines,
+};
 pub use line_forms::forms;
 pub use recent_lines::RecentLines;
 pub use refusals::Refusals;

@@ -8,6 +8,7 @@ use Rattle.lapd_cli_script.specs.Script.{LineOutcome}
 use Rattle.lapd_cli_decode.specs.declared.line_form.LineForm.{LineForm}
 use Rattle.lapd_cli_decode.specs.declared.line_form.LineForm.TheVariants.{Strict, Loose}
 use Rattle.lapd_cli_decode.specs.declared.style.Style.{Style}
+use Rattle.lapd_cli_decode.specs.declared.style.Style.TheVariants.{Plain}
 use Rattle.lapd_cli_decode.specs.Loose.{loose_line}
 use Rattle.lapd_cli_decode.specs.Sent.{sent_by}
 use Rattle.lapd_cli_decode.specs.Style.{styled_text}
@@ -31,6 +32,10 @@ sent_in (Loose printer) line = loose_line printer line
 pub record Decoding : Type 0 where
   pub form : LineForm
   pub style : Style
+
+-- strict lines, printed as trace lines
+abbrev pub traces : Decoding
+traces = record { form = Strict; style = Plain }
 
 -- the result of each line; the state never changes
 abbrev pub line_step : Decoding → List ℕ → LineOutcome Decoding

@@ -1,8 +1,8 @@
 //! The command `decode`: octets as trace lines or as JSON objects, from lines of several forms and
 //! from captures.
 //!
-//! [`decode_lines`] executes a script with lines of one [`LineForm`], and prints each frame in a
-//! [`Style`]. [`decode_good_lines`] reports and skips invalid lines. [`print_lines`] prints the
+//! [`decode`] executes a script of strict lines, and prints the trace line of each frame.
+//! [`decode_lines`] does the same with lines of any [`LineForm`], and in any [`Style`]. [`decode_good_lines`] reports and skips invalid lines. [`print_lines`] prints the
 //! frames that a [`FrameStyle`] requests, and [`decode_capture`] those of a capture of
 //! `lapd_capture`. If links are followed, which [`follow_capture`] does for a capture, the remarks
 //! of a listener of `lapd_follow` are printed behind each frame, and a table of each link at the
@@ -42,7 +42,7 @@ pub use lapd_cli_ladder::{PICTURE_BEGIN, PICTURE_END};
 pub use lapd_cli_values::Filter;
 pub use lapd_frame::Side;
 pub use laws::{both_read_alike, sender_is_found};
-pub use line_decoder::{decode_good_lines, decode_lines};
+pub use line_decoder::{decode, decode_good_lines, decode_lines};
 pub use line_form::LineForm;
 pub use live_ladder::FrameDrawer;
 pub use live_laws::ladder_is_decoded;

@@ -2,7 +2,7 @@
 
 ghost use Rattle.std.specs.Prelude.{◌≡◌, IfSome};
 ghost use Rattle.lapd_cli_script.specs.Script.{EndsAs, lines_of};
-ghost use Rattle.lapd_cli_decode.specs.Lines.{decode_step_skipping, line_step};
+ghost use Rattle.lapd_cli_decode.specs.Lines.{decode_step_skipping, line_step, traces};
 ghost use Rattle.lapd_cli_decode.specs.Decoder.{decoding_of};
 
 use crate::line_form::LineForm;
@@ -23,6 +23,23 @@ struct LineDecoder {
     style: Style,
     octets: Vec<u8>,
     text: String,
+}
+
+/// Executes a script of strict lines ([`LineForm::Strict`]), and writes the trace line of each frame:
+/// [`decode_lines`] without options.
+///
+/// # Errors
+///
+/// As for [`decode_lines`].
+pub fn decode<R: Read, W: Write>(
+    alloc: Global,
+    script: &mut R,
+    out: &mut W,
+) -> Result<(), ScriptFault>
+    ensures { IfSome (R.remaining script.old) (λ octets. EndsAs line_step traces result
+        (lines_of octets) (W.contents out.old) (W.contents out.new)) }
+{
+    decode_lines(alloc, script, out, LineForm::Strict, Style::Plain)
 }
 
 /// Executes a script with lines of this form, and writes each frame in this style.

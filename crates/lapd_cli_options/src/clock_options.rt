@@ -61,7 +61,7 @@ fn live_options_of<'a>(given: &ArgMatches<'a>) -> Result<LiveOptions<'a>, NoInvo
         idle_limit: idle_limit_of(given, terminals)?,
         pcap: given.get_str("pcap"),
         ladder: given.get_str("ladder"),
-        gsmtap: gsmtap_of(given)?,
+        gsmtap: given.get_str(GSMTAP.name),
     })
 }
 
@@ -83,16 +83,5 @@ fn idle_limit_of<'a>(
         Some(_) if terminals < 2 => Err(NoInvocation::OneTerminal),
         Some(written) => Ok(Some(number_written(IDLE_LIMIT, written)?)),
         None => Ok(None),
-    }
-}
-
-// The address to which frames are sent as GSMTAP.
-fn gsmtap_of<'a>(given: &ArgMatches<'a>) -> Result<Option<&'a str>, NoInvocation<'a>> {
-    let Some(written) = given.get_str(GSMTAP.name) else {
-        return Ok(None);
-    };
-    match GSMTAP.address(written) {
-        Ok(address) => Ok(Some(address)),
-        Err(fault) => Err(NoInvocation::NoAddress(fault)),
     }
 }

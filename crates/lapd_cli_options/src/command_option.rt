@@ -44,8 +44,8 @@ pub(crate) struct WordOption {
     pub default: &'static str,
 }
 
-/// The option as an argument of the parser. The parser accepts any text for a number, an address or
-/// several words; a bad one is reported later, in this crate's own words.
+/// The option as an argument of the parser. The parser accepts any text for a number or several
+/// words; a bad one is reported later, in this crate's own words.
 pub(crate) fn arg_of<'a>(alloc: Global, option: &CommandOption) -> Arg<'a> {
     match option {
         CommandOption::Flag(name, help) => flag(alloc, name, help),

@@ -9,9 +9,9 @@ use crate::no_invocation::NoInvocation;
 use crate::script_command::ScriptCommand;
 use clap::ArgMatches;
 use lapd_cli_values::{
-    AddressOption, CONNECT, Interface, InterfaceOptions, K, KNOWN_TEI, LINK_TEI, LINKS_K, LISTEN,
-    LinkEnd, N200, NumberOption, OutOfRange, Params, ROOM, Recovery, SEED, Sapi, Side, T200, T201,
-    T202, T203, TERMINALS, Tei, interface_written, params_written, tei_written, terminals_written,
+    CONNECT, Interface, InterfaceOptions, K, KNOWN_TEI, LINK_TEI, LINKS_K, LISTEN, LinkEnd, N200,
+    NumberOption, OutOfRange, Params, ROOM, Recovery, SEED, Sapi, Side, T200, T201, T202, T203,
+    TERMINALS, Tei, interface_written, params_written, tei_written, terminals_written,
 };
 use std::alloc::Global;
 
@@ -166,26 +166,12 @@ fn number_of<'a>(given: &ArgMatches<'a>, option: NumberOption) -> &'a str {
     given.get_str(option.name).unwrap_or(option.default)
 }
 
-/// The address in this command's options, if it has one.
-pub(crate) fn address_of<'a>(
-    command: ScriptCommand,
-    given: &ArgMatches<'a>,
-) -> Result<Option<&'a str>, NoInvocation<'a>> {
+/// The address in this command's options, if it has one. The parser requires it of `net` and `user`.
+pub(crate) fn address_of<'a>(command: ScriptCommand, given: &ArgMatches<'a>) -> Option<&'a str> {
     match command {
-        ScriptCommand::Net => written_address(given, LISTEN),
-        ScriptCommand::User => written_address(given, CONNECT),
-        _ => Ok(None),
-    }
-}
-
-// The address in this option, which the parser requires.
-fn written_address<'a>(
-    given: &ArgMatches<'a>,
-    option: AddressOption,
-) -> Result<Option<&'a str>, NoInvocation<'a>> {
-    match option.address(given.get_str(option.name).unwrap_or("")) {
-        Ok(address) => Ok(Some(address)),
-        Err(fault) => Err(NoInvocation::NoAddress(fault)),
+        ScriptCommand::Net => given.get_str(LISTEN.name),
+        ScriptCommand::User => given.get_str(CONNECT.name),
+        _ => None,
     }
 }
 

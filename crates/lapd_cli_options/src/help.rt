@@ -185,5 +185,4 @@ Exit status:
   5  with --strict: the script was executed to its end, and `refused` was printed for a line, or
      with --follow of `decode` a frame violates Q.921; with --clock real: an expected line was not
      printed in time
-The text of a status is printed on standard error. For 1, 3 and 5 a second line has the reason. If
-standard output is a pipe that nobody reads any more, nothing is printed.";
+The text of a status is printed on standard error. For 1, 3 and 5 a second line has the reason.";

@@ -28,7 +28,7 @@ pub use invocation::{
     PrintedTime,
 };
 pub use lapd_cli_values::{
-    Durations, Filter, Interface, LinkEnd, NoAddress, OutOfRange, Params, Recovery, Sapi, Side, Tei,
+    Durations, Filter, Interface, LinkEnd, OutOfRange, Params, Recovery, Sapi, Side, Tei,
 };
 pub use no_invocation::NoInvocation;
 use no_invocation::refused_by_parser;
@@ -45,8 +45,7 @@ use std::convert::AsStr;
 /// # Errors
 ///
 /// - `Shown` if the words request help or the version;
-/// - `Refused`, `OutOfRange`, `NoAddress`, `NotReal`, `NotFollowed`, `NotCaptured`, `NotBoth`,
-///   `NotKinds` or
+/// - `Refused`, `OutOfRange`, `NotReal`, `NotFollowed`, `NotCaptured`, `NotBoth`, `NotKinds` or
 ///   `OneTerminal` if they are not valid;
 /// - `Memory` if an allocation fails.
 pub fn parse_words<'a, S: AsStr>(
@@ -97,11 +96,10 @@ fn invocation_with<'a>(
     command: ScriptCommand,
     given: &ArgMatches<'a>,
 ) -> Result<Invocation<'a>, NoInvocation<'a>> {
-    let address = address_of(command, given)?;
     let clock = clock_of(command, given)?;
     Ok(Invocation {
         job,
-        address,
+        address: address_of(command, given),
         pcap: pcap_of(command, given),
         svg: svg_of(command, given),
         clock,

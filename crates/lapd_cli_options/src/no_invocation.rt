@@ -1,6 +1,6 @@
 use clap::Error;
 use clap::error::ErrorKind;
-use lapd_cli_values::{InterfaceFault, NoAddress, OutOfRange};
+use lapd_cli_values::{InterfaceFault, OutOfRange};
 use std::alloc::Global;
 use std::fmt;
 
@@ -11,13 +11,11 @@ pub enum NoInvocation<'a> {
     /// 0.
     Shown(String),
     /// The parser refuses them, for the reason in this text. The text is for standard error, and
-    /// the exit status is 2, as for `OutOfRange`, `NoAddress`, `NotReal`, `NotFollowed`,
-    /// `NotCaptured`, `NotBoth`, `NotKinds` and `OneTerminal`.
+    /// the exit status is 2, as for `OutOfRange`, `NotReal`, `NotFollowed`, `NotCaptured`,
+    /// `NotBoth`, `NotKinds` and `OneTerminal`.
     Refused(String),
     /// A number that is not in the range of its option.
     OutOfRange(OutOfRange<'a>),
-    /// The value of an option is not an address.
-    NoAddress(NoAddress<'a>),
     /// The option with this name, without the hyphens, requires the real clock, which was not
     /// requested.
     NotReal(&'static str),
@@ -41,7 +39,6 @@ impl fmt::Display for NoInvocation<'_> {
         match self {
             NoInvocation::Shown(text) | NoInvocation::Refused(text) => f.write_str(text.as_str()),
             NoInvocation::OutOfRange(fault) => writeln!(f, "{fault}"),
-            NoInvocation::NoAddress(fault) => writeln!(f, "{fault}"),
             NoInvocation::NotReal(option) => {
                 writeln!(f, "error: --{option} requires --clock real")
             }
@@ -78,12 +75,6 @@ impl<'a> From<InterfaceFault<'a>> for NoInvocation<'a> {
             InterfaceFault::OutOfRange(fault) => NoInvocation::OutOfRange(fault),
             InterfaceFault::Memory => NoInvocation::Memory,
         }
-    }
-}
-
-impl<'a> From<NoAddress<'a>> for NoInvocation<'a> {
-    fn from(fault: NoAddress<'a>) -> Self {
-        NoInvocation::NoAddress(fault)
     }
 }
 

@@ -230,12 +230,12 @@ lapd net --listen=a:1 --pcap line.pcap => error: --pcap requires --clock real~
 lapd user --connect=a:1 --ladder rungs => error: --ladder requires --clock real~
 lapd user --connect=a:1 --gsmtap b:4729 => error: --gsmtap requires --clock real~
 lapd net --listen=a:1 --clock=real --terminals=128 => error: invalid value '128' for '--terminals <TERMINALS>': not a number from 1 to 127 in decimal digits~
-lapd user --connect=a:1 --clock=real --gsmtap=b => error: invalid value 'b' for '--gsmtap <ADDRESS>': expected HOST:PORT, such as 127.0.0.1:4000~
-lapd net --listen foo => error: invalid value 'foo' for '--listen <ADDRESS>': expected HOST:PORT, such as 127.0.0.1:4000~
-lapd net --listen 127.0.0.1 => error: invalid value '127.0.0.1' for '--listen <ADDRESS>': expected HOST:PORT, such as 127.0.0.1:4000~
-lapd user --connect=127.0.0.1:65536 => error: invalid value '127.0.0.1:65536' for '--connect <ADDRESS>': expected HOST:PORT, such as 127.0.0.1:4000~
-lapd user --connect :80 => error: invalid value ':80' for '--connect <ADDRESS>': expected HOST:PORT, such as 127.0.0.1:4000~
-lapd|user|--connect=no address => error: invalid value 'no address' for '--connect <ADDRESS>': expected HOST:PORT, such as 127.0.0.1:4000~
+lapd user --connect=a:1 --clock=real --gsmtap=b => user 1 3 512 enquiry 3 3 512 enquiry 1000 1000 2000 10000 with-16 - at a:1 real 1 - b
+lapd net --listen foo => net 1 3 512 enquiry 3 3 512 enquiry 1000 1000 2000 10000 with-16 - at foo
+lapd net --listen 127.0.0.1 => net 1 3 512 enquiry 3 3 512 enquiry 1000 1000 2000 10000 with-16 - at 127.0.0.1
+lapd user --connect=127.0.0.1:65536 => user 1 3 512 enquiry 3 3 512 enquiry 1000 1000 2000 10000 with-16 - at 127.0.0.1:65536
+lapd user --connect :80 => user 1 3 512 enquiry 3 3 512 enquiry 1000 1000 2000 10000 with-16 - at :80
+lapd|user|--connect=no address => user 1 3 512 enquiry 3 3 512 enquiry 1000 1000 2000 10000 with-16 - at no address
 lapd net --listen 127.0.0.1:4000 --tei 127 => error: invalid value '127' for '--tei <TEI>': not a number from 0 to 126 in decimal digits~
 lapd user --connect 127.0.0.1:4000 --tei 127 => error: invalid value '127' for '--tei <TEI>': not a number from 0 to 126 in decimal digits~
 lapd net --listen 127.0.0.1:4000 --k 0 => error: invalid value '0' for '--k <FRAMES>': not a number from 1 to 127 in decimal digits~

@@ -2,7 +2,7 @@
 
 use lapd_cli_answer::answer;
 use lapd_cli_decode::{
-    Drawing, Filter, Follow, FrameStyle, FrameTime, Layout, LineForm, LinesStyle, Style,
+    Drawing, Filter, Follow, FrameStyle, FrameTime, Layout, LineForm, LinesStyle, Style, decode,
     decode_lines, print_lines,
 };
 use lapd_cli_link_commands::{bus, draw_pair, loop_over, pair};
@@ -81,7 +81,10 @@ fn do_decode<R: Read, W: Write>(
         && options.frames == Filter::ALL
         && !options.any_sapi
     {
-        return decode_lines(alloc, script, out, form, style);
+        return match style {
+            Style::Plain => decode(alloc, script, out),
+            style => decode_lines(alloc, script, out, form, style),
+        };
     }
     let how = LinesStyle {
         form,

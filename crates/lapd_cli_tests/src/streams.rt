@@ -3,7 +3,7 @@
 use crate::run::run;
 use crate::scenario::{Console, Scenario};
 use crate::scenarios::words_of;
-use lapd_cli_console::{RecentLines, Refusals, Script, Session};
+use lapd_cli_console::{PrintedAnswers, RecentLines, Refusals, Script, Session};
 use lapd_cli_options::{Invocation, parse_words};
 use lapd_cli_script::ScriptFault;
 use lapd_cli_side_commands::{FromRead, FromWrite, Port};
@@ -204,7 +204,8 @@ fn is_typed(alloc: Global, chosen: &Invocation<'_>, most: usize) -> bool {
     let Ok(typed) = BufReader::new(alloc, Console(&scenario)) else {
         return false;
     };
-    let mut session = Session::new(alloc, Script::Answer, typed, Console(&scenario));
+    let answers = PrintedAnswers::new(Console(&scenario));
+    let mut session = Session::new(alloc, Script::Answer, typed, answers);
     let ended = ends(alloc, chosen, &mut session, &mut Console(&scenario));
     scenario.ends(alloc, ended)
 }

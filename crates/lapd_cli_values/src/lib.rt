@@ -1,4 +1,4 @@
-//! The values of the program `lapd`'s options: which numbers and addresses they accept, and the
+//! The values of the program `lapd`'s options: which numbers they accept, and the
 //! error for any other text. A [`Filter`] chooses the frames that `decode` prints.
 //!
 //! This crate does not depend on the command line, so its proofs and edits do not read the parser.
@@ -14,7 +14,7 @@ mod number_option;
 mod numbers;
 mod out_of_range;
 
-pub use address_option::{AddressOption, CONNECT, GSMTAP, LISTEN, NoAddress};
+pub use address_option::{AddressOption, CONNECT, GSMTAP, LISTEN};
 pub use filter::Filter;
 pub use interface::Interface;
 pub use interface_options::{
