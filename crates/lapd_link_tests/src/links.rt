@@ -200,7 +200,12 @@ fn give_at_once(text: &mut Text, alloc: Global, link: &mut Link, digits: &str) {
 
 /// Appends the frame of a message that was sent at once, and its effect on the timers.
 fn put_given(text: &mut Text, link: &Link, outs: &GivenOuts) {
-    put_out(text, link, Out::SendMessage(outs.place, outs.field.control()), &[]);
+    put_out(
+        text,
+        link,
+        Out::SendMessage(outs.place, outs.field.control()),
+        &[],
+    );
     if let SendEffect::Starts { stops } = outs.effect {
         text.mark(" stop T203", stops);
         text.put(" start T200");
