@@ -1,10 +1,16 @@
-/* The cost of calls: `count WHAT N` repeats WHAT N times with sides in memory. count.sh counts the
+/* The cost of calls: `count WHAT N` repeats WHAT N times with sides in memory, and
+ * `count many PAIRS EACH N` sends N messages over so many pairs in turn. count.sh counts the
  * instructions of two runs. */
-#include "test.h"
+#define _POSIX_C_SOURCE 200809L
+
+#include "count.h"
 
 #include <string.h>
 
-static lapd_side network = LAPD_SIDE_INIT, user = LAPD_SIDE_INIT;
+static struct pair {
+	lapd_side network, user;
+} pairs[MOST_PAIRS];
+static lapd_settings settings = LAPD_BASIC;
 static long arrived, acknowledged, frames;
 
 static void fetch_told(lapd_side *side)
@@ -47,24 +53,28 @@ static void carry(lapd_side *from, lapd_side *to)
 	} while (is_any);
 }
 
-/* Sends a message of 20 octets, and its RR. */
-static void message(void)
+static inline void give(struct pair *pair)
 {
 	static const uint8_t octets[20] = { 0x08, 0x01, 0x01, 0x05 };
 
-	DONE(lapd_side_give(&user, 0, 0, octets, sizeof octets, 0));
-	carry(&user, &network);
+	DONE(lapd_side_give(&pair->user, 0, 0, octets, sizeof octets, 0));
+}
+
+/* Sends a message of 20 octets, and its RR. */
+static void message(void)
+{
+	give(pairs);
+	carry(&pairs->user, &pairs->network);
 }
 
 /* The same as `message`, but the first frame is fetched after seven messages. */
 static void window_message(void)
 {
-	static const uint8_t octets[20] = { 0x08, 0x01, 0x01, 0x05 };
 	static long given;
 
-	DONE(lapd_side_give(&user, 0, 0, octets, sizeof octets, 0));
+	give(pairs);
 	if (++given % 7 == 0)
-		carry(&user, &network);
+		carry(&pairs->user, &pairs->network);
 }
 
 /* Fetches all that waits by lapd_side_next, and passes the frames to the other side, until none is
@@ -90,29 +100,30 @@ static void carry_next(lapd_side *from, lapd_side *to)
 		carry_next(to, from);
 }
 
-/* The same as `message`, by lapd_side_next. */
-static void next_message(void)
+/* The same as `message` or `window_message`, by lapd_side_next. */
+static void send_messages(size_t pair, long each)
 {
-	static const uint8_t octets[20] = { 0x08, 0x01, 0x01, 0x05 };
+	long at;
 
-	DONE(lapd_side_give(&user, 0, 0, octets, sizeof octets, 0));
-	carry_next(&user, &network);
+	for (at = 0; at < each; at++)
+		give(&pairs[pair]);
+	carry_next(&pairs[pair].user, &pairs[pair].network);
 }
 
 /* Passes in an RR with P=1, and fetches the response. */
 static void poll(void)
 {
-	static const uint8_t rr[] = { 0x00, 0x81, 0x01, 0x01 };
-	uint8_t answer[LAPD_MOST_FRAME];
+	static const uint8_t rr[] = { 0x00, 0x01, 0x01, 0x01 };
+	uint8_t answer[4];
 	size_t length;
 
-	DONE(lapd_side_take(&network, rr, sizeof rr, 0));
-	DONE(lapd_side_frame(&network, answer, sizeof answer, &length));
+	DONE(lapd_side_take(&pairs->network, rr, sizeof rr, 0));
+	DONE(lapd_side_frame(&pairs->network, answer, sizeof answer, &length));
 	WANT(length == 4 && answer[3] == 1);
 }
 
 /* Creates a network side with 254 links and establishes each, so that its T203 runs. */
-static void establish_all(lapd_settings settings)
+static void establish_all(void)
 {
 	uint8_t teis[127], sabme[] = { 0, 0, 0x7f }, octets[LAPD_MOST_FRAME];
 	size_t length;
@@ -121,52 +132,66 @@ static void establish_all(lapd_settings settings)
 	for (at = 0; at < 127; at++)
 		teis[at] = (uint8_t)at;
 	settings.sapi16 = 1;
-	DONE(lapd_side_network(&network, &settings, teis, 127));
+	DONE(lapd_side_network(&pairs->network, &settings, teis, 127));
 	for (at = 0; at < 254; at++) {
 		sabme[0] = at % 2 == 0 ? 0 : 16 << 2;
 		sabme[1] = (uint8_t)(at / 2 << 1 | 1);
-		DONE(lapd_side_take(&network, sabme, sizeof sabme, 0));
-		DONE(lapd_side_frame(&network, octets, sizeof octets, &length));
+		DONE(lapd_side_take(&pairs->network, sabme, sizeof sabme, 0));
+		DONE(lapd_side_frame(&pairs->network, octets, sizeof octets, &length));
 		WANT(length == 3 && octets[2] == 0x73);
-		fetch_told(&network);
+		fetch_told(&pairs->network);
 	}
 }
 
-static void call(const char *what)
+static void make_pair(size_t pair)
+{
+	static const uint8_t tei = 0;
+
+	DONE(lapd_side_network(&pairs[pair].network, &settings, &tei, 1));
+	DONE(lapd_side_user(&pairs[pair].user, &settings, tei));
+	DONE(lapd_side_establish(&pairs[pair].user, 0, 0, 0));
+	carry(&pairs[pair].user, &pairs[pair].network);
+	frames = 0;
+}
+
+/* Makes one pair, and repeats an action. */
+static void repeat(const char *what, long times)
 {
 	uint64_t moment;
 	uint8_t expired;
+	long at;
 
-	switch (what[0]) {
-	case 'm': message(); break;
-	case 'w': window_message(); break;
-	case 'n': next_message(); break;
-	case 'p': poll(); break;
-	case 't': DONE(lapd_side_tick(&network, 1, &expired)); break;
-	case 'd': DONE(lapd_side_deadline(&network, &moment)); break;
-	}
+	make_pair(0);
+	if (strcmp(what, "deadline_of_254") == 0)
+		establish_all();
+	for (at = 0; at < times; at++)
+		switch (what[0]) {
+		case 'm': message(); break;
+		case 'w': window_message(); break;
+		case 'n': send_messages(0, 1); break;
+		case 'p': poll(); break;
+		case 't': DONE(lapd_side_tick(&pairs->network, 1, &expired)); break;
+		case 'd': DONE(lapd_side_deadline(&pairs->network, &moment)); break;
+		}
 }
 
 int main(int count, char **words)
 {
-	lapd_settings settings = LAPD_BASIC;
-	const uint8_t tei = 64;
-	long times = count == 3 ? atol(words[2]) : 0, at;
+	long times = count > 2 ? atol(words[count - 1]) : 0;
+	bool is_many = count == 5 && strcmp(words[1], "many") == 0;
+	size_t at;
 
-	WANT(times > 0 && strchr("mwnptd", words[1][0]) != NULL);
-	if (words[1][0] == 'w')
+	WANT(times > 0 && (is_many || (count == 3 && strchr("mwnptd", words[1][0]) != NULL)));
+	if (is_many || words[1][0] == 'w')
 		settings = (lapd_settings)LAPD_PRIMARY;
-	DONE(lapd_side_network(&network, &settings, &tei, 1));
-	DONE(lapd_side_user(&user, &settings, tei));
-	DONE(lapd_side_establish(&user, 0, 0, 0));
-	carry(&user, &network);
-	frames = 0;
-	if (strcmp(words[1], "deadline_of_254") == 0)
-		establish_all(settings);
-	for (at = 0; at < times; at++)
-		call(words[1]);
+	if (is_many)
+		count_many((size_t)atol(words[2]), atol(words[3]), times);
+	else
+		repeat(words[1], times);
 	WANT(arrived == acknowledged && (strchr("mwn", words[1][0]) == NULL || (arrived == times && frames == 2 * times)));
-	lapd_side_free(&user);
-	lapd_side_free(&network);
+	for (at = 0; at < MOST_PAIRS; at++) {
+		lapd_side_free(&pairs[at].user);
+		lapd_side_free(&pairs[at].network);
+	}
 	return 0;
 }

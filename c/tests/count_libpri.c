@@ -1,8 +1,10 @@
-/* The work of `message`, `window_message` and `poll` of count.c by the layer 2 of libpri, to compare:
- * `count_libpri WHAT N`. Two ends of a primary rate interface exchange frames in memory. The
- * functions of layer 3 and the clock that libpri calls are replaced by those below, so that they do
- * not count. */
-#include "test.h"
+/* The work of `message`, `window_message`, `poll` and `many` of count.c by the layer 2 of libpri, to
+ * compare: `count_libpri WHAT N`, `count_libpri many PAIRS EACH N`. Two ends of a primary rate
+ * interface exchange frames in memory. The functions of layer 3 and the clock that libpri calls are
+ * replaced by those below, so that they do not count. */
+#define _POSIX_C_SOURCE 200809L
+
+#include "count.h"
 
 #include <libpri.h>
 #include <string.h>
@@ -15,16 +17,18 @@ enum { NETWORK, CPE };
 
 struct q921_link;
 
-/* Frames on the way to an end. */
+/* Frames on the way to an end; none are on the way between two pairs' turns. */
 static struct line {
 	unsigned sent, taken;
 	int length[PLACES];
 	uint8_t octets[PLACES][LAPD_MOST_FRAME + CHECK_SEQUENCE];
 } lines[2];
 
-static struct pri *ends[2];
-static struct q921_link *links[2];
-static int at_work; /* the end that libpri serves */
+static struct pair {
+	struct pri *ends[2];
+	struct q921_link *links[2];
+} pairs[MOST_PAIRS], *served = pairs;
+static int at_work; /* the end of the pair that libpri serves */
 static long arrived, frames;
 
 /* libpri exports this function, but its header does not declare it. */
@@ -37,7 +41,7 @@ int q931_receive(struct q921_link *link, const void *octets, int length);
 void q931_dl_event(struct q921_link *link, int event)
 {
 	(void)event;
-	links[at_work] = link;
+	served->links[at_work] = link;
 }
 
 int q931_receive(struct q921_link *link, const void *octets, int length)
@@ -103,19 +107,19 @@ static void carry(void)
 	while (lines[NETWORK].taken != lines[NETWORK].sent || lines[CPE].taken != lines[CPE].sent)
 		for (at_work = NETWORK; at_work <= CPE; at_work++)
 			while (lines[at_work].taken != lines[at_work].sent)
-				pri_check_event(ends[at_work]);
+				pri_check_event(served->ends[at_work]);
 }
 
-/* Sends a message of 20 octets. Its frame and its RR are taken once so many messages are sent. */
-static void message(int window)
+static void send_messages(size_t pair, long each)
 {
 	static uint8_t octets[20] = { 0x08, 0x01, 0x01, 0x05 };
-	static long given;
+	long at;
 
+	served = &pairs[pair];
 	at_work = CPE;
-	q921_transmit_iframe(links[CPE], octets, sizeof octets, 1);
-	if (++given % window == 0)
-		carry();
+	for (at = 0; at < each; at++)
+		q921_transmit_iframe(served->links[CPE], octets, sizeof octets, 1);
+	carry();
 }
 
 /* Passes in an RR with P=1, and takes the response from the line. */
@@ -126,30 +130,43 @@ static void poll(void)
 
 	at_work = NETWORK;
 	send_to(NETWORK, rr, sizeof rr);
-	pri_check_event(ends[NETWORK]);
+	pri_check_event(served->ends[NETWORK]);
 	WANT(lines[CPE].sent == ++lines[CPE].taken && lines[CPE].octets[place][3] == 1);
 }
 
-int main(int count, char **words)
+static void make_pair(size_t pair)
 {
 	static const int types[] = { PRI_NETWORK, PRI_CPE };
-	long times = count == 3 ? atol(words[2]) : 0, at;
-	char what = count == 3 ? words[1][0] : 0;
 
-	WANT(times > 0 && what != 0 && strchr("mwp", what) != NULL);
-	pri_set_message(on_words);
-	pri_set_error(on_words);
+	served = &pairs[pair];
 	for (at_work = NETWORK; at_work <= CPE; at_work++) {
 		struct pri *end = pri_new_cb(0, types[at_work], PRI_SWITCH_EUROISDN_E1, on_read, on_write, NULL);
 
 		WANT(end != NULL && pri_get_timer(end, PRI_TIMER_K) == 7);
-		ends[at_work] = end;
+		served->ends[at_work] = end;
 	}
 	carry();
-	WANT(links[NETWORK] != NULL && links[CPE] != NULL);
+	WANT(served->links[NETWORK] != NULL && served->links[CPE] != NULL);
 	frames = 0;
-	for (at = 0; at < times; at++)
-		what == 'p' ? poll() : message(what == 'w' ? 7 : 1);
+}
+
+int main(int count, char **words)
+{
+	long times = count > 2 ? atol(words[count - 1]) : 0, at;
+	char what = count > 2 ? words[1][0] : 0;
+	bool is_many = count == 5 && strcmp(words[1], "many") == 0;
+	long each = what == 'w' ? 7 : 1;
+
+	WANT(times > 0 && (is_many || (count == 3 && what != 0 && strchr("mwp", what) != NULL)));
+	pri_set_message(on_words);
+	pri_set_error(on_words);
+	if (is_many) {
+		count_many((size_t)atol(words[2]), atol(words[3]), times);
+	} else {
+		make_pair(0);
+		for (at = 0; at < times; at += each)
+			what == 'p' ? poll() : send_messages(0, each);
+	}
 	WANT(frames == 2 * times && arrived == (what == 'p' ? 0 : times));
 	return 0;
 }
