@@ -1,4 +1,4 @@
-# make            proves and builds the program lapd, with progress (about half an hour on four cores the first time, 6 GB of disk)
+# make            proves and builds the program lapd, with progress (about 35 minutes on four cores the first time, 3 GB of disk)
 # make test       runs the tests from source, before any proof; make test-long runs the long ones, with drawn inputs
 # make check      proves everything, runs all tests and tries the must-fail edits: the gate
 # make install    installs what `make` built: program, manual page and completions, under DESTDIR and PREFIX
