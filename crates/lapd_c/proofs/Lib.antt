@@ -1,5 +1,4 @@
 pub mod Backlogs
-pub mod Behind
 pub mod CodeOrder
 pub mod Counted
 pub mod CountedCalls

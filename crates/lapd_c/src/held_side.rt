@@ -1,10 +1,9 @@
 //! A side together with its results that wait to be fetched.
 
-ghost use Rattle.std.specs.Prelude.{◌≡◌, ◌<◌, ◌≤◌, ◌⊎◌, [], length, slice_get, option_copied, None, IfOk, IfErr, OnOk, OnErr, true, false};
+ghost use Rattle.std.specs.Prelude.{◌≡◌, ◌<◌, ◌≤◌, [], length, slice_get, option_copied, None, IfOk, OnOk, OnErr, true, false};
 ghost use Rattle.lapd_sides_links.specs.Effects.{no_effects};
 ghost use Rattle.lapd_sides.specs.Either.{Takes, Answers};
-ghost use Rattle.lapd_c.specs.Calls.{or_never, waiting, items_waiting, gives_nothing, is_full, without_first_frame, without_first_primitive, Asks, BeginsCounting, Checks, HasCalled, HasNoMemory, HasSetTimers, Ticks, ReturnsCounters, ReturnsDeadline, ReturnsDiscarded, ReturnsState, ReturnsTerminal, FetchesFrame, FetchesItem, FetchesNext, FetchesPrimitive, overwritten};
-ghost use Rattle.lapd_c.specs.Codes.{done};
+ghost use Rattle.lapd_c.specs.Calls.{or_never, waiting, items_waiting, gives_nothing, is_full, without_first_frame, without_first_primitive, Asks, BeginsCounting, Checks, HasSetTimers, Ticks, ReturnsCounters, ReturnsDeadline, ReturnsDiscarded, ReturnsState, ReturnsTerminal, FetchesFrame, FetchesItem, FetchesNext, FetchesPrimitive, overwritten};
 ghost use Rattle.lapd_c.specs.SideQueries.{HasCheck, HasTerminal, link_meant, meant, or_no_tei, state_of_terminal, tei_of_terminal, with_own_tei};
 
 use crate::backlog::Backlog;
@@ -98,34 +97,6 @@ impl HeldSide {
         if self.is_full() {
             return PENDING;
         }
-        if self.take_behind(octets, now) {
-            DONE
-        } else {
-            self.take_any(octets, now)
-        }
-    }
-
-    /// Processes a usual frame: its results are appended to `acts`, so the waiting ones are not
-    /// moved. Returns `false`, with nothing changed, for any other octets, and if the side counts.
-    #[inline(always)]
-    fn take_behind(&mut self, octets: &[u8], now: u64) -> bool
-        ensures taken { result ≡ true
-            → HasCalled (Takes octets.now now) octets.now self.old self.new done }
-        ensures unchanged { result ≡ false → self.new ≡ self.old }
-    {
-        match &self.counts {
-            Some(_) => false,
-            None => self.side.take_behind(octets, now, &mut self.acts),
-        }
-    }
-
-    /// Processes any octets: sets the results of the last call aside first.
-    // If inlined, it would cost a usual frame stack and registers.
-    #[inline(never)]
-    fn take_any(&mut self, octets: &[u8], now: u64) -> u32
-        ensures { HasNoMemory self.old self.new result
-            ⊎ HasCalled (Takes octets.now now) octets.now self.old self.new result }
-    {
         match self.set_aside() {
             Ok(()) => {
                 count_received(&mut self.counts, &self.side, octets);
@@ -152,44 +123,6 @@ impl HeldSide {
             }
             Err(_) => MEMORY,
         }
-    }
-
-    /// Submits a layer 3 message to a link at the time `now`.
-    pub(crate) fn give(&mut self, id: &LinkId, message: Vec<u8>, now: u64) -> u32
-        ensures { Asks (Answers (Request.Give id.now message) now) [] self.old self.new result }
-    {
-        if self.is_full() {
-            return PENDING;
-        }
-        match self.give_behind(id, message, now) {
-            Ok(()) => DONE,
-            Err(message) => self.give_any(id, message, now),
-        }
-    }
-
-    /// Submits a message that is sent at once: its results are appended to `acts`, so the waiting
-    /// ones are not moved. Any other message is returned, with nothing changed, and so is each
-    /// message if the side counts.
-    #[inline(always)]
-    fn give_behind(&mut self, id: &LinkId, message: Vec<u8>, now: u64) -> Result<(), Vec<u8>>
-        ensures given { OnOk result
-            (HasCalled (Answers (Request.Give id.now message) now) [] self.old self.new done) }
-        ensures returned { IfErr result (λ back. back ≡ message) }
-        ensures unchanged { OnErr result (self.new ≡ self.old) }
-    {
-        match &self.counts {
-            Some(_) => Err(message),
-            None => self.side.give_behind(*id, message, now, &mut self.acts),
-        }
-    }
-
-    /// Submits any message: sets the results of the last call aside first.
-    // If inlined, it would cost a message that is sent at once stack and registers.
-    #[inline(never)]
-    fn give_any(&mut self, id: &LinkId, message: Vec<u8>, now: u64) -> u32
-        ensures { Asks (Answers (Request.Give id.now message) now) [] self.old self.new result }
-    {
-        self.request(Request::Give(*id, message), now)
     }
 
     /// Checks a TEI at the time `now`, unless another check is in progress.

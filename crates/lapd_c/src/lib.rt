@@ -139,17 +139,6 @@ fn ask(handle: &mut Handle, request: Request, now: u64) -> u32
     side.request(request, now)
 }
 
-/// Submits a message to a link.
-fn give(handle: &mut Handle, id: LinkId, message: Vec<u8>, now: u64) -> u32
-    ensures { AsksSide (Answers (Request.Give id message) now) [] result handle.old.held
-        handle.new.held }
-{
-    let Some(side) = handle.side() else {
-        return NO_SIDE;
-    };
-    side.give(&id, message, now)
-}
-
 /// Establishes a link (DL-ESTABLISH request).
 #[unsafe(no_mangle)]
 pub extern "C" fn lapd_side_establish(handle: &mut Handle, sapi: u8, tei: u8, now: u64) -> u32
@@ -204,7 +193,7 @@ pub extern "C" fn lapd_side_give(
         return OUT_OF_RANGE;
     };
     match Vec::from_slice(alloc, octets) {
-        Ok(message) => give(handle, id, message, now),
+        Ok(message) => ask(handle, Request::Give(id, message), now),
         Err(_) => MEMORY,
     }
 }

@@ -105,7 +105,7 @@ impl<O: Outside, W: Write> LiveSide<O, W> {
     }
 
     /// Processes a frame at the moment `now`, and sends and prints the output. `now` was read just
-    /// before the frame was received. The octets are read once, for the printer and for the side.
+    /// before the frame was received.
     fn take(&mut self, octets: &[u8], now: u64) -> Result<(), LiveFault>
         ensures { OnOk result
             (Between O.io_events O.impaired_by W.contents self.old self.new
@@ -116,7 +116,7 @@ impl<O: Outside, W: Write> LiveSide<O, W> {
         let frame = read(octets, from);
         self.printer.put_received(own, octets, &frame)?;
         let discarded = self.side.discarded();
-        let Ok(()) = self.side.take_frame(&frame, now, &mut self.acts) else {
+        let Ok(()) = self.side.take(octets, now, &mut self.acts) else {
             return Err(LiveFault::Line(LineFault::Memory));
         };
         let is_discarded = discarded < self.side.discarded();

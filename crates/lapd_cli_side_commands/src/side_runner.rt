@@ -206,7 +206,7 @@ impl<W: Write, S: Source, K: Sink> SideRunner<W, S, K> {
         }
     }
 
-    /// Prints a received frame, and passes it to the side. The octets are read once, for both.
+    /// Prints a received frame, and passes it to the side.
     fn receive(&mut self, octets: &[u8]) -> Result<(), LineFault>
         ensures side { side_of self.new.side ≡ side_of self.old.side }
         ensures clock { self.new.now ≡ self.old.now }
@@ -229,7 +229,7 @@ impl<W: Write, S: Source, K: Sink> SideRunner<W, S, K> {
         ) else {
             return Err(LineFault::Memory);
         };
-        let Ok(()) = self.side.take_frame(&frame, self.now, &mut self.acts) else {
+        let Ok(()) = self.side.take(octets, self.now, &mut self.acts) else {
             return Err(LineFault::Memory);
         };
         self.output.clear();

@@ -5,4 +5,4 @@ pub mod Managing
 pub mod Networking
 pub mod ReadFrames
 pub mod Receiving
-pub mod Behind
+pub mod Predicted

@@ -29,9 +29,8 @@ use Rattle.lapd_sides.specs.Management.{carries_message, links_with, manages, on
 use Rattle.lapd_sides_links.specs.Links.{Served}
 use Rattle.lapd_sides.specs.Network.{Network, link_of_network, unit_requested, unit_to_group, assigner_acts, among_links, or_discarded, or_unmoved, message_received, frame_received, fault_received, given_for_message, given_for_frame, network_expires}
 use Rattle.lapd_sides_links.specs.Shown.{ShowLinks, HaveActed}
-use Rattle.lapd_sides_links.proofs.Behind.{acted_alone}
 use Rattle.lapd_sides.specs.Shows.{ShowServed, HaveServed, HaveReceived, LinkHasExpired, effects_after, fault_on_links, frame_on_links, links_after}
-use Rattle.lapd_sides.specs.ShowsNetwork.{ShowNetwork, GrantsBehind, HasDone, HasExpired, HasGranted, NetworkReceives, Answers}
+use Rattle.lapd_sides.specs.ShowsNetwork.{ShowNetwork, HasDone, HasExpired, HasGranted, NetworkReceives, Answers}
 
 -- ---- TEI management.
 
@@ -127,19 +126,6 @@ link_answers (Err fault) code links before acts message does empty ok err back s
   unchanged = λ config s shown. pending (relinked code links) config s shown.configured shown.assigner shown.discarded shown.served.timers (same side.Network s.served.links shown.served.links);
   nothing = nothing ∙ empty;
 }
-
--- a link sends the message at once, and its effects are appended to the earlier ones
-pub link_grants_behind : {E : Type 0} (result : Result (Unit {0}) E) (code : NetSide) (links : LinkSet) (before after : Effects) (does : Side → Links → Result (Reaction Links) SideKind)
-    → OnOk result ((at : Side) (l : Links) → ShowLinks at code.served.links l → HaveActed at links before after (does at l)) → OnOk result (Appends before after)
-    → OnOk result (GrantsBehind code (relinked code links) before after (λ config s. among_links s (does side.Network s.served.links)))
-link_grants_behind (Ok u) code links before after does ok appends = record {
-  given = appends.0;
-  appended = appends.1;
-  grants = λ config s shown.
-      let alone = acted_alone side.Network links before after appends.0 _ appends.1 (ok side.Network s.served.links shown.served.links) in
-      granted (relinked code links) config s no_effects appends.0 _ shown.configured shown.assigner shown.discarded shown.served.timers refl alone;
-}
-link_grants_behind (Err e) code links before after does ok appends = tt
 
 -- a frame is a TEI message
 pub received_as_message : {E : Type 0} (result : Result (Unit {0}) E) (old after : NetSide) (acts : Effects) (now : ℕ) (frame : Fields) (test : Bool) (found : Result TeiMessage TeiFault) → test ≡ carries_message frame → test ≡ true → found ≡ message_at frame.info

@@ -1,6 +1,6 @@
 -- The information of a frame that was read fits. A fault that was read has an address only if it is
 -- for a link.
-use Rattle.std.proofs.Common.{◌≡◌, ◌≤◌, length, Bool, true, false, Option, None, Some, Result, Ok, Err, IfErr, IfSome, refl, sym, subst, ap, ◌∙◌}
+use Rattle.std.proofs.Common.{◌≡◌, ◌≤◌, ℕ, List, length, Bool, true, false, Option, None, Some, Result, Ok, Err, IfErr, IfSome, refl, sym, subst, ap, ◌∙◌}
 use Rattle.std.specs.Prelude.{if◌then◌else◌}
 use Rattle.lapd_frame.specs.declared.Side.{Side}
 use Rattle.lapd_frame.specs.declared.Address.{Address}
@@ -11,7 +11,10 @@ use Rattle.lapd_frame.specs.Frame.{Fields, frame_of, n201}
 use Rattle.lapd_frame.specs.Reading.{address_of, fault_for_link, frame_at}
 use Rattle.lapd_frame.proofs.FrameAt.{address_carried, frame_spelled, parts_again}
 use Rattle.lapd_frame.proofs.Lengths.{content_is_short}
-use Rattle.lapd_sides.specs.Calls.{WasRead}
+
+-- some octets that this side sent are read as this frame or fault
+abbrev pub WasRead : Side → Result Fields FrameFault → Type 0
+WasRead from frame = (octets : List ℕ) × (frame ≡ frame_at from octets)
 
 without_fault : (f : Fields) (fault : Option FaultKind) → fault_for_link f.address (frame_of f.address f.control f.info fault) ≡ Ok f → fault ≡ None
 without_fault f None h = refl

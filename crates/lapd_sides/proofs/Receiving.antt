@@ -10,13 +10,12 @@ use Rattle.lapd_table.specs.declared.link_id.LinkId.{LinkId}
 use Rattle.lapd_table.specs.LinkId.{id_of_address}
 use Rattle.lapd_sides_links.specs.declared.side_fault.SideKind.{SideKind}
 use Rattle.lapd_sides_links.specs.declared.link_set.LinkSet.{LinkSet}
-use Rattle.lapd_sides_links.specs.Effects.{Appends, Effects, no_effects}
+use Rattle.lapd_sides_links.specs.Effects.{Effects, no_effects}
 use Rattle.lapd_sides_links.specs.Links.{Links, Reaction, in_links, link_acts}
 use Rattle.lapd_sides_links.specs.Shown.{ShowLinks, HaveActed, LinksDo, LinksRefuseAs, ShowsLinksAsBefore}
-use Rattle.lapd_sides_links.proofs.Behind.{acted_alone}
 use Rattle.lapd_sides.specs.declared.links_and_timer.LinksAndTimer.{LinksAndTimer}
 use Rattle.lapd_sides.specs.Management.{one_more}
-use Rattle.lapd_sides.specs.Shows.{HaveReceived, HaveStepped, ReceiveBehind, fault_on_links, frame_on_links}
+use Rattle.lapd_sides.specs.Shows.{HaveReceived, HaveStepped, Receive, fault_on_links, frame_on_links}
 
 -- ---- Frames.
 
@@ -40,18 +39,16 @@ addressed side old new acts links now frame id address octets named of same h =
     subst (λ (o : List ℕ). HaveReceived side old new acts links (in_links (id_of_address frame.address) (link_acts side (id_of_address frame.address) now (Heard frame.control frame.address.role) o) links)) same
     (subst (λ (i : LinkId). HaveReceived side old new acts links (in_links i (link_acts side i now (Heard frame.control frame.address.role) octets) links)) (named ∙ ap (λ (a : Address). id_of_address a) of) h)
 
--- a link takes its step for the frame, and its effects are appended to the earlier ones
-pub received_behind : (old : LinksAndTimer) (links : LinkSet) (before after : Effects) (now : ℕ) (frame : Fields) (id : LinkId) (address : Address) → id ≡ id_of_address address → address ≡ frame.address
-    → Appends before after → LinksDo old.links links before after (λ side. in_links id (link_acts side id now (Heard frame.control frame.address.role) frame.info))
-    → ReceiveBehind old (record old { links = links }) before after (frame_on_links now frame)
-received_behind old links before after now frame id address named of appends does = record {
-  given = appends.0;
-  appended = appends.1;
-  received = λ side l here.
-      let alone = acted_alone side links before after appends.0 _ appends.1 (does side l here) in
-      addressed side old (record old { links = links }) appends.0 l now frame id address frame.info named of refl
-      (received_by side old (record old { links = links }) no_effects appends.0 l _ refl alone refl refl);
-}
+-- a link takes its step for the frame
+pub received_at_once : (old : LinksAndTimer) (links : LinkSet) (before acts : Effects) (now : ℕ)
+    (frame : Fields) → before ≡ no_effects
+    → LinksDo old.links links before acts (λ side. in_links (id_of_address frame.address)
+        (link_acts side (id_of_address frame.address) now
+        (Heard frame.control frame.address.role) frame.info))
+    → Receive old (record old { links = links }) acts (frame_on_links now frame)
+received_at_once old links before acts now frame empty does = λ side l here.
+    received_by side old (record old { links = links }) before acts l _ empty (does side l here)
+    refl refl
 
 -- and so is a fault with an address
 pub faulty : (side : Side) (old new : LinksAndTimer) (acts : Effects) (links : Links) (now : ℕ) (kind : FaultKind) (found : Option Address) (address : Address) (id : LinkId) → found ≡ Some address → id ≡ id_of_address address

@@ -38,13 +38,13 @@ use Rattle.lapd_sides_links.specs.declared.side_fault.SideKind.TheVariants.{NoLi
 use Rattle.lapd_sides_links.specs.Effects.{Appends, Effects, no_effects, and_then}
 use Rattle.lapd_sides_links.specs.Links.{Links, Reaction, Served, gives_at_once, is_served, in_links, link_acts, link_expires, of_sapi, no_links, with_tei}
 use Rattle.lapd_sides.specs.Management.{carries_message, links_with, manages, one_more}
-use Rattle.lapd_sides.specs.User.{User, PendingEstablishments, gives_at_once_by_user, nothing_pending, among_links, or_discarded, or_unmoved, next, link_of_user, with_tei_or, establishes, establishes_pending, terminal_acts, assigned, pending_after, fault_received, for_layer_3, data_received, message_received, frame_received, got_for_message, got_for_frame, unit_from_group, user_requested, wants, has_tei, gives_up, with_pending, is_pending, forgets, sends_message, next_reference, advanced, drawn, links_of_fixed, user_expires}
+use Rattle.lapd_sides.specs.User.{User, PendingEstablishments, nothing_pending, among_links, or_discarded, or_unmoved, next, link_of_user, with_tei_or, establishes, establishes_pending, terminal_acts, assigned, pending_after, fault_received, for_layer_3, data_received, message_received, frame_received, got_for_message, got_for_frame, unit_from_group, user_requested, wants, has_tei, gives_up, with_pending, is_pending, forgets, sends_message, next_reference, advanced, drawn, links_of_fixed, user_expires}
 use Rattle.lapd_sides.specs.Requests.{message_of}
 use Rattle.lapd_sides_links.specs.Shown.{ShowLinks, HaveActed}
-use Rattle.lapd_sides_links.proofs.Behind.{acted_alone, in_order}
+use Rattle.lapd_sides_links.proofs.Acting.{in_order}
 use Rattle.lapd_sides.specs.Shows.{ShowServed, HaveServed, HaveReceived, LinkHasExpired, RequestOutcome, effects_after, fault_on_links, frame_on_links, links_after}
 use Rattle.lapd_sides.proofs.Calling.{granted_as}
-use Rattle.lapd_sides.specs.ShowsUser.{ShowUser, ShowReferences, GrantsBehind, HasDone, HasExpired, HasFollowed, HasGranted, UserReceives, Answers, admitted}
+use Rattle.lapd_sides.specs.ShowsUser.{ShowUser, ShowReferences, HasDone, HasExpired, HasFollowed, HasGranted, UserReceives, Answers, admitted}
 
 -- the side with its links after a step
 abbrev pub relinked : UserSide → LinkSet → UserSide
@@ -88,19 +88,6 @@ link_answers (Err fault) code links before acts message does empty ok err back s
   unchanged = λ config s shown. links_shown code links config s shown (same side.User s.served.links shown.served.links);
   nothing = nothing ∙ empty;
 }
-
--- a link sends the message at once, and its effects are appended to the earlier ones
-pub link_grants_behind : {E : Type 0} (result : Result (Unit {0}) E) (code : UserSide) (links : LinkSet) (before after : Effects) (does : Side → Links → Result (Reaction Links) SideKind)
-    → OnOk result ((at : Side) (l : Links) → ShowLinks at code.served.links l → HaveActed at links before after (does at l)) → OnOk result (Appends before after)
-    → OnOk result (GrantsBehind code (relinked code links) before after (λ config s. among_links s (does side.User s.served.links)))
-link_grants_behind (Ok u) code links before after does ok appends = record {
-  given = appends.0;
-  appended = appends.1;
-  grants = λ config s shown.
-      let alone = acted_alone side.User links before after appends.0 _ appends.1 (ok side.User s.served.links shown.served.links) in
-      granted code links config s no_effects appends.0 _ shown refl alone;
-}
-link_grants_behind (Err e) code links before after does ok appends = tt
 
 -- appending no effects changes nothing
 behind : (e : Effects) → e ≡ and_then e no_effects
@@ -208,12 +195,6 @@ pub is_own : (code : UserSide) (config : Config) (s : User) (found : Option ℕ)
 is_own code config s found tei now sapi id input octets otherwise shown own =
     own_link s.terminal tei now sapi input octets otherwise s (ap tei_of (sym shown.terminal) ∙ sym own.of ∙ own.is) ∙ ap (λ (i : LinkId). link_of_user now i input octets s) (sym own.named)
 
--- the terminal's own link does not send the message at once
-pub own_gives_none : (code : UserSide) (config : Config) (s : User) (found : Option ℕ) (tei : ℕ) (sapi : Sapi) (id : LinkId) (room : Bool) (message : List ℕ) → ShowUser code config s
-    → IsOwn code found tei sapi id → (room && gives_at_once message (s.served.links id)) ≡ false → (room && gives_at_once_by_user sapi message s) ≡ false
-own_gives_none code config s found tei sapi id room message shown own h =
-    rw (ap tei_of (sym shown.terminal) ∙ sym own.of ∙ own.is) (subst (λ (i : LinkId). (room && gives_at_once message (s.served.links i)) ≡ false) own.named h)
-
 -- without a TEI there is another result
 pub is_none : (code : UserSide) (config : Config) (s : User) (found : Option ℕ) (now : ℕ) (sapi : Sapi) (input : Input) (octets : List ℕ) (otherwise : Result (Reaction User) SideKind) → ShowUser code config s
     → found ≡ tei_of code.terminal → found ≡ None → with_tei_or now s.terminal sapi input octets otherwise s ≡ otherwise
@@ -225,16 +206,6 @@ pub answers_as : (result : Result (Unit {0}) SideFault) (old after : UserSide) (
     → Answers result old after acts message a → Answers result old after acts message b
 answers_as (Ok u) old after acts message a b same h = λ config s shown. granted_as after config acts (a config s) (b config s) (same config s shown) (h config s shown)
 answers_as (Err fault) old after acts message a b same h = record { kind = λ config s shown. same config s shown ∙ h.kind config s shown; returned = h.returned; unchanged = h.unchanged; nothing = h.nothing }
-
--- the same, for effects that are appended to the earlier ones
-pub grants_behind_as : {E : Type 0} (result : Result (Unit {0}) E) (old after : UserSide) (before acts : Effects) (a b : RequestOutcome User) → ((config : Config) (s : User) → ShowUser old config s → b config s ≡ a config s)
-    → OnOk result (GrantsBehind old after before acts a) → OnOk result (GrantsBehind old after before acts b)
-grants_behind_as (Ok u) old after before acts a b same h = record {
-  given = h.given;
-  appended = h.appended;
-  grants = λ config s shown. granted_as after config h.given (a config s) (b config s) (same config s shown) (h.grants config s shown);
-}
-grants_behind_as (Err e) old after before acts a b same h = tt
 
 -- ---- One step after another.
 

@@ -5,10 +5,6 @@ use Rattle.std.specs.Prelude.{◌≡◌, ℕ, List, Option, Some, None, Result, 
 use Rattle.std.specs.declared.alloc.Global.{Global}
 use Rattle.lapd_timers.specs.declared.timer.Timer.{Timer}
 use Rattle.lapd_timers.specs.Durations.{Lengths}
-use Rattle.lapd_frame.specs.declared.Side.{Side}
-use Rattle.lapd_frame.specs.declared.FrameFault.{FrameFault}
-use Rattle.lapd_frame.specs.Frame.{Fields}
-use Rattle.lapd_frame.specs.Reading.{frame_at}
 use Rattle.lapd_table.specs.declared.link_id.LinkId.{LinkId}
 use Rattle.lapd_sides_links.specs.declared.config.Config.{Config}
 use Rattle.lapd_sides_links.specs.declared.running_timer.RunningTimer.{RunningTimer}
@@ -18,10 +14,6 @@ use Rattle.lapd_sides_links.specs.Effects.{Effects, and_then, no_effects}
 use Rattle.lapd_sides_links.specs.Expiries.{IsDue}
 use Rattle.lapd_sides_links.specs.Links.{Reaction, Served}
 use Rattle.lapd_sides.specs.Shows.{Step, RequestOutcome}
-
--- some octets that this side sent are read as this frame or fault
-abbrev pub WasRead : Side → Result Fields FrameFault → Type 0
-WasRead from frame = (octets : List ℕ) × (frame ≡ frame_at from octets)
 
 -- ---- The result of a call.
 
@@ -87,13 +79,6 @@ Follows {C} {S} Show old new before after step =
     (config : Config) (s : S) → Show old config s
     → HasFollowed Show new config before after (step config s)
 
--- the call takes this step, and its effects are appended to the earlier ones
-pub record DoesBehind {C S : Type 0} (Show : C → Config → S → Type 0) (old new : C)
-    (before after : Effects) (step : Step S) : Type 0 where
-  pub given : Effects
-  pub appended : after ≡ and_then before given
-  pub does : SideDoes Show old new given step
-
 -- an allocation failed, which happens only for the links of a TEI that is assigned or obtained: the
 -- side is unchanged and `acts` is empty
 pub record LacksMemory {C S : Type 0} (Show : C → Config → S → Type 0) (old new : C)
@@ -114,13 +99,6 @@ abbrev pub Grants : {C S : Type 0} → (C → Config → S → Type 0) → C →
 Grants {C} {S} Show old new acts outcome =
     (config : Config) (s : S) → Show old config s
     → HasGranted Show new config acts (outcome config s)
-
--- the call executes a request, and its effects are appended to the earlier ones
-pub record GrantsBehind {C S : Type 0} (Show : C → Config → S → Type 0) (old new : C)
-    (before after : Effects) (outcome : RequestOutcome S) : Type 0 where
-  pub given : Effects
-  pub appended : after ≡ and_then before given
-  pub grants : Grants Show old new given outcome
 
 -- the call refuses a request, for this reason
 abbrev pub SideRefusesAs : {C S : Type 0} → (C → Config → S → Type 0) → C → SideKind

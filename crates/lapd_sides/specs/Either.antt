@@ -1,24 +1,21 @@
 -- A side of either kind. Its calls do the same as those of a network side or a user side.
-use Rattle.std.specs.Prelude.{◌≡◌, ◌&&◌, ℕ, false, List, Option, Result, Ok, ⊤}
+use Rattle.std.specs.Prelude.{◌≡◌, ℕ, List, Option, Result, ⊤}
 use Rattle.lapd_timers.specs.Due.{Timers}
 use Rattle.lapd_timers.specs.Durations.{Lengths}
 use Rattle.lapd_frame.specs.declared.Side.{Side}
 use Rattle.lapd_frame.specs.declared.Side.TheVariants as side
-use Rattle.lapd_frame.specs.Reading.{frame_at}
 use Rattle.lapd_table.specs.declared.link_id.LinkId.{LinkId}
 use Rattle.lapd_table.specs.declared.link_table.LinkTable.{LinkTable}
 use Rattle.lapd_sides_links.specs.declared.side_fault.SideFault.{SideFault}
-use Rattle.lapd_sides_links.specs.Effects.{Effects, and_then}
+use Rattle.lapd_sides_links.specs.Effects.{Effects}
 use Rattle.lapd_sides_links.specs.Expiries.{IsNextDeadline, of_served}
-use Rattle.lapd_sides_links.specs.Links.{gives_at_once}
-use Rattle.lapd_sides_links.specs.Rooms.{has_usual_room}
 use Rattle.lapd_sides.specs.declared.request.Request.{Request}
 use Rattle.lapd_sides.specs.declared.either_side.EitherSide.{EitherSide}
 use Rattle.lapd_sides.specs.declared.either_side.EitherSide.TheVariants as either
 use Rattle.lapd_sides.specs.Network.{network_takes, network_requested, given_for}
-use Rattle.lapd_sides.specs.User.{gives_at_once_by_user, user_takes, user_requested, got_for}
+use Rattle.lapd_sides.specs.User.{user_takes, user_requested, got_for}
 use Rattle.lapd_sides.specs.Requests.{message_of}
-use Rattle.lapd_sides.specs.Shows.{are_taken_usually, ShowEnds}
+use Rattle.lapd_sides.specs.Shows.{ShowEnds}
 use Rattle.lapd_sides.specs.ShowsNetwork as network
 use Rattle.lapd_sides.specs.ShowsUser as user
 
@@ -38,21 +35,6 @@ Takes octets now result (either.User old) (either.User new) acts = user.UserRece
     old new acts (λ s. got_for s octets) (λ config. user_takes config octets now)
 Takes octets now result old new acts = ⊥
 
--- processes received octets, and appends the effects to the earlier ones
-pub record TakesBehind (octets : List ℕ) (now : ℕ) (old new : EitherSide) (before after : Effects) :
-    Type 0 where
-  pub given : Effects
-  pub appended : after ≡ and_then before given
-  pub taken : Takes octets now (Ok tt) old new given
-
--- the octets are no usual frame, or there is no room for its effects
-abbrev pub TakesNoneBehind : List ℕ → EitherSide → Effects → Type 0
-TakesNoneBehind octets (either.Network code) acts = network.EachShown code (λ s.
-    (has_usual_room acts && are_taken_usually (frame_at side.User octets) s.served.links) ≡ false)
-TakesNoneBehind octets (either.User code) acts = user.EachShown code (λ s.
-    (has_usual_room acts && are_taken_usually (frame_at side.Network octets) s.served.links)
-    ≡ false)
-
 -- executes or refuses a request
 abbrev pub Answers : Request → ℕ → Result ⊤ SideFault → EitherSide → EitherSide → Effects → Type 0
 Answers request now result (either.Network old) (either.Network new) acts = network.Answers result
@@ -60,20 +42,6 @@ Answers request now result (either.Network old) (either.Network new) acts = netw
 Answers request now result (either.User old) (either.User new) acts = user.Answers result
     old new acts (message_of request) (λ config. user_requested config request now)
 Answers request now result old new acts = ⊥
-
--- executes or refuses a request, and appends the effects to the earlier ones
-pub record AnswersBehind (request : Request) (now : ℕ) (old new : EitherSide)
-    (before after : Effects) : Type 0 where
-  pub given : Effects
-  pub appended : after ≡ and_then before given
-  pub answered : Answers request now (Ok tt) old new given
-
--- the message is not sent at once, or there is no room for its effects
-abbrev pub GivesNoneBehind : LinkId → List ℕ → EitherSide → Effects → Type 0
-GivesNoneBehind id message (either.Network code) acts = network.EachShown code (λ s.
-    (has_usual_room acts && gives_at_once message (s.served.links id)) ≡ false)
-GivesNoneBehind id message (either.User code) acts = user.EachShown code (λ s.
-    (has_usual_room acts && gives_at_once_by_user id.sapi message s) ≡ false)
 
 -- the first due timer has expired
 abbrev pub Expires : ℕ → EitherSide → EitherSide → Effects → Type 0

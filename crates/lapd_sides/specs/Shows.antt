@@ -22,7 +22,7 @@ use Rattle.lapd_sides_links.specs.declared.side_fault.SideKind.TheVariants.{NoLi
 use Rattle.lapd_sides.specs.declared.links_and_timer.Expired.{Expired}
 use Rattle.lapd_sides.specs.declared.links_and_timer.Expired.TheVariants as expired
 use Rattle.lapd_sides.specs.declared.links_and_timer.LinksAndTimer.{LinksAndTimer}
-use Rattle.lapd_sides_links.specs.Effects.{Effects, and_then, no_effects, stopped}
+use Rattle.lapd_sides_links.specs.Effects.{Effects, no_effects, stopped}
 use Rattle.lapd_sides_links.specs.Expiries.{IsDue}
 use Rattle.lapd_sides_links.specs.Links.{Links, Linked, Reaction, Served, in_links, link_acts, link_expires, takes_usually}
 use Rattle.lapd_sides_links.specs.Shown.{ShowLinks}
@@ -110,13 +110,6 @@ abbrev pub Receive : LinksAndTimer → LinksAndTimer → Effects
     → (Side → Links → Result (Reaction Links) SideKind) → Type 0
 Receive old new acts step = (side : Side) (links : Links) → ShowLinks side old.links links
     → HaveReceived side old new acts links (step side links)
-
--- they receive a frame in this way, and its effects are appended to the earlier ones
-pub record ReceiveBehind (old new : LinksAndTimer) (before after : Effects)
-    (step : Side → Links → Result (Reaction Links) SideKind) : Type 0 where
-  pub given : Effects
-  pub appended : after ≡ and_then before given
-  pub received : Receive old new given step
 
 -- ---- Usual steps.
 

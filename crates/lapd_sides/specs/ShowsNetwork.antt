@@ -52,9 +52,6 @@ SetsDurations = calls.SetsDurations ShowNetwork with_durations
 abbrev pub NetworkDoes : NetSide → NetSide → Effects → Step Network → Type 0
 NetworkDoes = calls.SideDoes ShowNetwork
 
-abbrev pub NetworkDoesBehind : NetSide → NetSide → Effects → Effects → Step Network → Type 0
-NetworkDoesBehind = calls.DoesBehind ShowNetwork
-
 abbrev pub LacksMemory : NetSide → NetSide → Effects → (Network → Option ℕ) → Type 0
 LacksMemory = calls.LacksMemory ShowNetwork
 
@@ -64,9 +61,6 @@ NetworkReceives result = calls.Receives ShowNetwork result
 
 abbrev pub Grants : NetSide → NetSide → Effects → RequestOutcome Network → Type 0
 Grants = calls.Grants ShowNetwork
-
-abbrev pub GrantsBehind : NetSide → NetSide → Effects → Effects → RequestOutcome Network → Type 0
-GrantsBehind = calls.GrantsBehind ShowNetwork
 
 abbrev pub NetworkRefusesAs : NetSide → SideKind → RequestOutcome Network → Type 0
 NetworkRefusesAs = calls.SideRefusesAs ShowNetwork

@@ -70,9 +70,6 @@ SetsDurations = calls.SetsDurations ShowUser with_durations
 abbrev pub UserDoes : UserSide → UserSide → Effects → Step User → Type 0
 UserDoes = calls.SideDoes ShowUser
 
-abbrev pub UserDoesBehind : UserSide → UserSide → Effects → Effects → Step User → Type 0
-UserDoesBehind = calls.DoesBehind ShowUser
-
 abbrev pub Follows : UserSide → UserSide → Effects → Effects → Step User → Type 0
 Follows = calls.Follows ShowUser
 
@@ -99,9 +96,6 @@ UserReceives result = calls.Receives ShowUser result
 
 abbrev pub Grants : UserSide → UserSide → Effects → RequestOutcome User → Type 0
 Grants = calls.Grants ShowUser
-
-abbrev pub GrantsBehind : UserSide → UserSide → Effects → Effects → RequestOutcome User → Type 0
-GrantsBehind = calls.GrantsBehind ShowUser
 
 abbrev pub UserRefusesAs : UserSide → SideKind → RequestOutcome User → Type 0
 UserRefusesAs = calls.SideRefusesAs ShowUser

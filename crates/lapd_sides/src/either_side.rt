@@ -1,14 +1,11 @@
 //! A side of either kind.
 
-ghost use Rattle.std.specs.Prelude.{◌≡◌, ℕ, true, false, List, OnOk, OnErr, IfErr, option_copied};
-ghost use Rattle.lapd_frame.specs.Address.{other_side};
-ghost use Rattle.lapd_frame.specs.Reading.{frame_at};
+ghost use Rattle.std.specs.Prelude.{◌≡◌, true, false, IfErr, option_copied};
 ghost use Rattle.lapd_sides_links.specs.Effects.{no_effects};
-ghost use Rattle.lapd_sides.specs.Calls.{WasRead};
 ghost use Rattle.lapd_sides.specs.Requests.{without_message};
 
 use crate::{Acts, Durations, NetSide, Request, SideFault, SideKind, UserSide};
-use lapd_frame::{Frame, FrameFault, Side};
+use lapd_frame::Side;
 use lapd_table::{LinkId, LinkTable};
 use lapd_timers::TimerSet;
 
@@ -23,7 +20,7 @@ pub enum EitherSide {
 }
 
 impl EitherSide {
-    ghost use Rattle.lapd_sides.specs.Either.{side_of, Takes, TakesBehind, TakesNoneBehind, Answers, AnswersBehind, GivesNoneBehind, Expires, StaysIdle, SetsDurations, HasNextDeadline, HasTable, HasTimers, HasDiscarded};
+    ghost use Rattle.lapd_sides.specs.Either.{side_of, Takes, Answers, Expires, StaysIdle, SetsDurations, HasNextDeadline, HasTable, HasTimers, HasDiscarded};
 
     /// Whether this is the network side or the user side.
     pub fn side(&self) -> Side
@@ -36,8 +33,7 @@ impl EitherSide {
     }
 
     /// Processes octets received from the line at the time `now`, in milliseconds. `acts` is
-    /// cleared, and then has the frames to send and the primitives to deliver, as in all calls
-    /// except [`EitherSide::take_behind`] and [`EitherSide::give_behind`].
+    /// cleared, and then has the frames to send and the primitives to deliver, as in all calls.
     ///
     /// # Errors
     ///
@@ -50,51 +46,6 @@ impl EitherSide {
         match self {
             EitherSide::Network(side) => side.take(bytes, now, acts),
             EitherSide::User(side) => side.take(bytes, now, acts),
-        }
-    }
-
-    /// Processes octets received from the line at the time `now`, in milliseconds, as
-    /// [`EitherSide::take`] does, if they are a frame whose step in its link is usual and `acts`
-    /// has room for the results, which are appended to those in it. Otherwise it returns `false`,
-    /// and nothing is changed: then call [`EitherSide::take`]. So a program that has not fetched
-    /// all results need not move them first.
-    pub fn take_behind(&mut self, bytes: &[u8], now: u64, acts: &mut Acts) -> bool
-        ensures side { side_of self.new ≡ side_of self.old }
-        ensures taken { result ≡ true → TakesBehind bytes.now now self.old self.new
-            acts.old acts.new }
-        ensures declined { result ≡ false → TakesNoneBehind bytes.now self.old acts.old }
-        ensures unchanged { result ≡ false → self.new ≡ self.old }
-        ensures nothing { result ≡ false → acts.new ≡ acts.old }
-    {
-        match self {
-            EitherSide::Network(side) => side.take_behind(bytes, now, acts),
-            EitherSide::User(side) => side.take_behind(bytes, now, acts),
-        }
-    }
-
-    /// Processes octets received from the line at the time `now`, in milliseconds, as
-    /// [`EitherSide::take`] does, but does not read them again: `frame` is what
-    /// [`lapd_frame::read`] returned for them, sent by the other side.
-    ///
-    /// # Errors
-    ///
-    /// B3, as for [`EitherSide::take`].
-    pub fn take_frame(
-        &mut self,
-        frame: &Result<Frame<'_>, FrameFault>,
-        now: u64,
-        acts: &mut Acts,
-    ) -> Result<(), SideFault>
-        requires was_read { WasRead (other_side (side_of self.old)) frame.now }
-        ensures side { side_of self.new ≡ side_of self.old }
-        ensures received { (octets : List ℕ)
-            → frame.now ≡ frame_at (other_side (side_of self.old)) octets
-            → Takes octets now result self.old self.new acts.new }
-        ensures err { IfErr result (λ fault. fault ≡ without_message SideKind.Memory) }
-    {
-        match self {
-            EitherSide::Network(side) => side.take_frame(frame, now, acts),
-            EitherSide::User(side) => side.take_frame(frame, now, acts),
         }
     }
 
@@ -126,31 +77,6 @@ impl EitherSide {
         match self {
             EitherSide::Network(side) => side.request(request, now, acts),
             EitherSide::User(side) => side.request(request, now, acts),
-        }
-    }
-
-    /// Submits a layer 3 message to a link at the time `now`, as [`EitherSide::request`] does, if
-    /// it is sent at once and `acts` has room for the results, which are appended to those in it.
-    /// Otherwise the message is returned, and nothing is changed: then call
-    /// [`EitherSide::request`].
-    pub fn give_behind(
-        &mut self,
-        id: LinkId,
-        message: Vec<u8>,
-        now: u64,
-        acts: &mut Acts,
-    ) -> Result<(), Vec<u8>>
-        ensures side { side_of self.new ≡ side_of self.old }
-        ensures given { OnOk result (AnswersBehind (Request.Give id message) now self.old self.new
-            acts.old acts.new) }
-        ensures declined { OnErr result (GivesNoneBehind id message.items self.old acts.old) }
-        ensures returned { IfErr result (λ back. back ≡ message) }
-        ensures unchanged { OnErr result (self.new ≡ self.old) }
-        ensures nothing { OnErr result (acts.new ≡ acts.old) }
-    {
-        match self {
-            EitherSide::Network(side) => side.give_behind(id, message, now, acts),
-            EitherSide::User(side) => side.give_behind(id, message, now, acts),
         }
     }
 

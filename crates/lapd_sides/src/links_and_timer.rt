@@ -1,6 +1,6 @@
 //! The common part of both sides: the links, the timer of TEI management, and discarded frames.
 
-ghost use Rattle.std.specs.Prelude.{◌≡◌, ◌≤◌, ◌<◌, ◌+◌, ◌++◌, ◌&&◌, true, false, length, Some, None, OnOk, OnErr, IfOk, IfSome, IsSome};
+ghost use Rattle.std.specs.Prelude.{◌≡◌, ◌≤◌, ◌<◌, ◌+◌, ◌++◌, true, false, length, Some, None, OnOk, OnErr, IfOk, IfSome, IsSome};
 ghost use Rattle.std.specs.List.{All, filter_map};
 ghost use Rattle.lapd_timers.specs.Due.{all_stopped};
 ghost use Rattle.lapd_frame.specs.Fault.{is_for_link};
@@ -11,11 +11,11 @@ ghost use Rattle.lapd_tei.specs.Out.{IsInRange, tei_given, tei_freed};
 ghost use Rattle.lapd_sides_links.specs.declared.acts.TheConstants.{MOST_FRAMES, MOST_PRIMITIVES};
 ghost use Rattle.lapd_sides_links.specs.Effects.{managed, message_sent, outcome_of};
 ghost use Rattle.lapd_sides_links.specs.Links.{IsOfLink, in_links, link_acts, link_expires, no_links, served_with_durations};
-ghost use Rattle.lapd_sides_links.specs.Rooms.{has_usual_room, IsEmpty};
+ghost use Rattle.lapd_sides_links.specs.Rooms.{IsEmpty};
 ghost use Rattle.lapd_sides_links.specs.Shown.{LinksHaveNone};
 ghost use Rattle.lapd_sides.specs.Management.{carries_message, is_unit_to_group, one_more};
 ghost use Rattle.lapd_sides.specs.Requests.{without_message};
-ghost use Rattle.lapd_sides.specs.Shows.{ShowServed, Become, ShowAsBefore, CarryOut, Receive, ReceiveBehind, StepLinks, ExpireFirst, frame_on_links, fault_on_links, is_taken_usually, with_given_links};
+ghost use Rattle.lapd_sides.specs.Shows.{ShowServed, Become, ShowAsBefore, CarryOut, Receive, StepLinks, ExpireFirst, frame_on_links, fault_on_links, is_taken_usually, with_given_links};
 
 use crate::{Acts, Config, Primitive, RunningTimer, SideFault, SideKind};
 use lapd_frame::{Control, Frame, FrameFault, N201, PredictedFrame, Sapi, Side, Tei};
@@ -132,16 +132,21 @@ impl LinksAndTimer {
         self.act_or_discard(&id, Event::Heard(frame), frame.info(), now, acts);
     }
 
-    /// Passes a frame to the link that it is addressed to, if its step is usual and `acts` has room
-    /// for the results, which are appended. Otherwise it returns `false`, and nothing is changed.
+    /// Passes a frame to the link that it is addressed to, if the link predicts it. Otherwise it
+    /// returns `false`, and nothing is changed.
     #[inline(always)]
-    pub fn receive_behind(&mut self, frame: &PredictedFrame<'_>, now: u64, acts: &mut Acts) -> bool
+    pub fn receive_predicted(
+        &mut self,
+        frame: &PredictedFrame<'_>,
+        now: u64,
+        acts: &mut Acts,
+    ) -> bool
+        requires empty { IsEmpty acts.old }
         requires fits { length frame.now.info.now ≤ N201 }
-        ensures received { result ≡ true → ReceiveBehind self.old self.new acts.old acts.new
+        ensures received { result ≡ true → Receive self.old self.new acts.new
             (frame_on_links now (predicted_fields frame.now)) }
         ensures declined { result ≡ false → LinksHaveNone self.old.links
-            (λ links. has_usual_room acts.old
-            && is_taken_usually (predicted_fields frame.now) links) }
+            (is_taken_usually (predicted_fields frame.now)) }
         ensures unchanged { result ≡ false → self.new ≡ self.old }
         ensures nothing { result ≡ false → acts.new ≡ acts.old }
     {
@@ -149,7 +154,7 @@ impl LinksAndTimer {
             sapi: frame.sapi,
             tei: frame.tei,
         };
-        self.links.act_behind(&id, frame, now, acts)
+        self.links.act_predicted(&id, frame, now, acts)
     }
 
     /// Passes a fault of a frame to the link that the frame is addressed to. Octets for no link are

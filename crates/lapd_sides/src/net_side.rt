@@ -8,10 +8,8 @@ ghost use Rattle.lapd_tei.specs.Assigner.{AssignerState, assigner_step};
 ghost use Rattle.lapd_tei.specs.Out.{tei_given};
 ghost use Rattle.lapd_table.specs.LinkTable.{IsFor};
 ghost use Rattle.lapd_sides_links.specs.Effects.{no_effects};
-ghost use Rattle.lapd_sides_links.specs.Rooms.{has_usual_room, IsEmpty};
+ghost use Rattle.lapd_sides_links.specs.Rooms.{IsEmpty};
 ghost use Rattle.lapd_sides_links.specs.Expiries.{IsNextDeadline, of_served};
-ghost use Rattle.lapd_sides_links.specs.Links.{gives_at_once};
-ghost use Rattle.lapd_sides.specs.Calls.{WasRead};
 ghost use Rattle.lapd_sides.specs.Requests.{message_of, without_message};
 ghost use Rattle.lapd_sides.specs.Shows.{are_taken_usually, ShowEnds};
 ghost use Rattle.lapd_sides.specs.Network.{Network, new_network, network_takes, network_requested, assigner_acts, link_of_network, frame_received, unit_requested, unit_to_group, given_for, given_for_frame, given_for_message};
@@ -19,7 +17,7 @@ ghost use Rattle.lapd_sides.specs.Network.{Network, new_network, network_takes, 
 use crate::links_and_timer::{Expired, LinksAndTimer, carries_message, without_message};
 use crate::{Acts, Config, Durations, Request, SideFault, SideKind};
 use lapd_frame::{
-    Address, Control, Frame, FrameFault, N201, Role, Sapi, Side, Tei, read, read_predicted,
+    Address, Control, Frame, N201, Role, Sapi, Side, Tei, read, read_predicted,
 };
 use lapd_link::{Event, LinkFault};
 use lapd_sides_links::{next_deadline, refused};
@@ -31,9 +29,8 @@ use std::alloc::{AllocError, Global};
 /// The network side of an interface: its links, the assigner of its TEIs, and their timers.
 ///
 /// Each call empties the [`Acts`] that the caller passes, and fills them with its results: the
-/// frames to send and the primitives for the layers above. Only [`NetSide::take_behind`] and
-/// [`NetSide::give_behind`] append their results to those of earlier calls. The side has no clock:
-/// the caller passes the time, in milliseconds.
+/// frames to send and the primitives for the layers above. The side has no clock: the caller passes
+/// the time, in milliseconds.
 #[derive(Drop)]
 pub struct NetSide {
     alloc: Global,
@@ -43,7 +40,7 @@ pub struct NetSide {
 }
 
 impl NetSide {
-    ghost use Rattle.lapd_sides.specs.ShowsNetwork.{ShowNetwork, EachShown, NetworkDoes, NetworkDoesBehind, NetworkReceives, Answers, Expires, NetworkStaysIdle};
+    ghost use Rattle.lapd_sides.specs.ShowsNetwork.{ShowNetwork, EachShown, NetworkDoes, NetworkReceives, Answers, Expires, NetworkStaysIdle};
 
     /// Creates a network side that holds these TEIs, each 0 to 126. Their links exist, in state 4.
     ///
@@ -78,71 +75,47 @@ impl NetSide {
             (λ s. given_for s.assigner bytes.now) (λ config. network_takes config bytes.now now) }
         ensures err { IfErr result (λ fault. fault ≡ without_message SideKind.Memory) }
     {
-        let frame = read(bytes, Side::User);
-        self.take_frame(&frame, now, acts)
-    }
-
-    /// Processes octets received from the line at the time `now`, as `take` does, if they are a
-    /// frame whose step in its link is usual ([`lapd_link::Link::usual_step`]) and `acts` has room
-    /// for the results, which are appended to those in it. Otherwise it returns `false`, and
-    /// nothing is changed: then call `take`.
-    pub fn take_behind(&mut self, bytes: &[u8], now: u64, acts: &mut Acts) -> bool
-        ensures taken { result ≡ true → NetworkDoesBehind self.old self.new acts.old acts.new
-            (λ config. network_takes config bytes.now now) }
-        ensures declined { result ≡ false → EachShown self.old (λ s. (has_usual_room acts.old
-            && are_taken_usually (frame_at Side.User bytes.now) s.served.links) ≡ false) }
-        ensures unchanged { result ≡ false → self.new ≡ self.old }
-        ensures nothing { result ≡ false → acts.new ≡ acts.old }
-    {
-        match read_predicted(bytes, Side::User) {
-            Some(frame) => self.served.receive_behind(&frame, now, acts),
-            None => false,
-        }
-    }
-
-    /// Processes octets received from the line at the time `now`, as [`NetSide::take`] does, but
-    /// does not read them again: `frame` is what [`lapd_frame::read`] returned for them, sent by
-    /// the user side. So a program that prints the frame too reads its octets once.
-    ///
-    /// # Errors
-    ///
-    /// B3, as for [`NetSide::take`].
-    pub fn take_frame(
-        &mut self,
-        frame: &Result<Frame<'_>, FrameFault>,
-        now: u64,
-        acts: &mut Acts,
-    ) -> Result<(), SideFault>
-        requires was_read { WasRead Side.User frame.now }
-        ensures received { (octets : List ℕ) → frame.now ≡ frame_at Side.User octets
-            → NetworkReceives result self.old self.new acts.new
-            (λ s. given_for s.assigner octets) (λ config. network_takes config octets now) }
-        ensures err { IfErr result (λ fault. fault ≡ without_message SideKind.Memory) }
-    {
         acts.clear();
-        match self.receive_read(frame, now, acts) {
+        if self.take_predicted(bytes, now, acts) {
+            return Ok(());
+        }
+        match self.take_any(bytes, now, acts) {
             Ok(()) => Ok(()),
             Err(AllocError) => Err(without_message(SideKind::Memory)),
         }
     }
 
-    /// Processes a frame, or a fault, that was read from octets of the user side.
-    fn receive_read(
-        &mut self,
-        frame: &Result<Frame<'_>, FrameFault>,
-        now: u64,
-        acts: &mut Acts,
-    ) -> Result<(), AllocError>
-        requires was_read { WasRead Side.User frame.now }
+    /// Processes octets, if they are a frame that its link predicts: an I frame that is expected
+    /// next, an acknowledgement or a poll, in state 7 ([`lapd_link::Link::usual_step`]). Otherwise
+    /// it returns `false`, and nothing is changed.
+    #[inline(always)]
+    fn take_predicted(&mut self, bytes: &[u8], now: u64, acts: &mut Acts) -> bool
         requires empty { IsEmpty acts.old }
-        ensures { (octets : List ℕ) → frame.now ≡ frame_at Side.User octets
-            → NetworkReceives result self.old self.new acts.new
-            (λ s. given_for s.assigner octets) (λ config. network_takes config octets now) }
+        ensures taken { result ≡ true → NetworkDoes self.old self.new acts.new
+            (λ config. network_takes config bytes.now now) }
+        ensures declined { result ≡ false → EachShown self.old (λ s.
+            are_taken_usually (frame_at Side.User bytes.now) s.served.links ≡ false) }
+        ensures unchanged { result ≡ false → self.new ≡ self.old }
+        ensures nothing { result ≡ false → acts.new ≡ acts.old }
     {
-        match frame {
-            Ok(frame) => self.receive(frame, now, acts),
+        match read_predicted(bytes, Side::User) {
+            Some(frame) => self.served.receive_predicted(&frame, now, acts),
+            None => false,
+        }
+    }
+
+    /// Processes any octets.
+    // If inlined, it would cost a predicted frame stack and registers.
+    #[inline(never)]
+    fn take_any(&mut self, bytes: &[u8], now: u64, acts: &mut Acts) -> Result<(), AllocError>
+        requires empty { IsEmpty acts.old }
+        ensures { NetworkReceives result self.old self.new acts.new
+            (λ s. given_for s.assigner bytes.now) (λ config. network_takes config bytes.now now) }
+    {
+        match read(bytes, Side::User) {
+            Ok(frame) => self.receive(&frame, now, acts),
             Err(fault) => {
-                self.served.receive_fault(fault, now, acts);
+                self.served.receive_fault(&fault, now, acts);
                 Ok(())
             }
         }
@@ -222,9 +195,8 @@ impl NetSide {
     }
 
     /// The next moment at which [`NetSide::tick`] has something to do, in milliseconds; before it,
-    /// `tick` returns `false`. `None` if no timer runs. It changes only in `take`, `take_frame`,
-    /// `take_behind`, `tick`, `request` and `give_behind`, so a program can sleep until this moment
-    /// or until octets arrive.
+    /// `tick` returns `false`. `None` if no timer runs. It changes only in `take`, `tick` and
+    /// `request`, so a program can sleep until this moment or until octets arrive.
     pub fn next_deadline(&self) -> Option<u64>
         ensures { EachShown self.now (λ s. IsNextDeadline s.served result) }
     {
@@ -264,7 +236,7 @@ impl NetSide {
 }
 
 impl NetSide {
-    ghost use Rattle.lapd_sides.specs.ShowsNetwork.{EachShown, SetsDurations, ShowsNetworkAsBefore, Grants, GrantsBehind, NetworkRefusesAs, Answers};
+    ghost use Rattle.lapd_sides.specs.ShowsNetwork.{EachShown, SetsDurations, ShowsNetworkAsBefore, Grants, NetworkRefusesAs, Answers};
 
     /// Passes an event to the link with this id.
     fn act(&mut self, id: LinkId, event: Event, now: u64, acts: &mut Acts) -> Result<(), SideFault>
@@ -333,27 +305,6 @@ impl NetSide {
             (λ _. link_of_network now id (Give message.items) []) }
     {
         self.served.links.give(&id, message, now, acts)
-    }
-
-    /// Submits a layer 3 message to a link at the time `now`, as `request` does, if it is sent at
-    /// once and `acts` has room for the results, which are appended to those in it. Otherwise the
-    /// message is returned, and nothing is changed: then call `request`.
-    pub fn give_behind(
-        &mut self,
-        id: LinkId,
-        message: Vec<u8>,
-        now: u64,
-        acts: &mut Acts,
-    ) -> Result<(), Vec<u8>>
-        ensures given { OnOk result (GrantsBehind self.old self.new acts.old acts.new
-            (λ config. network_requested config (Request.Give id message) now)) }
-        ensures declined { OnErr result (EachShown self.old (λ s. (has_usual_room acts.old
-            && gives_at_once message.items (s.served.links id)) ≡ false)) }
-        ensures returned { IfErr result (λ back. back ≡ message) }
-        ensures unchanged { OnErr result (self.new ≡ self.old) }
-        ensures nothing { OnErr result (acts.new ≡ acts.old) }
-    {
-        self.served.links.give_behind(&id, message, now, acts)
     }
 
     /// Sets how long timers run when they are started from then on, also those of links that are

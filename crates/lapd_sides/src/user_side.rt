@@ -14,11 +14,10 @@ ghost use Rattle.lapd_sides_links.specs.declared.acts.TheConstants.{MOST_PRIMITI
 ghost use Rattle.lapd_sides_links.specs.Effects.{no_effects};
 ghost use Rattle.lapd_sides_links.specs.Expiries.{IsNextDeadline, of_served};
 ghost use Rattle.lapd_sides_links.specs.Links.{of_sapi};
-ghost use Rattle.lapd_sides_links.specs.Rooms.{has_usual_room, HasRoomFor, AddsAtMost, IsEmpty};
-ghost use Rattle.lapd_sides.specs.Calls.{WasRead};
+ghost use Rattle.lapd_sides_links.specs.Rooms.{HasRoomFor, AddsAtMost, IsEmpty};
 ghost use Rattle.lapd_sides.specs.Requests.{message_of, without_message};
 ghost use Rattle.lapd_sides.specs.Shows.{are_taken_usually, ShowEnds};
-ghost use Rattle.lapd_sides.specs.User.{User, gives_at_once_by_user, seeded, sends_message, new_user, user_takes, user_requested, terminal_acts, assigned, pending_after, establishes_pending, establishes, gives_up_pending, primitive_of_group, primitive_of_sapi, link_of_user, frame_received, data_received, for_layer_3, got_for, got_for_frame, got_for_message, wants, forgets, gives_up, has_tei, with_tei_or};
+ghost use Rattle.lapd_sides.specs.User.{User, seeded, sends_message, new_user, user_takes, user_requested, terminal_acts, assigned, pending_after, establishes_pending, establishes, gives_up_pending, primitive_of_group, primitive_of_sapi, link_of_user, frame_received, data_received, for_layer_3, got_for, got_for_frame, got_for_message, wants, forgets, gives_up, has_tei, with_tei_or};
 
 use crate::links_and_timer::{
     Expired, LinksAndTimer, MOST_TEI_OUTPUTS, carries_message, is_unit_to_group, without_message,
@@ -26,7 +25,7 @@ use crate::links_and_timer::{
 use crate::pending_establishments::PendingEstablishments;
 use crate::references::References;
 use crate::{Acts, Config, Durations, Octets, Primitive, Request, SideFault, SideKind, What};
-use lapd_frame::{Frame, FrameFault, N201, Sapi, Side, Tei, read, read_predicted};
+use lapd_frame::{Frame, N201, Sapi, Side, Tei, read, read_predicted};
 use lapd_link::{Event, LinkFault};
 use lapd_sides_links::{next_deadline, refused};
 use lapd_table::{LinkId, LinkTable};
@@ -37,9 +36,8 @@ use std::alloc::{AllocError, Global};
 /// The user side of an interface: a terminal, the links of its TEI, and their timers.
 ///
 /// Each call empties the [`Acts`] that the caller passes, and fills them with its results: the
-/// frames to send and the primitives for the layers above. Only [`UserSide::take_behind`] and
-/// [`UserSide::give_behind`] append their results to those of earlier calls. The side has no clock:
-/// the caller passes the time, in milliseconds.
+/// frames to send and the primitives for the layers above. The side has no clock: the caller passes
+/// the time, in milliseconds.
 #[derive(Drop)]
 pub struct UserSide {
     alloc: Global,
@@ -51,7 +49,7 @@ pub struct UserSide {
 }
 
 impl UserSide {
-    ghost use Rattle.lapd_sides.specs.ShowsUser.{ShowUser, EachShown, GrantsBehind, SetsDurations, UserDoes, UserDoesBehind, UserReceives, Answers, Expires, UserStaysIdle};
+    ghost use Rattle.lapd_sides.specs.ShowsUser.{ShowUser, EachShown, SetsDurations, UserDoes, UserReceives, Answers, Expires, UserStaysIdle};
 
     /// Creates a user side. With a fixed TEI, 0 to 126, its links exist, in state 4; without one it
     /// has no links yet.
@@ -92,71 +90,47 @@ impl UserSide {
             (λ s. got_for s bytes.now) (λ config. user_takes config bytes.now now) }
         ensures err { IfErr result (λ fault. fault ≡ without_message SideKind.Memory) }
     {
-        let frame = read(bytes, Side::Network);
-        self.take_frame(&frame, now, acts)
-    }
-
-    /// Processes octets received from the line at the time `now`, as `take` does, if they are a
-    /// frame whose step in its link is usual ([`lapd_link::Link::usual_step`]) and `acts` has room
-    /// for the results, which are appended to those in it. Otherwise it returns `false`, and
-    /// nothing is changed: then call `take`.
-    pub fn take_behind(&mut self, bytes: &[u8], now: u64, acts: &mut Acts) -> bool
-        ensures taken { result ≡ true → UserDoesBehind self.old self.new acts.old acts.new
-            (λ config. user_takes config bytes.now now) }
-        ensures declined { result ≡ false → EachShown self.old (λ s. (has_usual_room acts.old
-            && are_taken_usually (frame_at Side.Network bytes.now) s.served.links) ≡ false) }
-        ensures unchanged { result ≡ false → self.new ≡ self.old }
-        ensures nothing { result ≡ false → acts.new ≡ acts.old }
-    {
-        match read_predicted(bytes, Side::Network) {
-            Some(frame) => self.served.receive_behind(&frame, now, acts),
-            None => false,
-        }
-    }
-
-    /// Processes octets received from the line at the time `now`, as [`UserSide::take`] does, but
-    /// does not read them again: `frame` is what [`lapd_frame::read`] returned for them, sent by
-    /// the network side. So a program that prints the frame too reads its octets once.
-    ///
-    /// # Errors
-    ///
-    /// B3, as for [`UserSide::take`].
-    pub fn take_frame(
-        &mut self,
-        frame: &Result<Frame<'_>, FrameFault>,
-        now: u64,
-        acts: &mut Acts,
-    ) -> Result<(), SideFault>
-        requires was_read { WasRead Side.Network frame.now }
-        ensures received { (octets : List ℕ) → frame.now ≡ frame_at Side.Network octets
-            → UserReceives result self.old self.new acts.new
-            (λ s. got_for s octets) (λ config. user_takes config octets now) }
-        ensures err { IfErr result (λ fault. fault ≡ without_message SideKind.Memory) }
-    {
         acts.clear();
-        match self.receive_read(frame, now, acts) {
+        if self.take_predicted(bytes, now, acts) {
+            return Ok(());
+        }
+        match self.take_any(bytes, now, acts) {
             Ok(()) => Ok(()),
             Err(AllocError) => Err(without_message(SideKind::Memory)),
         }
     }
 
-    /// Processes a frame, or a fault, that was read from octets of the network side.
-    fn receive_read(
-        &mut self,
-        frame: &Result<Frame<'_>, FrameFault>,
-        now: u64,
-        acts: &mut Acts,
-    ) -> Result<(), AllocError>
-        requires was_read { WasRead Side.Network frame.now }
+    /// Processes octets, if they are a frame that its link predicts: an I frame that is expected
+    /// next, an acknowledgement or a poll, in state 7 ([`lapd_link::Link::usual_step`]). Otherwise
+    /// it returns `false`, and nothing is changed.
+    #[inline(always)]
+    fn take_predicted(&mut self, bytes: &[u8], now: u64, acts: &mut Acts) -> bool
         requires empty { IsEmpty acts.old }
-        ensures { (octets : List ℕ) → frame.now ≡ frame_at Side.Network octets
-            → UserReceives result self.old self.new acts.new
-            (λ s. got_for s octets) (λ config. user_takes config octets now) }
+        ensures taken { result ≡ true → UserDoes self.old self.new acts.new
+            (λ config. user_takes config bytes.now now) }
+        ensures declined { result ≡ false → EachShown self.old (λ s.
+            are_taken_usually (frame_at Side.Network bytes.now) s.served.links ≡ false) }
+        ensures unchanged { result ≡ false → self.new ≡ self.old }
+        ensures nothing { result ≡ false → acts.new ≡ acts.old }
     {
-        match frame {
-            Ok(frame) => self.receive(frame, now, acts),
+        match read_predicted(bytes, Side::Network) {
+            Some(frame) => self.served.receive_predicted(&frame, now, acts),
+            None => false,
+        }
+    }
+
+    /// Processes any octets.
+    // If inlined, it would cost a predicted frame stack and registers.
+    #[inline(never)]
+    fn take_any(&mut self, bytes: &[u8], now: u64, acts: &mut Acts) -> Result<(), AllocError>
+        requires empty { IsEmpty acts.old }
+        ensures { UserReceives result self.old self.new acts.new
+            (λ s. got_for s bytes.now) (λ config. user_takes config bytes.now now) }
+    {
+        match read(bytes, Side::Network) {
+            Ok(frame) => self.receive(&frame, now, acts),
             Err(fault) => {
-                self.served.receive_fault(fault, now, acts);
+                self.served.receive_fault(&fault, now, acts);
                 Ok(())
             }
         }
@@ -238,9 +212,8 @@ impl UserSide {
     }
 
     /// The next moment at which [`UserSide::tick`] has something to do, in milliseconds; before it,
-    /// `tick` returns `false`. `None` if no timer runs. It changes only in `take`, `take_frame`,
-    /// `take_behind`, `tick`, `request` and `give_behind`, so a program can sleep until this moment
-    /// or until octets arrive.
+    /// `tick` returns `false`. `None` if no timer runs. It changes only in `take`, `tick` and
+    /// `request`, so a program can sleep until this moment or until octets arrive.
     pub fn next_deadline(&self) -> Option<u64>
         ensures { EachShown self.now (λ s. IsNextDeadline s.served result) }
     {
@@ -277,33 +250,6 @@ impl UserSide {
             Request::Unit(id, octets) => self.send_unit(id.sapi, octets, now, acts),
             Request::Give(id, message) => self.give(id.sapi, message, now, acts),
             Request::AskTei | Request::Check(_) | Request::Remove(_) => Ok(()),
-        }
-    }
-
-    /// Submits a layer 3 message to a link at the time `now`, as `request` does, if it is sent at
-    /// once and `acts` has room for the results, which are appended to those in it. Otherwise the
-    /// message is returned, and nothing is changed: then call `request`.
-    pub fn give_behind(
-        &mut self,
-        id: LinkId,
-        message: Vec<u8>,
-        now: u64,
-        acts: &mut Acts,
-    ) -> Result<(), Vec<u8>>
-        ensures given { OnOk result (GrantsBehind self.old self.new acts.old acts.new
-            (λ config. user_requested config (Request.Give id message) now)) }
-        ensures declined { OnErr result (EachShown self.old (λ s. (has_usual_room acts.old
-            && gives_at_once_by_user id.sapi message.items s) ≡ false)) }
-        ensures returned { IfErr result (λ back. back ≡ message) }
-        ensures unchanged { OnErr result (self.new ≡ self.old) }
-        ensures nothing { OnErr result (acts.new ≡ acts.old) }
-    {
-        match self.terminal.tei() {
-            Some(tei) => self
-                .served
-                .links
-                .give_behind(&name(id.sapi, tei), message, now, acts),
-            None => Err(message),
         }
     }
 

@@ -1,5 +1,5 @@
 -- How a step of one link changes the links of a side.
-use Rattle.std.proofs.Common.{◌≡◌, ◌≢◌, ◌≤◌, ℕ, List, ◌∷◌, ◌++◌, [], drop, length, map, Bool, true, false, Option, Some, None, Result, Err, option_map, option_copied, Bor, refl, sym, ap, subst, ◌∙◌, arith}
+use Rattle.std.proofs.Common.{◌≡◌, ◌≢◌, ◌≤◌, ℕ, List, ◌∷◌, ◌++◌, [], drop, length, map, Bool, true, false, Option, Some, None, Result, Err, option_map, option_copied, Bor, append_assoc, refl, sym, ap, subst, ◌∙◌, arith}
 use Rattle.std.specs.Prelude.{IsSomeAnd, IfSome, if◌then◌else◌}
 use Rattle.std.proofs.lemmas.List.Elements.{All-head, All-tail}
 use Rattle.std.specs.List.{All, cons_option, filter_map}
@@ -29,7 +29,7 @@ use Rattle.lapd_sides_links.specs.declared.link_set.LinkSet.{LinkSet}
 use Rattle.lapd_sides_links.specs.declared.primitive.Primitive.TheVariants.{Of}
 use Rattle.lapd_sides_links.specs.declared.primitive.Primitive.{Primitive}
 use Rattle.lapd_sides_links.specs.declared.side_fault.SideKind.TheVariants as kind
-use Rattle.lapd_sides_links.specs.Effects.{Effects, effects_of_link, sent_by, what_of, timed, stopped}
+use Rattle.lapd_sides_links.specs.Effects.{Effects, and_then, effects_of_link, sent_by, what_of, timed, stopped}
 use Rattle.lapd_sides_links.specs.Links.{Links, Linked, Reaction, acted, link_acts, link_expires, in_place, where_there, in_links, with_link, linked_with_durations, links_with_durations}
 use Rattle.lapd_sides_links.specs.Expiries.{IsFirst, IsPast, Runs, of_links}
 use Rattle.lapd_sides_links.specs.Places.{AreStopped}
@@ -110,6 +110,11 @@ other_linked old new links id other l false is own table link_timers reflexive h
 
 pub same_effects : (a : Effects) (frames : List (List ℕ)) (primitives : List Primitive) → a.frames ≡ frames → a.primitives ≡ primitives → a ≡ record { frames = frames; primitives = primitives }
 same_effects a frames primitives f p = rw (sym f, sym p) refl
+
+-- effects are appended in any grouping
+pub in_order : (before e f : Effects) → and_then (and_then before e) f ≡ and_then before (and_then e f)
+in_order before e f = rw (append_assoc before.frames e.frames f.frames,
+    append_assoc before.primitives e.primitives f.primitives) refl
 
 -- the octets that the code makes of the outputs are those that are sent
 same_octets : (setup : Setup) (e : End) (octets : List ℕ) (outs : List Out) → All (λ output. made_frame setup (drop e.first e.given) octets output ≡ sent_frame setup (drop e.first e.given) octets output) outs

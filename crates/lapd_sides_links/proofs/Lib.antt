@@ -9,4 +9,4 @@ pub mod Tournaments
 pub mod WrittenOver
 pub mod UsualSteps
 pub mod GivenSteps
-pub mod Behind
+pub mod Predicted

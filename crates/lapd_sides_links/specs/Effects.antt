@@ -42,10 +42,6 @@ and_then first second = record {
   primitives = first.primitives ++ second.primitives;
 }
 
--- the effects of a step are appended to the earlier ones
-abbrev pub Appends : Effects → Effects → Type 0
-Appends before after = (given : Effects) × (after ≡ and_then before given)
-
 -- ---- The timers.
 
 -- starts a timer, or restarts it, or stops it

@@ -131,11 +131,6 @@ abbrev pub takes_usually : Control → Role → Option Linked → Bool
 takes_usually control role None = false
 takes_usually control role (Some l) = is_usual control role l.end
 
--- an input that is such a frame
-abbrev pub takes_input_usually : Input → Option Linked → Bool
-takes_input_usually (Heard control role) l = takes_usually control role l
-takes_input_usually input l = false
-
 -- the link exists, and sends this message at once
 abbrev pub gives_at_once : List ℕ → Option Linked → Bool
 gives_at_once message None = false

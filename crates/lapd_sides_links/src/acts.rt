@@ -5,7 +5,6 @@ ghost use Rattle.lapd_frame.specs.Frame.{spelling};
 ghost use Rattle.lapd_sides_links.specs.declared.primitive.Primitive.TheVariants.{Of};
 ghost use Rattle.lapd_sides_links.specs.declared.primitive.What.TheVariants.{Acknowledged, Up};
 ghost use Rattle.lapd_sides_links.specs.Effects.{HasLeastOctets, no_effects};
-ghost use Rattle.lapd_sides_links.specs.Rooms.{has_usual_room};
 ghost use Rattle.lapd_tei.specs.Message.{frame_of_message};
 
 use crate::written_over::{next_place, remove_first};
@@ -96,15 +95,6 @@ impl Acts {
         ensures { result.now ≡ self.now.primitives }
     {
         &self.primitives[self.first_primitive..self.primitives_end]
-    }
-
-    /// Whether there is room for two more frames and two more primitives, as a usual step may
-    /// produce.
-    #[inline(always)]
-    pub fn has_usual_room(&self) -> bool
-        ensures { result ≡ has_usual_room self.now }
-    {
-        self.frames().len() + 2 <= MOST_FRAMES && self.primitives().len() + 2 <= MOST_PRIMITIVES
     }
 
     /// Removes all frames and primitives.

@@ -17,17 +17,17 @@ ghost use Rattle.lapd_table.specs.LinkTable.{link_at, side_of, IsFor, IsKey};
 ghost use Rattle.lapd_table.specs.LinkId.{setup_for};
 ghost use Rattle.lapd_sides_links.specs.declared.acts.TheConstants.{MOST_FRAMES, MOST_PRIMITIVES};
 ghost use Rattle.lapd_sides_links.specs.declared.primitive.Primitive.TheVariants.{Of};
-ghost use Rattle.lapd_sides_links.specs.Effects.{timed, what_of, Appends};
+ghost use Rattle.lapd_sides_links.specs.Effects.{timed, what_of};
 ghost use Rattle.lapd_sides_links.specs.Expiries.{IsFirst, IsPast, IsTimerOf, Runs, of_links};
-ghost use Rattle.lapd_sides_links.specs.Links.{Links, IsOfLink, new_linked, no_links, of_sapi, with_link, with_new_link, with_tei, without_tei, release_at_removal, primitives_of, primitives_at_removal, primitive_of_tei, links_of_held, links_with_durations, in_links, link_acts, link_expires, gives_at_once, takes_input_usually, takes_usually};
-ghost use Rattle.lapd_sides_links.specs.Rooms.{HasRoomFor, HasUsualRoom, has_usual_room, AddsAtMost};
+ghost use Rattle.lapd_sides_links.specs.Links.{Links, IsOfLink, new_linked, no_links, of_sapi, with_link, with_new_link, with_tei, without_tei, release_at_removal, primitives_of, primitives_at_removal, primitive_of_tei, links_of_held, links_with_durations, in_links, link_acts, link_expires, gives_at_once, takes_usually};
+ghost use Rattle.lapd_sides_links.specs.Rooms.{HasRoomFor, HasUsualRoom, AddsAtMost};
 
 use crate::delivery::{deliver_all, put_frames};
 use crate::link_timers::LinkTimers;
 use crate::side_fault::refused;
 use crate::usual::{deliver_acknowledged, deliver_message, put_message_frame, put_response};
 use crate::{Acts, Config, Primitive, RunningTimer, SideFault, SideKind, What};
-use lapd_frame::{N201, Number, PredictedFrame, PredictedKind};
+use lapd_frame::{N201, PredictedFrame};
 use lapd_link::{
     Event, GivenOuts, Link, LinkFault, Outs, Params, Sapi, Side, State, Tei, UsualOuts,
 };
@@ -280,12 +280,12 @@ impl LinkSet {
             → timers_at self.new.link_timers other ≡ timers_at self.old.link_timers other }
         ensures table { self.new.table ≡ self.old.table }
     {
-        let link = self.table.link_at(key);
+        let from = self.table.side();
         let id = key.id();
-        put_response(link, outs.response, acts);
+        put_response(from, id, outs.response, acts);
         deliver_message(id, outs.is_up, octets, acts);
         deliver_acknowledged(id, outs.nr, acts);
-        put_response(link, outs.acknowledgement, acts);
+        put_response(from, id, outs.acknowledgement, acts);
         self.link_timers.apply_nr(id, outs.nr, now);
     }
 
@@ -345,146 +345,10 @@ impl LinkSet {
         }
     }
 
-    /// Like `act`, for a link that has been found. A usual step is tried first, because it costs
-    /// less.
-    fn act_at(
-        &mut self,
-        key: &LinkKey,
-        event: Event,
-        octets: &[u8],
-        now: u64,
-        acts: &mut Acts,
-    ) -> Result<(), SideKind>
-        requires key { IsKey self.old.table key.now }
-        requires for_link { IsFor key.now.id event }
-        requires fits { length octets.now ≤ N201 }
-        requires room { HasRoomFor (input_of event) acts.old }
-        ensures ok { OnOk result (LinksDo self.old self.new acts.old acts.new
-            (λ side. in_links key.now.id (link_acts side key.now.id now
-            (input_of event.entry) octets.now))) }
-        ensures err { IfErr result (LinksRefuseAs self.old
-            (λ side. in_links key.now.id (link_acts side key.now.id now
-            (input_of event.entry) octets.now))) }
-        ensures unchanged { OnErr result (ShowsLinksAsBefore self.old self.new) }
-        ensures nothing { OnErr result (acts.new ≡ acts.old) }
-        ensures most { AddsAtMost (input_of event.entry) acts.old acts.new }
-    {
-        if self.act_usually(key, &event, octets, now, acts) {
-            Ok(())
-        } else {
-            self.act_in_general(key, event, octets, now, acts)
-        }
-    }
-
-    /// Processes a frame in the link with this id, at the time `now`, if its step is usual and
-    /// `acts` has room for the results, which are appended. Otherwise it returns `false`, and
-    /// nothing is changed.
-    #[inline(always)]
-    pub fn act_behind(
-        &mut self,
-        id: &LinkId,
-        frame: &PredictedFrame<'_>,
-        now: u64,
-        acts: &mut Acts,
-    ) -> bool
-        requires fits { length frame.now.info.now ≤ N201 }
-        ensures ok { result ≡ true → LinksDo self.old self.new acts.old acts.new
-            (λ side. in_links id.now (link_acts side id.now now
-            (Heard (predicted_control frame.now.kind frame.now.nr) (predicted_role frame.now.kind))
-            frame.now.info.now)) }
-        ensures appended { result ≡ true → Appends acts.old acts.new }
-        ensures declined { result ≡ false → LinksHaveNone self.old
-            (λ links. has_usual_room acts.old && takes_usually
-            (predicted_control frame.now.kind frame.now.nr) (predicted_role frame.now.kind)
-            (links id.now)) }
-        ensures unchanged { result ≡ false → self.new ≡ self.old }
-        ensures nothing { result ≡ false → acts.new ≡ acts.old }
-    {
-        if acts.has_usual_room() {
-            match self.table.find(id) {
-                Some(key) => self.act_predicted(&key, frame.kind, frame.nr, frame.info, now, acts),
-                None => false,
-            }
-        } else {
-            false
-        }
-    }
-
-    /// Processes the event, if it is a frame whose step is usual. Otherwise it returns `false`, and
-    /// nothing is changed.
-    #[inline(always)]
-    fn act_usually(
-        &mut self,
-        key: &LinkKey,
-        event: &Event,
-        octets: &[u8],
-        now: u64,
-        acts: &mut Acts,
-    ) -> bool
-        requires key { IsKey self.old.table key.now }
-        requires fits { length octets.now ≤ N201 }
-        requires room { HasUsualRoom acts.old }
-        ensures ok { result ≡ true → LinksDo self.old self.new acts.old acts.new
-            (λ side. in_links key.now.id (link_acts side key.now.id now
-            (input_of event.now) octets.now)) }
-        ensures appended { result ≡ true → Appends acts.old acts.new }
-        ensures declined { result ≡ false → LinksHaveNone self.old
-            (λ links. takes_input_usually (input_of event.now) (links key.now.id)) }
-        ensures unchanged { result ≡ false → self.new ≡ self.old }
-        ensures nothing { result ≡ false → acts.new ≡ acts.old }
-        ensures key { IsKey self.new.table key.now }
-        ensures most_frames { length acts.new.frames ≤ length acts.old.frames + 2 }
-        ensures most_primitives { length acts.new.primitives ≤ length acts.old.primitives + 2 }
-    {
-        let Event::Heard(frame) = event else {
-            return false;
-        };
-        match PredictedFrame::of(frame) {
-            Some(frame) => self.act_predicted(key, frame.kind, frame.nr, octets, now, acts),
-            None => false,
-        }
-    }
-
-    /// Processes a frame of this kind with this N(R) and information in a link that has been found,
-    /// if its step is usual. Otherwise it returns `false`, and nothing is changed.
-    #[inline(always)]
-    fn act_predicted(
-        &mut self,
-        key: &LinkKey,
-        kind: PredictedKind,
-        nr: Number,
-        octets: &[u8],
-        now: u64,
-        acts: &mut Acts,
-    ) -> bool
-        requires key { IsKey self.old.table key.now }
-        requires fits { length octets.now ≤ N201 }
-        requires room { HasUsualRoom acts.old }
-        ensures ok { result ≡ true → LinksDo self.old self.new acts.old acts.new
-            (λ side. in_links key.now.id (link_acts side key.now.id now
-            (Heard (predicted_control kind nr) (predicted_role kind)) octets.now)) }
-        ensures appended { result ≡ true → Appends acts.old acts.new }
-        ensures declined { result ≡ false → LinksHaveNone self.old (λ links. takes_usually
-            (predicted_control kind nr) (predicted_role kind) (links key.now.id)) }
-        ensures unchanged { result ≡ false → self.new ≡ self.old }
-        ensures nothing { result ≡ false → acts.new ≡ acts.old }
-        ensures key { IsKey self.new.table key.now }
-        ensures most_frames { length acts.new.frames ≤ length acts.old.frames + 2 }
-        ensures most_primitives { length acts.new.primitives ≤ length acts.old.primitives + 2 }
-    {
-        match self.table.usual_step_at(key, kind, nr) {
-            Some(outs) => {
-                self.carry_out_usual(key, &outs, octets, now, acts);
-                true
-            }
-            None => false,
-        }
-    }
-
-    /// Like `act_at`, for any step.
-    // If inlined, it would cost a usual step stack and registers.
+    /// Like `act`, for a link that has been found.
+    // If inlined, it would cost a predicted step stack and registers.
     #[inline(never)]
-    fn act_in_general(
+    fn act_at(
         &mut self,
         key: &LinkKey,
         event: Event,
@@ -512,6 +376,66 @@ impl LinkSet {
                 Ok(())
             }
             Err(fault) => Err(SideKind::Link(fault)),
+        }
+    }
+
+    /// Processes a frame in the link with this id, at the time `now`, if the link predicts it
+    /// ([`Link::usual_step`]). The results are appended to `acts`. Otherwise it returns `false`,
+    /// and nothing is changed.
+    #[inline(always)]
+    pub fn act_predicted(
+        &mut self,
+        id: &LinkId,
+        frame: &PredictedFrame<'_>,
+        now: u64,
+        acts: &mut Acts,
+    ) -> bool
+        requires fits { length frame.now.info.now ≤ N201 }
+        requires room { HasUsualRoom acts.old }
+        ensures ok { result ≡ true → LinksDo self.old self.new acts.old acts.new
+            (λ side. in_links id.now (link_acts side id.now now
+            (Heard (predicted_control frame.now.kind frame.now.nr) (predicted_role frame.now.kind))
+            frame.now.info.now)) }
+        ensures declined { result ≡ false → LinksHaveNone self.old (λ links. takes_usually
+            (predicted_control frame.now.kind frame.now.nr) (predicted_role frame.now.kind)
+            (links id.now)) }
+        ensures unchanged { result ≡ false → self.new ≡ self.old }
+        ensures nothing { result ≡ false → acts.new ≡ acts.old }
+    {
+        match self.table.find(id) {
+            Some(key) => self.act_predicted_at(&key, frame, now, acts),
+            None => false,
+        }
+    }
+
+    /// Like `act_predicted`, for a link that has been found.
+    #[inline(always)]
+    fn act_predicted_at(
+        &mut self,
+        key: &LinkKey,
+        frame: &PredictedFrame<'_>,
+        now: u64,
+        acts: &mut Acts,
+    ) -> bool
+        requires key { IsKey self.old.table key.now }
+        requires fits { length frame.now.info.now ≤ N201 }
+        requires room { HasUsualRoom acts.old }
+        ensures ok { result ≡ true → LinksDo self.old self.new acts.old acts.new
+            (λ side. in_links key.now.id (link_acts side key.now.id now
+            (Heard (predicted_control frame.now.kind frame.now.nr) (predicted_role frame.now.kind))
+            frame.now.info.now)) }
+        ensures declined { result ≡ false → LinksHaveNone self.old (λ links. takes_usually
+            (predicted_control frame.now.kind frame.now.nr) (predicted_role frame.now.kind)
+            (links key.now.id)) }
+        ensures unchanged { result ≡ false → self.new ≡ self.old }
+        ensures nothing { result ≡ false → acts.new ≡ acts.old }
+    {
+        match self.table.usual_step_at(key, frame.kind, frame.nr) {
+            Some(outs) => {
+                self.carry_out_usual(key, &outs, frame.info, now, acts);
+                true
+            }
+            None => false,
         }
     }
 
@@ -594,7 +518,6 @@ impl LinkSet {
         requires room { HasUsualRoom acts.old }
         ensures ok { OnOk result (LinksDo self.old self.new acts.old acts.new
             (λ side. in_links key.now.id (link_acts side key.now.id now (Give message.items) []))) }
-        ensures appended { OnOk result (Appends acts.old acts.new) }
         ensures declined { OnErr result (LinksHaveNone self.old
             (λ links. gives_at_once message.items (links key.now.id))) }
         ensures returned { IfErr result (λ back. back ≡ message) }
@@ -638,36 +561,6 @@ impl LinkSet {
                 Ok(())
             }
             Err(back) => Err(refused(SideKind::Link(back.fault), back.message)),
-        }
-    }
-
-    /// Submits a layer 3 message to the link with this id, at the time `now`, if it is sent at once
-    /// and `acts` has room for the results, which are appended. Otherwise the message is returned,
-    /// and nothing is changed.
-    #[inline(always)]
-    pub fn give_behind(
-        &mut self,
-        id: &LinkId,
-        message: Vec<u8>,
-        now: u64,
-        acts: &mut Acts,
-    ) -> Result<(), Vec<u8>>
-        ensures ok { OnOk result (LinksDo self.old self.new acts.old acts.new
-            (λ side. in_links id.now (link_acts side id.now now (Give message.items) []))) }
-        ensures appended { OnOk result (Appends acts.old acts.new) }
-        ensures declined { OnErr result (LinksHaveNone self.old
-            (λ links. has_usual_room acts.old && gives_at_once message.items (links id.now))) }
-        ensures returned { IfErr result (λ back. back ≡ message) }
-        ensures unchanged { OnErr result (self.new ≡ self.old) }
-        ensures nothing { OnErr result (acts.new ≡ acts.old) }
-    {
-        if acts.has_usual_room() {
-            match self.table.find(id) {
-                Some(key) => self.give_at_once(&key, message, now, acts),
-                None => Err(message),
-            }
-        } else {
-            Err(message)
         }
     }
 

@@ -4,7 +4,7 @@ ghost use Rattle.std.specs.Prelude.{◌≡◌, ◌≤◌, ◌<◌, ◌+◌, ◌+
 ghost use Rattle.std.specs.List.{filter_map};
 ghost use Rattle.lapd_frame.specs.Control.{field_of_message};
 ghost use Rattle.lapd_link.specs.Link.{LinkRepresents, setup_of};
-ghost use Rattle.lapd_link.specs.SentFrame.{link_address};
+ghost use Rattle.lapd_table.specs.LinkId.{setup_for};
 ghost use Rattle.lapd_link_machine.specs.Usual.{nr_outs, response_outs};
 ghost use Rattle.lapd_link_definition.specs.declared.out.Out.TheVariants as out;
 ghost use Rattle.lapd_link_definition.specs.End.{End};
@@ -15,27 +15,26 @@ ghost use Rattle.lapd_sides_links.specs.Effects.{what_of};
 ghost use Rattle.lapd_sides_links.specs.Shown.{made_by};
 
 use crate::{Acts, Primitive, What};
-use lapd_frame::{Address, MessageField, N201, Response, Role};
+use lapd_frame::{Address, MessageField, N201, Response, Role, Side};
 use lapd_link::{Link, NrEffect};
 use lapd_table::LinkId;
 
-/// Appends the frame of this response, if there is one.
+/// Appends the frame of this response of a link on this side, if there is one.
 #[inline(always)]
-pub fn put_response(link: &Link, response: Option<Response>, acts: &mut Acts)
+pub fn put_response(from: Side, id: &LinkId, response: Option<Response>, acts: &mut Acts)
     requires { length acts.old.frames < MOST_FRAMES }
-    ensures frames { (e : End) (octets : List ℕ) → LinkRepresents link.now e → acts.new.frames
-        ≡ acts.old.frames ++ filter_map (made_by (setup_of link.now) e octets)
-        (response_outs response) }
+    ensures frames { (e : End) (octets : List ℕ) → acts.new.frames ≡ acts.old.frames
+        ++ filter_map (made_by (setup_for from id.now) e octets) (response_outs response) }
     ensures primitives { acts.new.primitives ≡ acts.old.primitives }
     ensures at_most { length acts.new.frames ≤ length acts.old.frames + 1 }
 {
     if let Some(response) = response {
-        let header = response.octets(address_of(link, Role::Answer), link.side());
+        let header = response.octets(address_of(id, Role::Answer), from);
         acts.put_parts(header, &[]);
     }
 }
 
-/// Appends the I frame with the message at this place of the queue.
+/// Appends the I frame with the message at this place of the link's queue.
 #[inline(always)]
 pub fn put_message_frame(link: &Link, place: u16, field: MessageField, acts: &mut Acts)
     requires { length acts.old.frames < MOST_FRAMES }
@@ -47,21 +46,29 @@ pub fn put_message_frame(link: &Link, place: u16, field: MessageField, acts: &mu
 {
     match link.queue().get(place) {
         Some(message) if message.len() <= N201 => {
-            let header = field.octets(address_of(link, Role::Command), link.side());
+            let id = LinkId {
+                sapi: link.sapi(),
+                tei: link.tei(),
+            };
+            let header = field.octets(address_of(&id, Role::Command), link.side());
             acts.put_parts(header, message);
         }
         _ => {}
     }
 }
 
-/// The address of the link's frames with this role.
+/// The address of a link's frames with this role.
 #[inline(always)]
-fn address_of(link: &Link, role: Role) -> Address
-    ensures { result ≡ link_address (setup_of link.now) role }
+fn address_of(id: &LinkId, role: Role) -> Address
+    ensures { result ≡ record {
+      sapi = id.now.sapi;
+      tei = id.now.tei;
+      role = role;
+    } }
 {
     Address {
-        sapi: link.sapi(),
-        tei: link.tei(),
+        sapi: id.sapi,
+        tei: id.tei,
         role,
     }
 }

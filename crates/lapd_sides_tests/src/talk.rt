@@ -174,8 +174,6 @@ impl Talk {
         let (word, behind) = split(rest, " ");
         match word {
             "take" => self.take(behind, number_of(now), text),
-            "take-behind" => self.take_behind(behind, number_of(now), text),
-            "give-behind" => self.give_behind(behind, number_of(now), text),
             "tick" => {
                 if !self.side.tick(number_of(now), &mut self.acts) {
                     text.put("none;");
@@ -198,37 +196,6 @@ impl Talk {
                 self.acts.clear();
                 text.put("no memory");
             }
-        }
-    }
-
-    /// Passes octets to the side, if their step is usual, behind the results of earlier calls.
-    fn take_behind(&mut self, digits: &str, now: u64, text: &mut Text) {
-        match octets_of(self.alloc, digits) {
-            Some(octets) => {
-                if !self
-                    .side
-                    .take_behind(octets.as_slice(), now, &mut self.acts)
-                {
-                    text.put("not usual;");
-                }
-            }
-            None => text.put("no memory"),
-        }
-    }
-
-    /// Submits a message, if it is sent at once, behind the results of earlier calls.
-    fn give_behind(&mut self, words: &str, now: u64, text: &mut Text) {
-        match (link_of(words), octets_of(self.alloc, behind_link(words))) {
-            (Some(id), Some(message)) => {
-                if self
-                    .side
-                    .give_behind(id, message, now, &mut self.acts)
-                    .is_err()
-                {
-                    text.put("not at once;");
-                }
-            }
-            _ => text.put("no memory"),
         }
     }
 

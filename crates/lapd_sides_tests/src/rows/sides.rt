@@ -132,29 +132,18 @@ net 64
 shows: network;discarded 0;next 10000;holds 64;
 exact: yes
 
-# usual results are appended to those of earlier calls
+# header prediction: a poll, an RR and an I frame, but no RR command without P, longer RR or I response
 net 64
 0 take 00817f: 008173;0 64 established;
-1 give-behind 0 64 01: 008173;0281000001;0 64 established;
-2 take-behind 0081000202: 008173;0281000001;00810102;0 64 established;0 64 data 02;0 64 acknowledged 1;
-3 take-behind 008153: not usual;008173;0281000001;00810102;0 64 established;0 64 data 02;0 64 acknowledged 1;
-3 take 008153: 008173;0 64 released;
-4 give-behind 0 64 01: not at once;008173;0 64 released;
-shows: network;discarded 0;holds 64;
-exact: yes
-
-# header prediction: a poll, an RR and an I frame, but no other RR, I response or longer RR
-net 64
-0 take 00817f: 008173;0 64 established;
-1 take-behind 00810101: 008173;00810101;0 64 established;
-2 take-behind 02810100: 008173;00810101;0 64 established;
-3 take-behind 00810100: not usual;008173;00810101;0 64 established;
-4 take-behind 02810101: not usual;008173;00810101;0 64 established;
-5 take-behind 02810000aa: not usual;008173;00810101;0 64 established;
-6 take-behind 0081010155: not usual;008173;00810101;0 64 established;
-7 take-behind 008101: not usual;008173;00810101;0 64 established;
-8 take-behind 00810000aa: 008173;00810101;00810102;0 64 established;0 64 data aa;
-9 give-behind 0 64 07: 008173;00810101;00810102;0281000207;0 64 established;0 64 data aa;
+1 take 00810101: 00810101;
+2 take 02810100
+3 take 00810100
+4 take 0081010155: 
+5 take 00810000aa: 00810102;0 64 data aa;
+6 give 0 64 07: 0281000207;
+7 take 02810102: 0 64 acknowledged 1;
+8 take 02810103: 
+9 take 02810200aa: 
 shows: network;discarded 0;next 1009;holds 64;
 exact: yes
 
@@ -217,16 +206,6 @@ user
 100000 release 0 127: refused B1 NoLink;
 100000 establish 0 127: fcff030f983001ff;
 shows: user;discarded 0;next 102000;T202 102000;state 3;asked 1;reference 38960;
-exact: yes
-
-# usual results are appended to those of earlier calls
-user 64
-0 take 02817f: 028173;0 64 established;
-1 give-behind 0 127 01: 028173;0081000001;0 64 established;
-2 take-behind 0281000202: 028173;0081000001;02810102;0 64 established;0 64 data 02;0 64 acknowledged 1;
-3 take-behind 02ff030a: not usual;028173;0081000001;02810102;0 64 established;0 64 data 02;0 64 acknowledged 1;
-3 take 028153: 028173;0 64 released;
-4 give-behind 0 64 01: not at once;028173;0 64 released;
 exact: yes
 
 # a TEI is got, and the establishment done

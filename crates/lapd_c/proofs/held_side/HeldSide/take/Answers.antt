@@ -1,14 +1,24 @@
-use Rattle.std.proofs.Common.{sym, ◌∙◌}
-use Rattle.lapd_sides.specs.Either.{Takes}
-use Rattle.lapd_c.proofs.Behind.{asked_behind, asked_next}
+use Rattle.std.proofs.Common.{inr, rules, ap, ◌∙◌}
+use Rattle.std.specs.Prelude.{option_map}
+use Rattle.lapd_sides.specs.Either.{side_of}
+use Rattle.lapd_c.specs.declared.held_side.HeldSide.{HeldSide}
+use Rattle.lapd_c.specs.Counters.{call_counted}
+use Rattle.lapd_c.proofs.CountedCalls.{in_turn}
 use Rattle.lapd_c.proofs.held_side.HeldSide.take.Goals as goal
 
-pub returns-then-take_behind : goal.returns-then-take_behind
-returns-then-take_behind c =
-    asked_behind (Takes c.args.octets.now c.args.now) c.args.octets.now c.args.self.now c.take_behind.new.self (sym c.is_full.ensures ∙ c.if-is_full.false)
-    (c.take_behind.ensures.taken c.if-take_behind.true)
-
-pub returns-else-take_behind : goal.returns-else-take_behind
-returns-else-take_behind c =
-    asked_next (Takes c.args.octets.now c.args.now) c.args.octets.now c.args.self.now c.take_behind.new.self c.take_any.new.self c.take_any.result (sym c.is_full.ensures ∙ c.if-is_full.false)
-    (c.take_behind.ensures.unchanged c.if-take_behind.false) c.take_any.ensures
+pub returns-in-Ok : goal.returns-in-Ok
+returns-in-Ok c =
+    let held = c.set_aside.new.self in
+    let given = c.take-result.new.acts in
+    let counted = call_counted (side_of c.take-result.new.self) c.args.octets.now given in
+    inr (record {
+      result = c.take-result.result;
+      coded = c.code_of.ensures;
+      given = given;
+      called = search rules;
+      waits = search rules;
+      most = search rules;
+      counts = in_turn c.args.octets.now held.side c.take-result.new.self given held.counts c.count_received.new.counts c.count_results.new.counts
+          c.take-result.ensures.side c.count_received.ensures c.count_results.ensures
+          ∙ ap (λ (h : HeldSide). option_map counted h.counts) c.in-Ok.ensures.ok;
+    })

@@ -2,7 +2,6 @@ use Rattle.std.proofs.Common.{◌≡◌, ℕ, List, [], ◌++◌, Option, Ok, sy
 use Rattle.std.proofs.KnownBytes.{Appends-trans}
 use Rattle.std.specs.Io.KnownBytes.{Appends}
 use Rattle.lapd_frame.specs.Address.{other_side}
-use Rattle.lapd_frame.specs.Reading.{frame_at}
 use Rattle.lapd_frame.specs.declared.Side.{Side}
 use Rattle.lapd_port.specs.SocketText.{socket_text}
 use Rattle.lapd_sides.specs.Either.{Takes, side_of}
@@ -38,22 +37,17 @@ taken_now octets now own from old mid new acts received traced delivered sent pr
       };
     }
 
-pub take_frame-requires : goal.take_frame-requires
-take_frame-requires g c =
-    record { was_read = (c.args.octets.now, c.read-frame.ensures.exact ∙ ap (λ from. frame_at from c.args.octets.now) (c.other-from.ensures ∙ ap other_side c.side-side.ensures)) }
-
 pub returns-clause-takes : goal.returns-clause-takes
 returns-clause-takes g c =
     let old = c.args.self.now in
     let new = c.forward.new.self in
-    let read = c.read-frame.ensures.exact ∙ ap (λ from. frame_at from c.args.octets.now) (c.other-from.ensures ∙ ap other_side c.side-side.ensures) in
     let received = c.as_bytes.ensures.value ∙ c.in-Ok.ensures ∙ ap (λ (text : List ℕ). text ++ frame_text_line old.style c.other-from.result c.args.octets.now) c.clear.ensures.bytes in
-    let frames = c.in_ok-gather.ensures.sent ∙ ap (λ (x : List (List ℕ)). x ++ c.take_frame.new.acts.frames) c.clear-2.ensures.sent in
-    let lines = c.in_ok-gather.ensures.traced ∙ ap (λ (x : List ℕ). x ++ frames_text old.style c.side-side.result c.take_frame.new.acts.frames) c.clear-2.ensures.traced in
-    let words = c.in_ok-gather.ensures.delivered ∙ ap (λ (x : List ℕ). x ++ primitives_text old.style c.take_frame.new.acts.primitives) c.clear-2.ensures.delivered in
+    let frames = c.in_ok-gather.ensures.sent ∙ ap (λ (x : List (List ℕ)). x ++ c.take.new.acts.frames) c.clear-2.ensures.sent in
+    let lines = c.in_ok-gather.ensures.traced ∙ ap (λ (x : List ℕ). x ++ frames_text old.style c.side-side.result c.take.new.acts.frames) c.clear-2.ensures.traced in
+    let words = c.in_ok-gather.ensures.delivered ∙ ap (λ (x : List ℕ). x ++ primitives_text old.style c.take.new.acts.primitives) c.clear-2.ensures.delivered in
     on_both c.forward.result _ _ _
-    (taken_now c.args.octets.now old.now c.side-side.result c.other-from.result old.side c.take_frame.new.self new.side c.take_frame.new.acts _ _ _ _ (g.W.Write.contents c.write_all.new.self)
+    (taken_now c.args.octets.now old.now c.side-side.result c.other-from.result old.side c.take.new.self new.side c.take.new.acts _ _ _ _ (g.W.Write.contents c.write_all.new.self)
     (devices old.style (g.S.Source.rest old.port.source) (g.K.Sink.written old.port.sink) (g.W.Write.contents old.out))
     (devices new.style (g.S.Source.rest new.port.source) (g.K.Sink.written new.port.sink) (g.W.Write.contents new.out))
-    c.side-side.ensures c.other-from.ensures (c.in-Ok-take_frame.ensures.received c.args.octets.now read) c.forward.ensures.own received frames lines words c.forward.ensures.style c.in_ok-write_all.ensures.bytes)
+    c.side-side.ensures c.other-from.ensures c.in-Ok-take.ensures.received c.forward.ensures.own received frames lines words c.forward.ensures.style c.in_ok-write_all.ensures.bytes)
     c.forward.ensures.sent c.forward.ensures.printed

@@ -1,22 +1,25 @@
+use Rattle.std.proofs.Common.{refl, subst}
 use Rattle.lapd_frame.specs.PredictedFrame.{predicted_control, predicted_role}
-use Rattle.lapd_link_definition.specs.Input.{Heard}
-use Rattle.lapd_link_machine.specs.Usual.{usual_outs}
-use Rattle.lapd_sides_links.proofs.Acting.{have_acted}
-use Rattle.lapd_sides_links.proofs.Behind.{appended, none_taken}
+use Rattle.lapd_table.specs.declared.link_id.LinkId.{LinkId}
+use Rattle.lapd_sides_links.specs.Links.{takes_usually}
+use Rattle.lapd_sides_links.specs.Shown.{LinksHaveNone}
+use Rattle.lapd_sides_links.proofs.Predicted.{do_as_found, no_link}
 use Rattle.lapd_sides_links.proofs.link_set.LinkSet.act_predicted.Goals as goal
 
 pub returns-in-Some-clause-ok : goal.returns-in-Some-clause-ok
-returns-in-Some-clause-ok c = λ is side links shown.
-    have_acted side c.args.self.now c.carry_out_usual.new.self c.usual_step_at.new.self links c.args.key.now.id c.args.now
-    (Heard (predicted_control c.args.kind c.args.nr) (predicted_role c.args.kind)) c.args.octets.now (usual_outs c.in-Some.outs) c.args.acts.now c.carry_out_usual.new.acts
-    c.in-Some.ensures.ok c.carry_out_usual.ensures.table c.carry_out_usual.ensures.own c.carry_out_usual.ensures.others
-    c.carry_out_usual.ensures.frames c.carry_out_usual.ensures.primitives c.requires.fits shown
+returns-in-Some-clause-ok c = λ is.
+    let frame = c.args.frame.now in
+    do_as_found c.args.now c.in-Some.key.id c.args.id.now c.in-Some.ensures.found.0
+    (predicted_control frame.kind frame.nr) (predicted_role frame.kind) frame.info.now _ _ _ _
+    (c.act_predicted_at.ensures.ok is)
 
-pub returns-in-Some-clause-appended : goal.returns-in-Some-clause-appended
-returns-in-Some-clause-appended c = λ is.
-    appended c.args.self.now.table c.usual_step_at.new.self c.args.key.now.id _ c.args.octets.now (usual_outs c.in-Some.outs) c.args.acts.now c.carry_out_usual.new.acts
-    c.in-Some.ensures.ok c.carry_out_usual.ensures.frames c.carry_out_usual.ensures.primitives
+pub returns-in-Some-clause-declined : goal.returns-in-Some-clause-declined
+returns-in-Some-clause-declined c = λ is.
+    let frame = c.args.frame.now in
+    subst (λ (i : LinkId). LinksHaveNone c.args.self.now (λ links. takes_usually
+    (predicted_control frame.kind frame.nr) (predicted_role frame.kind) (links i)))
+    c.in-Some.ensures.found.0 (c.act_predicted_at.ensures.declined is)
 
 pub returns-in-None-clause-declined : goal.returns-in-None-clause-declined
-returns-in-None-clause-declined c = λ is.
-    none_taken c.args.self.now c.args.key.now.id (predicted_control c.args.kind c.args.nr) (predicted_role c.args.kind) c.in-None.ensures.declined
+returns-in-None-clause-declined c = λ is side links shown.
+    rw (no_link c.args.self.now c.args.id.now (c.in-None.ensures.none refl) side links shown) refl

@@ -3,7 +3,7 @@ use Rattle.std.proofs.Common.{Err, refl, sym, ap, ◌∙◌}
 use Rattle.lapd_link_definition.specs.Input.{Give}
 use Rattle.lapd_table.proofs.Tables.{on_ok, on_err, if_err}
 use Rattle.lapd_sides_links.proofs.Acting.{no_link}
-use Rattle.lapd_sides_links.proofs.Behind.{room_for_usual}
+use Rattle.lapd_sides_links.proofs.Predicted.{room_for_usual}
 use Rattle.lapd_sides_links.proofs.UsualSteps.{still_do, still_refuse, still_as_before}
 use Rattle.lapd_sides_links.proofs.GivenSteps.{do_as_given, refuse_as_given}
 use Rattle.lapd_sides_links.proofs.link_set.LinkSet.give.Goals as goal
