@@ -39,6 +39,21 @@ queue send | sent 03 0405 06
 queue send | none sent 03 0405 06
 queue acknowledge 3 |
 
+# A message in the room of an acknowledged one has its own octets alone, and so have a longer one,
+# one beside it, and one after all are discarded.
+queue room 2 | 2
+queue new 616263 | unsent 616263
+queue send | sent 616263
+queue acknowledge 1 |
+queue new 64 | unsent 64
+queue send | sent 64
+queue acknowledge 1 |
+queue new 000102030405060708090a0b0c0d0e0f1011 | unsent 000102030405060708090a0b0c0d0e0f1011
+queue new 6566 | unsent 000102030405060708090a0b0c0d0e0f1011 6566
+queue send | sent 000102030405060708090a0b0c0d0e0f1011 unsent 6566
+queue acknowledge 1 | unsent 6566
+queue discard | 1
+queue new 6768 | unsent 6768
 # The largest queue takes 1,024 messages, and hands one more back.
 queue room 1024 | 1024
 queue fill | 1024 1024
@@ -52,12 +67,16 @@ queue pass | 1000
 pub(crate) fn put(text: &mut Text, alloc: Global, queue: &mut IQueue, action: &str, word: &str) {
     match action {
         "room" => renew(text, alloc, queue, number_of(word)),
-        "put" => put_message(text, alloc, queue, word),
+        "put" => put_message(text, queue, hex::decode(alloc, word).ok()),
+        "new" => {
+            let message = new_message(alloc, queue, word);
+            put_message(text, queue, message);
+        }
         "send" => text.mark(" none", !sends(queue)),
         "acknowledge" => text.mark(" none", !acknowledges(queue, number_of(word))),
         "back" => queue.go_back(),
         "discard" => text.shown(" ", &queue.discard()),
-        "pass" => pass(text, alloc, queue),
+        "pass" => pass(text, queue),
         _ => fill(text, alloc, queue),
     }
     put_queue(text, queue);
@@ -75,16 +94,24 @@ fn renew(text: &mut Text, alloc: Global, queue: &mut IQueue, room: u16) {
 }
 
 /// Queues a message, and appends the message that is returned, if any.
-fn put_message(text: &mut Text, alloc: Global, queue: &mut IQueue, digits: &str) {
-    match hex::decode(alloc, digits) {
-        Ok(message) => match queue.put(message) {
+fn put_message(text: &mut Text, queue: &mut IQueue, message: Option<Vec<u8>>) {
+    match message {
+        Some(message) => match queue.put(message) {
             Ok(()) => {}
             Err(back) => {
                 text.put(" back ");
                 text.hex(back.as_slice());
             }
         },
-        Err(_) => text.put(" no octets"),
+        None => text.put(" no octets"),
+    }
+}
+
+/// A message with these octets, in a room that the queue keeps, if it keeps one.
+fn new_message(alloc: Global, queue: &mut IQueue, digits: &str) -> Option<Vec<u8>> {
+    match hex::decode(alloc, digits) {
+        Ok(octets) => queue.new_message(octets.as_slice()).ok(),
+        Err(_) => None,
     }
 }
 
@@ -133,10 +160,10 @@ fn fill(text: &mut Text, alloc: Global, queue: &mut IQueue) {
 }
 
 /// Queues, sends and acknowledges a thousand messages one by one: appends how many succeeded.
-fn pass(text: &mut Text, alloc: Global, queue: &mut IQueue) {
+fn pass(text: &mut Text, queue: &mut IQueue) {
     let mut passed = 0u16;
     for number in 0..1000u16 {
-        if passes(alloc, queue, &number.to_be_bytes()) {
+        if passes(queue, &number.to_be_bytes()) {
             passed = passed.wrapping_add(1);
         }
     }
@@ -144,8 +171,8 @@ fn pass(text: &mut Text, alloc: Global, queue: &mut IQueue) {
 }
 
 /// Whether a message can be queued, sent and acknowledged, at the first place.
-fn passes(alloc: Global, queue: &mut IQueue, octets: &[u8]) -> bool {
-    match octets.to_vec(alloc) {
+fn passes(queue: &mut IQueue, octets: &[u8]) -> bool {
+    match queue.new_message(octets) {
         Ok(message) => {
             queue.put(message).is_ok()
                 && queue.get(0) == Some(octets)
