@@ -138,6 +138,21 @@ impl Link {
         self.machine.usual_step(kind, nr)
     }
 
+    /// A message with these octets, to be passed to [`Link::give`]. It is in the room of an
+    /// acknowledged message if the link keeps one, so it allocates only if none is kept or the room
+    /// is too small. The link keeps the rooms of up to eight messages.
+    ///
+    /// # Errors
+    ///
+    /// `AllocError` if the allocation fails.
+    #[inline(always)]
+    pub fn new_message(&mut self, octets: &[u8]) -> Result<Vec<u8>, AllocError>
+        ensures octets { IfOk result (λ message. message.items ≡ octets.now) }
+        ensures unchanged { self.new ≡ self.old }
+    {
+        self.machine.queue.new_message(octets)
+    }
+
     /// Queues a message of layer 3 (DL-DATA request), and returns what to do for it, in order. Does
     /// not allocate. If speed matters, lend the outputs: [`Link::give_into`].
     ///

@@ -4,8 +4,9 @@
 //!
 //! Begin with [`IQueue`], the only type. The messages at its front have been sent in I frames and
 //! are not yet acknowledged; the others are not sent yet. The queue allocates all of its room when
-//! it is made, and no later call allocates. The cost of an acknowledgement depends on the number of
-//! acknowledged messages, not on the length of the queue.
+//! it is made. Only [`IQueue::new_message`] allocates later, if no acknowledged message left enough
+//! room. The cost of an acknowledgement depends on the number of acknowledged messages, not on the
+//! length of the queue.
 #![tactic(auto)]
 
 mod queue;

@@ -1,17 +1,21 @@
 ghost use Rattle.std.specs.Prelude.{◌≡◌, ◌+◌, ◌-◌, ◌<◌, ◌≤◌, ◌==◌, length, map, slice_get, option_copied, Some, IfOk, IfErr, OnOk, OnErr, is_err};
 ghost use Rattle.lapd_queue.specs.Waiting.{with_room, with_message, one_more_sent, without_first, all_unsent, emptied};
 
+use arrayvec::ArrayVec;
 use circular_buffer::HeapCircularBuffer;
 use std::alloc::{AllocError, Global};
 use std::marker::Model;
 
 /// Messages of layer 3 in the order of their requests; some at the front are sent.
 ///
-/// The queue is a ring of a fixed size: no call but `new` allocates.
+/// The queue is a ring of a fixed size: no call but `new` and `new_message` allocates. It keeps the
+/// rooms of up to eight acknowledged messages, for the next ones.
 #[derive(Drop)]
 pub struct IQueue {
     messages: HeapCircularBuffer<Vec<u8>>,
     sent: u16,
+    /// The rooms of acknowledged messages, with the octets that were in them.
+    kept: ArrayVec<Vec<u8>, 8, Global>,
 }
 
 impl Model for IQueue {
@@ -41,6 +45,7 @@ impl IQueue {
         Ok(IQueue {
             messages: HeapCircularBuffer::with_capacity(alloc, usize::from(room))?,
             sent: 0,
+            kept: ArrayVec::new_in(alloc),
         })
     }
 
@@ -102,6 +107,24 @@ impl IQueue {
         self.messages.get(usize::from(i)).map(Vec::as_slice)
     }
 
+    /// A message with these octets, to be passed to `put`. It is in the room of an acknowledged
+    /// message if one is kept, so it allocates only if none is kept or the room is too small.
+    ///
+    /// # Errors
+    ///
+    /// `AllocError` if the allocation fails.
+    #[inline(always)]
+    pub fn new_message(&mut self, octets: &[u8]) -> Result<Vec<u8>, AllocError>
+        ensures octets { IfOk result (λ message. message.items ≡ octets.now) }
+        ensures unchanged { self.new ≡ self.old }
+    {
+        let alloc = *self.kept.allocator();
+        let mut message = self.kept.pop().unwrap_or(Vec::new(alloc));
+        message.clear();
+        message.extend_from_slice(octets)?;
+        Ok(message)
+    }
+
     /// Appends a message, unsent (Q.921 5.6.1). If the queue is full, the message is returned and
     /// the queue is unchanged.
     #[inline(always)]
@@ -123,7 +146,8 @@ impl IQueue {
     }
 
     /// Removes the `n` messages at the front, at most `sent`, which are now acknowledged (Q.921
-    /// 5.6.3.2). The cost grows with `n` and not with the length of the queue.
+    /// 5.6.3.2). Keeps their rooms, until it has eight. The cost grows with `n` and not with the
+    /// length of the queue.
     #[inline(always)]
     pub fn acknowledge(&mut self, n: u16)
         requires { n ≤ self.old.sent }
@@ -131,7 +155,11 @@ impl IQueue {
         ensures were_there { n ≤ length self.old.messages }
     {
         for _ in 0..n {
-            self.messages.pop_front();
+            let Some(message) = self.messages.pop_front() else {
+                unreachable!()
+            };
+            // If eight rooms are kept, this is the message, which is dropped.
+            let _back = self.kept.try_push(message);
         }
         self.sent -= n;
     }

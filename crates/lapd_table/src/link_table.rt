@@ -348,6 +348,22 @@ impl LinkTable {
         self.links[key.place].usual_step(kind, nr)
     }
 
+    /// A message with these octets, to be submitted to the link with this key. It is in the room of
+    /// an acknowledged message of the link, if one is kept ([`Link::new_message`]).
+    ///
+    /// # Errors
+    ///
+    /// `AllocError` if no room is kept, or the kept one is too small, and the allocation fails.
+    #[inline(always)]
+    pub fn new_message_at(&mut self, key: &LinkKey, octets: &[u8]) -> Result<Vec<u8>, AllocError>
+        requires key { IsKey self.old key.now }
+        ensures octets { IfOk result (λ message. message.items ≡ octets.now) }
+        ensures unchanged { self.new ≡ self.old }
+        ensures key { IsKey self.new key.now }
+    {
+        self.links[key.place].new_message(octets)
+    }
+
     /// Submits a layer 3 message to an existing link. Does not allocate. For speed, pass the
     /// outputs to [`LinkTable::give_into`].
     ///
