@@ -67,13 +67,12 @@ typedef struct lapd_side {
  * LAPD_NO_MEMORY if frames or primitives wait to be fetched. The description of a call names the
  * other codes that it can return. If several codes apply, the first of this list is returned:
  *   1. LAPD_OUT_OF_RANGE: a SAPI, a TEI or a setting is out of range;
- *   2. LAPD_NO_MEMORY: the octets of lapd_side_give or lapd_side_unit cannot be copied, or a side
- *      cannot be created;
+ *   2. LAPD_NO_MEMORY: the octets of lapd_side_unit cannot be copied, or a side cannot be created;
  *   3. LAPD_NO_SIDE;
  *   4. LAPD_PENDING;
  *   5. LAPD_CHECK_RUNS;
- *   6. LAPD_NO_MEMORY: what the last call left to be fetched cannot be queued, or the counters of
- *      lapd_side_count cannot be allocated;
+ *   6. LAPD_NO_MEMORY: what the last call left to be fetched cannot be queued, the octets of
+ *      lapd_side_give cannot be copied, or the counters of lapd_side_count cannot be allocated;
  *   7. the other codes, and LAPD_OUT_OF_RANGE for a buffer that is too small. */
 enum lapd_code {
 	LAPD_DONE = 0,

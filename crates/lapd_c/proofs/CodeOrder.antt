@@ -8,8 +8,9 @@ use Rattle.lapd_sides_links.specs.declared.side_fault.SideKind.{SideKind}
 use Rattle.lapd_sides_links.specs.declared.side_fault.SideKind.TheVariants.{NoLink, Memory, Link}
 use Rattle.lapd_sides.specs.declared.request.Request.TheVariants as request
 use Rattle.lapd_sides.specs.Either.{Answers}
+use Rattle.lapd_sides.specs.Requests.{Message}
 use Rattle.lapd_c.specs.declared.held_side.HeldSide.{HeldSide}
-use Rattle.lapd_c.specs.ThroughHandle.{AsksSide, AsksCheck, AsksTei, AsksLink, AsksLinkWith, Message, Through}
+use Rattle.lapd_c.specs.ThroughHandle.{AsksSide, AsksCheck, AsksTei, AsksLink, AsksLinkWith, Through}
 use Rattle.lapd_c.specs.Calls.{Asks, Call, Checks, ChecksUnless, Ticks, is_full}
 use Rattle.lapd_c.specs.CodeOrder.{ReturnsInOrder}
 use Rattle.lapd_c.specs.Codes.{code_of, code_of_kind, memory, no_side, out_of_range, pending}

@@ -1,5 +1,5 @@
 -- The counters of a side are the sum over all its calls.
-use Rattle.std.proofs.Common.{◌≡◌, ℕ, zero, suc, List, [], ◌++◌, Option, Some, None, Result, refl, sym, ap, subst, arith, ◌∙◌}
+use Rattle.std.proofs.Common.{◌≡◌, inl, inr, ℕ, zero, suc, List, [], ◌++◌, Option, Some, None, Result, refl, sym, ap, subst, arith, ◌∙◌}
 use Rattle.std.specs.Prelude.{option_map, ⊤}
 use Rattle.std.proofs.lemmas.Grind.{fold-append}
 use Rattle.lapd_frame.specs.declared.Side.{Side}
@@ -8,9 +8,10 @@ use Rattle.lapd_table.specs.declared.link_id.LinkId.{LinkId}
 use Rattle.lapd_sides_links.specs.declared.side_fault.SideFault.{SideFault}
 use Rattle.lapd_sides_links.specs.Effects.{Effects}
 use Rattle.lapd_sides.specs.declared.request.Request.{Request}
+use Rattle.lapd_sides.specs.declared.request.Request.TheVariants.{Give}
 use Rattle.lapd_sides.specs.declared.either_side.EitherSide.{EitherSide}
 use Rattle.lapd_sides.specs.declared.either_side.EitherSide.TheVariants.{Network, User}
-use Rattle.lapd_sides.specs.Either.{side_of, Takes, Answers, Expires, StaysIdle, SetsDurations}
+use Rattle.lapd_sides.specs.Either.{side_of, Takes, Answers, Gives, Expires, StaysIdle, SetsDurations}
 use Rattle.lapd_c.specs.declared.held_side.HeldSide.{HeldSide}
 use Rattle.lapd_c.specs.declared.link_counters.LinkCount.{LinkCount}
 use Rattle.lapd_c.specs.declared.link_counters.LinkCounters.{LinkCounters}
@@ -32,6 +33,14 @@ answers request now result (Network old) (Network new) given h = refl
 answers request now result (Network old) (User new) given h = absurd h
 answers request now result (User old) (Network new) given h = absurd h
 answers request now result (User old) (User new) given h = refl
+
+pub gives : (id : LinkId) (octets : List ℕ) (now : ℕ) (result : Result ⊤ SideFault)
+    (old new : EitherSide) (given : Effects) → Gives id octets now result old new given
+    → side_of new ≡ side_of old
+gives id octets now result old new given h = elim h [
+  | inl none ↦ ap side_of none.unchanged
+  | inr some ↦ answers (Give id some.message) now result old new given some.asks
+]
 
 expires : (now : ℕ) (old new : EitherSide) (given : Effects) → Expires now old new given → side_of new ≡ side_of old
 expires now (Network old) (Network new) given h = refl

@@ -1,10 +1,10 @@
 -- The effect of a call through a handle, which may own no side.
-use Rattle.std.specs.Prelude.{◌≡◌, ◌⊎◌, ℕ, List, [], Option, Some, None, Vec}
-use Rattle.std.specs.declared.alloc.Global.{Global}
+use Rattle.std.specs.Prelude.{◌≡◌, ◌⊎◌, ℕ, List, [], Option, Some, None}
 use Rattle.lapd_timers.specs.Durations.{Lengths}
 use Rattle.lapd_table.specs.declared.link_id.LinkId.{LinkId}
 use Rattle.lapd_sides_links.specs.declared.config.Config.{Config}
 use Rattle.lapd_sides.specs.declared.either_side.EitherSide.{EitherSide}
+use Rattle.lapd_sides.specs.Requests.{Message, WithMessage}
 use Rattle.lapd_c.specs.declared.held_side.HeldSide.{HeldSide}
 use Rattle.lapd_c.specs.declared.link_counters.LinkCounters.{LinkCounters}
 use Rattle.lapd_c.specs.declared.link_state.LinkState.{LinkState}
@@ -67,28 +67,18 @@ SetsTimers code old new None = (code ≡ out_of_range) × (new ≡ old)
 SetsTimers code old new (Some durations) =
     Through (λ o n. HasSetTimers durations o n code) (code ≡ no_side) old new
 
--- the octets of a request
-abbrev pub Message : Type 0
-Message = Vec ℕ Global
-
 -- an allocation failed, and nothing changes
 pub record IsWithoutMemory (code : ℕ) (old new : Held) : Type 0 where
   pub refused : code ≡ memory
   pub same : new ≡ old
-
--- the call is made with these octets
-pub record AsksWithMessage (call : Message → Call) (octets : List ℕ) (code : ℕ) (old new : Held) :
-    Type 0 where
-  pub message : Message
-  pub items : message.items ≡ octets
-  pub asks : AsksSide (call message) [] code old new
 
 -- a call for a link with octets, whose copy may fail to be allocated
 abbrev pub AsksLinkWith : (LinkId → Message → Call) → List ℕ → ℕ → Held → Held → Option LinkId
     → Type 0
 AsksLinkWith call octets code old new None = (code ≡ out_of_range) × (new ≡ old)
 AsksLinkWith call octets code old new (Some id) =
-    IsWithoutMemory code old new ⊎ AsksWithMessage (call id) octets code old new
+    IsWithoutMemory code old new
+    ⊎ WithMessage octets (λ message. AsksSide (call id message) [] code old new)
 
 -- a side is created
 pub record HasMade (config : Config) (IsMade : Config → EitherSide → Type 0) (most code : ℕ)

@@ -2,7 +2,7 @@
 
 ghost use Rattle.std.specs.Prelude.{◌≡◌, ◌<◌, ◌≤◌, [], length, slice_get, option_copied, None, IfOk, OnOk, OnErr, true, false};
 ghost use Rattle.lapd_sides_links.specs.Effects.{no_effects};
-ghost use Rattle.lapd_sides.specs.Either.{Takes, Answers};
+ghost use Rattle.lapd_sides.specs.Either.{Takes, Answers, Gives};
 ghost use Rattle.lapd_c.specs.Calls.{or_never, waiting, items_waiting, gives_nothing, is_full, without_first_frame, without_first_primitive, Asks, BeginsCounting, Checks, HasSetTimers, Ticks, ReturnsCounters, ReturnsDeadline, ReturnsDiscarded, ReturnsState, ReturnsTerminal, FetchesFrame, FetchesItem, FetchesNext, FetchesPrimitive, overwritten};
 ghost use Rattle.lapd_c.specs.SideQueries.{HasCheck, HasTerminal, link_meant, meant, or_no_tei, state_of_terminal, tei_of_terminal, with_own_tei};
 
@@ -118,6 +118,23 @@ impl HeldSide {
         match self.set_aside() {
             Ok(()) => {
                 let result = self.side.request(request, now, &mut self.acts);
+                count_results(&mut self.counts, &self.side, &self.acts);
+                code_of(result)
+            }
+            Err(_) => MEMORY,
+        }
+    }
+
+    /// Submits a copy of these octets to a link as a layer 3 message, at the time `now`.
+    pub(crate) fn give(&mut self, id: &LinkId, octets: &[u8], now: u64) -> u32
+        ensures { Asks (Gives id.now octets.now now) [] self.old self.new result }
+    {
+        if self.is_full() {
+            return PENDING;
+        }
+        match self.set_aside() {
+            Ok(()) => {
+                let result = self.side.give(*id, octets, now, &mut self.acts);
                 count_results(&mut self.counts, &self.side, &self.acts);
                 code_of(result)
             }

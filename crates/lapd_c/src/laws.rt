@@ -3,8 +3,9 @@
 ghost use Rattle.std.specs.Prelude.{◌≡◌, ℕ, List, [], ◌++◌, Option, is_some, true};
 ghost use Rattle.lapd_table.specs.declared.link_id.LinkId.{LinkId};
 ghost use Rattle.lapd_sides.specs.declared.request.Request.{Request};
-ghost use Rattle.lapd_sides.specs.Either.{side_of, Takes, Answers};
-ghost use Rattle.lapd_c.specs.ThroughHandle.{AsksSide, AsksCheck, AsksTei, AsksLink, AsksLinkWith, Message, Through};
+ghost use Rattle.lapd_sides.specs.Either.{side_of, Takes, Answers, Gives};
+ghost use Rattle.lapd_sides.specs.Requests.{Message};
+ghost use Rattle.lapd_c.specs.ThroughHandle.{AsksSide, AsksCheck, AsksTei, AsksLink, AsksLinkWith, Through};
 ghost use Rattle.lapd_timers.specs.Durations.{Lengths};
 ghost use Rattle.lapd_c.specs.declared.held_side.HeldSide.{HeldSide};
 ghost use Rattle.lapd_c.specs.declared.link_counters.LinkCounters.{LinkCounters};
@@ -17,7 +18,7 @@ ghost use Rattle.lapd_c.specs.Owned.{Held};
 
 /// Each call that passes something in returns code 3 exactly if a number is out of range, otherwise
 /// code 1 exactly if the handle owns no side, otherwise code 2 exactly if too many results wait. If
-/// the octets of a message can't be copied, the code is 13 in place of 1 and 2 (`message`).
+/// unit data can't be copied, the code is 13 in place of 1 and 2 (`message`).
 pub fn codes_are_in_order()
     ensures frame { (octets : List ℕ) (now code : ℕ) (old new : Held)
         → AsksSide (Takes octets now) octets code old new → ReturnsInOrder true old code }
@@ -25,6 +26,9 @@ pub fn codes_are_in_order()
         → AsksSide (Answers request now) [] code old new → ReturnsInOrder true old code }
     ensures link { (request : LinkId → Request) (now code : ℕ) (old new : Held)
         (id : Option LinkId) → AsksLink (λ id. Answers (request id) now) code old new id
+        → ReturnsInOrder (is_some id) old code }
+    ensures give { (octets : List ℕ) (now code : ℕ) (old new : Held) (id : Option LinkId)
+        → AsksLink (λ id. Gives id octets now) code old new id
         → ReturnsInOrder (is_some id) old code }
     ensures check { (now code : ℕ) (old new : Held) (tei : Option ℕ)
         → AsksCheck now code old new tei → ReturnsInOrder (is_some tei) old code }
@@ -49,6 +53,9 @@ pub fn counters_are_sums()
         → Adds (one_call octets h.given) old new }
     ensures request { (request : Request) (now code : ℕ) (old new : HeldSide)
         (h : HasCalled (Answers request now) [] old new code)
+        → Adds (one_call [] h.given) old new }
+    ensures give { (id : LinkId) (octets : List ℕ) (now code : ℕ) (old new : HeldSide)
+        (h : HasCalled (Gives id octets now) [] old new code)
         → Adds (one_call [] h.given) old new }
     ensures tick { (now expired code : ℕ) (old new : HeldSide)
         (h : HasTicked now expired old new code) → Adds (one_call [] h.given) old new }

@@ -10,7 +10,7 @@
 #![tactic(auto)]
 
 ghost use Rattle.std.specs.Prelude.{◌≡◌, ◌==◌, [], Some, None, not};
-ghost use Rattle.lapd_sides.specs.Either.{Takes, Answers};
+ghost use Rattle.lapd_sides.specs.Either.{Takes, Answers, Gives};
 ghost use Rattle.lapd_c.specs.ThroughHandle.{AsksSide, AsksCheck, AsksTei, AsksLink, AsksLinkWith, Makes, ReturnsCountersThrough, ReturnsStateOf, SetsTimers, Through};
 ghost use Rattle.lapd_c.specs.Calls.{or_never, BeginsCounting, Checks, HasSetTimers, Ticks, ReturnsDeadline, ReturnsDiscarded, ReturnsTerminal, FetchesFrame, FetchesNext, FetchesPrimitive, ReturnsText, ReturnsTextOrNothing};
 ghost use Rattle.lapd_timers.specs.Durations.{lengths_of};
@@ -176,7 +176,8 @@ pub extern "C" fn lapd_side_busy(handle: &mut Handle, sapi: u8, tei: u8, on: u8,
     }
 }
 
-/// Sends a message (DL-DATA request).
+/// Sends a message (DL-DATA request). Allocates only if the link keeps no room of an acknowledged
+/// message, or too small a one.
 #[unsafe(no_mangle)]
 pub extern "C" fn lapd_side_give(
     handle: &mut Handle,
@@ -184,18 +185,24 @@ pub extern "C" fn lapd_side_give(
     tei: u8,
     octets: &[u8],
     now: u64,
-    alloc: Global,
 ) -> u32
-    ensures { AsksLinkWith (λ id message. Answers (Request.Give id message) now) octets.now result
-        handle.old.held handle.new.held (link_of sapi tei) }
+    ensures { AsksLink (λ id. Gives id octets.now now) result handle.old.held handle.new.held
+        (link_of sapi tei) }
 {
-    let Some(id) = link_of(sapi, tei) else {
-        return OUT_OF_RANGE;
-    };
-    match Vec::from_slice(alloc, octets) {
-        Ok(message) => ask(handle, Request::Give(id, message), now),
-        Err(_) => MEMORY,
+    match link_of(sapi, tei) {
+        Some(id) => give(handle, &id, octets, now),
+        None => OUT_OF_RANGE,
     }
+}
+
+/// Sends a message on the link with this id.
+fn give(handle: &mut Handle, id: &LinkId, octets: &[u8], now: u64) -> u32
+    ensures { AsksSide (Gives id.now octets.now now) [] result handle.old.held handle.new.held }
+{
+    let Some(side) = handle.side() else {
+        return NO_SIDE;
+    };
+    side.give(id, octets, now)
 }
 
 /// Sends unit data (DL-UNIT DATA request); on a network side to all terminals if the TEI is 127.

@@ -6,3 +6,4 @@ pub mod Networking
 pub mod ReadFrames
 pub mod Receiving
 pub mod Predicted
+pub mod Copied

@@ -23,7 +23,7 @@ use Rattle.lapd_sides_links.specs.declared.side_fault.SideFault.{SideFault}
 use Rattle.lapd_sides.specs.declared.net_side.NetSide.{NetSide}
 use Rattle.lapd_sides.specs.declared.links_and_timer.LinksAndTimer.{LinksAndTimer}
 use Rattle.lapd_sides_links.specs.declared.side_fault.SideKind.{SideKind}
-use Rattle.lapd_sides_links.specs.Effects.{Appends, Effects, no_effects}
+use Rattle.lapd_sides_links.specs.Effects.{Effects, no_effects}
 use Rattle.lapd_sides_links.specs.Links.{Links, Reaction, in_links, is_served, link_expires}
 use Rattle.lapd_sides.specs.Management.{carries_message, links_with, manages, one_more}
 use Rattle.lapd_sides_links.specs.Links.{Served}

@@ -1,5 +1,5 @@
 -- A side of either kind. Its calls do the same as those of a network side or a user side.
-use Rattle.std.specs.Prelude.{◌≡◌, ℕ, List, Option, Result, ⊤}
+use Rattle.std.specs.Prelude.{◌≡◌, ◌⊎◌, ℕ, List, Option, Result, ⊤}
 use Rattle.lapd_timers.specs.Due.{Timers}
 use Rattle.lapd_timers.specs.Durations.{Lengths}
 use Rattle.lapd_frame.specs.declared.Side.{Side}
@@ -14,7 +14,8 @@ use Rattle.lapd_sides.specs.declared.either_side.EitherSide.{EitherSide}
 use Rattle.lapd_sides.specs.declared.either_side.EitherSide.TheVariants as either
 use Rattle.lapd_sides.specs.Network.{network_takes, network_requested, given_for}
 use Rattle.lapd_sides.specs.User.{user_takes, user_requested, got_for}
-use Rattle.lapd_sides.specs.Requests.{message_of}
+use Rattle.lapd_sides.specs.declared.request.Request.TheVariants as request
+use Rattle.lapd_sides.specs.Requests.{LacksMessage, WithMessage, message_of}
 use Rattle.lapd_sides.specs.Shows.{ShowEnds}
 use Rattle.lapd_sides.specs.ShowsNetwork as network
 use Rattle.lapd_sides.specs.ShowsUser as user
@@ -42,6 +43,12 @@ Answers request now result (either.Network old) (either.Network new) acts = netw
 Answers request now result (either.User old) (either.User new) acts = user.Answers result
     old new acts (message_of request) (λ config. user_requested config request now)
 Answers request now result old new acts = ⊥
+
+-- submits a message with these octets, which may fail to be allocated
+abbrev pub Gives : LinkId → List ℕ → ℕ → Result ⊤ SideFault → EitherSide → EitherSide → Effects
+    → Type 0
+Gives id octets now result old new acts = LacksMessage result old new acts
+    ⊎ WithMessage octets (λ message. Answers (request.Give id message) now result old new acts)
 
 -- the first due timer has expired
 abbrev pub Expires : ℕ → EitherSide → EitherSide → Effects → Type 0

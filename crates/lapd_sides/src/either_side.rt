@@ -20,7 +20,7 @@ pub enum EitherSide {
 }
 
 impl EitherSide {
-    ghost use Rattle.lapd_sides.specs.Either.{side_of, Takes, Answers, Expires, StaysIdle, SetsDurations, HasNextDeadline, HasTable, HasTimers, HasDiscarded};
+    ghost use Rattle.lapd_sides.specs.Either.{side_of, Takes, Answers, Gives, Expires, StaysIdle, SetsDurations, HasNextDeadline, HasTable, HasTimers, HasDiscarded};
 
     /// Whether this is the network side or the user side.
     pub fn side(&self) -> Side
@@ -77,6 +77,30 @@ impl EitherSide {
         match self {
             EitherSide::Network(side) => side.request(request, now, acts),
             EitherSide::User(side) => side.request(request, now, acts),
+        }
+    }
+
+    /// Submits a copy of these octets to a link as a layer 3 message, at the time `now`, as
+    /// [`EitherSide::request`] does with [`Request::Give`]. The copy is in the room of an
+    /// acknowledged message if the link keeps one: only then nothing is allocated.
+    ///
+    /// # Errors
+    ///
+    /// B3 if the copy cannot be allocated, and B1 and L1 to L5, with the copy, as `request`. The
+    /// side is unchanged and `acts` is empty.
+    pub fn give(
+        &mut self,
+        id: LinkId,
+        octets: &[u8],
+        now: u64,
+        acts: &mut Acts,
+    ) -> Result<(), SideFault>
+        ensures side { side_of self.new ≡ side_of self.old }
+        ensures gives { Gives id octets.now now result self.old self.new acts.new }
+    {
+        match self {
+            EitherSide::Network(side) => side.give(id, octets, now, acts),
+            EitherSide::User(side) => side.give(id, octets, now, acts),
         }
     }
 

@@ -6,17 +6,14 @@
 //! frames and primitives. Times are milliseconds of the caller's clock, which must never go
 //! backwards. A program uses a side like this:
 //!
-//! 1. Create the side with a [`Config`], and one [`Acts`], which every call empties and then fills,
-//!    except `take_behind` and `give_behind`.
+//! 1. Create the side with a [`Config`], and one [`Acts`], which every call empties and then fills.
 //! 2. Pass octets from the line, without flags and check sequence, to `take`. Its only error is B3,
-//!    if the links of a TEI cannot be allocated; the frame may then be passed again. A program that
-//!    prints frames too reads them by [`lapd_frame::read`], and passes the result to `take_frame`.
+//!    if the links of a TEI cannot be allocated; the frame may then be passed again.
 //! 3. Pass the requests of layer 3 to `request`, as a [`Request`]. An error is a [`SideFault`],
-//!    which returns the message; the side is unchanged.
+//!    which returns the message; the side is unchanged. `give` submits a message by its octets: it
+//!    copies them into the room of an acknowledged message if the link keeps one.
 //! 4. After each successful call, send the octets of `Acts::frames`, 3 to 264 each, in order, and
 //!    process `Acts::primitives`. A [`Primitive`] prints in words, as `0 64 established`.
-//!    A program that leaves results in `Acts` for a while calls `take_behind` and `give_behind`
-//!    first: they append the results of usual frames and of messages that are sent at once.
 //! 5. Before you expire timers for a moment, pass in every frame that had arrived by then. To do
 //!    so, read the clock and take a frame without waiting, repeatedly, until no frame has arrived.
 //!    Then call `tick` with the time that was read before that last attempt, until `tick` returns

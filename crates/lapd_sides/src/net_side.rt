@@ -1,6 +1,6 @@
 //! The network side.
 
-ghost use Rattle.std.specs.Prelude.{◌≡◌, ◌≤◌, ◌<◌, ◌&&◌, ℕ, true, false, List, length, [], Some, None, Ok, Err, OnOk, OnErr, IfOk, IfErr, option_copied};
+ghost use Rattle.std.specs.Prelude.{◌≡◌, ◌⊎◌, ◌≤◌, ◌<◌, true, false, length, [], Some, None, Ok, Err, OnOk, OnErr, IfOk, IfErr, option_copied};
 ghost use Rattle.std.specs.List.{All};
 ghost use Rattle.lapd_frame.specs.Reading.{frame_at};
 ghost use Rattle.lapd_link_definition.specs.Input.{input_of, Give};
@@ -10,7 +10,7 @@ ghost use Rattle.lapd_table.specs.LinkTable.{IsFor};
 ghost use Rattle.lapd_sides_links.specs.Effects.{no_effects};
 ghost use Rattle.lapd_sides_links.specs.Rooms.{IsEmpty};
 ghost use Rattle.lapd_sides_links.specs.Expiries.{IsNextDeadline, of_served};
-ghost use Rattle.lapd_sides.specs.Requests.{message_of, without_message};
+ghost use Rattle.lapd_sides.specs.Requests.{LacksMessage, WithMessage, message_of, without_message};
 ghost use Rattle.lapd_sides.specs.Shows.{are_taken_usually, ShowEnds};
 ghost use Rattle.lapd_sides.specs.Network.{Network, new_network, network_takes, network_requested, assigner_acts, link_of_network, frame_received, unit_requested, unit_to_group, given_for, given_for_frame, given_for_message};
 
@@ -195,8 +195,8 @@ impl NetSide {
     }
 
     /// The next moment at which [`NetSide::tick`] has something to do, in milliseconds; before it,
-    /// `tick` returns `false`. `None` if no timer runs. It changes only in `take`, `tick` and
-    /// `request`, so a program can sleep until this moment or until octets arrive.
+    /// `tick` returns `false`. `None` if no timer runs. It changes only in `take`, `tick`,
+    /// `request` and `give`, so a program can sleep until this moment or until octets arrive.
     pub fn next_deadline(&self) -> Option<u64>
         ensures { EachShown self.now (λ s. IsNextDeadline s.served result) }
     {
@@ -229,8 +229,36 @@ impl NetSide {
             Request::Busy(id, true) => self.act(id, Event::BusyOn, now, acts),
             Request::Busy(id, false) => self.act(id, Event::BusyOff, now, acts),
             Request::Unit(id, octets) => self.send_unit(id, octets, now, acts),
-            Request::Give(id, message) => self.give(id, message, now, acts),
+            Request::Give(id, message) => self.give_message(id, message, now, acts),
             Request::AskTei | Request::Check(_) | Request::Remove(_) => Ok(()),
+        }
+    }
+
+    /// Submits a copy of these octets to a link as a layer 3 message, at the time `now`, as
+    /// [`NetSide::request`] does with [`Request::Give`]. The copy is in the room of an acknowledged
+    /// message if the link keeps one: only then nothing is allocated.
+    ///
+    /// # Errors
+    ///
+    /// B3 if the copy cannot be allocated, and B1 and L1 to L5, with the copy, as `request`. The
+    /// side is unchanged and `acts` is empty.
+    #[tactic(auto, unfolding(crate::specs::Network::network_requested))]
+    pub fn give(
+        &mut self,
+        id: LinkId,
+        octets: &[u8],
+        now: u64,
+        acts: &mut Acts,
+    ) -> Result<(), SideFault>
+        ensures { LacksMessage result self.old self.new acts.new
+            ⊎ WithMessage octets.now (λ message. Answers result self.old self.new acts.new
+            (Some message)
+            (λ config. network_requested config (Request.Give id message) now)) }
+    {
+        acts.clear();
+        match self.served.links.new_message(self.alloc, &id, octets) {
+            Ok(message) => self.give_message(id, message, now, acts),
+            Err(AllocError) => Err(without_message(SideKind::Memory)),
         }
     }
 }
@@ -293,7 +321,7 @@ impl NetSide {
     }
 
     /// Submits a message to a link.
-    fn give(
+    fn give_message(
         &mut self,
         id: LinkId,
         message: Vec<u8>,

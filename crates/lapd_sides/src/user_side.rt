@@ -1,6 +1,6 @@
 //! The user side.
 
-ghost use Rattle.std.specs.Prelude.{◌≡◌, ◌&&◌, ◌≤◌, ◌<◌, ◌+◌, ◌++◌, ℕ, true, false, List, length, [], Some, None, Ok, Err, OnOk, OnErr, IfOk, IfErr, IfSome, option_copied};
+ghost use Rattle.std.specs.Prelude.{◌≡◌, ◌⊎◌, ◌≤◌, ◌<◌, ◌+◌, ◌++◌, true, false, length, [], Some, None, Ok, Err, OnOk, OnErr, IfOk, IfErr, IfSome, option_copied};
 ghost use Rattle.std.specs.List.{All};
 ghost use Rattle.lapd_frame.specs.Reading.{frame_at};
 ghost use Rattle.lapd_link_definition.specs.Input.{input_of, Establish, Release, UnitData, Give};
@@ -15,7 +15,7 @@ ghost use Rattle.lapd_sides_links.specs.Effects.{no_effects};
 ghost use Rattle.lapd_sides_links.specs.Expiries.{IsNextDeadline, of_served};
 ghost use Rattle.lapd_sides_links.specs.Links.{of_sapi};
 ghost use Rattle.lapd_sides_links.specs.Rooms.{HasRoomFor, AddsAtMost, IsEmpty};
-ghost use Rattle.lapd_sides.specs.Requests.{message_of, without_message};
+ghost use Rattle.lapd_sides.specs.Requests.{LacksMessage, WithMessage, message_of, without_message};
 ghost use Rattle.lapd_sides.specs.Shows.{are_taken_usually, ShowEnds};
 ghost use Rattle.lapd_sides.specs.User.{User, seeded, sends_message, new_user, user_takes, user_requested, terminal_acts, assigned, pending_after, establishes_pending, establishes, gives_up_pending, primitive_of_group, primitive_of_sapi, link_of_user, frame_received, data_received, for_layer_3, got_for, got_for_frame, got_for_message, wants, forgets, gives_up, has_tei, with_tei_or};
 
@@ -212,8 +212,8 @@ impl UserSide {
     }
 
     /// The next moment at which [`UserSide::tick`] has something to do, in milliseconds; before it,
-    /// `tick` returns `false`. `None` if no timer runs. It changes only in `take`, `tick` and
-    /// `request`, so a program can sleep until this moment or until octets arrive.
+    /// `tick` returns `false`. `None` if no timer runs. It changes only in `take`, `tick`,
+    /// `request` and `give`, so a program can sleep until this moment or until octets arrive.
     pub fn next_deadline(&self) -> Option<u64>
         ensures { EachShown self.now (λ s. IsNextDeadline s.served result) }
     {
@@ -248,8 +248,51 @@ impl UserSide {
             Request::Busy(id, true) => self.be_busy(id.sapi, Event::BusyOn, now, acts),
             Request::Busy(id, false) => self.be_busy(id.sapi, Event::BusyOff, now, acts),
             Request::Unit(id, octets) => self.send_unit(id.sapi, octets, now, acts),
-            Request::Give(id, message) => self.give(id.sapi, message, now, acts),
+            Request::Give(id, message) => self.give_message(id.sapi, message, now, acts),
             Request::AskTei | Request::Check(_) | Request::Remove(_) => Ok(()),
+        }
+    }
+
+    /// Submits a copy of these octets to a link as a layer 3 message, at the time `now`, as
+    /// [`UserSide::request`] does with [`Request::Give`]. The copy is in the room of an acknowledged
+    /// message if the link keeps one: only then nothing is allocated.
+    ///
+    /// # Errors
+    ///
+    /// B3 if the copy cannot be allocated, and L1 to L5, with the copy, as `request`. The side is
+    /// unchanged and `acts` is empty.
+    #[tactic(auto, unfolding(crate::specs::User::user_requested))]
+    pub fn give(
+        &mut self,
+        id: LinkId,
+        octets: &[u8],
+        now: u64,
+        acts: &mut Acts,
+    ) -> Result<(), SideFault>
+        ensures { LacksMessage result self.old self.new acts.new
+            ⊎ WithMessage octets.now (λ message. Answers result self.old self.new acts.new
+            (Some message)
+            (λ config. user_requested config (Request.Give id message) now)) }
+    {
+        acts.clear();
+        match self.new_message(id.sapi, octets) {
+            Ok(message) => self.give_message(id.sapi, message, now, acts),
+            Err(AllocError) => Err(without_message(SideKind::Memory)),
+        }
+    }
+
+    /// A message with these octets, in room that the terminal's link of this SAPI keeps if there is
+    /// any.
+    fn new_message(&mut self, sapi: Sapi, octets: &[u8]) -> Result<Vec<u8>, AllocError>
+        ensures octets { IfOk result (λ message. message.items ≡ octets.now) }
+        ensures unchanged { self.new ≡ self.old }
+    {
+        match self.terminal.tei() {
+            Some(tei) => self
+                .served
+                .links
+                .new_message(self.alloc, &name(sapi, tei), octets),
+            None => Vec::from_slice(self.alloc, octets),
         }
     }
 
@@ -398,7 +441,7 @@ impl UserSide {
     }
 
     /// Submits a layer 3 message to the link of this SAPI.
-    fn give(
+    fn give_message(
         &mut self,
         sapi: Sapi,
         message: Vec<u8>,

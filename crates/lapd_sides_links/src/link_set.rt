@@ -471,6 +471,28 @@ impl LinkSet {
         self.act_at(&key, Event::Unit(octets.len()), octets, now, acts)
     }
 
+    /// A message with these octets, to be submitted to the link with this id. It is in the room of
+    /// an acknowledged message of the link, if one is kept ([`Link::new_message`]).
+    ///
+    /// # Errors
+    ///
+    /// `AllocError` if an allocation failed.
+    #[inline(always)]
+    pub fn new_message(
+        &mut self,
+        alloc: Global,
+        id: &LinkId,
+        octets: &[u8],
+    ) -> Result<Vec<u8>, AllocError>
+        ensures octets { IfOk result (λ message. message.items ≡ octets.now) }
+        ensures unchanged { self.new ≡ self.old }
+    {
+        match self.table.find(id) {
+            Some(key) => self.table.new_message_at(&key, octets),
+            None => Vec::from_slice(alloc, octets),
+        }
+    }
+
     /// Submits a layer 3 message to the link with this id, at the time `now`. The results are
     /// appended to `acts`.
     ///

@@ -1,23 +1,19 @@
-use Rattle.std.proofs.Common.{[], Some, Err, sym, ap, ◌∙◌}
-use Rattle.lapd_link_definition.specs.Input.{Give}
-use Rattle.lapd_link_definition.specs.declared.event.LinkFault.TheVariants.{NotEstablished}
-use Rattle.lapd_sides_links.specs.declared.side_fault.SideKind.TheVariants.{Link}
-use Rattle.lapd_sides_links.specs.Links.{in_links, link_acts}
-use Rattle.lapd_sides.specs.User.{link_of_user}
-use Rattle.lapd_sides.proofs.Using.{answers_as, link_answers, is_own, is_none}
+use Rattle.std.proofs.Common.{inr, Some, subst}
+use Rattle.lapd_sides.specs.declared.request.Request.TheVariants.{Give}
+use Rattle.lapd_sides.specs.declared.user_side.UserSide.{UserSide}
+use Rattle.lapd_sides.specs.User.{user_requested}
+use Rattle.lapd_sides.specs.ShowsUser.{Answers}
 use Rattle.lapd_sides.proofs.user_side.UserSide.give.Goals as goal
 
-pub returns-in-Some : goal.returns-in-Some
-unfolding link_of_user
-returns-in-Some c = answers_as c.give.result _ _ _ _ _ _ (λ config s shown.
-    is_own c.args.self.now config s c.tei.result c.in-Some.tei c.args.now c.args.sapi c.name.result (Give c.args.message.items) [] (Err (Link NotEstablished)) shown (record { of = c.tei.ensures; is = c.in-Some.is; named = c.name.ensures }))
-    (link_answers c.give.result c.args.self.now c.give.new.self c.args.acts.now c.give.new.acts (Some c.args.message) (λ at links. in_links c.name.result (link_acts at c.name.result c.args.now (Give c.args.message.items) []) links)
-    c.requires.empty c.give.ensures.ok c.give.ensures.err c.give.ensures.returned c.give.ensures.unchanged c.give.ensures.nothing)
-
-pub returns-in-None : goal.returns-in-None
-returns-in-None c = record {
-  kind = λ config s shown. is_none c.args.self.now config s c.tei.result c.args.now c.args.sapi (Give c.args.message.items) [] (Err (Link NotEstablished)) shown c.tei.ensures c.in-None.is ∙ ap Err (sym c.refused.ensures.kind);
-  returned = c.refused.ensures.message;
-  unchanged = λ config s shown. shown;
-  nothing = c.requires.empty;
-}
+pub returns-in-Ok : goal.returns-in-Ok
+unfolding user_requested
+returns-in-Ok c =
+    let message = c.in-Ok.message in
+    inr (record {
+      message = message;
+      items = c.in-Ok.ensures.octets;
+      asks = subst (λ (old : UserSide). Answers c.give_message.result old
+          c.give_message.new.self c.give_message.new.acts (Some message)
+          (λ config. user_requested config (Give c.args.id message) c.args.now))
+          c.in-Ok.ensures.unchanged c.give_message.ensures;
+    })

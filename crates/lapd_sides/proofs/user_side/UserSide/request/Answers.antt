@@ -22,4 +22,4 @@ returns-in-Unit c = answers_for c.send_unit.result c.args.self.now c.send_unit.n
 
 pub returns-in-Give : goal.returns-in-Give
 unfolding user_requested
-returns-in-Give c = answers_for c.give.result c.args.self.now c.give.new.self c.give.new.acts c.args.now c.args.request (request.Give c.in-Give.id c.in-Give.message) c.in-Give.is c.give.ensures
+returns-in-Give c = answers_for c.give_message.result c.args.self.now c.give_message.new.self c.give_message.new.acts c.args.now c.args.request (request.Give c.in-Give.id c.in-Give.message) c.in-Give.is c.give_message.ensures
