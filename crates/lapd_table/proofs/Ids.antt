@@ -1,7 +1,7 @@
 -- The order of SAPI and TEI distinguishes all ids.
-use Rattle.std.proofs.Common.{◌≡◌, ◌⊎◌, ℕ, Bool, true, false, ◌&&◌, refl, inl, inr, arith, rules}
+use Rattle.std.proofs.Common.{◌≡◌, ◌⊎◌, ℕ, Bool, true, false, ◌&&◌, refl, ap, inl, inr, arith, rules}
 use Rattle.std.proofs.lemmas.Bool.{eqb-true, eq-eqb, and_from}
-use Rattle.std.specs.Prelude.{◌==◌}
+use Rattle.std.specs.Prelude.{◌==◌, ◌+◌, ◌*◌, ◌≤◌}
 use Rattle.std.specs.Cmp.{IsTotalOrder}
 use Rattle.std.specs.Cmp.Rules.{comparing}
 use Rattle.std.specs.declared.cmp.Ordering.{Ordering}
@@ -12,7 +12,7 @@ use Rattle.lapd_frame.specs.declared.Sapi.{Sapi}
 use Rattle.lapd_frame.specs.declared.Sapi.TheVariants.{Call, Packet, Management}
 use Rattle.lapd_frame.specs.Address.{sapi_value}
 use Rattle.lapd_table.specs.declared.link_id.LinkId.{LinkId}
-use Rattle.lapd_table.specs.LinkId.{id_cmp, id_eq}
+use Rattle.lapd_table.specs.LinkId.{id_cmp, id_eq, sapi_place, place_of}
 
 pub id_cmp_total : IsTotalOrder id_cmp
 id_cmp_total = search (comparing, rules)
@@ -84,3 +84,19 @@ same_id_eq a b h =
 
 pub id_eq_self : (a : LinkId) → id_eq a a ≡ true
 id_eq_self a = and_from (sapi_value a.sapi == sapi_value a.sapi) (a.tei == a.tei) (eq-eqb (sapi_value a.sapi) (sapi_value a.sapi) refl) (eq-eqb a.tei a.tei refl)
+
+-- ---- The same for the rank.
+
+same_rank : (s t : Sapi) (m n : ℕ) → m ≤ 127 → n ≤ 127 → sapi_place s * 128 + m ≡ sapi_place t * 128 + n → make s m ≡ make t n
+same_rank Call Call m n p q h = ap (make Call) (omega (arith, h))
+same_rank Call Packet m n p q h = absurd (omega (arith, p, h))
+same_rank Call Management m n p q h = absurd (omega (arith, p, h))
+same_rank Packet Call m n p q h = absurd (omega (arith, q, h))
+same_rank Packet Packet m n p q h = ap (make Packet) (omega (arith, h))
+same_rank Packet Management m n p q h = absurd (omega (arith, p, h))
+same_rank Management Call m n p q h = absurd (omega (arith, q, h))
+same_rank Management Packet m n p q h = absurd (omega (arith, q, h))
+same_rank Management Management m n p q h = ap (make Management) (omega (arith, h))
+
+pub same_place : (a b : LinkId) → a.tei ≤ 127 → b.tei ≤ 127 → place_of a ≡ place_of b → a ≡ b
+same_place a b p q h = same_rank a.sapi b.sapi a.tei b.tei p q h

@@ -1,5 +1,6 @@
 pub mod Ids
 pub mod Indexes
+pub mod Places
 pub mod Tables
 pub mod Runs
 pub mod Calls

@@ -35,7 +35,7 @@ use Rattle.lapd_table.specs.declared.link_table.LinkTable.{LinkTable}
 use Rattle.lapd_table.specs.declared.table_fault.TableFault.{TableFault}
 use Rattle.lapd_table.specs.declared.table_fault.TableFault.TheVariants.{NoLink}
 use Rattle.lapd_table.specs.LinkId.{id_cmp, id_of_address, id_of_setup, setup_for}
-use Rattle.lapd_table.specs.Index.{key_of, IsIndex}
+use Rattle.lapd_table.specs.Index.{key_of, IsIndex, ArePlaces}
 use Rattle.lapd_table.specs.Octets.{fault_for, event_by}
 use Rattle.lapd_table.specs.LinkTable.{side_of, link_at, IsKey, Changes, IsUnchanged, StepsAt, RefusesAt, IsFor, arrives, HasDispatched, IsForNoLink}
 use Rattle.lapd_table.proofs.Ids.{id_cmp_total, same_by_eq}
@@ -137,13 +137,15 @@ module _ (old : LinkTable) (id : LinkId) (key : ℕ) (there : key_of old.keys id
 
 -- ---- The link under a key is written back as it was.
 
--- two tables with the same side, links and keys are the same
-same_table : (old new : LinkTable) → new.alloc ≡ old.alloc → new.side ≡ old.side → new.links ≡ old.links → new.keys ≡ old.keys → new ≡ old
-same_table old new alloc side links keys = λ i. record {
+-- two tables with the same fields are the same
+same_table : (old new : LinkTable) → new.alloc ≡ old.alloc → new.side ≡ old.side → new.links ≡ old.links → new.keys ≡ old.keys → new.places ≡ old.places → new ≡ old
+same_table old new alloc side links keys places = λ i. record {
   alloc = alloc i;
   side = side i;
   links = links i;
   keys = keys i;
+  places = places i;
+  places_fit = is_prop→PathP (λ j. ArePlaces (places j) (keys j)) (λ j. hlevel props) new.places_fit old.places_fit i;
   index = is_prop→PathP (λ j. IsIndex (side j) (links j) (keys j)) (λ j. hlevel props) new.index old.index i;
 }
 
@@ -168,7 +170,7 @@ module _ (old : LinkTable) (id : LinkId) (key : ℕ) (there : key_of old.keys id
       (λ at. ap (λ l. slab.get l at) links ∙ rewritten at)
       (λ at. ap (λ k. key_of k at) keys))
 
-  pub same_by : (new : LinkTable) → new.alloc ≡ old.alloc → new.side ≡ old.side → new.links ≡ slab.with_value old.links key after → new.keys ≡ old.keys → new ≡ old
+  pub same_by : (new : LinkTable) → new.alloc ≡ old.alloc → new.side ≡ old.side → new.links ≡ slab.with_value old.links key after → new.keys ≡ old.keys → new.places ≡ old.places → new ≡ old
   same_by new alloc side links keys =
       same_table old new alloc side (links ∙ ap (slab.with_value old.links key) same ∙ same_slab old.links key before was) keys
 

@@ -31,14 +31,14 @@ id_eq = eq_of_both (on (λ id. sapi_value id.sapi) ◌==◌) (on (λ id. id.tei)
 abbrev pub id_cmp : LinkId → LinkId → Ordering
 id_cmp = then_cmp (on (λ id. sapi_value id.sapi) nat_cmp) (on (λ id. id.tei) nat_cmp)
 
--- the rank in that order, as one number; the TEI has seven bits
+-- the rank in that order, as one number, below 384; the TEI has seven bits
 abbrev pub sapi_place : Sapi → ℕ
 sapi_place Call = 0
 sapi_place Packet = 1
 sapi_place Management = 2
 
 abbrev pub place_of : LinkId → ℕ
-place_of id = sapi_place id.sapi * 256 + id.tei
+place_of id = sapi_place id.sapi * 128 + id.tei
 
 -- the printed form
 abbrev pub id_text : LinkId → List ℕ

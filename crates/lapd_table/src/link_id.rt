@@ -1,4 +1,4 @@
-ghost use Rattle.std.specs.Prelude.{◌≡◌, ◌≤◌, Some};
+ghost use Rattle.std.specs.Prelude.{◌≡◌, ◌<◌, ◌≤◌, Some};
 ghost use Rattle.std.specs.Cmp.{partial_order_from_own_ties};
 ghost use Rattle.std.specs.Cmp.Rules.{comparing};
 ghost use Rattle.std.specs.Ordering.{as_partial_cmp};
@@ -53,18 +53,19 @@ impl LinkId {
         }
     }
 
-    /// The rank in the order of ids as one number, so that a comparison takes one test.
+    /// The rank in the order of ids as one number, so that a comparison takes one test; below 384.
     #[inline(always)]
-    fn place(self) -> u16
-        ensures value { result ≡ place_of self }
-        ensures tei { self.tei ≤ 127 }
+    pub(crate) fn place(&self) -> u16
+        ensures value { result ≡ place_of self.now }
+        ensures tei { self.now.tei ≤ 127 }
+        ensures range { result < 384 }
     {
         let sapi: u16 = match self.sapi {
             Sapi::Call => 0,
             Sapi::Packet => 1,
             Sapi::Management => 2,
         };
-        sapi * 256 + u16::from(self.tei.value())
+        sapi * 128 + u16::from(self.tei.value())
     }
 }
 

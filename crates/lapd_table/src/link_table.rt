@@ -1,4 +1,4 @@
-ghost use Rattle.std.specs.Prelude.{◌≡◌, None, Some, Ok, Err, [], IsSome, IfNone, IfSome, IfOk, IfErr, OnOk, OnErr, option_copied, ◌↔◌, Contains};
+ghost use Rattle.std.specs.Prelude.{◌≡◌, ℕ, suc, None, Some, Ok, Err, [], IsSome, IfNone, IfSome, IfOk, IfErr, OnOk, OnErr, option_copied, ◌↔◌, Contains};
 ghost use Rattle.std.specs.List.Sorted.{IsStrictlySortedBy};
 ghost use Rattle.std.proofs.Props.{props};
 ghost use Rattle.lapd_frame.specs.PredictedFrame.{predicted_control, predicted_role};
@@ -10,7 +10,7 @@ ghost use Rattle.lapd_link_machine.specs.Bounds.{IsBounded};
 ghost use Rattle.lapd_link_machine.specs.Given.{given_outs};
 ghost use Rattle.lapd_link_machine.specs.Usual.{usual_outs};
 ghost use Rattle.lapd_table.specs.LinkId.{id_cmp, id_of_setup, setup_for};
-ghost use Rattle.lapd_table.specs.Index.{IsIndex, key_of};
+ghost use Rattle.lapd_table.specs.Index.{IsIndex, ArePlaces, key_of};
 
 use crate::{LinkId, LinkKey, TableFault};
 use lapd_frame::{FrameFault, Number, PredictedKind, Side, read};
@@ -27,6 +27,10 @@ pub struct LinkTable {
     links: Slab<Link>,
     /// The slab key of each link.
     keys: BTreeMap<LinkId, usize>,
+    /// At the rank of each id, one more than the slab key of its link. 0 if there is no link, or the
+    /// key does not fit, as none of 254 links does.
+    places: [u8; 384],
+    ghost places_fit: { ArePlaces places keys } by { Prim.hlevel props },
     ghost index: { IsIndex side links keys } by { Prim.hlevel props },
 }
 
@@ -45,6 +49,7 @@ impl LinkTable {
             side,
             links: Slab::new(alloc),
             keys: BTreeMap::new(alloc),
+            places: [0; 384],
         }
     }
 
@@ -97,7 +102,10 @@ impl LinkTable {
         }
         let key = self.links.insert_reserved(link);
         match self.keys.insert(id, key) {
-            Ok(_) => Ok(()),
+            Ok(_) => {
+                self.places[usize::from(id.place())] = place_for(key);
+                Ok(())
+            }
             Err(_) => Err(self.links.remove(key)),
         }
     }
@@ -107,6 +115,7 @@ impl LinkTable {
         ensures value { result ≡ link_at self.old id }
         ensures changes { Changes self.old self.new id None }
     {
+        self.places[usize::from(id.place())] = 0;
         match self.keys.remove(&id) {
             Some(key) => self.links.try_remove(key),
             None => None,
@@ -125,8 +134,27 @@ impl LinkTable {
         }
     }
 
-    /// Finds the link with this SAPI and TEI, and returns its key.
+    /// Finds the link with this SAPI and TEI, and returns its key. A link is found without a search;
+    /// the map is searched only if there is none.
+    #[inline(always)]
     pub fn find(&self, id: &LinkId) -> Option<LinkKey>
+        ensures found { IfSome result (λ key. (key.id ≡ id.now) × IsKey self.now key) }
+        ensures none { result ≡ None → link_at self.now id.now ≡ None }
+    {
+        let place = self.places[usize::from(id.place())];
+        if place > 0 {
+            Some(LinkKey {
+                id: *id,
+                place: usize::from(place) - 1,
+            })
+        } else {
+            self.search(id)
+        }
+    }
+
+    /// As [`LinkTable::find`], by the map.
+    #[inline(never)]
+    fn search(&self, id: &LinkId) -> Option<LinkKey>
         ensures found { IfSome result (λ key. (key.id ≡ id.now) × IsKey self.now key) }
         ensures none { result ≡ None → link_at self.now id.now ≡ None }
     {
@@ -471,4 +499,11 @@ impl LinkTable {
     {
         self.links[key].give_into(message, outs)
     }
+}
+
+/// The place of an id whose link has this slab key.
+fn place_for(key: usize) -> u8
+    ensures { (n : ℕ) → result ≡ suc n → n ≡ key }
+{
+    if key < 255 { key as u8 + 1 } else { 0 }
 }

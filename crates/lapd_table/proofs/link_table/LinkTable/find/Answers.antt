@@ -1,12 +1,12 @@
--- find
-use Rattle.std.proofs.Common.{refl, sym}
+use Rattle.std.proofs.Common.{refl, sym, ap, get_or, ◌∙◌}
 use Rattle.lapd_table.specs.LinkTable.{IsKey}
-use Rattle.lapd_table.proofs.Tables.{none_at}
+use Rattle.lapd_table.proofs.Places.{one_more}
 use Rattle.lapd_table.proofs.link_table.LinkTable.find.Goals as goal
 
-pub returns-in-Some-clause-found : goal.returns-in-Some-clause-found
+pub returns-then-place-gt0-clause-found : goal.returns-then-place-gt0-clause-found
 unfolding IsKey
-returns-in-Some-clause-found c = (refl, sym c.in-Some.ensures.value)
-
-pub returns-in-None-clause-none : goal.returns-in-None-clause-none
-returns-in-None-clause-none c = λ same. none_at c.args.self.now c.args.id.now (sym c.in-None.ensures.value)
+returns-then-place-gt0-clause-found c =
+    let its = c.from.ensures ∙ c.place.ensures.value in
+    let at = ap (λ i. get_or c.args.self.now.places i 0) (sym its) in
+    let more = one_more _ _ c.if-place-gt0.true c.from-then-place-gt0.ensures in
+    (refl, c.args.self.now.places_fit c.args.id.now _ c.place.ensures.tei (at ∙ more))

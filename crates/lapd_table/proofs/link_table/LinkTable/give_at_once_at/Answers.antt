@@ -10,6 +10,7 @@ index_mut-requires c = has_link c.args.self.now c.args.key.now.id c.args.key.now
 pub invariant_of-self : goal.invariant_of-self
 unfolding IsKey
 invariant_of-self c = record {
+  places_fit = c.args.self.now.places_fit;
   index = after_index c.args.self.now c.args.key.now.id c.args.key.now.place c.requires.key _ c.index_mut.ensures.value _ c.give_at_once.ensures.setup;
 }
 
@@ -21,7 +22,7 @@ returns-clause-ok c = on_ok_all c.give_at_once.result _ _
 pub returns-clause-unchanged : goal.returns-clause-unchanged
 unfolding IsKey
 returns-clause-unchanged c = on_err c.give_at_once.result _ _
-    (λ same. same_by c.args.self.now c.args.key.now.id c.args.key.now.place c.requires.key _ c.index_mut.ensures.value _ same _ refl refl refl refl) c.give_at_once.ensures.unchanged
+    (λ same. same_by c.args.self.now c.args.key.now.id c.args.key.now.place c.requires.key _ c.index_mut.ensures.value _ same _ refl refl refl refl refl) c.give_at_once.ensures.unchanged
 
 pub returns-clause-key : goal.returns-clause-key
 unfolding IsKey

@@ -8,6 +8,7 @@ index_mut-requires c = has_link c.args.self.now c.args.id c.args.key c.requires
 
 pub invariant_of-self : goal.invariant_of-self
 invariant_of-self c = record {
+  places_fit = c.args.self.now.places_fit;
   index = after_index c.args.self.now c.args.id c.args.key c.requires _ c.index_mut.ensures.value _ c.give_into.ensures.setup;
 }
 

@@ -12,6 +12,7 @@ handle_into-requires c = record {
 
 pub invariant_of-self : goal.invariant_of-self
 invariant_of-self c = record {
+  places_fit = c.args.self.now.places_fit;
   index = after_index c.args.self.now c.args.id c.args.key c.requires.named _ c.index_mut.ensures.value _ c.handle_into.ensures.setup;
 }
 

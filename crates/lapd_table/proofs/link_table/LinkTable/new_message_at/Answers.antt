@@ -11,6 +11,7 @@ index_mut-requires c = has_link c.args.self.now c.args.key.now.id c.args.key.now
 pub invariant_of-self : goal.invariant_of-self
 unfolding IsKey
 invariant_of-self c = record {
+  places_fit = c.args.self.now.places_fit;
   index = after_index c.args.self.now c.args.key.now.id c.args.key.now.place c.requires.key
       _ c.index_mut.ensures.value _ (ap setup_of c.new_message.ensures.unchanged);
 }
@@ -19,7 +20,7 @@ pub returns-clause-unchanged : goal.returns-clause-unchanged
 unfolding IsKey
 returns-clause-unchanged c =
     same_by c.args.self.now c.args.key.now.id c.args.key.now.place c.requires.key
-    _ c.index_mut.ensures.value _ c.new_message.ensures.unchanged _ refl refl refl refl
+    _ c.index_mut.ensures.value _ c.new_message.ensures.unchanged _ refl refl refl refl refl
 
 pub returns-clause-key : goal.returns-clause-key
 unfolding IsKey

@@ -1,5 +1,6 @@
-use Rattle.std.proofs.Common.{refl, ap, rules}
+use Rattle.std.proofs.Common.{Some, refl, sym, ap, ◌∙◌, rules}
 use Rattle.slab.specs.Slab as slab
+use Rattle.lapd_table.proofs.Places.{written, kept}
 use Rattle.lapd_table.proofs.Tables.{with_link_index, with_link, as_before_index, as_before, with_room}
 use Rattle.lapd_table.proofs.link_table.LinkTable.store.Goals as goal
 
@@ -8,6 +9,10 @@ returns-then-is_err-clause-unchanged c = with_room c.args.self.now _ refl (λ at
 
 pub invariant_of-self-in-Ok : goal.invariant_of-self-in-Ok
 invariant_of-self-in-Ok c = record {
+  places_fit = written _ c.args.self.now.keys c.insert.new.self c.args.id
+      (Some c.insert_reserved-key.result) _ _ c.args.self.now.places_fit c.in-Ok.ensures.updates
+      c.place.ensures.tei (c.from.ensures ∙ c.place.ensures.value)
+      (λ n h. ap Some (sym (c.place_for.ensures n h)));
   index = with_link_index c.args.self.now c.args.link c.requires.side c.args.id c.requires.its c.requires.absent
       c.reserve.new.self (λ at. ap (λ l. slab.get l at) c.reserve.ensures.rest_kept) c.insert_reserved-key.result c.insert_reserved-key.ensures.was_vacant _ c.insert_reserved-key.ensures.updates
       _ c.in-Ok.ensures.updates;
@@ -21,6 +26,8 @@ returns-in-Ok-clause-ok c =
 
 pub invariant_of-self-in-Err : goal.invariant_of-self-in-Err
 invariant_of-self-in-Err c = record {
+  places_fit = kept _ c.args.self.now.keys c.insert.new.self c.in-Err.ensures.err
+      c.args.self.now.places_fit;
   index = as_before_index c.args.self.now c.args.link c.requires.side c.args.id c.requires.its c.requires.absent
       c.reserve.new.self (λ at. ap (λ l. slab.get l at) c.reserve.ensures.rest_kept) c.insert_reserved-key.result c.insert_reserved-key.ensures.was_vacant _ c.insert_reserved-key.ensures.updates
       c.remove.new.self c.remove.ensures.updates _ c.in-Err.ensures.err;

@@ -11,6 +11,7 @@ index_mut-requires c = has_link c.args.self.now c.args.key.now.id c.args.key.now
 pub invariant_of-self : goal.invariant_of-self
 unfolding IsKey
 invariant_of-self c = record {
+  places_fit = c.args.self.now.places_fit;
   index = after_index c.args.self.now c.args.key.now.id c.args.key.now.place c.requires.key _ c.index_mut.ensures.value _ c.usual_step.ensures.setup;
 }
 
@@ -22,7 +23,7 @@ returns-clause-ok c = if_some c.usual_step.result _ _
 pub returns-clause-unchanged : goal.returns-clause-unchanged
 unfolding IsKey
 returns-clause-unchanged c = if_none c.usual_step.result _ _
-    (λ same. same_by c.args.self.now c.args.key.now.id c.args.key.now.place c.requires.key _ c.index_mut.ensures.value _ same _ refl refl refl refl) c.usual_step.ensures.unchanged
+    (λ same. same_by c.args.self.now c.args.key.now.id c.args.key.now.place c.requires.key _ c.index_mut.ensures.value _ same _ refl refl refl refl refl) c.usual_step.ensures.unchanged
 
 pub returns-clause-key : goal.returns-clause-key
 unfolding IsKey
