@@ -33,7 +33,8 @@ use Rattle.lapd_sides_links.specs.Effects.{Effects, and_then, effects_of_link, s
 use Rattle.lapd_sides_links.specs.Links.{Links, Linked, Reaction, acted, link_acts, link_expires, in_place, where_there, in_links, with_link, linked_with_durations, links_with_durations}
 use Rattle.lapd_sides_links.specs.Expiries.{IsFirst, IsPast, Runs, of_links}
 use Rattle.lapd_sides_links.specs.Places.{AreStopped}
-use Rattle.lapd_sides_links.specs.TimersAtPlaces.{of_places}
+use Rattle.lapd_sides_links.specs.LinkTimers.{timers_of}
+use Rattle.lapd_sides_links.specs.TimersAtPlaces.{of_each_link}
 use Rattle.lapd_sides_links.specs.Shown.{timers_at, made_by, IsLinked, ShowLinks, HaveActed}
 use Rattle.lapd_sides_links.proofs.Dues.{deadline_stays, same_past, same_runs}
 
@@ -265,23 +266,23 @@ placed_linked (Some link) (Some t) None its h is = absurd h
 placed_linked (Some link) (Some t) (Some l) its h is = ap (λ (x : Timers). Some x) h.1 ∙ is
 
 runs_in_links : (side : Side) (s : LinkSet) (links : Links) → ShowLinks side s links → (of : Option LinkId) (its : Timers) (timer : Timer) (deadline : ℕ)
-    → of_places s.link_timers of ≡ Some its → deadline_of timer its ≡ Some deadline → of_links links of ≡ Some its
+    → of_each_link (timers_of s.link_timers) of ≡ Some its → deadline_of timer its ≡ Some deadline → of_links links of ≡ Some its
 runs_in_links side s links shown None its timer deadline is runs = is
 runs_in_links side s links shown (Some id) its timer deadline is runs = runs_linked (link_at s.table id) (timers_at s.link_timers id) (links id) its timer deadline (shown.each id) is runs
 
 runs_in_places : (side : Side) (s : LinkSet) (links : Links) → ShowLinks side s links → (of : Option LinkId) (its : Timers)
-    → of_links links of ≡ Some its → of_places s.link_timers of ≡ Some its
+    → of_links links of ≡ Some its → of_each_link (timers_of s.link_timers) of ≡ Some its
 runs_in_places side s links shown None its is = is
 runs_in_places side s links shown (Some id) its is = placed_linked (link_at s.table id) (timers_at s.link_timers id) (links id) its (shown.each id) is
 
 pub first_of_links : (side : Side) (s : LinkSet) (links : Links) (now : ℕ) (first : Option Due) → ShowLinks side s links
-    → IsFirst (IsPast now (of_places s.link_timers)) first → IsFirst (IsPast now (of_links links)) first
-first_of_links side s links now first shown h = same_past now (of_places s.link_timers) (of_links links) first (runs_in_links side s links shown)
+    → IsFirst (IsPast now (of_each_link (timers_of s.link_timers))) first → IsFirst (IsPast now (of_links links)) first
+first_of_links side s links now first shown h = same_past now (of_each_link (timers_of s.link_timers)) (of_links links) first (runs_in_links side s links shown)
     (λ of its timer deadline is runs. runs_in_places side s links shown of its is) h
 
 pub first_of_all_links : (side : Side) (s : LinkSet) (links : Links) (first : Option Due) → ShowLinks side s links
-    → IsFirst (Runs (of_places s.link_timers)) first → IsFirst (Runs (of_links links)) first
-first_of_all_links side s links first shown h = same_runs (of_places s.link_timers) (of_links links) first (runs_in_links side s links shown)
+    → IsFirst (Runs (of_each_link (timers_of s.link_timers))) first → IsFirst (Runs (of_links links)) first
+first_of_all_links side s links first shown h = same_runs (of_each_link (timers_of s.link_timers)) (of_links links) first (runs_in_links side s links shown)
     (λ of its timer deadline is runs. runs_in_places side s links shown of its is) h
 
 -- the timers of an existing link

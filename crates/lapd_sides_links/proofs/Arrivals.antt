@@ -1,8 +1,8 @@
 -- The links of a TEI are added and removed.
 use Rattle.std.proofs.Common.{◌≡◌, ◌≢◌, ◌<◌, ℕ, List, ◌++◌, Bool, true, false, Option, Some, None, Result, Ok, Err, OnOk, refl, sym, ap, ◌∙◌, subst}
-use Rattle.std.specs.Prelude.{◌==◌, if◌then◌else◌, is_err, is_none}
+use Rattle.std.specs.Prelude.{◌==◌, if◌then◌else◌, is_err, is_none, IfSome}
 use Rattle.std.proofs.lemmas.List.{append_assoc}
-use Rattle.lapd_timers.specs.Due.{all_stopped}
+use Rattle.lapd_timers.specs.Due.{Timers, all_stopped}
 use Rattle.lapd_timers.specs.Durations.{Lengths}
 use Rattle.lapd_frame.specs.declared.Sapi.{Sapi}
 use Rattle.lapd_frame.specs.declared.Sapi.TheVariants.{Call, Packet, Management}
@@ -13,16 +13,18 @@ use Rattle.lapd_link_definition.specs.End.{new_end}
 use Rattle.lapd_link_definition.specs.Parameters.{Parameters}
 use Rattle.lapd_table.specs.declared.link_id.LinkId.{LinkId}
 use Rattle.lapd_table.specs.LinkId.{id_eq}
-use Rattle.lapd_table.specs.LinkTable.{link_at, Changes}
+use Rattle.lapd_table.specs.LinkTable.{link_at, side_of, Changes}
+use Rattle.lapd_table.specs.declared.link_table.LinkTable.{LinkTable}
 use Rattle.lapd_table.proofs.Ids.{same_id_eq}
 use Rattle.lapd_sides_links.specs.declared.config.Config.{Config}
 use Rattle.lapd_sides_links.specs.declared.link_set.LinkSet.{LinkSet}
 use Rattle.lapd_sides_links.specs.declared.primitive.Primitive.{Primitive}
-use Rattle.lapd_sides_links.specs.declared.timer_places.TimerPlaces.{TimerPlaces}
+use Rattle.lapd_sides_links.specs.declared.link_timers.LinkTimers.{LinkTimers}
 use Rattle.lapd_sides_links.specs.Links.{Links, Linked, of_sapi, or_new, with_link, with_new_link, with_tei, without_tei, new_linked, primitives_at_removal, primitive_of_tei}
-use Rattle.lapd_sides_links.specs.TimersAtPlaces.{placed}
+use Rattle.lapd_sides_links.specs.Places.{AreStopped, IsKept}
 use Rattle.lapd_sides_links.specs.Shown.{timers_at, IsLinked, ShowLinks}
 use Rattle.lapd_sides_links.proofs.Acting.{put_in_place, now_linked, nothing_linked}
+use Rattle.lapd_sides_links.proofs.LoneTimers.{none_of_management}
 
 -- a statement about links holds for links that are equal one by one
 pub same_links : (side : Side) (s : LinkSet) (these those : Links) → ((id : LinkId) → these id ≡ those id) → ShowLinks side s these → ShowLinks side s those
@@ -69,9 +71,28 @@ pub no_error : {A E : Type 0} (result : Result A E) (P : Type 0) → is_err resu
 no_error (Ok a) P h p = p
 no_error (Err e) P h p = cc
 
--- the timers of a link are reset if it can have any, and those of others are unchanged
-pub record AreReset (old new : TimerPlaces) (id : LinkId) (lengths : Lengths) : Type 0 where
-  pub own : id.sapi ≢ Management → id.tei < 127 → timers_at new id ≡ Some (all_stopped lengths)
+-- timers that exist are unchanged, and no others run
+kept_linked : (link : Option Link) (before after : Option Timers) (l : Option Linked) → IsKept before after → IsLinked link before l → IsLinked link after l
+kept_linked None None after None kept h = kept
+kept_linked None (Some timers) after None kept h = subst (λ (t : Option Timers). IfSome t AreStopped) (sym kept) h
+kept_linked None before after (Some l) kept h = absurd h
+kept_linked (Some link) None after None kept h = absurd h
+kept_linked (Some link) None after (Some l) kept h = absurd h
+kept_linked (Some link) (Some timers) after None kept h = absurd h
+kept_linked (Some link) (Some timers) after (Some l) kept h = subst (λ (t : Option Timers). IsLinked (Some link) t (Some l)) (sym kept) h
+
+-- the links are unchanged when room is made
+pub room_made : (side : Side) (old new : LinkSet) (links : Links) → new.table ≡ old.table → ((id : LinkId) → IsKept (timers_at old.link_timers id) (timers_at new.link_timers id))
+    → ShowLinks side old links → ShowLinks side new links
+room_made side old new links table kept shown = record {
+  of_side = ap side_of table ∙ shown.of_side;
+  each = λ id. subst (λ (t : LinkTable). IsLinked (link_at t id) (timers_at new.link_timers id) (links id)) (sym table)
+      (kept_linked (link_at old.table id) (timers_at old.link_timers id) (timers_at new.link_timers id) (links id) (kept id) (shown.each id));
+}
+
+-- the timers of a link are reset, and those of others are unchanged
+pub record AreReset (old new : LinkTimers) (id : LinkId) (lengths : Lengths) : Type 0 where
+  pub own : timers_at new id ≡ Some (all_stopped lengths)
   pub others : (other : LinkId) → other ≢ id → timers_at new other ≡ timers_at old other
 
 new_at : (new : Linked) (id other : LinkId) (links : Links) (test : Bool) → id_eq other id ≡ test → links id ≡ None
@@ -101,14 +122,14 @@ module _ (side : Side) (old : LinkSet) (links : Links) (id : LinkId) (shown : Sh
   pub is_absent : link_at old.table id ≡ None → links id ≡ None
   is_absent absent = nothing_linked (link_at old.table id) (timers_at old.link_timers id) (links id) absent (shown.each id)
 
-  pub new_there : (new : LinkSet) (link : Link) (parameters : Parameters) (lengths : Lengths) → id.sapi ≢ Management → id.tei < 127 → links id ≡ None
+  pub new_there : (new : LinkSet) (link : Link) (parameters : Parameters) (lengths : Lengths) → links id ≡ None
       → LinkRepresents link (new_end parameters) → Changes old.table new.table id (Some link) → AreReset old.link_timers new.link_timers id lengths
       → ShowLinks side new (with_new_link id (new_linked parameters lengths) links)
-  new_there new link parameters lengths served low none represents changes reset =
+  new_there new link parameters lengths none represents changes reset =
       let fresh = new_linked parameters lengths in
       same_links side new (with_link id (Some fresh) links) (with_new_link id fresh links) (λ other. new_at fresh id other links (id_eq other id) refl none)
       (put_in_place side old new links id (Some fresh) changes.side
-      (now_linked (link_at new.table id) (timers_at new.link_timers id) link fresh changes.there (reset.own served low) represents) changes.others reset.others shown)
+      (now_linked (link_at new.table id) (timers_at new.link_timers id) link fresh changes.there reset.own represents) changes.others reset.others shown)
 
 -- ---- A link that was added is removed again; one that existed stays.
 
@@ -133,10 +154,11 @@ either_none false l none = refl
 
 removed_at : (side : Side) (s : LinkSet) (tei : ℕ) (links : Links) (sapi : Sapi) (t : ℕ) → ShowLinks side s links
     → with_link (of_sapi Packet tei) None (with_link (of_sapi Call tei) None links) (of_sapi sapi t) ≡ without_tei tei links (of_sapi sapi t)
-unfolding without_tei placed
+unfolding without_tei
 removed_at side s tei links Call t shown = refl
 removed_at side s tei links Packet t shown = refl
-removed_at side s tei links Management t shown = either_none (t == tei) (links (of_sapi Management t)) (unplaced (link_at s.table (of_sapi Management t)) (links (of_sapi Management t)) (shown.each (of_sapi Management t)))
+removed_at side s tei links Management t shown = either_none (t == tei) (links (of_sapi Management t)) (unplaced (link_at s.table (of_sapi Management t)) (links (of_sapi Management t))
+    (subst (λ (x : Option Timers). IsLinked (link_at s.table (of_sapi Management t)) x (links (of_sapi Management t))) (none_of_management s.link_timers t) (shown.each (of_sapi Management t))))
 
 pub both_removed : (side : Side) (old new : LinkSet) (tei : ℕ) (links : Links) → ShowLinks side old links
     → ShowLinks side new (with_link (of_sapi Packet tei) None (with_link (of_sapi Call tei) None links)) → ShowLinks side new (without_tei tei links)

@@ -4,6 +4,7 @@ pub mod Known
 pub mod Units
 pub mod Order
 pub mod Dues
+pub mod LoneTimers
 pub mod Outcomes
 pub mod Tournaments
 pub mod WrittenOver

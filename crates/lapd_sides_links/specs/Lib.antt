@@ -8,4 +8,5 @@ pub mod Shown
 pub mod Places
 pub mod Tournament
 pub mod TimersAtPlaces
+pub mod LinkTimers
 pub mod Texts

@@ -1,7 +1,9 @@
 -- The slots of the links' timers, and the order of two expiries.
-use Rattle.std.specs.Prelude.{◌≡◌, ℕ, List, length, Option, Some, None, ◌⊎◌}
+use Rattle.std.specs.Prelude.{◌≡◌, ℕ, ◌<◌, Bool, true, false, List, length, Option, Some, None, IfSome, ◌⊎◌}
 use Rattle.lapd_timers.specs.declared.timer.Timer.{Timer}
 use Rattle.lapd_timers.specs.Due.{Timers, deadline_of}
+use Rattle.lapd_frame.specs.declared.Sapi.{Sapi}
+use Rattle.lapd_frame.specs.declared.Sapi.TheVariants.{Call, Packet, Management}
 use Rattle.lapd_table.specs.declared.link_id.LinkId.{LinkId}
 use Rattle.lapd_sides_links.specs.declared.running_timer.RunningTimer.{RunningTimer}
 use Rattle.lapd_sides_links.specs.Links.{IsOfLink}
@@ -12,9 +14,24 @@ pub record HasPlaces (call packet : List Timers) : Type 0 where
   pub call_places : length call ≡ 127
   pub packet_places : length packet ≡ 127
 
+-- a link that can have timers: of SAPI 0 or 16, and TEI 0 to 126
+abbrev pub has_links : Sapi → Bool
+has_links Call = true
+has_links Packet = true
+has_links Management = false
+
+pub record HasSlot (id : LinkId) : Type 0 where
+  pub sapi : has_links id.sapi ≡ true
+  pub tei : id.tei < 127
+
 -- none of these runs
 abbrev pub AreStopped : Timers → Type 0
 AreStopped timers = (timer : Timer) → deadline_of timer timers ≡ None
+
+-- timers that exist are unchanged; if none existed, none runs
+abbrev pub IsKept : Option Timers → Option Timers → Type 0
+IsKept None after = IfSome after AreStopped
+IsKept (Some timers) after = after ≡ Some timers
 
 -- ---- The running timers.
 

@@ -11,16 +11,16 @@ use Rattle.lapd_link_definition.specs.End.{End}
 use Rattle.lapd_table.specs.declared.link_id.LinkId.{LinkId}
 use Rattle.lapd_table.specs.LinkTable.{side_of, link_at}
 use Rattle.lapd_sides_links.specs.declared.link_set.LinkSet.{LinkSet}
-use Rattle.lapd_sides_links.specs.declared.timer_places.TimerPlaces.{TimerPlaces}
+use Rattle.lapd_sides_links.specs.declared.link_timers.LinkTimers.{LinkTimers}
 use Rattle.lapd_sides_links.specs.declared.side_fault.SideKind.{SideKind}
 use Rattle.lapd_sides_links.specs.Effects.{Effects, and_then}
 use Rattle.lapd_sides_links.specs.Links.{Links, Linked, Reaction}
 use Rattle.lapd_sides_links.specs.Places.{AreStopped}
-use Rattle.lapd_sides_links.specs.TimersAtPlaces.{placed}
+use Rattle.lapd_sides_links.specs.LinkTimers.{timers_of}
 
--- the timers in the slot of a link, whether or not the link exists
-abbrev pub timers_at : TimerPlaces → LinkId → Option Timers
-timers_at s id = placed s id
+-- the timers for which a link has room, whether or not the link exists
+abbrev pub timers_at : LinkTimers → LinkId → Option Timers
+timers_at s id = timers_of s id
 
 -- the octets of the frame that the code makes of an output of this link, after a step that ended in
 -- `e`
@@ -28,7 +28,7 @@ abbrev pub made_by : Setup → End → List ℕ → Out → Option (List ℕ)
 made_by setup e octets output = option_map (spelling setup.side)
     (made_frame setup (drop e.first e.given) octets output)
 
--- a link with its timers; or no link, and no timer running in its slot
+-- a link with its timers; or no link, and no timer running for it
 abbrev pub IsLinked : Option Link → Option Timers → Option Linked → Type 0
 IsLinked None timers None = IfSome timers AreStopped
 IsLinked (Some link) (Some timers) (Some l) = LinkRepresents link l.end × (timers ≡ l.timers)

@@ -1,9 +1,11 @@
 -- The timers in the slots of the links.
-use Rattle.std.specs.Prelude.{◌≡◌, ℕ, ◌+◌, List, Option, Some, None, slice_get}
+use Rattle.std.specs.Prelude.{◌≡◌, ℕ, ◌+◌, List, Option, Some, None, slice_get, if◌then◌else◌}
 use Rattle.lapd_timers.specs.Due.{Timers}
 use Rattle.lapd_frame.specs.declared.Sapi.{Sapi}
 use Rattle.lapd_frame.specs.declared.Sapi.TheVariants.{Call, Packet, Management}
 use Rattle.lapd_table.specs.declared.link_id.LinkId.{LinkId}
+use Rattle.lapd_table.specs.LinkId.{id_eq}
+use Rattle.lapd_sides_links.specs.declared.lone_timers.LoneTimers.{LoneTimers}
 use Rattle.lapd_sides_links.specs.declared.timer_places.TimerPlaces.{TimerPlaces}
 use Rattle.lapd_sides_links.specs.declared.running_timer.RunningTimer.{RunningTimer}
 use Rattle.lapd_sides_links.specs.Expiries.{Runs, IsFirst}
@@ -19,10 +21,18 @@ timers_among call packet Management tei = None
 unfoldable pub placed : TimerPlaces → LinkId → Option Timers
 placed s id = timers_among s.call.items s.packet.items id.sapi id.tei
 
+-- the timers of the only link
+unfoldable pub alone : LoneTimers → LinkId → Option Timers
+alone s id = if id_eq id s.id then Some s.timers else None
+
+-- these timers of links, and none of TEI management
+abbrev pub of_each_link : (LinkId → Option Timers) → Option LinkId → Option Timers
+of_each_link timers None = None
+of_each_link timers (Some id) = timers id
+
 -- all slots, as the timers of links
 abbrev pub of_places : TimerPlaces → Option LinkId → Option Timers
-of_places s None = None
-of_places s (Some id) = placed s id
+of_places s = of_each_link (placed s)
 
 -- ---- The tournament of these timers.
 

@@ -12,6 +12,8 @@ mod delivery;
 mod frame_octets;
 mod link_set;
 mod link_timers;
+mod lone_timers;
+mod many_timers;
 mod octets;
 mod primitive;
 mod running_timer;

@@ -49,7 +49,7 @@ pub struct LinkSet {
 impl LinkSet {
     ghost use Rattle.lapd_sides_links.specs.Shown.{timers_at, made_by, ShowLinks, LinksDo, LinksHaveNone, LinksRefuseAs, Becomes, ShowsLinksAsBefore};
 
-    /// Creates a set without links, and allocates room for the timers of all links that can exist.
+    /// Creates a set without links.
     ///
     /// # Errors
     ///
@@ -59,7 +59,7 @@ impl LinkSet {
     {
         Ok(LinkSet {
             table: LinkTable::new(alloc, side),
-            link_timers: LinkTimers::new(alloc)?,
+            link_timers: LinkTimers::Empty,
             outs: Outs::new(),
         })
     }
@@ -114,6 +114,7 @@ impl LinkSet {
         if self.table.link(*id).is_some() {
             return Ok(false);
         }
+        self.link_timers.make_room(alloc, id)?;
         let link = Link::new(alloc, self.table.side(), id.sapi, id.tei, params)?;
         if self.table.add(link).is_err() {
             return Err(AllocError);

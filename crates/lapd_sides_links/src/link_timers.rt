@@ -1,118 +1,138 @@
 //! The timers of the links of a side.
 
-ghost use Rattle.std.specs.Prelude.{◌≡◌, ◌≢◌, ℕ, ◌<◌, ◌≤◌, Some, option_map, option_copied, IfOk, IfSome};
-ghost use Rattle.lapd_timers.specs.Due.{all_stopped, deadline_of, with_durations};
+ghost use Rattle.std.specs.Prelude.{◌≡◌, ◌≢◌, true, is_some, option_map, option_copied, IfOk, IfSome, OnOk};
+ghost use Rattle.lapd_timers.specs.Due.{all_stopped, with_durations};
 ghost use Rattle.lapd_link_machine.specs.Given.{send_outs};
 ghost use Rattle.lapd_link_machine.specs.Usual.{nr_outs};
 ghost use Rattle.lapd_table.specs.declared.link_id.LinkId.{LinkId};
-ghost use Rattle.lapd_sides_links.specs.declared.tournament.TheConstants.{PLACES};
 ghost use Rattle.lapd_sides_links.specs.Effects.{restart_outs, timed, stopped};
 ghost use Rattle.lapd_sides_links.specs.Expiries.{IsFirst, IsPast, Runs};
-ghost use Rattle.lapd_sides_links.specs.Places.{AreStopped, expiry_at};
-ghost use Rattle.lapd_sides_links.specs.TimersAtPlaces.{placed, of_places, entry_place, RunsForPlaced};
-ghost use Rattle.lapd_sides_links.specs.Tournament.{entry};
+ghost use Rattle.lapd_sides_links.specs.LinkTimers.{timers_of};
+ghost use Rattle.lapd_sides_links.specs.Places.{AreStopped, HasSlot, IsKept};
+ghost use Rattle.lapd_sides_links.specs.TimersAtPlaces.{of_each_link};
 
 use crate::RunningTimer;
-use crate::running_timer::sooner;
-use crate::timer_places::TimerPlaces;
-use crate::tournament::Tournament;
-use lapd_link::{NrEffect, Out, Sapi, SendEffect};
+use crate::lone_timers::LoneTimers;
+use crate::many_timers::ManyTimers;
+use lapd_link::{NrEffect, Out, SendEffect};
 use lapd_table::LinkId;
 use lapd_timers::{Durations, Timer, TimerSet};
 use std::alloc::{AllocError, Global};
-use std::marker::Model;
 
-/// The timers of the links of a side, in a slot for each link. Finds the timer that expires first
-/// without a search.
+/// The timers of the links of a side. Finds the timer that expires first without a search. Room for
+/// timers is allocated with the second link; the first one needs none.
 #[derive(Drop)]
-pub struct LinkTimers {
-    places: TimerPlaces,
-    /// For each link's slot, the link's earliest running timer.
-    expiries: Tournament,
+pub enum LinkTimers {
+    /// No link has timers.
+    Empty,
+    /// One link has timers.
+    One(LoneTimers),
+    /// Several links may have timers.
+    Many(ManyTimers),
 }
 
-impl Model for LinkTimers {
-    ghost use Rattle.lapd_sides_links.specs.declared.timer_places.TimerPlaces.{TimerPlaces};
-    ghost use Rattle.lapd_sides_links.specs.TimersAtPlaces.{AreEntered};
-
-    ghost Value = { TimerPlaces };
-
-    ghost view = { λ s. s.places };
-
-    ghost invariant = { λ s. AreEntered s.places s.expiries };
-}
-
+#[tactic(auto, unfolding(crate::specs::LinkTimers::timers_of))]
 impl LinkTimers {
-    /// Creates the timers, with none running, and allocates room for all links.
-    /// [`LinkTimers::reset`] sets the durations of each link.
+    /// Makes room for the timers of a link of SAPI 0 or 16 and TEI 0 to 126, if there is none yet.
+    /// The timers of links that have room are unchanged, and no others run.
     ///
     /// # Errors
     ///
     /// `AllocError` if an allocation failed.
-    pub fn new(alloc: Global) -> Result<LinkTimers, AllocError>
-        ensures { IfOk result (λ s. (id : LinkId) → IfSome (placed s id) AreStopped) }
+    pub fn make_room(&mut self, alloc: Global, id: &LinkId) -> Result<(), AllocError>
+        requires { HasSlot id.now }
+        ensures room { OnOk result (is_some (timers_of self.new id.now) ≡ true) }
+        ensures kept { (other : LinkId)
+            → IsKept (timers_of self.old other) (timers_of self.new other) }
     {
-        Ok(LinkTimers {
-            places: TimerPlaces::new(alloc)?,
-            expiries: Tournament::new(alloc)?,
-        })
+        match self {
+            LinkTimers::Empty => {
+                *self = LinkTimers::One(LoneTimers::new(id, Durations::standard()));
+            }
+            LinkTimers::One(lone) => {
+                if !lone.is_of(id) {
+                    *self = LinkTimers::Many(ManyTimers::of_lone(alloc, lone)?);
+                }
+            }
+            LinkTimers::Many(_) => {}
+        }
+        Ok(())
     }
 
     /// Stops all timers of one link and sets their durations.
     pub fn reset(&mut self, id: &LinkId, durations: Durations)
-        ensures own { id.now.sapi ≢ Sapi.Management → id.now.tei < 127
-            → placed self.new id.now ≡ Some (all_stopped durations) }
+        ensures own { timers_of self.new id.now ≡ option_map (λ _. all_stopped durations)
+            (timers_of self.old id.now) }
         ensures others { (other : LinkId) → other ≢ id.now
-            → placed self.new other ≡ placed self.old other }
+            → timers_of self.new other ≡ timers_of self.old other }
     {
-        self.places.reset(id, durations);
-        enter(&mut self.expiries, id, self.places.get(id));
+        match self {
+            LinkTimers::Empty => {}
+            LinkTimers::One(lone) => lone.reset(id, durations),
+            LinkTimers::Many(many) => many.set(id, TimerSet::new(durations)),
+        }
     }
 
-    /// Stops all timers of one link.
+    /// Stops all timers of one link. Another link can use the room of the only one.
     pub fn stop_all(&mut self, id: &LinkId)
-        ensures own { placed self.new id.now
-            ≡ option_map (λ timers. all_stopped timers.durations) (placed self.old id.now) }
+        ensures own { IfSome (timers_of self.new id.now) AreStopped }
         ensures others { (other : LinkId) → other ≢ id.now
-            → placed self.new other ≡ placed self.old other }
+            → timers_of self.new other ≡ timers_of self.old other }
     {
-        self.places.stop_all(id);
-        enter(&mut self.expiries, id, self.places.get(id));
+        match self {
+            LinkTimers::Empty => {}
+            LinkTimers::One(lone) => {
+                if lone.is_of(id) {
+                    *self = LinkTimers::Empty;
+                }
+            }
+            LinkTimers::Many(many) => many.stop_all(id),
+        }
     }
 
-    /// Sets the durations of all timers. Running timers keep their deadlines, so each link's
-    /// earliest one stays.
+    /// Sets the durations of all timers. Running timers keep their deadlines.
     pub fn set_durations(&mut self, durations: Durations)
-        ensures { (id : LinkId) → placed self.new id
-            ≡ option_map (with_durations durations) (placed self.old id) }
+        ensures { (id : LinkId) → timers_of self.new id
+            ≡ option_map (with_durations durations) (timers_of self.old id) }
     {
-        self.places.set_durations(durations);
+        match self {
+            LinkTimers::Empty => {}
+            LinkTimers::One(lone) => lone.set_durations(durations),
+            LinkTimers::Many(many) => many.set_durations(durations),
+        }
     }
 
-    /// The timers of the link with this id; `None` if it cannot have any.
+    /// The timers of the link with this id; `None` if there is no room for any.
     pub fn get(&self, id: &LinkId) -> Option<&TimerSet>
-        ensures { option_copied result ≡ placed self.now id.now }
+        ensures { option_copied result ≡ timers_of self.now id.now }
     {
-        self.places.get(id)
+        match self {
+            LinkTimers::Empty => None,
+            LinkTimers::One(lone) => lone.get(id),
+            LinkTimers::Many(many) => many.get(id),
+        }
     }
 
     /// Starts and stops the timers of one link according to these outputs.
     pub fn apply_outputs(&mut self, id: &LinkId, outs: &[Out], now: u64)
-        ensures own { placed self.new id.now
-            ≡ option_map (timed now outs.now) (placed self.old id.now) }
+        ensures own { timers_of self.new id.now
+            ≡ option_map (timed now outs.now) (timers_of self.old id.now) }
         ensures others { (other : LinkId) → other ≢ id.now
-            → placed self.new other ≡ placed self.old other }
+            → timers_of self.new other ≡ timers_of self.old other }
     {
-        self.places.apply_outputs(id, outs, now);
-        enter(&mut self.expiries, id, self.places.get(id));
+        match self {
+            LinkTimers::Empty => {}
+            LinkTimers::One(lone) => lone.apply_outputs(id, outs, now),
+            LinkTimers::Many(many) => many.apply_outputs(id, outs, now),
+        }
     }
 
     /// Starts and stops the timers of one link according to an N(R) of a usual step.
     pub fn apply_nr(&mut self, id: &LinkId, nr: NrEffect, now: u64)
-        ensures own { placed self.new id.now
-            ≡ option_map (timed now (nr_outs nr)) (placed self.old id.now) }
+        ensures own { timers_of self.new id.now
+            ≡ option_map (timed now (nr_outs nr)) (timers_of self.old id.now) }
         ensures others { (other : LinkId) → other ≢ id.now
-            → placed self.new other ≡ placed self.old other }
+            → timers_of self.new other ≡ timers_of self.old other }
     {
         match nr {
             NrEffect::All { count: _, stops } => {
@@ -127,10 +147,10 @@ impl LinkTimers {
 
     /// Starts and stops the timers of one link after an I frame that was sent at once.
     pub fn apply_send(&mut self, id: &LinkId, effect: SendEffect, now: u64)
-        ensures own { placed self.new id.now
-            ≡ option_map (timed now (send_outs effect)) (placed self.old id.now) }
+        ensures own { timers_of self.new id.now
+            ≡ option_map (timed now (send_outs effect)) (timers_of self.old id.now) }
         ensures others { (other : LinkId) → other ≢ id.now
-            → placed self.new other ≡ placed self.old other }
+            → timers_of self.new other ≡ timers_of self.old other }
     {
         match effect {
             SendEffect::Starts { stops } => {
@@ -143,37 +163,47 @@ impl LinkTimers {
     /// Starts a timer of one link, and stops another one first if `stops`.
     #[inline(always)]
     fn restart(&mut self, id: &LinkId, stops: bool, stop: Timer, start: Timer, now: u64)
-        ensures own { placed self.new id.now
-            ≡ option_map (timed now (restart_outs stops stop start)) (placed self.old id.now) }
+        ensures own { timers_of self.new id.now
+            ≡ option_map (timed now (restart_outs stops stop start)) (timers_of self.old id.now) }
         ensures others { (other : LinkId) → other ≢ id.now
-            → placed self.new other ≡ placed self.old other }
+            → timers_of self.new other ≡ timers_of self.old other }
     {
-        self.places.restart(id, stops, stop, start, now);
-        enter(&mut self.expiries, id, self.places.get(id));
+        match self {
+            LinkTimers::Empty => {}
+            LinkTimers::One(lone) => lone.restart(id, stops, stop, start, now),
+            LinkTimers::Many(many) => many.restart(id, stops, stop, start, now),
+        }
     }
 
     /// Stops a timer of one link.
     pub fn stop(&mut self, id: &LinkId, timer: Timer)
-        ensures own { placed self.new id.now
-            ≡ option_map (stopped timer) (placed self.old id.now) }
+        ensures own { timers_of self.new id.now
+            ≡ option_map (stopped timer) (timers_of self.old id.now) }
         ensures others { (other : LinkId) → other ≢ id.now
-            → placed self.new other ≡ placed self.old other }
+            → timers_of self.new other ≡ timers_of self.old other }
     {
-        self.places.stop(id, timer);
-        enter(&mut self.expiries, id, self.places.get(id));
+        match self {
+            LinkTimers::Empty => {}
+            LinkTimers::One(lone) => lone.stop(id, timer),
+            LinkTimers::Many(many) => many.stop(id, timer),
+        }
     }
 
     /// The timer that expires first, of all running timers of links.
     #[inline(always)]
     pub fn first(&self) -> Option<RunningTimer>
-        ensures { IsFirst (Runs (of_places self.now)) result }
+        ensures { IsFirst (Runs (of_each_link (timers_of self.now))) result }
     {
-        self.expiries.first()
+        match self {
+            LinkTimers::Empty => None,
+            LinkTimers::One(lone) => lone.first(),
+            LinkTimers::Many(many) => many.first(),
+        }
     }
 
     /// The timer that expires first, if it is due at the time `now`.
     pub fn due(&self, now: u64) -> Option<RunningTimer>
-        ensures { IsFirst (IsPast now (of_places self.now)) result }
+        ensures { IsFirst (IsPast now (of_each_link (timers_of self.now))) result }
     {
         let first = self.first()?;
         if first.deadline <= now {
@@ -181,63 +211,5 @@ impl LinkTimers {
         } else {
             None
         }
-    }
-}
-
-/// Enters the link's earliest running timer, if any, into the tournament, if the link has a slot.
-fn enter(expiries: &mut Tournament, id: &LinkId, timers: Option<&TimerSet>)
-    ensures own { (at : ℕ) → entry_place id.now.sapi id.now.tei ≡ Some at
-        → IsFirst (RunsForPlaced id.now (option_copied timers.entry)) (entry expiries.new at) }
-    ensures others { (at : ℕ) → entry_place id.now.sapi id.now.tei ≢ Some at
-        → entry expiries.new at ≡ entry expiries.old at }
-    ensures tei { id.now.tei ≤ 127 }
-{
-    if let Some(place) = entry_place(id) {
-        expiries.enter(place, first_of_link(id, timers));
-    }
-}
-
-/// The tournament slot of the link with this id: first those of SAPI 0 by TEI, then those of SAPI
-/// 16.
-#[inline(always)]
-fn entry_place(id: &LinkId) -> Option<usize>
-    ensures place { result ≡ entry_place id.now.sapi id.now.tei }
-    ensures within { IfSome result (λ place. place < PLACES) }
-    ensures tei { id.now.tei ≤ 127 }
-{
-    let tei = usize::from(id.tei.value());
-    match id.sapi {
-        Sapi::Call => Some(tei),
-        Sapi::Packet => Some(128 + tei),
-        Sapi::Management => None,
-    }
-}
-
-/// The earliest running timer of one link; `None` if none runs or the link has no slot.
-#[inline(always)]
-fn first_of_link(id: &LinkId, timers: Option<&TimerSet>) -> Option<RunningTimer>
-    ensures { IsFirst (RunsForPlaced id.now (option_copied timers.entry)) result }
-{
-    let Some(timers) = timers else {
-        return None;
-    };
-    sooner(
-        expiry(id, Timer::T200, timers),
-        expiry(id, Timer::T203, timers),
-    )
-}
-
-/// A timer of one link with its deadline, if it runs.
-#[inline(always)]
-fn expiry(id: &LinkId, timer: Timer, timers: &TimerSet) -> Option<RunningTimer>
-    ensures { result ≡ option_map (expiry_at id.now timer) (deadline_of timer timers.now) }
-{
-    match timers.deadline(timer) {
-        Some(deadline) => Some(RunningTimer {
-            deadline,
-            timer,
-            of: Some(*id),
-        }),
-        None => None,
     }
 }

@@ -1,12 +1,12 @@
 //! A running timer with its deadline, and the order in which timers expire.
 
-ghost use Rattle.std.specs.Prelude.{◌≡◌, MatchBool};
-ghost use Rattle.lapd_timers.specs.Due.{place};
-ghost use Rattle.lapd_sides_links.specs.Expiries.{IsNoLater, IsNoLaterLink};
-ghost use Rattle.lapd_sides_links.specs.Places.{IsSooner};
+ghost use Rattle.std.specs.Prelude.{◌≡◌, option_map, MatchBool};
+ghost use Rattle.lapd_timers.specs.Due.{deadline_of, place};
+ghost use Rattle.lapd_sides_links.specs.Expiries.{IsFirst, IsNoLater, IsNoLaterLink};
+ghost use Rattle.lapd_sides_links.specs.Places.{IsSooner, RunsFor, expiry_at};
 
 use lapd_table::LinkId;
-use lapd_timers::Timer;
+use lapd_timers::{Timer, TimerSet};
 
 /// A running timer of a link or of TEI management, with its deadline.
 #[derive(Clone, Copy)]
@@ -92,5 +92,31 @@ fn place(timer: Timer) -> u8
         Timer::T201 => 1,
         Timer::T202 => 2,
         Timer::T203 => 3,
+    }
+}
+
+/// The earliest running timer of one link; `None` if none runs.
+#[inline(always)]
+pub fn first_of_link(id: &LinkId, timers: &TimerSet) -> Option<RunningTimer>
+    ensures { IsFirst (RunsFor id.now timers.now) result }
+{
+    sooner(
+        expiry(id, Timer::T200, timers),
+        expiry(id, Timer::T203, timers),
+    )
+}
+
+/// A timer of one link with its deadline, if it runs.
+#[inline(always)]
+fn expiry(id: &LinkId, timer: Timer, timers: &TimerSet) -> Option<RunningTimer>
+    ensures { result ≡ option_map (expiry_at id.now timer) (deadline_of timer timers.now) }
+{
+    match timers.deadline(timer) {
+        Some(deadline) => Some(RunningTimer {
+            deadline,
+            timer,
+            of: Some(*id),
+        }),
+        None => None,
     }
 }

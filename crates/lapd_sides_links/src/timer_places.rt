@@ -1,6 +1,6 @@
 //! Storage for the timers of the links of a side.
 
-ghost use Rattle.std.specs.Prelude.{◌≡◌, ◌≢◌, ◌<◌, Some, map, option_map, option_copied, IfOk, IfSome};
+ghost use Rattle.std.specs.Prelude.{◌≡◌, ◌≢◌, map, option_map, option_copied, IfOk, IfSome};
 ghost use Rattle.lapd_timers.specs.Due.{all_stopped, with_durations};
 ghost use Rattle.lapd_table.specs.declared.link_id.LinkId.{LinkId};
 ghost use Rattle.lapd_sides_links.specs.Effects.{restart_outs, timed, stopped};
@@ -26,7 +26,6 @@ impl TimerPlaces {
     ghost use Rattle.lapd_sides_links.specs.TimersAtPlaces.{placed};
 
     /// Creates the slots, with no timer running, and allocates room for all links.
-    /// [`TimerPlaces::reset`] sets the durations of each link.
     ///
     /// # Errors
     ///
@@ -41,19 +40,16 @@ impl TimerPlaces {
         })
     }
 
-    /// Stops all timers of one link and sets their durations.
-    pub fn reset(&mut self, id: &LinkId, durations: Durations)
-        ensures own { id.now.sapi ≢ Sapi.Management → id.now.tei < 127
-            → placed self.new id.now ≡ Some (all_stopped durations) }
-        ensures all_are_stopped { placed self.new id.now ≡ option_map (λ _. all_stopped durations)
-            (placed self.old id.now) }
+    /// Sets the timers of one link.
+    pub fn set(&mut self, id: &LinkId, timers: TimerSet)
+        ensures own { placed self.new id.now ≡ option_map (λ _. timers) (placed self.old id.now) }
         ensures others { (other : LinkId) → other ≢ id.now
             → placed self.new other ≡ placed self.old other }
     {
         let tei = usize::from(id.tei.value());
         match id.sapi {
-            Sapi::Call if tei < self.call.len() => reset(&mut self.call[tei], durations),
-            Sapi::Packet if tei < self.packet.len() => reset(&mut self.packet[tei], durations),
+            Sapi::Call if tei < self.call.len() => set(&mut self.call[tei], timers),
+            Sapi::Packet if tei < self.packet.len() => set(&mut self.packet[tei], timers),
             _ => {}
         }
     }
@@ -148,11 +144,11 @@ impl TimerPlaces {
     }
 }
 
-/// Stops all timers and sets their durations.
-fn reset(timers: &mut TimerSet, durations: Durations)
-    ensures { timers.new ≡ all_stopped durations }
+/// Sets the timers in a slot.
+fn set(slot: &mut TimerSet, timers: TimerSet)
+    ensures { slot.new ≡ timers }
 {
-    *timers = TimerSet::new(durations);
+    *slot = timers;
 }
 
 /// Sets the durations of each of these.
@@ -173,7 +169,7 @@ fn stop_all(timers: &mut TimerSet)
 
 /// Starts a timer, and stops another one first if `stops`.
 #[inline(always)]
-fn restart(timers: &mut TimerSet, stops: bool, stop: Timer, start: Timer, now: u64)
+pub fn restart(timers: &mut TimerSet, stops: bool, stop: Timer, start: Timer, now: u64)
     ensures { timers.new ≡ timed now (restart_outs stops stop start) timers.old }
 {
     if stops {

@@ -1,5 +1,14 @@
-use Rattle.lapd_sides_links.proofs.Dues.{first_of_entries}
+use Rattle.std.proofs.Common.{sym, subst}
+use Rattle.lapd_sides_links.specs.declared.link_timers.LinkTimers.{LinkTimers}
+use Rattle.lapd_sides_links.specs.Expiries.{IsFirst, Runs}
+use Rattle.lapd_sides_links.specs.LinkTimers.{timers_of}
+use Rattle.lapd_sides_links.specs.TimersAtPlaces.{of_each_link}
 use Rattle.lapd_sides_links.proofs.link_timers.LinkTimers.first.Goals as goal
 
-pub returns : goal.returns
-returns c = rw (← c.self.view_is) (first_of_entries c.self.inside.places c.self.inside.expiries c.first.result c.self.invariant c.first.ensures)
+pub returns-in-One : goal.returns-in-One
+unfolding timers_of
+returns-in-One c = subst (λ (s : LinkTimers). IsFirst (Runs (of_each_link (timers_of s))) c.first.result) (sym c.in-One.is) c.first.ensures
+
+pub returns-in-Many : goal.returns-in-Many
+unfolding timers_of
+returns-in-Many c = subst (λ (s : LinkTimers). IsFirst (Runs (of_each_link (timers_of s))) c.first-in-Many.result) (sym c.in-Many.is) c.first-in-Many.ensures

@@ -1,5 +1,5 @@
 use Rattle.lapd_sides_links.proofs.Dues.{none_entered_yet}
-use Rattle.lapd_sides_links.proofs.link_timers.LinkTimers.new.Goals as goal
+use Rattle.lapd_sides_links.proofs.many_timers.ManyTimers.new.Goals as goal
 
 pub invariant_of-result : goal.invariant_of-result
 invariant_of-result c = none_entered_yet c.in_ok-new.field-0 c.in_ok-new-2.field-0 c.in_ok-new.ensures c.in_ok-new-2.ensures

@@ -1,6 +1,6 @@
 use Rattle.std.proofs.Common.{option_copied}
 use Rattle.lapd_sides_links.proofs.Dues.{entered_anew}
-use Rattle.lapd_sides_links.proofs.link_timers.LinkTimers.apply_outputs.Goals as goal
+use Rattle.lapd_sides_links.proofs.many_timers.ManyTimers.apply_outputs.Goals as goal
 
 pub invariant_of-self : goal.invariant_of-self
 invariant_of-self c = entered_anew c.self.inside.places c.apply_outputs.new.self c.self.inside.expiries c.enter.new.expiries c.args.id.now (option_copied c.get.result)

@@ -1,5 +1,5 @@
 use Rattle.lapd_sides_links.proofs.Dues.{entered_with_durations}
-use Rattle.lapd_sides_links.proofs.link_timers.LinkTimers.set_durations.Goals as goal
+use Rattle.lapd_sides_links.proofs.many_timers.ManyTimers.set_durations.Goals as goal
 
 pub invariant_of-self : goal.invariant_of-self
 invariant_of-self c = entered_with_durations c.args.durations c.self.inside.places c.set_durations.new.self c.self.inside.expiries c.set_durations.ensures c.self.invariant

@@ -1,7 +1,0 @@
-use Rattle.std.proofs.Common.{option_copied}
-use Rattle.lapd_sides_links.proofs.Dues.{entered_anew}
-use Rattle.lapd_sides_links.proofs.link_timers.LinkTimers.reset.Goals as goal
-
-pub invariant_of-self : goal.invariant_of-self
-invariant_of-self c = entered_anew c.self.inside.places c.reset.new.self c.self.inside.expiries c.enter.new.expiries c.args.id.now (option_copied c.get.result)
-    c.get.ensures c.enter.ensures.tei c.enter.ensures.own c.enter.ensures.others c.reset.ensures.others c.self.invariant
