@@ -1,5 +1,5 @@
 -- The links of a TEI are added and removed.
-use Rattle.std.proofs.Common.{◌≡◌, ◌≢◌, ◌<◌, ℕ, List, ◌++◌, Bool, true, false, Option, Some, None, Result, Ok, Err, OnOk, refl, sym, ap, ◌∙◌, subst}
+use Rattle.std.proofs.Common.{◌≡◌, ◌≢◌, ℕ, List, ◌++◌, Bool, true, false, Option, Some, None, Result, Ok, Err, OnOk, refl, sym, ap, ◌∙◌, subst}
 use Rattle.std.specs.Prelude.{◌==◌, if◌then◌else◌, is_err, is_none, IfSome}
 use Rattle.std.proofs.lemmas.List.{append_assoc}
 use Rattle.lapd_timers.specs.Due.{Timers, all_stopped}
@@ -72,22 +72,32 @@ no_error (Ok a) P h p = p
 no_error (Err e) P h p = cc
 
 -- timers that exist are unchanged, and no others run
-kept_linked : (link : Option Link) (before after : Option Timers) (l : Option Linked) → IsKept before after → IsLinked link before l → IsLinked link after l
+kept_linked : (link : Option Link) (before after : Option Timers) (l : Option Linked)
+    → IsKept before after → IsLinked link before l → IsLinked link after l
 kept_linked None None after None kept h = kept
-kept_linked None (Some timers) after None kept h = subst (λ (t : Option Timers). IfSome t AreStopped) (sym kept) h
+kept_linked None (Some timers) after None kept h =
+    subst (λ (t : Option Timers). IfSome t AreStopped) (sym kept) h
 kept_linked None before after (Some l) kept h = absurd h
 kept_linked (Some link) None after None kept h = absurd h
 kept_linked (Some link) None after (Some l) kept h = absurd h
 kept_linked (Some link) (Some timers) after None kept h = absurd h
-kept_linked (Some link) (Some timers) after (Some l) kept h = subst (λ (t : Option Timers). IsLinked (Some link) t (Some l)) (sym kept) h
+kept_linked (Some link) (Some timers) after (Some l) kept h =
+    subst (λ (t : Option Timers). IsLinked (Some link) t (Some l)) (sym kept) h
+
+abbrev KeepsTimers : LinkTimers → LinkTimers → Type 0
+KeepsTimers old new = (id : LinkId) → IsKept (timers_at old id) (timers_at new id)
 
 -- the links are unchanged when room is made
-pub room_made : (side : Side) (old new : LinkSet) (links : Links) → new.table ≡ old.table → ((id : LinkId) → IsKept (timers_at old.link_timers id) (timers_at new.link_timers id))
-    → ShowLinks side old links → ShowLinks side new links
+pub room_made : (side : Side) (old new : LinkSet) (links : Links) → new.table ≡ old.table
+    → KeepsTimers old.link_timers new.link_timers → ShowLinks side old links
+    → ShowLinks side new links
 room_made side old new links table kept shown = record {
   of_side = ap side_of table ∙ shown.of_side;
-  each = λ id. subst (λ (t : LinkTable). IsLinked (link_at t id) (timers_at new.link_timers id) (links id)) (sym table)
-      (kept_linked (link_at old.table id) (timers_at old.link_timers id) (timers_at new.link_timers id) (links id) (kept id) (shown.each id));
+  each = λ id.
+      let link = link_at old.table id in
+      let after = timers_at new.link_timers id in
+      subst (λ (t : LinkTable). IsLinked (link_at t id) after (links id)) (sym table)
+      (kept_linked link (timers_at old.link_timers id) after (links id) (kept id) (shown.each id));
 }
 
 -- the timers of a link are reset, and those of others are unchanged
@@ -157,8 +167,12 @@ removed_at : (side : Side) (s : LinkSet) (tei : ℕ) (links : Links) (sapi : Sap
 unfolding without_tei
 removed_at side s tei links Call t shown = refl
 removed_at side s tei links Packet t shown = refl
-removed_at side s tei links Management t shown = either_none (t == tei) (links (of_sapi Management t)) (unplaced (link_at s.table (of_sapi Management t)) (links (of_sapi Management t))
-    (subst (λ (x : Option Timers). IsLinked (link_at s.table (of_sapi Management t)) x (links (of_sapi Management t))) (none_of_management s.link_timers t) (shown.each (of_sapi Management t))))
+removed_at side s tei links Management t shown =
+    let id = of_sapi Management t in
+    let none = none_of_management s.link_timers t in
+    let linked = subst (λ (x : Option Timers). IsLinked (link_at s.table id) x (links id)) none
+    (shown.each id) in
+    either_none (t == tei) (links id) (unplaced (link_at s.table id) (links id) linked)
 
 pub both_removed : (side : Side) (old new : LinkSet) (tei : ℕ) (links : Links) → ShowLinks side old links
     → ShowLinks side new (with_link (of_sapi Packet tei) None (with_link (of_sapi Call tei) None links)) → ShowLinks side new (without_tei tei links)

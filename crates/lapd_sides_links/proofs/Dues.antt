@@ -1,9 +1,8 @@
 -- The running timers of links, their entries in the tournament, and the timer that is due.
-use Rattle.std.proofs.Common.{◌≡◌, ◌≢◌, ℕ, ◌+◌, ◌<◌, ◌≤◌, List, map, replicate, Option, Some, None, option_map, inl, inr, refl, sym, ap, subst, ◌∙◌, arith, ◌⊎◌}
-use Rattle.std.specs.Prelude.{slice_get, IfSome, All}
+use Rattle.std.proofs.Common.{◌≡◌, ◌≢◌, ℕ, ◌+◌, ◌<◌, ◌≤◌, List, map, Option, Some, None, option_map, inl, inr, refl, sym, ap, subst, ◌∙◌, arith, ◌⊎◌}
+use Rattle.std.specs.Prelude.{slice_get, IfSome}
 use Rattle.std.proofs.lemmas.Bool.{cases_lt, cases_eq}
-use Rattle.std.proofs.lemmas.List.Elements.{All-get_or, All-replicate}
-use Rattle.std.proofs.lemmas.Option.{slice_get-map, slice_get_within, get_or_from_slice_get, same_Some}
+use Rattle.std.proofs.lemmas.Option.{slice_get-map, slice_get_within, same_Some}
 use Rattle.lapd_timers.specs.declared.timer.Timer.{Timer}
 use Rattle.lapd_timers.specs.declared.timer.Timer.TheVariants.{T200, T201, T202, T203}
 use Rattle.lapd_timers.specs.Durations.{Lengths}
@@ -17,7 +16,7 @@ use Rattle.lapd_sides_links.specs.declared.running_timer.RunningTimer.{RunningTi
 use Rattle.lapd_sides_links.specs.declared.timer_places.TimerPlaces.{TimerPlaces}
 use Rattle.lapd_sides_links.specs.Links.{Served, IsOfLink, of_sapi}
 use Rattle.lapd_sides_links.specs.Expiries.{IsTimerOf, Runs, IsPast, IsNoLaterLink, IsNoLater, IsFirst, IsDue, IsNextDeadline, of_management, of_links, of_served}
-use Rattle.lapd_sides_links.specs.Places.{AreStopped, RunsFor, IsSooner, expiry_at, own_expiry_at}
+use Rattle.lapd_sides_links.specs.Places.{AreStopped, IsKept, RunsFor, IsSooner, expiry_at, own_expiry_at}
 use Rattle.lapd_sides_links.specs.TimersAtPlaces.{placed, timers_among, of_places, entry_place, RunsAt, AreEntered, RunsForPlaced}
 use Rattle.lapd_sides_links.specs.Tournament.{entry, IsEntered}
 use Rattle.lapd_sides_links.proofs.Order.{link_no_later_self, no_later_chained, earlier_deadline, joined, same_first, sooner_of, deadline, sooner_deadline}
@@ -72,19 +71,6 @@ all_are_stopped durations T203 = refl
 pub halted : (timers : Option Timers) → IfSome (option_map (λ (t : Timers). all_stopped t.durations) timers) AreStopped
 halted None = tt
 halted (Some timers) = all_are_stopped timers.durations
-
-stopped_among : (durations : Lengths) (places : List Timers) (tei : ℕ) (found : Option Timers) → places ≡ replicate 127 (all_stopped durations) → slice_get places tei ≡ found → IfSome found AreStopped
-stopped_among durations places tei None all is = tt
-stopped_among durations places tei (Some timers) all is =
-    let each : All AreStopped places = subst (All AreStopped) (sym all) (All-replicate AreStopped 127 (all_stopped durations) (all_are_stopped durations)) in
-    subst AreStopped (get_or_from_slice_get places tei timers timers is) (All-get_or AreStopped places tei timers (slice_get_within places tei timers is) each)
-
-pub new_stopped : (s : TimerPlaces) (durations : Lengths) (sapi : Sapi) (tei : ℕ) → s.call.items ≡ replicate 127 (all_stopped durations) → s.packet.items ≡ replicate 127 (all_stopped durations)
-    → IfSome (placed s (of_sapi sapi tei)) AreStopped
-unfolding placed
-new_stopped s durations Call tei call packet = stopped_among durations s.call.items tei (slice_get s.call.items tei) call refl
-new_stopped s durations Packet tei call packet = stopped_among durations s.packet.items tei (slice_get s.packet.items tei) packet refl
-new_stopped s durations Management tei call packet = tt
 
 -- ---- In each slot of the tournament.
 
@@ -259,10 +245,48 @@ resting (Some t) its timer deadline h is runs =
     let same : t ≡ its = cc in
     let k : None ≡ Some deadline = sym (subst AreStopped same h timer) ∙ runs in absurd (cc)
 
--- no timer runs, and none is entered
-pub none_entered_yet : (s : TimerPlaces) (entries : List (Option RunningTimer)) → ((id : LinkId) → IfSome (placed s id) AreStopped) → ((at : ℕ) → entry entries at ≡ None) → AreEntered s entries
-none_entered_yet s entries rest none = λ at. subst (IsFirst (RunsAt s at)) (sym (none at))
-    (λ e x. resting (placed s x.id) x.runs.its e.timer e.deadline (rest x.id) (placed_there s at e x) x.runs.until)
+-- there are no slots, and none is entered
+pub none_entered_yet : (s : TimerPlaces) (entries : List (Option RunningTimer))
+    → ((id : LinkId) → placed s id ≡ None) → ((at : ℕ) → entry entries at ≡ None)
+    → AreEntered s entries
+none_entered_yet s entries without none = λ at.
+    subst (IsFirst (RunsAt s at)) (sym (none at)) (λ e x.
+    let there : None ≡ Some x.runs.its = sym (without x.id) ∙ placed_there s at e x in absurd (cc))
+
+-- ---- Slots are made.
+
+-- a timer that runs ran before
+ran_before : (before after : Option Timers) (its : Timers) (timer : Timer) (deadline : ℕ)
+    → IsKept before after → after ≡ Some its → deadline_of timer its ≡ Some deadline
+    → before ≡ Some its
+ran_before None after its timer deadline kept is runs =
+    absurd (resting after its timer deadline kept is runs)
+ran_before (Some timers) after its timer deadline kept is runs = sym kept ∙ is
+
+runs_still : (before after : Option Timers) (its : Timers) → IsKept before after
+    → before ≡ Some its → after ≡ Some its
+runs_still None after its kept is = absurd (cc)
+runs_still (Some timers) after its kept is = kept ∙ is
+
+module _ (old new : TimerPlaces)
+    (kept : (id : LinkId) → IsKept (placed old id) (placed new id)) where
+  kept_runs : (at : ℕ) (e : RunningTimer) → RunsAt old at e → RunsAt new at e
+  kept_runs at e x =
+      let there = placed_there old at e x in
+      let still = runs_still (placed old x.id) (placed new x.id) x.runs.its (kept x.id) there in
+      runs_over_places old new at e x (still ∙ sym there)
+
+  kept_ran : (at : ℕ) (e : RunningTimer) → RunsAt new at e → RunsAt old at e
+  kept_ran at e x =
+      let there = placed_there new at e x in
+      let before = ran_before (placed old x.id) (placed new x.id) x.runs.its e.timer e.deadline
+      (kept x.id) there x.runs.until in
+      runs_over_places new old at e x (before ∙ sym there)
+
+  pub entered_still : (entries : List (Option RunningTimer)) → AreEntered old entries
+      → AreEntered new entries
+  entered_still entries h = λ at. same_first (RunsAt old at) (RunsAt new at) (entry entries at)
+      (λ e x. kept_runs at e x) (λ e x. kept_ran at e x) (h at)
 
 -- ---- The running timer that is due.
 

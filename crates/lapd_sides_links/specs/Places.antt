@@ -1,5 +1,5 @@
 -- The slots of the links' timers, and the order of two expiries.
-use Rattle.std.specs.Prelude.{◌≡◌, ℕ, ◌<◌, Bool, true, false, List, length, Option, Some, None, IfSome, ◌⊎◌}
+use Rattle.std.specs.Prelude.{◌≡◌, ℕ, ◌<◌, ◌≤◌, Bool, true, false, List, length, Option, Some, None, IfSome, ◌⊎◌}
 use Rattle.lapd_timers.specs.declared.timer.Timer.{Timer}
 use Rattle.lapd_timers.specs.Due.{Timers, deadline_of}
 use Rattle.lapd_frame.specs.declared.Sapi.{Sapi}
@@ -9,10 +9,10 @@ use Rattle.lapd_sides_links.specs.declared.running_timer.RunningTimer.{RunningTi
 use Rattle.lapd_sides_links.specs.Links.{IsOfLink}
 use Rattle.lapd_sides_links.specs.Expiries.{IsNoLater}
 
--- a slot for each TEI of 0 to 126 (Q.921 3.3.4), in SAPI 0 and in SAPI 16
+-- slots for TEIs of 0 to 126 (Q.921 3.3.4), in SAPI 0 and in SAPI 16
 pub record HasPlaces (call packet : List Timers) : Type 0 where
-  pub call_places : length call ≡ 127
-  pub packet_places : length packet ≡ 127
+  pub call_places : length call ≤ 127
+  pub packet_places : length packet ≤ 127
 
 -- a link that can have timers: of SAPI 0 or 16, and TEI 0 to 126
 abbrev pub has_links : Sapi → Bool

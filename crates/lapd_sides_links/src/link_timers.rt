@@ -19,8 +19,8 @@ use lapd_table::LinkId;
 use lapd_timers::{Durations, Timer, TimerSet};
 use std::alloc::{AllocError, Global};
 
-/// The timers of the links of a side. Finds the timer that expires first without a search. Room for
-/// timers is allocated with the second link; the first one needs none.
+/// The timers of the links of a side. Finds the timer that expires first without a search. The
+/// only link needs no allocation; from the second one on, room is allocated with each.
 #[derive(Drop)]
 pub enum LinkTimers {
     /// No link has timers.
@@ -51,10 +51,10 @@ impl LinkTimers {
             }
             LinkTimers::One(lone) => {
                 if !lone.is_of(id) {
-                    *self = LinkTimers::Many(ManyTimers::of_lone(alloc, lone)?);
+                    *self = LinkTimers::Many(ManyTimers::of_two(alloc, lone, id)?);
                 }
             }
-            LinkTimers::Many(_) => {}
+            LinkTimers::Many(many) => many.make_room(id)?,
         }
         Ok(())
     }

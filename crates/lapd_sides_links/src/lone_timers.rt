@@ -51,7 +51,8 @@ impl LoneTimers {
 
     /// The link.
     pub fn id(&self) -> LinkId
-        ensures { result ≡ self.now.id }
+        ensures same { result ≡ self.now.id }
+        ensures slot { HasSlot result }
     {
         self.id
     }

@@ -1,12 +1,12 @@
 //! The timers of the links of a side with several links.
 
-ghost use Rattle.std.specs.Prelude.{◌≡◌, ◌≢◌, ℕ, ◌<◌, ◌≤◌, Some, option_map, option_copied, IfOk, IfSome};
+ghost use Rattle.std.specs.Prelude.{◌≡◌, ◌≢◌, ℕ, ◌<◌, ◌≤◌, None, Some, true, is_some, option_map, option_copied, IfOk, IfSome, OnOk};
 ghost use Rattle.lapd_timers.specs.Due.{all_stopped, with_durations};
 ghost use Rattle.lapd_table.specs.declared.link_id.LinkId.{LinkId};
 ghost use Rattle.lapd_sides_links.specs.declared.tournament.TheConstants.{PLACES};
 ghost use Rattle.lapd_sides_links.specs.Effects.{restart_outs, timed, stopped};
 ghost use Rattle.lapd_sides_links.specs.Expiries.{IsFirst, Runs};
-ghost use Rattle.lapd_sides_links.specs.Places.{AreStopped, IsKept};
+ghost use Rattle.lapd_sides_links.specs.Places.{HasSlot, IsKept};
 ghost use Rattle.lapd_sides_links.specs.TimersAtPlaces.{alone, placed, of_places, entry_place, RunsForPlaced};
 ghost use Rattle.lapd_sides_links.specs.Tournament.{entry};
 
@@ -42,27 +42,58 @@ impl Model for ManyTimers {
 }
 
 impl ManyTimers {
-    /// Allocates room for the timers of all links. None runs.
-    fn new(alloc: Global) -> Result<ManyTimers, AllocError>
-        ensures { IfOk result (λ s. (id : LinkId) → IfSome (placed s id) AreStopped) }
-    {
-        Ok(ManyTimers {
-            places: TimerPlaces::new(alloc)?,
-            expiries: Tournament::new(alloc)?,
-        })
-    }
-
-    /// The timers of this link, with room for those of all others.
+    /// No timers, and no slots for any yet.
     ///
     /// # Errors
     ///
     /// `AllocError` if an allocation failed.
-    pub fn of_lone(alloc: Global, lone: &LoneTimers) -> Result<ManyTimers, AllocError>
+    fn new(alloc: Global) -> Result<ManyTimers, AllocError>
+        ensures { IfOk result (λ s. (id : LinkId) → placed s id ≡ None) }
+    {
+        Ok(ManyTimers {
+            places: TimerPlaces::new(alloc),
+            expiries: Tournament::new(alloc)?,
+        })
+    }
+
+    /// The timers of this link, with room for those of another one.
+    ///
+    /// # Errors
+    ///
+    /// `AllocError` if an allocation failed.
+    pub fn of_two(alloc: Global, lone: &LoneTimers, id: &LinkId) -> Result<ManyTimers, AllocError>
+        requires { HasSlot id.now }
+        ensures room { IfOk result (λ s. is_some (placed s id.now) ≡ true) }
+        ensures kept { IfOk result (λ s. (other : LinkId)
+            → IsKept (alone lone.now other) (placed s other)) }
+    {
+        let mut many = ManyTimers::of_lone(alloc, lone)?;
+        many.make_room(id)?;
+        Ok(many)
+    }
+
+    /// The timers of this link.
+    fn of_lone(alloc: Global, lone: &LoneTimers) -> Result<ManyTimers, AllocError>
         ensures { IfOk result (λ s. (id : LinkId) → IsKept (alone lone.now id) (placed s id)) }
     {
         let mut many = ManyTimers::new(alloc)?;
-        many.set(&lone.id(), lone.timers());
+        let id = lone.id();
+        many.make_room(&id)?;
+        many.set(&id, lone.timers());
         Ok(many)
+    }
+
+    /// Makes room for the timers of a link, with none running.
+    ///
+    /// # Errors
+    ///
+    /// `AllocError` if an allocation failed.
+    pub fn make_room(&mut self, id: &LinkId) -> Result<(), AllocError>
+        requires { HasSlot id.now }
+        ensures room { OnOk result (is_some (placed self.new id.now) ≡ true) }
+        ensures kept { (other : LinkId) → IsKept (placed self.old other) (placed self.new other) }
+    {
+        self.places.make_room(id)
     }
 
     /// Sets the timers of one link.

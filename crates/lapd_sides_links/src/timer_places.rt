@@ -1,10 +1,10 @@
 //! Storage for the timers of the links of a side.
 
-ghost use Rattle.std.specs.Prelude.{◌≡◌, ◌≢◌, map, option_map, option_copied, IfOk, IfSome};
+ghost use Rattle.std.specs.Prelude.{◌≡◌, ◌≢◌, ◌<◌, ◌≤◌, ℕ, None, true, length, map, is_some, slice_get, option_map, option_copied, OnOk};
 ghost use Rattle.lapd_timers.specs.Due.{all_stopped, with_durations};
 ghost use Rattle.lapd_table.specs.declared.link_id.LinkId.{LinkId};
 ghost use Rattle.lapd_sides_links.specs.Effects.{restart_outs, timed, stopped};
-ghost use Rattle.lapd_sides_links.specs.Places.{HasPlaces, AreStopped};
+ghost use Rattle.lapd_sides_links.specs.Places.{HasPlaces, HasSlot, IsKept};
 
 use crate::delivery::apply_outputs;
 use lapd_link::{Out, Sapi};
@@ -12,8 +12,8 @@ use lapd_table::LinkId;
 use lapd_timers::{Durations, Timer, TimerSet};
 use std::alloc::{AllocError, Global};
 
-/// A slot for the timers of each link of SAPI 0 and SAPI 16, by TEI, whether or not the link
-/// exists.
+/// Slots for the timers of links of SAPI 0 and SAPI 16, by TEI, whether or not the link exists: up
+/// to the highest TEI for which room was made.
 #[derive(Drop)]
 pub struct TimerPlaces {
     call: Vec<TimerSet>,
@@ -25,19 +25,32 @@ pub struct TimerPlaces {
 impl TimerPlaces {
     ghost use Rattle.lapd_sides_links.specs.TimersAtPlaces.{placed};
 
-    /// Creates the slots, with no timer running, and allocates room for all links.
+    /// No slots yet.
+    pub fn new(alloc: Global) -> TimerPlaces
+        ensures { (id : LinkId) → placed result id ≡ None }
+    {
+        TimerPlaces {
+            call: Vec::new(alloc),
+            packet: Vec::new(alloc),
+        }
+    }
+
+    /// Makes a slot for a link, and for those of lower TEIs, with no timer running.
     ///
     /// # Errors
     ///
     /// `AllocError` if an allocation failed.
-    pub fn new(alloc: Global) -> Result<TimerPlaces, AllocError>
-        ensures { IfOk result (λ s. (id : LinkId) → IfSome (placed s id) AreStopped) }
+    pub fn make_room(&mut self, id: &LinkId) -> Result<(), AllocError>
+        requires { HasSlot id.now }
+        ensures room { OnOk result (is_some (placed self.new id.now) ≡ true) }
+        ensures kept { (other : LinkId) → IsKept (placed self.old other) (placed self.new other) }
     {
-        let timers = [TimerSet::new(Durations::standard()); 127];
-        Ok(TimerPlaces {
-            call: Vec::from_array(alloc, timers)?,
-            packet: Vec::from_array(alloc, timers)?,
-        })
+        let tei = usize::from(id.tei.value());
+        match id.sapi {
+            Sapi::Call => grow(&mut self.call, tei),
+            Sapi::Packet => grow(&mut self.packet, tei),
+            Sapi::Management => unreachable!(),
+        }
     }
 
     /// Sets the timers of one link.
@@ -142,6 +155,20 @@ impl TimerPlaces {
             _ => {}
         }
     }
+}
+
+/// Makes slots up to this TEI, with no timer running.
+fn grow(slots: &mut Vec<TimerSet>, tei: usize) -> Result<(), AllocError>
+    requires { tei < 127 }
+    ensures room { OnOk result (tei < length slots.new.items) }
+    ensures most { length slots.old.items ≤ 127 → length slots.new.items ≤ 127 }
+    ensures kept { (at : ℕ)
+        → IsKept (slice_get slots.old.items at) (slice_get slots.new.items at) }
+{
+    if tei < slots.len() {
+        return Ok(());
+    }
+    slots.resize(tei + 1, TimerSet::new(Durations::standard()))
 }
 
 /// Sets the timers in a slot.

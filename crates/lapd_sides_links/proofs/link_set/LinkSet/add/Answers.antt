@@ -13,10 +13,20 @@ make_room-requires c = slot_of c.args.id.now c.requires.sapi c.requires.tei
 
 pub returns-clause-ok : goal.returns-clause-ok
 returns-clause-ok c = λ side links shown.
-    let roomy : LinkSet = record (c.args.self.now) { link_timers = c.make_room.new.self } in
+    let old = c.args.self.now in
+    let id = c.args.id.now in
+    let roomy : LinkSet = record old { link_timers = c.make_room.new.self } in
     let is_ok : is_err c.add.result ≡ false = sym c.is_err.ensures.value ∙ c.if-is_err.false in
-    let absent = subst (λ (setup : Setup). link_at c.args.self.now.table (id_of_setup setup) ≡ None) c.in_ok-link.ensures.setup (no_error c.add.result _ is_ok c.add.ensures.new) in
-    let changes = subst (λ (setup : Setup). Changes c.args.self.now.table c.add.new.self (id_of_setup setup) (Some c.in_ok-link.link)) c.in_ok-link.ensures.setup (no_error c.add.result _ is_ok c.add.ensures.ok) in
-    new_there side roomy links c.args.id.now (room_made side c.args.self.now roomy links refl c.make_room.ensures.kept shown) _ c.in_ok-link.link c.args.params c.args.durations
-    (is_absent side c.args.self.now links c.args.id.now shown absent) c.in_ok-link.ensures.end changes
-    (record { own = set_in_place _ _ (all_stopped c.args.durations) c.in_ok-make_room.ensures.room c.reset.ensures.own; others = c.reset.ensures.others })
+    let made = c.in_ok-link.ensures.setup in
+    let absent = subst (λ (setup : Setup). link_at old.table (id_of_setup setup) ≡ None) made
+    (no_error c.add.result _ is_ok c.add.ensures.new) in
+    let link = c.in_ok-link.link in
+    let changes =
+    subst (λ (setup : Setup). Changes old.table c.add.new.self (id_of_setup setup) (Some link))
+    made (no_error c.add.result _ is_ok c.add.ensures.ok) in
+    let stopped = all_stopped c.args.durations in
+    let own = set_in_place _ _ stopped c.in_ok-make_room.ensures.room c.reset.ensures.own in
+    let room = room_made side old roomy links refl c.make_room.ensures.kept shown in
+    new_there side roomy links id room _ link c.args.params c.args.durations
+    (is_absent side old links id shown absent) c.in_ok-link.ensures.end changes
+    (record { own = own; others = c.reset.ensures.others })

@@ -1,4 +1,4 @@
-use Rattle.std.proofs.Common.{◌≡◌, true, false, sym, ◌∙◌}
+use Rattle.std.proofs.Common.{sym, ◌∙◌}
 use Rattle.lapd_sides_links.specs.Links.{new_linked}
 use Rattle.lapd_sides_links.proofs.Arrivals.{one_added, both_added, taken_back, left_alone}
 use Rattle.lapd_sides_links.proofs.link_set.LinkSet.add_tei.Goals as goal

@@ -8,4 +8,6 @@ pub returns-clause-first : goal.returns-clause-first
 returns-clause-first c = λ side links shown. first_of_links side c.args.self.now links c.args.now c.due.result shown c.due.ensures
 
 pub returns-clause-own : goal.returns-clause-own
-returns-clause-own c = own_timer c.args.now (of_each_link (timers_of c.args.self.now.link_timers)) c.due.result c.due.ensures
+returns-clause-own c =
+    own_timer c.args.now (of_each_link (timers_of c.args.self.now.link_timers)) c.due.result
+    c.due.ensures

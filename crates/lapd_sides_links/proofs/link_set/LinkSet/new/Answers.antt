@@ -4,4 +4,7 @@ use Rattle.lapd_sides_links.proofs.link_set.LinkSet.new.Goals as goal
 
 pub returns : goal.returns
 unfolding timers_of
-returns c = record { of_side = c.new.ensures.side; each = λ id. none_linked _ _ (c.new.ensures.empty id) tt }
+returns c = record {
+  of_side = c.new.ensures.side;
+  each = λ id. none_linked _ _ (c.new.ensures.empty id) tt;
+}
