@@ -174,6 +174,7 @@ impl Talk {
         let (word, behind) = split(rest, " ");
         match word {
             "take" => self.take(behind, number_of(now), text),
+            "submit" => self.submit(behind, number_of(now), text),
             "tick" => {
                 if !self.side.tick(number_of(now), &mut self.acts) {
                     text.put("none;");
@@ -196,6 +197,19 @@ impl Talk {
                 self.acts.clear();
                 text.put("no memory");
             }
+        }
+    }
+
+    /// Submits a message by its octets, and writes a refusal.
+    fn submit(&mut self, words: &str, now: u64, text: &mut Text) {
+        match (link_of(words), octets_of(self.alloc, behind_link(words))) {
+            (Some(id), Some(octets)) => {
+                let result = self
+                    .side
+                    .give(id, octets.as_slice(), now, &mut self.acts);
+                put_end(text, &result);
+            }
+            _ => text.put("no memory"),
         }
     }
 

@@ -132,6 +132,16 @@ net 64
 shows: network;discarded 0;next 10000;holds 64;
 exact: yes
 
+# a message is submitted by its octets: at once, in a kept room, without a link
+net 64
+0 take 00817f: 008173;0 64 established;
+1 submit 0 64 010203: 02810000010203;
+2 submit 0 65 01: refused B1 NoLink;
+3 take 02810102: 0 64 acknowledged 1;
+4 submit 0 64 04: 0281020004;
+shows: network;discarded 0;next 1004;holds 64;
+exact: yes
+
 # header prediction: a poll, an RR and an I frame, but no RR command without P, longer RR or I response
 net 64
 0 take 00817f: 008173;0 64 established;
