@@ -5,7 +5,7 @@
 //! [`Frame`] is an address, a control field and information, and its type ensures that they form a
 //! frame of the grammar. Other octets have a first fault, [`FaultKind`] F1 to F7. A [`FrameFault`]
 //! also carries the address if the fault is for a link (F4 to F7). [`read_predicted`] reads the
-//! frames that are usual between two established ends (header prediction), at less cost.
+//! frames that two established ends predict (header prediction), at less cost.
 //! [`FrmrInfo`] reads the information of a frame reject. Flags, zero insertion and the frame check
 //! sequence are below this crate: a frame here has 3 to 264 octets.
 #![tactic(auto)]

@@ -4,8 +4,8 @@ ghost use Rattle.lapd_frame.specs.Frame.{content_fault};
 ghost use Rattle.lapd_frame.specs.PredictedFrame.{are_parts_of, is_predictable, is_read_predictable, numbered_frame, predicted_control, predicted_fields, predicted_role};
 ghost use Rattle.lapd_frame.specs.Reading.{frame_at};
 
-use crate::{Frame, N201};
-use lapd_field::{Address, Control, FieldFault, Number, Role, Sapi, Side, Tei};
+use crate::N201;
+use lapd_field::{Address, FieldFault, Number, Role, Sapi, Side, Tei};
 
 /// The kinds of frames that header prediction reads.
 #[derive(Clone, Copy)]
@@ -32,39 +32,6 @@ pub struct PredictedFrame<'a> {
     pub nr: Number,
     /// The information, empty if it has none.
     pub info: &'a [u8],
-}
-
-impl<'a> PredictedFrame<'a> {
-    /// A frame that was read, if it is of one of the kinds that are predicted.
-    #[inline(always)]
-    pub fn of(frame: &Frame<'a>) -> Option<PredictedFrame<'a>>
-        ensures found { IfSome result (λ p. predicted_fields p ≡ frame.now) }
-        ensures declined { IfNone result
-            (is_predictable frame.now.control frame.now.address.role ≡ false) }
-    {
-        let (kind, nr) = kind_of(&frame.control(), frame.address().role)?;
-        Some(predicted(frame.address(), kind, nr, frame.info()))
-    }
-}
-
-/// The kind and the N(R) of a frame with this control field and role.
-#[inline(always)]
-fn kind_of(control: &Control, role: Role) -> Option<(PredictedKind, Number)>
-    ensures found { IfSome result (λ k. (predicted_control k.0 k.1 ≡ control.now)
-        × (predicted_role k.0 ≡ role)) }
-    ensures declined { IfNone result (is_predictable control.now role ≡ false) }
-{
-    match role {
-        Role::Command => match *control {
-            Control::I { ns, nr, p: false } => Some((PredictedKind::Message(ns), nr)),
-            Control::Rr { nr, pf: true } => Some((PredictedKind::Poll, nr)),
-            _ => None,
-        },
-        Role::Answer => match *control {
-            Control::Rr { nr, pf: false } => Some((PredictedKind::Acknowledgement, nr)),
-            _ => None,
-        },
-    }
 }
 
 /// Reads the frame in `octets`, which `from` sent, as [`read`](crate::read) does, if it is of one

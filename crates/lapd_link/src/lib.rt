@@ -51,7 +51,7 @@ pub use lapd_frame::{
     Role, Sapi, Side, Tei,
 };
 pub use lapd_link_definition::{Event, Letter, LinkFault, Out, Params, Recovery, Refused, State};
-pub use lapd_link_machine::{GivenOuts, MOST_OUTPUTS, NrEffect, Outs, SendEffect, UsualOuts};
+pub use lapd_link_machine::{GivenOuts, MOST_OUTPUTS, NrEffect, Outs, PredictedOuts, SendEffect};
 pub use lapd_queue::IQueue;
 pub use lapd_supervision::{Seq, Window};
 pub use lapd_timers::Timer;

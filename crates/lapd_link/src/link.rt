@@ -3,7 +3,7 @@ ghost use Rattle.lapd_link_machine.specs.Sent.{IsBetweenSteps};
 
 use lapd_frame::{Address, Number, PredictedKind, Sapi, Side, Tei};
 use lapd_link_definition::{Event, LinkFault, Params, Refused, State};
-use lapd_link_machine::{GivenOuts, Machine, Outs, UsualOuts};
+use lapd_link_machine::{GivenOuts, Machine, Outs, PredictedOuts};
 use lapd_queue::IQueue;
 use lapd_supervision::Window;
 use lapd_timers::Timer;
@@ -42,7 +42,7 @@ impl Link {
     ghost use Rattle.lapd_link.specs.SentFrame.{HasFramesOf};
     ghost use Rattle.lapd_link_machine.specs.Bounds.{IsBounded};
     ghost use Rattle.lapd_link_machine.specs.Given.{given_outs, is_sent_at_once};
-    ghost use Rattle.lapd_link_machine.specs.Usual.{is_usual, usual_outs};
+    ghost use Rattle.lapd_link_machine.specs.Predicted.{is_predicted, predicted_outs};
     ghost use Rattle.lapd_frame.specs.PredictedFrame.{predicted_control, predicted_role};
 
     /// Makes a link in state 4, of this side, for `sapi` (not management) and `tei` (not the group
@@ -123,19 +123,19 @@ impl Link {
         }
     }
 
-    /// Handles a frame of this kind with this N(R), if its step is usual ([`Machine::usual_step`]).
+    /// Handles a frame of this kind with this N(R), if the link predicts it ([`Machine::predicted_step`]).
     /// The step is that of [`Link::handle`], and its outputs are returned as values. For any other
     /// frame it returns `None`, and the link is unchanged.
     #[inline(always)]
-    pub fn usual_step(&mut self, kind: PredictedKind, nr: Number) -> Option<UsualOuts>
+    pub fn predicted_step(&mut self, kind: PredictedKind, nr: Number) -> Option<PredictedOuts>
         ensures ok { IfSome result (λ outs. Steps self.old self.new
-            (Heard (predicted_control kind nr) (predicted_role kind)) (usual_outs outs)) }
+            (Heard (predicted_control kind nr) (predicted_role kind)) (predicted_outs outs)) }
         ensures declined { IfNone result ((e : End) → LinkRepresents self.old e
-            → is_usual (predicted_control kind nr) (predicted_role kind) e ≡ false) }
+            → is_predicted (predicted_control kind nr) (predicted_role kind) e ≡ false) }
         ensures unchanged { IfNone result (self.new ≡ self.old) }
         ensures setup { setup_of self.new ≡ setup_of self.old }
     {
-        self.machine.usual_step(kind, nr)
+        self.machine.predicted_step(kind, nr)
     }
 
     /// A message with these octets, to be passed to [`Link::give`]. It is in the room of an

@@ -19,10 +19,10 @@ use Rattle.lapd_link_machine.specs.Represents.{Represents, DoesQuietly}
 use Rattle.lapd_link_machine.specs.declared.machine.given.GivenOuts.{GivenOuts}
 use Rattle.lapd_link_machine.specs.Given.{given_outs, is_sent_at_once, sends_at_once}
 use Rattle.lapd_link_machine.specs.Sent.{IsBetweenSteps}
-use Rattle.lapd_link_machine.specs.Usual.{is_idle, is_idle_machine}
+use Rattle.lapd_link_machine.specs.Predicted.{is_idle, is_idle_machine}
 use Rattle.lapd_link_machine.proofs.BetweenSteps.{end_of, shows_end, stays_between, step_done, not_full, queued_and_closed}
 use Rattle.lapd_link_machine.proofs.Tails.{tail_waiting}
-use Rattle.lapd_link_machine.proofs.Usual.{idle_only_if, neither, second_is_false, third_is_false}
+use Rattle.lapd_link_machine.proofs.Predicted.{idle_only_if, neither, second_is_false, third_is_false}
 
 one_left : (next first given sent waiting : ℕ) → next ≡ first + sent → first ≤ given → given - first ≡ waiting → sent + 1 ≡ waiting → nat_lt next given ≡ true
 one_left next first given sent waiting n within w one = grind (arith, nat_tests)

@@ -4,5 +4,5 @@ pub mod Guards
 pub mod Outstanding
 pub mod Rows
 pub mod Tails
-pub mod Usual
+pub mod Predicted
 pub mod Given

@@ -14,7 +14,7 @@ use Rattle.lapd_link_definition.specs.Refusal.{refused}
 use Rattle.lapd_link_machine.specs.declared.machine.given.GivenOuts.{GivenOuts}
 use Rattle.lapd_link_machine.specs.declared.machine.given.SendEffect.{SendEffect}
 use Rattle.lapd_link_machine.specs.declared.machine.given.SendEffect.TheVariants.{Nothing, Starts}
-use Rattle.lapd_link_machine.specs.Usual.{is_idle}
+use Rattle.lapd_link_machine.specs.Predicted.{is_idle}
 
 -- ---- The messages that are sent at once.
 

@@ -15,5 +15,5 @@ pub mod Bounds
 pub mod Sent
 pub mod Represents
 pub mod Tail
-pub mod Usual
+pub mod Predicted
 pub mod Given

@@ -8,4 +8,4 @@
 
 mod machine;
 
-pub use machine::{GivenOuts, MOST_OUTPUTS, Machine, NrEffect, Outs, SendEffect, UsualOuts};
+pub use machine::{GivenOuts, MOST_OUTPUTS, Machine, NrEffect, Outs, PredictedOuts, SendEffect};

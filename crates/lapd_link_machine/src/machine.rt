@@ -3,6 +3,7 @@
 ghost use Rattle.std.specs.Prelude.{◌≡◌, ◌<◌, ◌+◌, [], ◌∷◌, ◌++◌};
 ghost use Rattle.arrayvec.specs.ArrayVec.{array_vec_len};
 
+use arrayvec::ArrayVec;
 use lapd_frame::Control;
 use lapd_link_definition::{Out, Params, State};
 use lapd_queue::IQueue;
@@ -15,20 +16,21 @@ mod dispatcher;
 mod end_of_step;
 mod established;
 mod given;
-mod outs;
+mod predicted;
 mod procedures;
 mod refusals;
 mod step;
 mod tei_assigned;
 mod timer_recovery;
-mod usual;
 
 pub use given::{GivenOuts, SendEffect};
-pub use outs::Outs;
-pub use usual::{NrEffect, UsualOuts};
+pub use predicted::{NrEffect, PredictedOuts};
 
 /// The most outputs of a step: seven, and 127 messages with the start and stop of a timer.
 pub const MOST_OUTPUTS: usize = 136;
+
+/// The outputs of one step, in order.
+pub type Outs = ArrayVec<Out, MOST_OUTPUTS>;
 
 /// The variables of an end (Q.921 Annex B).
 #[derive(Drop)]

@@ -21,37 +21,37 @@ module _ (id : LinkId) (octets : List ℕ) (now : ℕ) (result : Result ⊤ Side
   pub network_gives : (old new : NetSide) → side ≡ Network old
       → LacksMessage result old new acts
       ⊎ WithMessage octets (λ message. network.Answers result old new acts (Some message)
-        (λ config. network_requested config (Give id message) now))
+      (λ config. network_requested config (Give id message) now))
       → Gives id octets now result side (Network new) acts
   network_gives old new is h =
       subst (λ (x : EitherSide). Gives id octets now result x (Network new) acts) (sym is) (elim h [
         | inl lacks ↦ inl (record {
-            refused = lacks.refused;
-            unchanged = ap (λ (s : NetSide). Network s) lacks.unchanged;
-            nothing = lacks.nothing;
-          })
+          refused = lacks.refused;
+          unchanged = ap (λ (s : NetSide). Network s) lacks.unchanged;
+          nothing = lacks.nothing;
+        })
         | inr copied ↦ inr (record {
-            message = copied.message;
-            items = copied.items;
-            asks = copied.asks;
-          })
+          message = copied.message;
+          items = copied.items;
+          asks = copied.asks;
+        })
       ])
 
   pub user_gives : (old new : UserSide) → side ≡ User old
       → LacksMessage result old new acts
       ⊎ WithMessage octets (λ message. user.Answers result old new acts (Some message)
-        (λ config. user_requested config (Give id message) now))
+      (λ config. user_requested config (Give id message) now))
       → Gives id octets now result side (User new) acts
   user_gives old new is h =
       subst (λ (x : EitherSide). Gives id octets now result x (User new) acts) (sym is) (elim h [
         | inl lacks ↦ inl (record {
-            refused = lacks.refused;
-            unchanged = ap (λ (s : UserSide). User s) lacks.unchanged;
-            nothing = lacks.nothing;
-          })
+          refused = lacks.refused;
+          unchanged = ap (λ (s : UserSide). User s) lacks.unchanged;
+          nothing = lacks.nothing;
+        })
         | inr copied ↦ inr (record {
-            message = copied.message;
-            items = copied.items;
-            asks = copied.asks;
-          })
+          message = copied.message;
+          items = copied.items;
+          asks = copied.asks;
+        })
       ])

@@ -10,9 +10,9 @@ use Rattle.lapd_frame.specs.PredictedFrame.{is_read_predictable, predicted_contr
 use Rattle.lapd_table.specs.LinkId.{id_of_address}
 use Rattle.lapd_sides_links.specs.declared.config.Config.{Config}
 use Rattle.lapd_sides_links.specs.Links.{Links, is_served}
-use Rattle.lapd_sides_links.proofs.Predicted.{not_predicted}
+use Rattle.lapd_sides_links.proofs.Predictions.{not_predicted}
 use Rattle.lapd_sides.specs.Management.{carries_message, is_management, is_ui, is_unit_to_group}
-use Rattle.lapd_sides.specs.Shows.{are_taken_usually}
+use Rattle.lapd_sides.specs.Shows.{are_predicted}
 use Rattle.lapd_sides.specs.User.{for_layer_3}
 
 not_ui : (kind : PredictedKind) (nr : ℕ) → is_ui (predicted_control kind nr) ≡ false
@@ -31,7 +31,7 @@ predicted_is_no_message p = rw (predicted_is_no_group_unit p) (and-false (is_man
 pub predicted_is_not_for_layer_3 : (config : Config) (p : PredictedFrame) → for_layer_3 config (predicted_fields p) ≡ false
 predicted_is_not_for_layer_3 config p = rw (predicted_is_no_group_unit p) (and-false (is_served config p.sapi))
 
--- octets that are not read as a frame of such a kind make no usual step
-pub not_read_as_predictable : (read : Result Fields FrameFault) (links : Links) → is_read_predictable read ≡ false → are_taken_usually read links ≡ false
+-- octets that are not read as a frame of such a kind make no predicted step
+pub not_read_as_predictable : (read : Result Fields FrameFault) (links : Links) → is_read_predictable read ≡ false → are_predicted read links ≡ false
 not_read_as_predictable (Ok frame) links h = not_predicted frame.control frame.address.role (links (id_of_address frame.address)) h
 not_read_as_predictable (Err fault) links h = refl

@@ -43,8 +43,8 @@ addressed side old new acts links now frame id address octets named of same h =
 pub received_at_once : (old : LinksAndTimer) (links : LinkSet) (before acts : Effects) (now : ℕ)
     (frame : Fields) → before ≡ no_effects
     → LinksDo old.links links before acts (λ side. in_links (id_of_address frame.address)
-        (link_acts side (id_of_address frame.address) now
-        (Heard frame.control frame.address.role) frame.info))
+    (link_acts side (id_of_address frame.address) now
+    (Heard frame.control frame.address.role) frame.info))
     → Receive old (record old { links = links }) acts (frame_on_links now frame)
 received_at_once old links before acts now frame empty does = λ side l here.
     received_by side old (record old { links = links }) before acts l _ empty (does side l here)

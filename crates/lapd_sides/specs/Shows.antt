@@ -24,7 +24,7 @@ use Rattle.lapd_sides.specs.declared.links_and_timer.Expired.TheVariants as expi
 use Rattle.lapd_sides.specs.declared.links_and_timer.LinksAndTimer.{LinksAndTimer}
 use Rattle.lapd_sides_links.specs.Effects.{Effects, no_effects, stopped}
 use Rattle.lapd_sides_links.specs.Expiries.{IsDue}
-use Rattle.lapd_sides_links.specs.Links.{Links, Linked, Reaction, Served, in_links, link_acts, link_expires, takes_usually}
+use Rattle.lapd_sides_links.specs.Links.{Links, Linked, Reaction, Served, in_links, link_acts, link_expires, predicts}
 use Rattle.lapd_sides_links.specs.Shown.{ShowLinks}
 use Rattle.lapd_sides.specs.Management.{links_with, manages, one_more}
 
@@ -111,17 +111,17 @@ abbrev pub Receive : LinksAndTimer → LinksAndTimer → Effects
 Receive old new acts step = (side : Side) (links : Links) → ShowLinks side old.links links
     → HaveReceived side old new acts links (step side links)
 
--- ---- Usual steps.
+-- ---- Predicted steps.
 
--- the frame makes a usual step of the link that it is addressed to
-abbrev pub is_taken_usually : Fields → Links → Bool
-is_taken_usually frame links =
-    takes_usually frame.control frame.address.role (links (id_of_address frame.address))
+-- the frame makes a predicted step of the link that it is addressed to
+abbrev pub is_predicted_on_links : Fields → Links → Bool
+is_predicted_on_links frame links =
+    predicts frame.control frame.address.role (links (id_of_address frame.address))
 
 -- octets that were read as such a frame
-abbrev pub are_taken_usually : Result Fields FrameFault → Links → Bool
-are_taken_usually (Ok frame) links = is_taken_usually frame links
-are_taken_usually (Err fault) links = false
+abbrev pub are_predicted : Result Fields FrameFault → Links → Bool
+are_predicted (Ok frame) links = is_predicted_on_links frame links
+are_predicted (Err fault) links = false
 
 -- ---- Expired timers.
 

@@ -15,7 +15,7 @@ ghost use Rattle.lapd_sides_links.specs.Rooms.{IsEmpty};
 ghost use Rattle.lapd_sides_links.specs.Shown.{LinksHaveNone};
 ghost use Rattle.lapd_sides.specs.Management.{carries_message, is_unit_to_group, one_more};
 ghost use Rattle.lapd_sides.specs.Requests.{without_message};
-ghost use Rattle.lapd_sides.specs.Shows.{ShowServed, Become, ShowAsBefore, CarryOut, Receive, StepLinks, ExpireFirst, frame_on_links, fault_on_links, is_taken_usually, with_given_links};
+ghost use Rattle.lapd_sides.specs.Shows.{ShowServed, Become, ShowAsBefore, CarryOut, Receive, StepLinks, ExpireFirst, frame_on_links, fault_on_links, is_predicted_on_links, with_given_links};
 
 use crate::{Acts, Config, Primitive, RunningTimer, SideFault, SideKind};
 use lapd_frame::{Control, Frame, FrameFault, N201, PredictedFrame, Sapi, Side, Tei};
@@ -146,7 +146,7 @@ impl LinksAndTimer {
         ensures received { result ≡ true → Receive self.old self.new acts.new
             (frame_on_links now (predicted_fields frame.now)) }
         ensures declined { result ≡ false → LinksHaveNone self.old.links
-            (is_taken_usually (predicted_fields frame.now)) }
+            (is_predicted_on_links (predicted_fields frame.now)) }
         ensures unchanged { result ≡ false → self.new ≡ self.old }
         ensures nothing { result ≡ false → acts.new ≡ acts.old }
     {

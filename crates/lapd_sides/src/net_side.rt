@@ -11,14 +11,12 @@ ghost use Rattle.lapd_sides_links.specs.Effects.{no_effects};
 ghost use Rattle.lapd_sides_links.specs.Rooms.{IsEmpty};
 ghost use Rattle.lapd_sides_links.specs.Expiries.{IsNextDeadline, of_served};
 ghost use Rattle.lapd_sides.specs.Requests.{LacksMessage, WithMessage, message_of, without_message};
-ghost use Rattle.lapd_sides.specs.Shows.{are_taken_usually, ShowEnds};
+ghost use Rattle.lapd_sides.specs.Shows.{are_predicted, ShowEnds};
 ghost use Rattle.lapd_sides.specs.Network.{Network, new_network, network_takes, network_requested, assigner_acts, link_of_network, frame_received, unit_requested, unit_to_group, given_for, given_for_frame, given_for_message};
 
 use crate::links_and_timer::{Expired, LinksAndTimer, carries_message, without_message};
 use crate::{Acts, Config, Durations, Request, SideFault, SideKind};
-use lapd_frame::{
-    Address, Control, Frame, N201, Role, Sapi, Side, Tei, read, read_predicted,
-};
+use lapd_frame::{Address, Control, Frame, N201, Role, Sapi, Side, Tei, read, read_predicted};
 use lapd_link::{Event, LinkFault};
 use lapd_sides_links::{next_deadline, refused};
 use lapd_table::{LinkId, LinkTable};
@@ -86,7 +84,7 @@ impl NetSide {
     }
 
     /// Processes octets, if they are a frame that its link predicts: an I frame that is expected
-    /// next, an acknowledgement or a poll, in state 7 ([`lapd_link::Link::usual_step`]). Otherwise
+    /// next, an acknowledgement or a poll, in state 7 ([`lapd_link::Link::predicted_step`]). Otherwise
     /// it returns `false`, and nothing is changed.
     #[inline(always)]
     fn take_predicted(&mut self, bytes: &[u8], now: u64, acts: &mut Acts) -> bool
@@ -94,7 +92,7 @@ impl NetSide {
         ensures taken { result ≡ true → NetworkDoes self.old self.new acts.new
             (λ config. network_takes config bytes.now now) }
         ensures declined { result ≡ false → EachShown self.old (λ s.
-            are_taken_usually (frame_at Side.User bytes.now) s.served.links ≡ false) }
+            are_predicted (frame_at Side.User bytes.now) s.served.links ≡ false) }
         ensures unchanged { result ≡ false → self.new ≡ self.old }
         ensures nothing { result ≡ false → acts.new ≡ acts.old }
     {

@@ -16,7 +16,7 @@ ghost use Rattle.lapd_sides_links.specs.Expiries.{IsNextDeadline, of_served};
 ghost use Rattle.lapd_sides_links.specs.Links.{of_sapi};
 ghost use Rattle.lapd_sides_links.specs.Rooms.{HasRoomFor, AddsAtMost, IsEmpty};
 ghost use Rattle.lapd_sides.specs.Requests.{LacksMessage, WithMessage, message_of, without_message};
-ghost use Rattle.lapd_sides.specs.Shows.{are_taken_usually, ShowEnds};
+ghost use Rattle.lapd_sides.specs.Shows.{are_predicted, ShowEnds};
 ghost use Rattle.lapd_sides.specs.User.{User, seeded, sends_message, new_user, user_takes, user_requested, terminal_acts, assigned, pending_after, establishes_pending, establishes, gives_up_pending, primitive_of_group, primitive_of_sapi, link_of_user, frame_received, data_received, for_layer_3, got_for, got_for_frame, got_for_message, wants, forgets, gives_up, has_tei, with_tei_or};
 
 use crate::links_and_timer::{
@@ -101,7 +101,7 @@ impl UserSide {
     }
 
     /// Processes octets, if they are a frame that its link predicts: an I frame that is expected
-    /// next, an acknowledgement or a poll, in state 7 ([`lapd_link::Link::usual_step`]). Otherwise
+    /// next, an acknowledgement or a poll, in state 7 ([`lapd_link::Link::predicted_step`]). Otherwise
     /// it returns `false`, and nothing is changed.
     #[inline(always)]
     fn take_predicted(&mut self, bytes: &[u8], now: u64, acts: &mut Acts) -> bool
@@ -109,7 +109,7 @@ impl UserSide {
         ensures taken { result ≡ true → UserDoes self.old self.new acts.new
             (λ config. user_takes config bytes.now now) }
         ensures declined { result ≡ false → EachShown self.old (λ s.
-            are_taken_usually (frame_at Side.Network bytes.now) s.served.links ≡ false) }
+            are_predicted (frame_at Side.Network bytes.now) s.served.links ≡ false) }
         ensures unchanged { result ≡ false → self.new ≡ self.old }
         ensures nothing { result ≡ false → acts.new ≡ acts.old }
     {

@@ -114,8 +114,10 @@ same_effects a frames primitives f p = rw (sym f, sym p) refl
 
 -- effects are appended in any grouping
 pub in_order : (before e f : Effects) → and_then (and_then before e) f ≡ and_then before (and_then e f)
-in_order before e f = rw (append_assoc before.frames e.frames f.frames,
-    append_assoc before.primitives e.primitives f.primitives) refl
+in_order before e f = rw (
+  append_assoc before.frames e.frames f.frames,
+  append_assoc before.primitives e.primitives f.primitives,
+) refl
 
 -- the octets that the code makes of the outputs are those that are sent
 same_octets : (setup : Setup) (e : End) (octets : List ℕ) (outs : List Out) → All (λ output. made_frame setup (drop e.first e.given) octets output ≡ sent_frame setup (drop e.first e.given) octets output) outs

@@ -8,6 +8,6 @@ pub mod LoneTimers
 pub mod Outcomes
 pub mod Tournaments
 pub mod WrittenOver
-pub mod UsualSteps
+pub mod PredictedSteps
 pub mod GivenSteps
-pub mod Predicted
+pub mod Predictions

@@ -19,7 +19,7 @@ use Rattle.lapd_link_definition.specs.Input.{Input, Expiry, Heard}
 use Rattle.lapd_link_definition.specs.Parameters.{Parameters}
 use Rattle.lapd_link_definition.specs.Table.{step}
 use Rattle.lapd_link_machine.specs.Given.{is_sent_at_once}
-use Rattle.lapd_link_machine.specs.Usual.{is_usual}
+use Rattle.lapd_link_machine.specs.Predicted.{is_predicted}
 use Rattle.lapd_tei.specs.Assigner.{is_held}
 use Rattle.lapd_tei.specs.Message.{group_tei}
 use Rattle.lapd_table.specs.declared.link_id.LinkId.{LinkId}
@@ -124,12 +124,12 @@ unfoldable pub in_links : LinkId → (Linked → Result (Reaction Linked) LinkFa
     → Result (Reaction Links) SideKind
 in_links id does links = where_there id links (links id) does
 
--- ---- Usual steps, and messages that are sent at once.
+-- ---- Predicted steps, and messages that are sent at once.
 
--- the link exists, and this frame makes a usual step of it
-abbrev pub takes_usually : Control → Role → Option Linked → Bool
-takes_usually control role None = false
-takes_usually control role (Some l) = is_usual control role l.end
+-- the link exists, and this frame makes a predicted step of it
+abbrev pub predicts : Control → Role → Option Linked → Bool
+predicts control role None = false
+predicts control role (Some l) = is_predicted control role l.end
 
 -- the link exists, and sends this message at once
 abbrev pub gives_at_once : List ℕ → Option Linked → Bool

@@ -19,9 +19,9 @@ pub record AddsAtMost (input : Input) (old new : Effects) : Type 0 where
   pub frames : length new.frames ≤ length old.frames + most_outputs input
   pub primitives : length new.primitives ≤ length old.primitives + MOST_PRIMITIVES_OF_STEP
 
--- ---- Usual steps, and messages that are sent at once: at most two frames and two primitives.
+-- ---- Predicted steps, and messages that are sent at once: at most two frames and two primitives.
 
 -- there is room for everything that such a step may produce
-pub record HasUsualRoom (acts : Effects) : Type 0 where
+pub record HasRoomForPredicted (acts : Effects) : Type 0 where
   pub frames : length acts.frames + 2 ≤ MOST_FRAMES
   pub primitives : length acts.primitives + 2 ≤ MOST_PRIMITIVES

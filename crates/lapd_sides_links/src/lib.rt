@@ -15,12 +15,12 @@ mod link_timers;
 mod lone_timers;
 mod many_timers;
 mod octets;
+mod predicted;
 mod primitive;
 mod running_timer;
 mod side_fault;
 mod timer_places;
 mod tournament;
-mod usual;
 mod written_over;
 
 pub use acts::Acts;

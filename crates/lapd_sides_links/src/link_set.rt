@@ -8,7 +8,7 @@ ghost use Rattle.lapd_link.specs.Link.{LinkRepresents};
 ghost use Rattle.lapd_link.specs.declared.link.Link.{Link};
 ghost use Rattle.lapd_link_machine.specs.Bounds.{primitive_count};
 ghost use Rattle.lapd_link_machine.specs.Given.{given_outs};
-ghost use Rattle.lapd_link_machine.specs.Usual.{usual_outs};
+ghost use Rattle.lapd_link_machine.specs.Predicted.{predicted_outs};
 ghost use Rattle.lapd_link_definition.specs.End.{End};
 ghost use Rattle.lapd_link_definition.specs.Input.{input_of, Give, Heard, UnitData};
 ghost use Rattle.lapd_link_definition.specs.Input as input;
@@ -19,17 +19,17 @@ ghost use Rattle.lapd_sides_links.specs.declared.acts.TheConstants.{MOST_FRAMES,
 ghost use Rattle.lapd_sides_links.specs.declared.primitive.Primitive.TheVariants.{Of};
 ghost use Rattle.lapd_sides_links.specs.Effects.{timed, what_of};
 ghost use Rattle.lapd_sides_links.specs.Expiries.{IsFirst, IsPast, IsTimerOf, Runs, of_links};
-ghost use Rattle.lapd_sides_links.specs.Links.{Links, IsOfLink, new_linked, no_links, of_sapi, with_link, with_new_link, with_tei, without_tei, release_at_removal, primitives_of, primitives_at_removal, primitive_of_tei, links_of_held, links_with_durations, in_links, link_acts, link_expires, gives_at_once, takes_usually};
-ghost use Rattle.lapd_sides_links.specs.Rooms.{HasRoomFor, HasUsualRoom, AddsAtMost};
+ghost use Rattle.lapd_sides_links.specs.Links.{Links, IsOfLink, new_linked, no_links, of_sapi, with_link, with_new_link, with_tei, without_tei, release_at_removal, primitives_of, primitives_at_removal, primitive_of_tei, links_of_held, links_with_durations, in_links, link_acts, link_expires, gives_at_once, predicts};
+ghost use Rattle.lapd_sides_links.specs.Rooms.{HasRoomFor, HasRoomForPredicted, AddsAtMost};
 
 use crate::delivery::{deliver_all, put_frames};
 use crate::link_timers::LinkTimers;
+use crate::predicted::{deliver_acknowledged, deliver_message, put_message_frame, put_response};
 use crate::side_fault::refused;
-use crate::usual::{deliver_acknowledged, deliver_message, put_message_frame, put_response};
 use crate::{Acts, Config, Primitive, RunningTimer, SideFault, SideKind, What};
 use lapd_frame::{N201, PredictedFrame};
 use lapd_link::{
-    Event, GivenOuts, Link, LinkFault, Outs, Params, Sapi, Side, State, Tei, UsualOuts,
+    Event, GivenOuts, Link, LinkFault, Outs, Params, PredictedOuts, Sapi, Side, State, Tei,
 };
 use lapd_table::{LinkId, LinkKey, LinkTable};
 use lapd_tei::Assigner;
@@ -251,12 +251,12 @@ impl LinkSet {
         self.link_timers.apply_outputs(key.id(), outs, now);
     }
 
-    /// Carries out the outputs of a usual step of a link: its frames, primitives and timers.
+    /// Carries out the outputs of a predicted step of a link: its frames, primitives and timers.
     #[inline(always)]
-    fn carry_out_usual(
+    fn carry_out_predicted(
         &mut self,
         key: &LinkKey,
-        outs: &UsualOuts,
+        outs: &PredictedOuts,
         octets: &[u8],
         now: u64,
         acts: &mut Acts,
@@ -269,13 +269,13 @@ impl LinkSet {
             → LinkRepresents link e
             → acts.new.frames ≡ acts.old.frames
             ++ filter_map (made_by (setup_for (side_of self.old.table) key.now.id) e octets.now)
-            (usual_outs outs.now) }
+            (predicted_outs outs.now) }
         ensures primitives { acts.new.primitives ≡ acts.old.primitives
-            ++ map (Of key.now.id) (filter_map (what_of octets.now) (usual_outs outs.now)) }
+            ++ map (Of key.now.id) (filter_map (what_of octets.now) (predicted_outs outs.now)) }
         ensures most_frames { length acts.new.frames ≤ length acts.old.frames + 2 }
         ensures most_primitives { length acts.new.primitives ≤ length acts.old.primitives + 2 }
         ensures own { timers_at self.new.link_timers key.now.id
-            ≡ option_map (timed now (usual_outs outs.now))
+            ≡ option_map (timed now (predicted_outs outs.now))
             (timers_at self.old.link_timers key.now.id) }
         ensures others { (other : LinkId) → other ≢ key.now.id
             → timers_at self.new.link_timers other ≡ timers_at self.old.link_timers other }
@@ -381,7 +381,7 @@ impl LinkSet {
     }
 
     /// Processes a frame in the link with this id, at the time `now`, if the link predicts it
-    /// ([`Link::usual_step`]). The results are appended to `acts`. Otherwise it returns `false`,
+    /// ([`Link::predicted_step`]). The results are appended to `acts`. Otherwise it returns `false`,
     /// and nothing is changed.
     #[inline(always)]
     pub fn act_predicted(
@@ -392,12 +392,12 @@ impl LinkSet {
         acts: &mut Acts,
     ) -> bool
         requires fits { length frame.now.info.now ≤ N201 }
-        requires room { HasUsualRoom acts.old }
+        requires room { HasRoomForPredicted acts.old }
         ensures ok { result ≡ true → LinksDo self.old self.new acts.old acts.new
             (λ side. in_links id.now (link_acts side id.now now
             (Heard (predicted_control frame.now.kind frame.now.nr) (predicted_role frame.now.kind))
             frame.now.info.now)) }
-        ensures declined { result ≡ false → LinksHaveNone self.old (λ links. takes_usually
+        ensures declined { result ≡ false → LinksHaveNone self.old (λ links. predicts
             (predicted_control frame.now.kind frame.now.nr) (predicted_role frame.now.kind)
             (links id.now)) }
         ensures unchanged { result ≡ false → self.new ≡ self.old }
@@ -420,20 +420,20 @@ impl LinkSet {
     ) -> bool
         requires key { IsKey self.old.table key.now }
         requires fits { length frame.now.info.now ≤ N201 }
-        requires room { HasUsualRoom acts.old }
+        requires room { HasRoomForPredicted acts.old }
         ensures ok { result ≡ true → LinksDo self.old self.new acts.old acts.new
             (λ side. in_links key.now.id (link_acts side key.now.id now
             (Heard (predicted_control frame.now.kind frame.now.nr) (predicted_role frame.now.kind))
             frame.now.info.now)) }
-        ensures declined { result ≡ false → LinksHaveNone self.old (λ links. takes_usually
+        ensures declined { result ≡ false → LinksHaveNone self.old (λ links. predicts
             (predicted_control frame.now.kind frame.now.nr) (predicted_role frame.now.kind)
             (links key.now.id)) }
         ensures unchanged { result ≡ false → self.new ≡ self.old }
         ensures nothing { result ≡ false → acts.new ≡ acts.old }
     {
-        match self.table.usual_step_at(key, frame.kind, frame.nr) {
+        match self.table.predicted_step_at(key, frame.kind, frame.nr) {
             Some(outs) => {
-                self.carry_out_usual(key, &outs, frame.info, now, acts);
+                self.carry_out_predicted(key, &outs, frame.info, now, acts);
                 true
             }
             None => false,
@@ -538,7 +538,7 @@ impl LinkSet {
         acts: &mut Acts,
     ) -> Result<(), Vec<u8>>
         requires key { IsKey self.old.table key.now }
-        requires room { HasUsualRoom acts.old }
+        requires room { HasRoomForPredicted acts.old }
         ensures ok { OnOk result (LinksDo self.old self.new acts.old acts.new
             (λ side. in_links key.now.id (link_acts side key.now.id now (Give message.items) []))) }
         ensures declined { OnErr result (LinksHaveNone self.old

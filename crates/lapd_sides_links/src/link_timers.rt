@@ -3,7 +3,7 @@
 ghost use Rattle.std.specs.Prelude.{◌≡◌, ◌≢◌, true, is_some, option_map, option_copied, IfOk, IfSome, OnOk};
 ghost use Rattle.lapd_timers.specs.Due.{all_stopped, with_durations};
 ghost use Rattle.lapd_link_machine.specs.Given.{send_outs};
-ghost use Rattle.lapd_link_machine.specs.Usual.{nr_outs};
+ghost use Rattle.lapd_link_machine.specs.Predicted.{nr_outs};
 ghost use Rattle.lapd_table.specs.declared.link_id.LinkId.{LinkId};
 ghost use Rattle.lapd_sides_links.specs.Effects.{restart_outs, timed, stopped};
 ghost use Rattle.lapd_sides_links.specs.Expiries.{IsFirst, IsPast, Runs};
@@ -127,7 +127,7 @@ impl LinkTimers {
         }
     }
 
-    /// Starts and stops the timers of one link according to an N(R) of a usual step.
+    /// Starts and stops the timers of one link according to an N(R) of a predicted step.
     pub fn apply_nr(&mut self, id: &LinkId, nr: NrEffect, now: u64)
         ensures own { timers_of self.new id.now
             ≡ option_map (timed now (nr_outs nr)) (timers_of self.old id.now) }

@@ -204,9 +204,7 @@ impl Talk {
     fn submit(&mut self, words: &str, now: u64, text: &mut Text) {
         match (link_of(words), octets_of(self.alloc, behind_link(words))) {
             (Some(id), Some(octets)) => {
-                let result = self
-                    .side
-                    .give(id, octets.as_slice(), now, &mut self.acts);
+                let result = self.side.give(id, octets.as_slice(), now, &mut self.acts);
                 put_end(text, &result);
             }
             _ => text.put("no memory"),

@@ -16,7 +16,7 @@ use Rattle.lapd_link_definition.specs.declared.out.Out.{Out}
 use Rattle.lapd_link_definition.specs.End.{End}
 use Rattle.lapd_link_definition.specs.Input.{Input}
 use Rattle.lapd_link_machine.specs.Given.{is_sent_at_once}
-use Rattle.lapd_link_machine.specs.Usual.{is_usual}
+use Rattle.lapd_link_machine.specs.Predicted.{is_predicted}
 use Rattle.lapd_table.specs.declared.link_id.LinkId.{LinkId}
 use Rattle.lapd_table.specs.declared.link_key.LinkKey.{LinkKey}
 use Rattle.lapd_table.specs.declared.link_table.LinkTable.{LinkTable}
@@ -67,10 +67,10 @@ RefusesAt table id input fault = IsSomeAnd (link_at table id) (λ link. Refuses 
 
 -- ---- A step that is not made, because the general one is to be.
 
--- this frame makes no usual step of the existing link
-abbrev pub NotUsualAt : LinkTable → LinkId → Control → Role → Type 0
-NotUsualAt table id control role = IsSomeAnd (link_at table id)
-    (λ link. (e : End) → LinkRepresents link e → is_usual control role e ≡ false)
+-- this frame makes no predicted step of the existing link
+abbrev pub NotPredictedAt : LinkTable → LinkId → Control → Role → Type 0
+NotPredictedAt table id control role = IsSomeAnd (link_at table id)
+    (λ link. (e : End) → LinkRepresents link e → is_predicted control role e ≡ false)
 
 -- the existing link does not send this message at once
 abbrev pub NotAtOnceAt : LinkTable → LinkId → List ℕ → Type 0

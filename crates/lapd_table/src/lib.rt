@@ -15,8 +15,8 @@ mod table_fault;
 
 pub use lapd_link::{
     Address, Control, Event, FaultKind, Frame, GivenOuts, Letter, Link, LinkFault, MessageField,
-    NrEffect, Number, Out, Outs, Params, PredictedKind, Refused, Response, Role, Sapi, SendEffect,
-    Side, Tei, Timer, UsualOuts,
+    NrEffect, Number, Out, Outs, Params, PredictedKind, PredictedOuts, Refused, Response, Role,
+    Sapi, SendEffect, Side, Tei, Timer,
 };
 pub use laws::{calls_are_steps, link_is_as_it_is_alone};
 pub use link_id::LinkId;

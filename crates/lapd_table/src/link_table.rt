@@ -8,13 +8,13 @@ ghost use Rattle.lapd_link_definition.specs.Refusal.{refused};
 ghost use Rattle.lapd_link.specs.Link.{setup_of};
 ghost use Rattle.lapd_link_machine.specs.Bounds.{IsBounded};
 ghost use Rattle.lapd_link_machine.specs.Given.{given_outs};
-ghost use Rattle.lapd_link_machine.specs.Usual.{usual_outs};
+ghost use Rattle.lapd_link_machine.specs.Predicted.{predicted_outs};
 ghost use Rattle.lapd_table.specs.LinkId.{id_cmp, id_of_setup, setup_for};
 ghost use Rattle.lapd_table.specs.Index.{IsIndex, ArePlaces, key_of};
 
 use crate::{LinkId, LinkKey, TableFault};
 use lapd_frame::{FrameFault, Number, PredictedKind, Side, read};
-use lapd_link::{Event, GivenOuts, Link, LinkFault, Outs, Refused, UsualOuts};
+use lapd_link::{Event, GivenOuts, Link, LinkFault, Outs, PredictedOuts, Refused};
 use slab::Slab;
 use std::alloc::{AllocError, Global};
 use std::collections::BTreeMap;
@@ -36,7 +36,7 @@ pub struct LinkTable {
 
 impl LinkTable {
     ghost use Rattle.lapd_table.specs.declared.link_id.LinkId.{LinkId};
-    ghost use Rattle.lapd_table.specs.LinkTable.{side_of, link_at, Changes, IsUnchanged, StepsAt, RefusesAt, IsFor, IsKey, NotUsualAt, NotAtOnceAt, HasDispatched, IsForNoLink, IsNotAdded};
+    ghost use Rattle.lapd_table.specs.LinkTable.{side_of, link_at, Changes, IsUnchanged, StepsAt, RefusesAt, IsFor, IsKey, NotPredictedAt, NotAtOnceAt, HasDispatched, IsForNoLink, IsNotAdded};
 
     /// Creates an empty table for links of this side. It allocates nothing until a link is added;
     /// `alloc` is used then.
@@ -356,24 +356,24 @@ impl LinkTable {
         self.handle_under(key.place, key.id, event, outs)
     }
 
-    /// Handles a frame of this kind with this N(R) for the link with this key, if its step is usual
-    /// ([`Link::usual_step`]). For any other frame it returns `None`, and the table is unchanged.
+    /// Handles a frame of this kind with this N(R) for the link with this key, if the link predicts it
+    /// ([`Link::predicted_step`]). For any other frame it returns `None`, and the table is unchanged.
     #[inline(always)]
-    pub fn usual_step_at(
+    pub fn predicted_step_at(
         &mut self,
         key: &LinkKey,
         kind: PredictedKind,
         nr: Number,
-    ) -> Option<UsualOuts>
+    ) -> Option<PredictedOuts>
         requires key { IsKey self.old key.now }
         ensures ok { IfSome result (λ outs. StepsAt self.old self.new key.now.id
-            (Heard (predicted_control kind nr) (predicted_role kind)) (usual_outs outs)) }
-        ensures declined { IfNone result (NotUsualAt self.old key.now.id
+            (Heard (predicted_control kind nr) (predicted_role kind)) (predicted_outs outs)) }
+        ensures declined { IfNone result (NotPredictedAt self.old key.now.id
             (predicted_control kind nr) (predicted_role kind)) }
         ensures unchanged { IfNone result (self.new ≡ self.old) }
         ensures key { IsKey self.new key.now }
     {
-        self.links[key.place].usual_step(kind, nr)
+        self.links[key.place].predicted_step(kind, nr)
     }
 
     /// A message with these octets, to be submitted to the link with this key. It is in the room of

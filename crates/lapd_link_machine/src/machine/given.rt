@@ -10,7 +10,7 @@ ghost use Rattle.lapd_link_definition.specs.End.{End, StepState, begin};
 ghost use Rattle.lapd_link_definition.specs.Procedures.{ensure_t200, queue_up};
 ghost use Rattle.lapd_link_definition.specs.declared.out.Out.{Out};
 ghost use Rattle.lapd_link_machine.specs.Given.{given_outs, send_outs, sends_at_once};
-ghost use Rattle.lapd_link_machine.specs.Usual.{is_idle_machine, IsIdle};
+ghost use Rattle.lapd_link_machine.specs.Predicted.{is_idle_machine, IsIdle};
 
 use crate::machine::Machine;
 use lapd_frame::MessageField;

@@ -257,7 +257,7 @@ impl Machine {
     ghost use Rattle.lapd_link_machine.specs.Sent.{SentAreOutstanding, IsTaken};
     ghost use Rattle.lapd_link_machine.specs.Bounds.{primitive_count};
     ghost use Rattle.lapd_link_machine.specs.Represents.{Represents, MachineDoes, DoesQuietly, HasOutputRoom, Grows};
-    ghost use Rattle.lapd_link_machine.specs.Usual.{IsIdle};
+    ghost use Rattle.lapd_link_machine.specs.Predicted.{IsIdle};
 
     /// Queues a message, or returns it if the queue is full.
     #[tactic(auto, using(crate::proofs::Tails::tails), unfolding(lapd_link_definition::specs::Procedures::queue_up))]

@@ -157,7 +157,7 @@ net 64
 shows: network;discarded 0;next 1009;holds 64;
 exact: yes
 
-# the usual frames of state 7, and some that are not: a final, a frame out of sequence, a busy peer
+# the predicted frames of state 7, and some that are not: a final, a frame out of sequence, a busy peer
 net 64 packets
 0 take 00817f: 008173;0 64 established;
 0 take 40817f: 408173;16 64 established;

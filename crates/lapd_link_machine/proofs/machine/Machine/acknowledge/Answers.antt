@@ -2,7 +2,7 @@ use Rattle.std.proofs.Common.{sym, ap, ◌∙◌, List, ◌++◌, append-nil}
 use Rattle.lapd_link_definition.specs.declared.out.Out.{Out}
 use Rattle.lapd_link_definition.specs.declared.out.Out.TheVariants.{Acknowledged}
 use Rattle.lapd_link_machine.proofs.Tails.{counted_above, counted_none}
-use Rattle.lapd_link_machine.proofs.Usual.{same_outs}
+use Rattle.lapd_link_machine.proofs.Predicted.{same_outs}
 use Rattle.lapd_link_machine.proofs.machine.Machine.acknowledge.Goals as goal
 
 pub returns-then-count-gt0-clause-step : goal.returns-then-count-gt0-clause-step

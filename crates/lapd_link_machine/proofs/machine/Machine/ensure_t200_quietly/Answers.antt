@@ -6,7 +6,7 @@ use Rattle.lapd_link_definition.specs.End.{StepState}
 use Rattle.lapd_link_definition.specs.Procedures.{out_where}
 use Rattle.lapd_link_machine.specs.Represents.{Represents}
 use Rattle.lapd_link_machine.proofs.Guards.{guard_starts, guard_runs}
-use Rattle.lapd_link_machine.proofs.Usual.{two_behind, none_behind, same_outs}
+use Rattle.lapd_link_machine.proofs.Predicted.{two_behind, none_behind, same_outs}
 use Rattle.lapd_link_machine.proofs.machine.Machine.ensure_t200_quietly.Goals as goal
 
 pub returns-then-self : goal.returns-then-self

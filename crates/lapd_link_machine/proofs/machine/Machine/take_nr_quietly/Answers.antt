@@ -2,7 +2,7 @@ use Rattle.std.proofs.Common.{◌≡◌, ◌==◌, true, false, sym, ap, ◌∙�
 use Rattle.lapd_supervision.specs.StateVariables.{StateVariables, acknowledges_all}
 use Rattle.lapd_link_definition.specs.Established.{acknowledge_with_timers}
 use Rattle.lapd_link_machine.proofs.Rows.{then_row, else_row}
-use Rattle.lapd_link_machine.proofs.Usual.{three_behind, two_behind, none_behind, same_outs}
+use Rattle.lapd_link_machine.proofs.Predicted.{three_behind, two_behind, none_behind, same_outs}
 use Rattle.lapd_link_machine.proofs.machine.Machine.take_nr_quietly.Goals as goal
 
 pub returns-then-taken-clause-step : goal.returns-then-taken-clause-step

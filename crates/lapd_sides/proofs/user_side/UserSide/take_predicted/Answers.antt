@@ -3,7 +3,7 @@ use Rattle.lapd_frame.specs.Frame.{Fields}
 use Rattle.lapd_frame.specs.PredictedFrame.{predicted_fields}
 use Rattle.lapd_frame.specs.declared.Side.TheVariants as side
 use Rattle.lapd_frame.specs.declared.frame_fault.FrameFault.{FrameFault}
-use Rattle.lapd_sides.specs.Shows.{are_taken_usually}
+use Rattle.lapd_sides.specs.Shows.{are_predicted}
 use Rattle.lapd_sides.specs.User.{user_takes, received}
 use Rattle.lapd_sides.specs.ShowsUser.{HasDone}
 use Rattle.lapd_sides.proofs.Predicted.{not_read_as_predictable, predicted_is_no_message, predicted_is_not_for_layer_3}
@@ -30,7 +30,7 @@ returns-in-Some-clause-taken c = λ is config s shown.
 
 pub returns-in-Some-clause-declined : goal.returns-in-Some-clause-declined
 returns-in-Some-clause-declined c = λ is config s shown.
-    subst (λ (r : Result Fields FrameFault). are_taken_usually r s.served.links ≡ false)
+    subst (λ (r : Result Fields FrameFault). are_predicted r s.served.links ≡ false)
     (sym c.in-Some.ensures.found)
     (c.receive_predicted.ensures.declined is side.User s.served.links shown.served.links)
 

@@ -1,9 +1,9 @@
 use Rattle.std.proofs.Common.{refl, subst}
 use Rattle.lapd_frame.specs.PredictedFrame.{predicted_control, predicted_role}
 use Rattle.lapd_table.specs.declared.link_id.LinkId.{LinkId}
-use Rattle.lapd_sides_links.specs.Links.{takes_usually}
+use Rattle.lapd_sides_links.specs.Links.{predicts}
 use Rattle.lapd_sides_links.specs.Shown.{LinksHaveNone}
-use Rattle.lapd_sides_links.proofs.Predicted.{do_as_found, no_link}
+use Rattle.lapd_sides_links.proofs.Predictions.{do_as_found, no_link}
 use Rattle.lapd_sides_links.proofs.link_set.LinkSet.act_predicted.Goals as goal
 
 pub returns-in-Some-clause-ok : goal.returns-in-Some-clause-ok
@@ -16,7 +16,7 @@ returns-in-Some-clause-ok c = λ is.
 pub returns-in-Some-clause-declined : goal.returns-in-Some-clause-declined
 returns-in-Some-clause-declined c = λ is.
     let frame = c.args.frame.now in
-    subst (λ (i : LinkId). LinksHaveNone c.args.self.now (λ links. takes_usually
+    subst (λ (i : LinkId). LinksHaveNone c.args.self.now (λ links. predicts
     (predicted_control frame.kind frame.nr) (predicted_role frame.kind) (links i)))
     c.in-Some.ensures.found.0 (c.act_predicted_at.ensures.declined is)
 

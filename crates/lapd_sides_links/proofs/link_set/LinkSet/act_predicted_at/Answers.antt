@@ -1,20 +1,20 @@
 use Rattle.lapd_frame.specs.PredictedFrame.{predicted_control, predicted_role}
 use Rattle.lapd_link_definition.specs.Input.{Heard}
-use Rattle.lapd_link_machine.specs.Usual.{usual_outs}
+use Rattle.lapd_link_machine.specs.Predicted.{predicted_outs}
 use Rattle.lapd_sides_links.proofs.Acting.{have_acted}
-use Rattle.lapd_sides_links.proofs.Predicted.{none_taken}
+use Rattle.lapd_sides_links.proofs.Predictions.{none_taken}
 use Rattle.lapd_sides_links.proofs.link_set.LinkSet.act_predicted_at.Goals as goal
 
 pub returns-in-Some-clause-ok : goal.returns-in-Some-clause-ok
 returns-in-Some-clause-ok c = λ is side links shown.
     let frame = c.args.frame.now in
-    have_acted side c.args.self.now c.carry_out_usual.new.self c.usual_step_at.new.self links
+    have_acted side c.args.self.now c.carry_out_predicted.new.self c.predicted_step_at.new.self links
     c.args.key.now.id c.args.now
     (Heard (predicted_control frame.kind frame.nr) (predicted_role frame.kind)) frame.info.now
-    (usual_outs c.in-Some.outs) c.args.acts.now c.carry_out_usual.new.acts
-    c.in-Some.ensures.ok c.carry_out_usual.ensures.table c.carry_out_usual.ensures.own
-    c.carry_out_usual.ensures.others c.carry_out_usual.ensures.frames
-    c.carry_out_usual.ensures.primitives c.requires.fits shown
+    (predicted_outs c.in-Some.outs) c.args.acts.now c.carry_out_predicted.new.acts
+    c.in-Some.ensures.ok c.carry_out_predicted.ensures.table c.carry_out_predicted.ensures.own
+    c.carry_out_predicted.ensures.others c.carry_out_predicted.ensures.frames
+    c.carry_out_predicted.ensures.primitives c.requires.fits shown
 
 pub returns-in-None-clause-declined : goal.returns-in-None-clause-declined
 returns-in-None-clause-declined c = λ is.

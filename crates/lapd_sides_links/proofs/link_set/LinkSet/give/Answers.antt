@@ -3,13 +3,13 @@ use Rattle.std.proofs.Common.{Err, refl, sym, ap, ◌∙◌}
 use Rattle.lapd_link_definition.specs.Input.{Give}
 use Rattle.lapd_table.proofs.Tables.{on_ok, on_err, if_err}
 use Rattle.lapd_sides_links.proofs.Acting.{no_link}
-use Rattle.lapd_sides_links.proofs.Predicted.{room_for_usual}
-use Rattle.lapd_sides_links.proofs.UsualSteps.{still_do, still_refuse, still_as_before}
+use Rattle.lapd_sides_links.proofs.Predictions.{room_for_predicted}
+use Rattle.lapd_sides_links.proofs.PredictedSteps.{still_do, still_refuse, still_as_before}
 use Rattle.lapd_sides_links.proofs.GivenSteps.{do_as_given, refuse_as_given}
 use Rattle.lapd_sides_links.proofs.link_set.LinkSet.give.Goals as goal
 
 pub give_at_once-requires-clause-room : goal.give_at_once-requires-clause-room
-give_at_once-requires-clause-room c = room_for_usual (Give c.args.message.items) c.args.acts.now c.requires.room
+give_at_once-requires-clause-room c = room_for_predicted (Give c.args.message.items) c.args.acts.now c.requires.room
 
 pub returns-in_default-clause-err : goal.returns-in_default-clause-err
 returns-in_default-clause-err c = λ side links shown.

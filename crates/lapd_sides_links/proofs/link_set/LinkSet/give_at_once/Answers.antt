@@ -3,7 +3,7 @@ use Rattle.std.proofs.Common.{[], arith}
 use Rattle.lapd_link_definition.specs.Input.{Give}
 use Rattle.lapd_link_machine.specs.Given.{given_outs}
 use Rattle.lapd_sides_links.proofs.Acting.{have_acted}
-use Rattle.lapd_sides_links.proofs.Predicted.{none_given}
+use Rattle.lapd_sides_links.proofs.Predictions.{none_given}
 use Rattle.lapd_sides_links.proofs.link_set.LinkSet.give_at_once.Goals as goal
 
 pub returns-in-Ok-clause-ok : goal.returns-in-Ok-clause-ok

@@ -1,10 +1,10 @@
 use Rattle.std.proofs.Common.{◌≡◌, ℕ, Bool, true, false, Option, option_map, ◌∙◌}
 use Rattle.lapd_timers.specs.Due.{Timers}
 use Rattle.lapd_timers.specs.declared.timer.Timer.TheVariants.{T200, T203}
-use Rattle.lapd_link_machine.specs.declared.machine.usual.NrEffect.TheVariants.{All}
-use Rattle.lapd_link_machine.specs.Usual.{nr_outs}
+use Rattle.lapd_link_machine.specs.declared.machine.predicted.NrEffect.TheVariants.{All}
+use Rattle.lapd_link_machine.specs.Predicted.{nr_outs}
 use Rattle.lapd_sides_links.specs.Effects.{restart_outs, timed}
-use Rattle.lapd_sides_links.proofs.UsualSteps.{all_timed, part_timed, none_timed}
+use Rattle.lapd_sides_links.proofs.PredictedSteps.{all_timed, part_timed, none_timed}
 use Rattle.lapd_sides_links.proofs.link_timers.LinkTimers.apply_nr.Goals as goal
 
 by_stops : (now count : ℕ) (stops : Bool) (timers : Option Timers) → option_map (timed now (restart_outs stops T200 T203)) timers ≡ option_map (timed now (nr_outs (All count stops))) timers
