@@ -90,14 +90,10 @@ begun_in r TimerRecovery input s h = begun_8 r input s h
 by_state_alone : (r : Reading) (state : State) (input : Input) (s : StepState) → begins state s.end.release_pending input ≡ true → row r state input s ≡ by_state r state input s
 unfolding row
 by_state_alone r TeiAssigned (Heard (Sabme p) Command) s h = refl
-by_state_alone r TeiAssigned input s h = cc
 by_state_alone r AwaitingEstablishment (Heard (Ua true) Answer) s h = refl
-by_state_alone r AwaitingEstablishment input s h = cc
-by_state_alone r AwaitingRelease input s h = cc
 by_state_alone r MultipleFrameEstablished (Heard (Sabme p) Command) s h = refl
-by_state_alone r MultipleFrameEstablished input s h = cc
 by_state_alone r TimerRecovery (Heard (Sabme p) Command) s h = refl
-by_state_alone r TimerRecovery input s h = cc
+by_state_alone r state input s h = cc
 
 begun_by_row : (r : Reading) (input : Input) (e : End) → begins e.state e.release_pending input ≡ true → HasBegun e (row r e.state input (begin e)).end
 unfolding begin

@@ -21,6 +21,7 @@ use Rattle.lapd_link_definition.specs.Procedures.{out_where, state_to, rc_to, ex
 use Rattle.lapd_link_definition.specs.Refusal.{refused}
 use Rattle.lapd_link_definition.specs.Sound.{AreOutstanding, IsSoundIn, IsSound}
 use Rattle.lapd_link_definition.specs.Table.{by_state, row, step}
+use Rattle.lapd_link_definition.proofs.EachAction.{either}
 use Rattle.lapd_link_definition.proofs.PreservedByStep.{taken, row_preserves_parameters}
 use Rattle.lapd_link_definition.proofs.OrderOfStep.{AreSilent, placed_both, silent_row}
 use Rattle.lapd_link_definition.proofs.Sending.{both_true, below}
@@ -49,10 +50,6 @@ with_timers waiting false false outs h = placed_both waiting (outs ++ []) (Start
 abbrev AllThere : StepState → Type 0
 AllThere s = ArePlaced (waiting s.end) s.outs
 
-by_test : (test : Bool) (x y : StepState) → (test ≡ true → AllThere x) → (test ≡ false → AllThere y) → AllThere (if test then x else y)
-by_test true x y one other = one refl
-by_test false x y one other = other refl
-
 -- ---- The last message is retransmitted.
 
 some_steps : (r : Reading) (m : StateVariables) → AreNumbers r m → reaches r m.va m.vs ≡ true → (m.vs == m.va) ≡ false → 0 < steps r m.va m.vs
@@ -73,7 +70,7 @@ sends_other LastMessage m h = is_false (m.vs == m.va) (both_true (not m.peer_bus
 
 t200_there : (r : Reading) (e : End) → AreOutstanding r e.first e.next (length e.given) e.window.va e.window.vs → AreNumbers r e.window → AllThere (established_t200 r (begin e))
 unfolding established_t200 begin expired retransmit_last_i_frame transmit_enquiry rc_to state_to
-t200_there r e o numbers = by_test (sends_last e.parameters.recovery e.window) _ _
+t200_there r e o numbers = either AllThere (sends_last e.parameters.recovery e.window) _ _
     (λ last. (last_is_there e.first e.next (length e.given) (steps r e.window.va e.window.vs) o.places (some_steps r e.window numbers o.reached (sends_other e.parameters.recovery e.window last)) o.within, (tt, tt)))
     (λ _. (tt, (tt, tt)))
 
@@ -83,7 +80,8 @@ begins_there e = tt
 
 t200_row_there : (r : Reading) (e : End) → AreOutstanding r e.first e.next (length e.given) e.window.va e.window.vs → AreNumbers r e.window → AllThere (row r MultipleFrameEstablished (Expiry T200) (begin e))
 unfolding row by_state multiple_frame_established
-t200_row_there r e o numbers = by_test (runs T200 (begin e).end) _ _ (λ _. t200_there r e o numbers) (λ _. begins_there e)
+t200_row_there r e o numbers =
+    either AllThere (runs T200 (begin e).end) _ _ (λ _. t200_there r e o numbers) (λ _. begins_there e)
 
 -- ---- A row, the end of a step, and a whole step.
 
@@ -112,8 +110,9 @@ same_parameters r s small = small
 send_all_there : (r : Reading) (n : ℕ) (s : StepState) → s.end.parameters.k ≤ 127 → IsSound r s.end → AllThere s → AllThere (send_all r n s)
 unfolding send_all
 send_all_there r zero s small sound h = h
-send_all_there r (suc n) s small sound h = by_test (may_send_next r s) (send_all r n (send_next r s)) s
-    (λ go. send_all_there r n (send_next r s) (same_parameters r s small) (sound_send_next r s small go sound) (send_next_there r s go sound h)) (λ _. h)
+send_all_there r (suc n) s small sound h = either AllThere (may_send_next r s) _ s
+    (λ go. send_all_there r n (send_next r s) (same_parameters r s small)
+    (sound_send_next r s small go sound) (send_next_there r s go sound h)) (λ _. h)
 
 rr_there : (s : StepState) → AllThere s → AllThere (transmit_rr s)
 unfolding transmit_rr
@@ -122,9 +121,10 @@ rr_there s h = placed_both (waiting s.end) s.outs (Send Answer (acknowledgement 
 close_there : (r : Reading) (s : StepState) → s.end.parameters.k ≤ 127 → IsSound r s.end → AllThere s → AllThere (end_step r s)
 unfolding end_step acknowledge_pending
 close_there r s small sound h =
+    let t = send_all r (unsent s.end) s in
     let sent = send_all_there r (unsent s.end) s small sound h in
-    by_test (is_7_or_8 (send_all r (unsent s.end) s).end.state && (send_all r (unsent s.end) s).end.window.ack_pending) (transmit_rr (send_all r (unsent s.end) s)) (send_all r (unsent s.end) s)
-    (λ _. rr_there (send_all r (unsent s.end) s) sent) (λ _. sent)
+    either AllThere (is_7_or_8 t.end.state && t.end.window.ack_pending) _ t
+    (λ _. rr_there t sent) (λ _. sent)
 
 pub messages_are_there : (r : Reading) (input : Input) (e : End) (s : StepState) → e.parameters.k ≤ 127 → IsSound r e → AreNumbers r e.window → step r input e ≡ Ok s → ArePlaced (length s.end.given - s.end.first) s.outs
 unfolding step begin

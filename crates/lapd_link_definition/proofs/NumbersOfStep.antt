@@ -30,18 +30,12 @@ tagged_both (x ∷ xs) ys hx hy = (hx.0, tagged_both xs ys hx.1 hy)
 put_is_tagged : (out : Out) → IsPut out → AreNumbered Tagged (out ∷ [])
 put_is_tagged (Send role control) h = (h.1, tt)
 put_is_tagged SendUnit h = (tt, tt)
-put_is_tagged UnitUp h = absurd h
 put_is_tagged Established h = (tt, tt)
 put_is_tagged Confirmed h = (tt, tt)
 put_is_tagged Released h = (tt, tt)
 put_is_tagged ReleaseConfirm h = (tt, tt)
 put_is_tagged (Report letter) h = (tt, tt)
-put_is_tagged (SendMessage place control) h = absurd h
-put_is_tagged Up h = absurd h
-put_is_tagged (Acknowledged n) h = absurd h
-put_is_tagged (Dropped n) h = absurd h
-put_is_tagged (Start timer) h = absurd h
-put_is_tagged (Stop timer) h = absurd h
+put_is_tagged out h = absurd h
 
 tagged_where : (on : Bool) (out : Out) → IsNumbered Tagged out → AreNumbered Tagged (out_where on out)
 tagged_where true out h = (h, tt)

@@ -31,54 +31,24 @@ AreSilent outs = ArePlaced 0 outs
 none_is_first : (outs : List Out) → AreSilent outs → AreCountedFirst outs
 none_is_first [] h = tt
 none_is_first (SendMessage place control ∷ outs) h = absurd (omega (arith, h.0))
-none_is_first (Send role control ∷ outs) h = none_is_first outs h.1
-none_is_first (SendUnit ∷ outs) h = none_is_first outs h.1
-none_is_first (Up ∷ outs) h = none_is_first outs h.1
-none_is_first (UnitUp ∷ outs) h = none_is_first outs h.1
-none_is_first (Established ∷ outs) h = none_is_first outs h.1
-none_is_first (Confirmed ∷ outs) h = none_is_first outs h.1
-none_is_first (Released ∷ outs) h = none_is_first outs h.1
-none_is_first (ReleaseConfirm ∷ outs) h = none_is_first outs h.1
-none_is_first (Acknowledged n ∷ outs) h = none_is_first outs h.1
-none_is_first (Dropped n ∷ outs) h = none_is_first outs h.1
-none_is_first (Start timer ∷ outs) h = none_is_first outs h.1
-none_is_first (Stop timer ∷ outs) h = none_is_first outs h.1
-none_is_first (Report letter ∷ outs) h = none_is_first outs h.1
+none_is_first (out ∷ outs) h = none_is_first outs h.1
 
 first_both : (xs ys : List Out) → AreCountedFirst xs → leaving ys ≡ 0 → AreCountedFirst ys → AreCountedFirst (xs ++ ys)
 first_both [] ys hx none hy = hy
 first_both (SendMessage place control ∷ xs) ys hx none hy = (omega (arith, leaving_both xs ys, hx.0, none), first_both xs ys hx.1 none hy)
-first_both (Send role control ∷ xs) ys hx none hy = first_both xs ys hx none hy
-first_both (SendUnit ∷ xs) ys hx none hy = first_both xs ys hx none hy
-first_both (Up ∷ xs) ys hx none hy = first_both xs ys hx none hy
-first_both (UnitUp ∷ xs) ys hx none hy = first_both xs ys hx none hy
-first_both (Established ∷ xs) ys hx none hy = first_both xs ys hx none hy
-first_both (Confirmed ∷ xs) ys hx none hy = first_both xs ys hx none hy
-first_both (Released ∷ xs) ys hx none hy = first_both xs ys hx none hy
-first_both (ReleaseConfirm ∷ xs) ys hx none hy = first_both xs ys hx none hy
-first_both (Acknowledged n ∷ xs) ys hx none hy = first_both xs ys hx none hy
-first_both (Dropped n ∷ xs) ys hx none hy = first_both xs ys hx none hy
-first_both (Start timer ∷ xs) ys hx none hy = first_both xs ys hx none hy
-first_both (Stop timer ∷ xs) ys hx none hy = first_both xs ys hx none hy
-first_both (Report letter ∷ xs) ys hx none hy = first_both xs ys hx none hy
+first_both (x ∷ xs) ys hx none hy = first_both xs ys hx none hy
 
 -- ---- Outputs without a message.
 
 put_sends_none : (out : Out) → IsPut out → AreSilent (out ∷ [])
-put_sends_none (Send role control) h = (tt, tt)
-put_sends_none SendUnit h = (tt, tt)
 put_sends_none UnitUp h = absurd h
-put_sends_none Established h = (tt, tt)
-put_sends_none Confirmed h = (tt, tt)
-put_sends_none Released h = (tt, tt)
-put_sends_none ReleaseConfirm h = (tt, tt)
-put_sends_none (Report letter) h = (tt, tt)
 put_sends_none (SendMessage place control) h = absurd h
 put_sends_none Up h = absurd h
 put_sends_none (Acknowledged n) h = absurd h
 put_sends_none (Dropped n) h = absurd h
 put_sends_none (Start timer) h = absurd h
 put_sends_none (Stop timer) h = absurd h
+put_sends_none out h = (tt, tt)
 
 none_where : (on : Bool) (out : Out) → AreSilent (out ∷ []) → AreSilent (out_where on out)
 none_where true out h = h

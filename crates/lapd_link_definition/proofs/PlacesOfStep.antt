@@ -24,36 +24,19 @@ pub leaving_both : (xs ys : List Out) → leaving (xs ++ ys) ≡ leaving xs + le
 leaving_both [] ys = omega arith
 leaving_both (Acknowledged n ∷ xs) ys = omega (arith, leaving_both xs ys)
 leaving_both (Dropped n ∷ xs) ys = omega (arith, leaving_both xs ys)
-leaving_both (Send role control ∷ xs) ys = leaving_both xs ys
-leaving_both (SendMessage place control ∷ xs) ys = leaving_both xs ys
-leaving_both (SendUnit ∷ xs) ys = leaving_both xs ys
-leaving_both (Up ∷ xs) ys = leaving_both xs ys
-leaving_both (UnitUp ∷ xs) ys = leaving_both xs ys
-leaving_both (Established ∷ xs) ys = leaving_both xs ys
-leaving_both (Confirmed ∷ xs) ys = leaving_both xs ys
-leaving_both (Released ∷ xs) ys = leaving_both xs ys
-leaving_both (ReleaseConfirm ∷ xs) ys = leaving_both xs ys
-leaving_both (Start timer ∷ xs) ys = leaving_both xs ys
-leaving_both (Stop timer ∷ xs) ys = leaving_both xs ys
-leaving_both (Report letter ∷ xs) ys = leaving_both xs ys
+leaving_both (x ∷ xs) ys = leaving_both xs ys
 
 -- ---- Outputs that remove no message.
 
 put_leaves_none : (out : Out) → IsPut out → leaving (out ∷ []) ≡ 0
-put_leaves_none (Send role control) h = refl
-put_leaves_none SendUnit h = refl
 put_leaves_none UnitUp h = absurd h
-put_leaves_none Established h = refl
-put_leaves_none Confirmed h = refl
-put_leaves_none Released h = refl
-put_leaves_none ReleaseConfirm h = refl
-put_leaves_none (Report letter) h = refl
 put_leaves_none (SendMessage place control) h = absurd h
 put_leaves_none Up h = absurd h
 put_leaves_none (Acknowledged n) h = absurd h
 put_leaves_none (Dropped n) h = absurd h
 put_leaves_none (Start timer) h = absurd h
 put_leaves_none (Stop timer) h = absurd h
+put_leaves_none out h = refl
 
 none_where : (on : Bool) (out : Out) → leaving (out ∷ []) ≡ 0 → leaving (out_where on out) ≡ 0
 none_where true out h = h

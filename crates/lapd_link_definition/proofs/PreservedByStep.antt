@@ -41,19 +41,7 @@ well_formed_both (x ∷ xs) ys hx hy = (hx.0, well_formed_both xs ys hx.1 hy)
 pub ups_both : (xs ys : List Out) → ups (xs ++ ys) ≡ ups xs + ups ys
 ups_both [] ys = omega arith
 ups_both (Up ∷ xs) ys = omega (arith, ups_both xs ys)
-ups_both (Send role control ∷ xs) ys = ups_both xs ys
-ups_both (SendMessage place control ∷ xs) ys = ups_both xs ys
-ups_both (SendUnit ∷ xs) ys = ups_both xs ys
-ups_both (UnitUp ∷ xs) ys = ups_both xs ys
-ups_both (Established ∷ xs) ys = ups_both xs ys
-ups_both (Confirmed ∷ xs) ys = ups_both xs ys
-ups_both (Released ∷ xs) ys = ups_both xs ys
-ups_both (ReleaseConfirm ∷ xs) ys = ups_both xs ys
-ups_both (Acknowledged n ∷ xs) ys = ups_both xs ys
-ups_both (Dropped n ∷ xs) ys = ups_both xs ys
-ups_both (Start timer ∷ xs) ys = ups_both xs ys
-ups_both (Stop timer ∷ xs) ys = ups_both xs ys
-ups_both (Report letter ∷ xs) ys = ups_both xs ys
+ups_both (x ∷ xs) ys = ups_both xs ys
 
 quiet_both : (xs ys : List Out) → AreQuiet xs → AreQuiet ys → AreQuiet (xs ++ ys)
 quiet_both xs ys hx hy = (well_formed_both xs ys hx.0 hy.0, omega (arith, ups_both xs ys, hx.1, hy.1))
@@ -65,18 +53,12 @@ quiet_where false out h = (tt, refl)
 put_is_quiet : (out : Out) → IsPut out → AreQuiet (out ∷ [])
 put_is_quiet (Send role control) h = ((h.0, tt), refl)
 put_is_quiet SendUnit h = ((tt, tt), refl)
-put_is_quiet UnitUp h = absurd h
 put_is_quiet Established h = ((tt, tt), refl)
 put_is_quiet Confirmed h = ((tt, tt), refl)
 put_is_quiet Released h = ((tt, tt), refl)
 put_is_quiet ReleaseConfirm h = ((tt, tt), refl)
 put_is_quiet (Report letter) h = ((tt, tt), refl)
-put_is_quiet (SendMessage place control) h = absurd h
-put_is_quiet Up h = absurd h
-put_is_quiet (Acknowledged n) h = absurd h
-put_is_quiet (Dropped n) h = absurd h
-put_is_quiet (Start timer) h = absurd h
-put_is_quiet (Stop timer) h = absurd h
+put_is_quiet out h = absurd h
 
 status_in : (role : Role) (busy pf : Bool) (n : ℕ) → content_fault role (if busy then Rnr n pf else Rr n pf) 0 ≡ None
 status_in Command true pf n = refl

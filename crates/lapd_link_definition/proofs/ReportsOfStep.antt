@@ -24,15 +24,12 @@ use Rattle.lapd_link_definition.specs.Reports.{IsExpectedOut, AreExpected, IsDue
 use Rattle.lapd_link_definition.specs.Table.{by_state, is_unit_data, row, step}
 use Rattle.lapd_link_definition.specs.TeiAssigned.{tei_assigned}
 use Rattle.lapd_link_definition.specs.TimerRecovery.{poll, is_final, i_frame_nr_in_recovery, rr_nr_in_recovery, rnr_nr_in_recovery, timer_recovery_t200, timer_recovery}
+use Rattle.lapd_link_definition.proofs.EachAction.{either}
 use Rattle.lapd_link_definition.proofs.PreservedByStep.{taken}
 
 -- no other error is reported so far
 abbrev P : StepState → Type 0
 P s = AreExpected s.outs
-
-either : (F : StepState → Type 0) (test : Bool) (x y : StepState) → (test ≡ true → F x) → (test ≡ false → F y) → F (if test then x else y)
-either F true x y one other = one refl
-either F false x y one other = other refl
 
 -- ---- Outputs.
 

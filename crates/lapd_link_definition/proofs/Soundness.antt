@@ -361,11 +361,8 @@ sound_row r state (Give message) s q sound = sound_by_state r state (Give messag
 -- ---- The end of a step.
 
 pub established_is : (state : State) → is_established state ≡ true → state ≡ MultipleFrameEstablished
-established_is TeiAssigned h = cc
-established_is AwaitingEstablishment h = cc
-established_is AwaitingRelease h = cc
 established_is MultipleFrameEstablished h = refl
-established_is TimerRecovery h = cc
+established_is state h = cc
 
 pub sound_send_next : (r : Reading) (s : StepState) → s.end.parameters.k ≤ 127 → may_send_next r s ≡ true → SoundAfter r s → SoundAfter r (send_next r s)
 unfolding transmit_i_frame ensure_t200

@@ -76,10 +76,7 @@ row_on_tags state input s sound reception = by_state_on_tags state input s sound
 allowed_on_tags : (state : State) (e : End) → IsSoundIn Whole state e
     → (is_established state && (may_send Tagged e.parameters.k (tag_variables e.window) && nat_lt e.next (length e.given))) ≡ (is_established state && (may_send Whole e.parameters.k e.window && nat_lt e.next (length e.given)))
 allowed_on_tags MultipleFrameEstablished e sound = rw (may_send_on_tags e.parameters.k e.window (window_of e.first e.next (length e.given) e.window.va e.window.vs sound)) refl
-allowed_on_tags TeiAssigned e sound = refl
-allowed_on_tags AwaitingEstablishment e sound = refl
-allowed_on_tags AwaitingRelease e sound = refl
-allowed_on_tags TimerRecovery e sound = refl
+allowed_on_tags state e sound = refl
 
 may_send_next_on_tags : (s : StepState) → IsSound Whole s.end → may_send_next Tagged (tag_step_state s) ≡ may_send_next Whole s
 unfolding tag_step_state

@@ -31,20 +31,9 @@ pub alone : (outs : List Out) (t u : Bool) → AreNoTimers outs → FollowOuts t
 alone outs t u none = record { t200_follows = sym (none T200 t); t203_follows = sym (none T203 u); t201_stays = none T201; t202_stays = none T202 }
 
 pub put_is_no_timer : (out : Out) → IsPut out → AreNoTimers (out ∷ [])
-put_is_no_timer (Send role control) h timer running = refl
-put_is_no_timer SendUnit h timer running = refl
-put_is_no_timer UnitUp h timer running = refl
-put_is_no_timer Established h timer running = refl
-put_is_no_timer Confirmed h timer running = refl
-put_is_no_timer Released h timer running = refl
-put_is_no_timer ReleaseConfirm h timer running = refl
-put_is_no_timer (Report letter) h timer running = refl
-put_is_no_timer (SendMessage place control) h timer running = refl
-put_is_no_timer Up h timer running = refl
-put_is_no_timer (Acknowledged n) h timer running = refl
-put_is_no_timer (Dropped n) h timer running = refl
 put_is_no_timer (Start started) h timer running = absurd h
 put_is_no_timer (Stop stopped) h timer running = absurd h
+put_is_no_timer out h timer running = refl
 
 pub where_is_no_timer : (test : Bool) (out : Out) → AreNoTimers (out ∷ []) → AreNoTimers (out_where test out)
 where_is_no_timer true out none timer running = none timer running

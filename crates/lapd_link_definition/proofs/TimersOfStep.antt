@@ -71,11 +71,8 @@ abbrev Allowed : State → Bool → Bool → Bool → Type 0
 Allowed q t u level = AreTimersOf q t u (level ≡ true)
 
 are_timers : {X Y : Type 0} (q : State) (t u : Bool) → (X → Y) → AreTimersOf q t u X → AreTimersOf q t u Y
-are_timers TeiAssigned t u follows a = a
-are_timers AwaitingEstablishment t u follows a = a
-are_timers AwaitingRelease t u follows a = a
 are_timers MultipleFrameEstablished t u follows a = (a.0, λ off. follows (a.1 off))
-are_timers TimerRecovery t u follows a = a
+are_timers state t u follows a = a
 
 as_known : (X : Type 0) (q state : State) (t u t200 t203 : Bool) → state ≡ q → t200 ≡ t → t203 ≡ u → AreTimersOf q t u X → AreTimersOf state t200 t203 X
 as_known X q state t u t200 t203 one two three h =
@@ -101,10 +98,7 @@ both_off false u h = refl
 
 sent_timers : (X Y : Type 0) (state : State) (t u : Bool) → is_established state ≡ true → AreTimersOf state t u X → AreTimersOf state true (t && u) Y
 sent_timers X Y MultipleFrameEstablished t u is h = (both_off t u h.0, λ off. cc)
-sent_timers X Y TeiAssigned t u is h = cc
-sent_timers X Y AwaitingEstablishment t u is h = cc
-sent_timers X Y AwaitingRelease t u is h = cc
-sent_timers X Y TimerRecovery t u is h = cc
+sent_timers X Y state t u is h = cc
 
 module _ (r : Reading) (b c : Bool) (Numbers : Type 0) where
   abbrev P : State → Bool → Bool → Bool → StepState → Type 0
@@ -557,45 +551,29 @@ level_of MultipleFrameEstablished t = not t
 level_of state t = false
 
 at_first : (X : Type 0) (state : State) (t u : Bool) → AreTimersOf state t u X → Allowed state t u (level_of state t)
-at_first X TeiAssigned t u h = h
-at_first X AwaitingEstablishment t u h = h
-at_first X AwaitingRelease t u h = h
 at_first X MultipleFrameEstablished t u h = (h.0, λ off. ap not off)
-at_first X TimerRecovery t u h = h
+at_first X state t u h = h
 
 same_at_first : (X : Type 0) (state : State) (t u : Bool) → AreTimersOf state t u X → level_of state t ≡ true → X
-same_at_first X MultipleFrameEstablished true u h is = cc
 same_at_first X MultipleFrameEstablished false u h is = h.1 refl
-same_at_first X TeiAssigned t u h is = cc
-same_at_first X AwaitingEstablishment t u h is = cc
-same_at_first X AwaitingRelease t u h is = cc
-same_at_first X TimerRecovery t u h is = cc
+same_at_first X state t u h is = cc
 
 none_follow : (b c : Bool) → FollowOuts b c b c []
 none_follow b c = record { t200_follows = refl; t203_follows = refl; t201_stays = λ on. refl; t202_stays = λ on. refl }
 
 -- T200 does not run in state 4, or while T203 runs
 off_203 : (X : Type 0) (state : State) (t u : Bool) → t ≡ true → AreTimersOf state t u X → u ≡ false
-off_203 X TeiAssigned t u on h = h.1
-off_203 X AwaitingEstablishment t u on h = h.1
-off_203 X AwaitingRelease t u on h = h.1
 off_203 X MultipleFrameEstablished t u on h = h.0 ∙ ap not on
-off_203 X TimerRecovery t u on h = h.1
+off_203 X state t u on h = h.1
 
 not_in_4 : (X : Type 0) (state : State) (t u : Bool) → t ≡ true → AreTimersOf state t u X → state ≡ TeiAssigned → ⊥
 not_in_4 X TeiAssigned t u on h is = let off = h.0 in cc
-not_in_4 X AwaitingEstablishment t u on h is = cc
-not_in_4 X AwaitingRelease t u on h is = cc
-not_in_4 X MultipleFrameEstablished t u on h is = cc
-not_in_4 X TimerRecovery t u on h is = cc
+not_in_4 X state t u on h is = cc
 
 -- T203 runs only in state 7
 in_7_alone : (X : Type 0) (F : State → Type 0) (state : State) (t u : Bool) → u ≡ true → AreTimersOf state t u X → F MultipleFrameEstablished → F state
-in_7_alone X F TeiAssigned t u on h in7 = let off = h.1 in cc
-in_7_alone X F AwaitingEstablishment t u on h in7 = let off = h.1 in cc
-in_7_alone X F AwaitingRelease t u on h in7 = let off = h.1 in cc
 in_7_alone X F MultipleFrameEstablished t u on h in7 = in7
-in_7_alone X F TimerRecovery t u on h in7 = let off = h.1 in cc
+in_7_alone X F state t u on h in7 = let off = h.1 in cc
 
 module _ (r : Reading) (Numbers : Type 0) (e : End) (has : HasTimersOfState e) (number : Numbers → IsNumber r e.window.va) where
   same_at : (b c : Bool) → e.t200 ≡ b → e.t203 ≡ c → Walked b c Numbers (begin e)

@@ -21,30 +21,11 @@ use Rattle.lapd_link_definition.proofs.PreservedByStep.{taken}
 units_both : (xs ys : List Out) → unit_ups (xs ++ ys) ≡ unit_ups xs + unit_ups ys
 units_both [] ys = omega arith
 units_both (UnitUp ∷ xs) ys = omega (arith, units_both xs ys)
-units_both (Send role control ∷ xs) ys = units_both xs ys
-units_both (SendMessage place control ∷ xs) ys = units_both xs ys
-units_both (SendUnit ∷ xs) ys = units_both xs ys
-units_both (Up ∷ xs) ys = units_both xs ys
-units_both (Established ∷ xs) ys = units_both xs ys
-units_both (Confirmed ∷ xs) ys = units_both xs ys
-units_both (Released ∷ xs) ys = units_both xs ys
-units_both (ReleaseConfirm ∷ xs) ys = units_both xs ys
-units_both (Acknowledged n ∷ xs) ys = units_both xs ys
-units_both (Dropped n ∷ xs) ys = units_both xs ys
-units_both (Start timer ∷ xs) ys = units_both xs ys
-units_both (Stop timer ∷ xs) ys = units_both xs ys
-units_both (Report letter ∷ xs) ys = units_both xs ys
+units_both (x ∷ xs) ys = units_both xs ys
 
 -- ---- Outputs that deliver no unit data to layer 3.
 
 put_is_none : (out : Out) → IsPut out → unit_ups (out ∷ []) ≡ 0
-put_is_none (Send role control) h = refl
-put_is_none SendUnit h = refl
-put_is_none Established h = refl
-put_is_none Confirmed h = refl
-put_is_none Released h = refl
-put_is_none ReleaseConfirm h = refl
-put_is_none (Report letter) h = refl
 put_is_none (SendMessage place control) h = absurd h
 put_is_none Up h = absurd h
 put_is_none UnitUp h = absurd h
@@ -52,6 +33,7 @@ put_is_none (Acknowledged n) h = absurd h
 put_is_none (Dropped n) h = absurd h
 put_is_none (Start timer) h = absurd h
 put_is_none (Stop timer) h = absurd h
+put_is_none out h = refl
 
 none_where : (on : Bool) (out : Out) → unit_ups (out ∷ []) ≡ 0 → unit_ups (out_where on out) ≡ 0
 none_where true out h = h
