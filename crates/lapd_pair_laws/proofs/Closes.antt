@@ -7,7 +7,7 @@ use Rattle.lapd_mod128.specs.Counting.{Whole, steps, after, before}
 use Rattle.lapd_supervision.specs.StateVariables.{StateVariables, without_ack_pending, may_send, next_i_frame, after_sending, last_i_frame}
 use Rattle.lapd_supervision.proofs.Outstanding.{may_send_leaves_room}
 use Rattle.lapd_link_definition.specs.declared.state.State.{State}
-use Rattle.lapd_link_definition.specs.declared.state.State.TheVariants.{TeiAssigned, AwaitingEstablishment, AwaitingRelease, MultipleFrameEstablished, TimerRecovery}
+use Rattle.lapd_link_definition.specs.declared.state.State.TheVariants.{MultipleFrameEstablished, TimerRecovery}
 use Rattle.lapd_link_definition.specs.declared.out.Out.TheVariants.{SendMessage, Start}
 use Rattle.lapd_link_definition.specs.EndOfStep.{is_7_or_8, is_established, may_send_next, send_next, send_all, acknowledge_pending, end_step}
 use Rattle.lapd_link_definition.specs.End.{StepState, unsent}
@@ -25,10 +25,7 @@ use Rattle.lapd_pair_laws.proofs.Sends.{sending, next_message, preserves_sending
 
 in_state_7 : (state : State) → is_established state ≡ true → state ≡ MultipleFrameEstablished
 in_state_7 MultipleFrameEstablished is = refl
-in_state_7 TeiAssigned is = cc
-in_state_7 AwaitingEstablishment is = cc
-in_state_7 AwaitingRelease is = cc
-in_state_7 TimerRecovery is = cc
+in_state_7 state is = cc
 
 -- a message is sent: its place is counted from the first waiting message
 abbrev message_story : Occasion → ℕ → ℕ → ℕ → Bool → Story → Story

@@ -20,13 +20,10 @@ within_numbering : (s : Sender) → IsNumbering s → s.first ≤ length s.given
 within_numbering s n = omega (arith, n.first, n.next, n.ordered, n.within)
 
 first_within : (state : State) (asked leaving : Bool) (s : Sender) → IsConsistentSender state asked leaving s → s.first ≤ length s.given
-first_within TeiAssigned asked leaving s k = omega (arith, k.first)
-first_within AwaitingEstablishment true leaving s k = omega (arith, k.first)
-first_within AwaitingEstablishment false true s k = omega (arith, k.first)
 first_within AwaitingEstablishment false false s k = omega (arith, k.first, k.next, k.ordered, k.within)
-first_within AwaitingRelease asked leaving s k = omega (arith, k.first)
 first_within MultipleFrameEstablished asked leaving s k = within_numbering s k
 first_within TimerRecovery asked leaving s k = within_numbering s k
+first_within state asked leaving s k = omega (arith, k.first)
 
 -- how many messages are acknowledged or dropped, if all waiting ones are dropped
 abbrev pub all_passed : Sender → ℕ

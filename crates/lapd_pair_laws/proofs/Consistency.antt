@@ -12,7 +12,7 @@ use Rattle.lapd_supervision.specs.StateVariables.{initial_variables}
 use Rattle.lapd_supervision.proofs.Range.{initial_are_tags}
 use Rattle.lapd_link_definition.specs.declared.event.LinkFault.{LinkFault}
 use Rattle.lapd_link_definition.specs.declared.state.State.{State}
-use Rattle.lapd_link_definition.specs.declared.state.State.TheVariants.{TeiAssigned, AwaitingEstablishment, AwaitingRelease, MultipleFrameEstablished, TimerRecovery}
+use Rattle.lapd_link_definition.specs.declared.state.State.TheVariants.{AwaitingEstablishment}
 use Rattle.lapd_link_definition.specs.Begins.{begins}
 use Rattle.lapd_link_definition.specs.EndOfStep.{end_step}
 use Rattle.lapd_link_definition.specs.Counts.{ups, messages_of, accepts}
@@ -48,11 +48,8 @@ awaiting_within r false true first next given va vs h = omega (arith, h.places, 
 awaiting_within r false false first next given va vs h = omega (arith, h.places, h.within)
 
 pub first_within : (r : Reading) (state : State) (e : End) → IsSoundIn r state e → e.first ≤ length e.given
-first_within r TeiAssigned e h = omega (arith, h.places, h.within)
 first_within r AwaitingEstablishment e h = awaiting_within r e.layer3_initiated e.release_pending e.first e.next (length e.given) e.window.va e.window.vs h
-first_within r AwaitingRelease e h = omega (arith, h.places, h.within)
-first_within r MultipleFrameEstablished e h = omega (arith, h.places, h.within)
-first_within r TimerRecovery e h = omega (arith, h.places, h.within)
+first_within r state e h = omega (arith, h.places, h.within)
 
 pub outputs_in_order : (r : Reading) (input : Input) (station : Station) (s : StepState) → IsConsistent r station → step r input station.end ≡ Ok s → AreInOrder s.end station.history.passed s.outs
 outputs_in_order r input station s preserved done = record {

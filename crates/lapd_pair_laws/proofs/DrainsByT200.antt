@@ -4,7 +4,7 @@ use Rattle.lapd_timers.specs.declared.timer.Timer.TheVariants.{T200}
 use Rattle.lapd_frame.specs.declared.Side.TheVariants as side
 use Rattle.lapd_mod128.specs.Counting.{Whole}
 use Rattle.lapd_link_definition.specs.declared.state.State.{State}
-use Rattle.lapd_link_definition.specs.declared.state.State.TheVariants.{TeiAssigned, AwaitingEstablishment, AwaitingRelease, MultipleFrameEstablished, TimerRecovery}
+use Rattle.lapd_link_definition.specs.declared.state.State.TheVariants.{MultipleFrameEstablished}
 use Rattle.lapd_link_definition.specs.EndOfStep.{end_step}
 use Rattle.lapd_link_definition.specs.End.{End, StepState, begin}
 use Rattle.lapd_link_definition.specs.Established.{multiple_frame_established}
@@ -48,10 +48,7 @@ module _ (station peer : Station) (n : ℕ) where
   by_7 : (state : State) → state ≡ MultipleFrameEstablished → Draws c peer.end [] (n - 1) (multiple_frame_established Whole (Expiry T200) (begin e)) → Draws c peer.end [] (n - 1) (by_state Whole state (Expiry T200) (begin e))
   unfolding by_state
   by_7 MultipleFrameEstablished is d = d
-  by_7 TimerRecovery is d = cc
-  by_7 TeiAssigned is d = cc
-  by_7 AwaitingEstablishment is d = cc
-  by_7 AwaitingRelease is d = cc
+  by_7 state is d = cc
 
   draws_row : e.t200 ≡ true → Seen n v peer → Draws c peer.end [] (n - 1) done
   unfolding row begin story_after multiple_frame_established

@@ -100,11 +100,8 @@ ends_t200 c ks s state is none b = by_test (λ (t : StepState). Ends c ks (end_s
 
 by_t203 : (c : Context) (ks : List Kind) (s : StepState) (state : State) → s.end.state ≡ state → Before c ks s → Ends c ks (end_step Whole (by_state Whole state (Expiry T203) s))
 unfolding by_state tei_assigned awaiting_establishment awaiting_release multiple_frame_established timer_recovery in_7_and_8
-by_t203 c ks s TeiAssigned is b = ends_nothing c ks s b
-by_t203 c ks s AwaitingEstablishment is b = ends_nothing c ks s b
-by_t203 c ks s AwaitingRelease is b = ends_nothing c ks s b
 by_t203 c ks s MultipleFrameEstablished is b = ends_open c ks _ (mid_t203_in_7 c s ks is (entered c ks s MultipleFrameEstablished is refl b))
-by_t203 c ks s TimerRecovery is b = ends_nothing c ks s b
+by_t203 c ks s state is b = ends_nothing c ks s b
 
 ends_t203 : (c : Context) (ks : List Kind) (s : StepState) (state : State) → s.end.state ≡ state → Before c ks s → Ends c ks (end_step Whole (row Whole state (Expiry T203) s))
 unfolding row

@@ -66,10 +66,7 @@ module _ (message : List ℕ) where
   giving_consistent AwaitingEstablishment false false s in_5 k = let more = more_given s in record { first = k.first; next = k.next; ordered = k.ordered; within = omega (arith, k.within, more) }
   giving_consistent MultipleFrameEstablished asked leaving s in_7 k = let more = more_given s in record { first = k.first; next = k.next; ordered = k.ordered; window = k.window; within = omega (arith, k.within, more); since = k.since }
   giving_consistent TimerRecovery asked leaving s in_8 k = let more = more_given s in record { first = k.first; next = k.next; ordered = k.ordered; window = k.window; within = omega (arith, k.within, more); since = k.since }
-  giving_consistent TeiAssigned asked leaving s none k = elim none [ ]
-  giving_consistent AwaitingEstablishment false true s none k = elim none [ ]
-  giving_consistent AwaitingEstablishment true leaving s none k = elim none [ ]
-  giving_consistent AwaitingRelease asked leaving s none k = elim none [ ]
+  giving_consistent state asked leaving s none k = elim none [ ]
 
   given_still : (given : List (List ℕ)) (received : List Receipt) → AreGiven given received → AreGiven (given ++ message ∷ []) received
   given_still given [] are = tt
@@ -130,10 +127,7 @@ unfolding by_state awaiting_establishment multiple_frame_established timer_recov
 queues AwaitingEstablishment false false message s in_5 = refl
 queues MultipleFrameEstablished asked leaving message s in_7 = refl
 queues TimerRecovery asked leaving message s in_8 = refl
-queues TeiAssigned asked leaving message s none = elim none [ ]
-queues AwaitingEstablishment false true message s none = elim none [ ]
-queues AwaitingEstablishment true leaving message s none = elim none [ ]
-queues AwaitingRelease asked leaving message s none = elim none [ ]
+queues state asked leaving message s none = elim none [ ]
 
 -- queueing it is the first action
 seems_queued : (c : Context) (message : List ℕ) (e : End) → Seems c (queue_up message (begin e)) (giving message (seen c (begin e))) (line c (begin e))

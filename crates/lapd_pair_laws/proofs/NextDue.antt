@@ -33,25 +33,17 @@ use Rattle.lapd_pair_laws.proofs.OpenRows.{valid_whole}
 -- ---- Responses.
 
 only_in_7 : (state : State) (f : Bool) → (state ≡ MultipleFrameEstablished → f ≡ false) → (is_established state && f) ≡ false
-only_in_7 TeiAssigned f none = refl
-only_in_7 AwaitingEstablishment f none = refl
-only_in_7 AwaitingRelease f none = refl
 only_in_7 MultipleFrameEstablished f none = none refl
-only_in_7 TimerRecovery f none = refl
+only_in_7 state f none = refl
 
 -- A response in transit was solicited: a UA or DM by a SABME or DISC that is outstanding, a final
 -- by an enquiry. A UA or DM with F=0, or a FRMR, is never sent.
 asked_for : (control : Control) (state : State) (info : List ℕ) (place : ℕ) → answer_of (kind_of Answer control info place) ≤ most_asks state → foreign_of (kind_of Answer control info place) ≡ 0
     → (state ≡ MultipleFrameEstablished → final_of (kind_of Answer control info place) ≡ 0) → is_unasked control state ≡ false
 asked_for (Ua true) TeiAssigned info place most clean final = absurd (omega (arith, most))
-asked_for (Ua true) AwaitingEstablishment info place most clean final = refl
-asked_for (Ua true) AwaitingRelease info place most clean final = refl
 asked_for (Ua true) MultipleFrameEstablished info place most clean final = absurd (omega (arith, most))
 asked_for (Ua true) TimerRecovery info place most clean final = absurd (omega (arith, most))
 asked_for (Ua false) state info place most clean final = absurd (omega (arith, clean))
-asked_for (Dm true) TeiAssigned info place most clean final = refl
-asked_for (Dm true) AwaitingEstablishment info place most clean final = refl
-asked_for (Dm true) AwaitingRelease info place most clean final = refl
 asked_for (Dm true) MultipleFrameEstablished info place most clean final = absurd (omega (arith, most))
 asked_for (Dm true) TimerRecovery info place most clean final = absurd (omega (arith, most))
 asked_for (Dm false) state info place most clean final = absurd (omega (arith, clean))

@@ -1,12 +1,12 @@
 -- An open side answers a poll, or polls itself.
-use Rattle.std.proofs.Common.{◌≡◌, inl, ℕ, ◌+◌, ◌≤◌, true, List, [], ◌∷◌, ◌++◌, Option, Some, None, option_map, refl, sym, subst, arith}
+use Rattle.std.proofs.Common.{◌≡◌, inl, ℕ, ◌+◌, ◌≤◌, true, List, [], ◌∷◌, ◌++◌, Option, Some, None, option_map, refl, sym, subst, ◌∙◌, arith}
 use Rattle.lapd_link_definition.specs.declared.state.State.{State}
 use Rattle.lapd_link_definition.specs.declared.state.State.TheVariants.{TeiAssigned, AwaitingEstablishment, AwaitingRelease, MultipleFrameEstablished, TimerRecovery}
 use Rattle.lapd_link_definition.specs.EndOfStep.{is_7_or_8}
 use Rattle.lapd_pair_laws.specs.Histories.{Receipt}
 use Rattle.lapd_pair_laws.specs.Kinds.{Kind, Status, Enquiry, Final, message_of, messages, numbers, rejections, tally, poll_of, final_of}
 use Rattle.lapd_pair_laws.specs.Parties.{Party, Reception, reception_now, receives, OnReception, frames_received}
-use Rattle.lapd_pair_laws.specs.Conjuncts.{IsGot, IsStream, AreAcknowledging, NoneAsked, NoneBehindPoll, OneAsked, AreAsked, AreRejected, IsReceivable, IsExchange, high}
+use Rattle.lapd_pair_laws.specs.Conjuncts.{IsConsistentSender, most_asks, IsGot, IsStream, AreAcknowledging, NoneAsked, NoneBehindPoll, OneAsked, AreAsked, AreRejected, IsReceivable, IsExchange, high}
 use Rattle.lapd_pair_laws.proofs.Receptions.{on_map, on_both, one_more}
 use Rattle.lapd_pair_laws.proofs.Lists.{tally_more}
 use Rattle.lapd_pair_laws.proofs.MidSteps.{Mid, numbering, open_holds, open_asks_none, got_where_received}
@@ -79,26 +79,39 @@ settled_asks base received out back polls finals = record {
 abbrev pub recovering : Party → Party
 recovering x = record x { state = TimerRecovery }
 
--- to state 8, without a frame
-pub to_recovery : (x y : Party) (out back : List Kind) → IsSettled x y out back → Mid x y out back → Mid (recovering x) y out back
-to_recovery x y out back settled m =
+-- A side in state 7 or 8 enters either of them, without a frame.
+entered : (next : State) (x y : Party) (out back : List Kind)
+    → IsConsistentSender next x.asked x.leaving x.sends
+    → is_7_or_8 next ≡ true → most_asks next ≡ 0
+    → AreAsked next x.sends.base y.takes.received (frames_received (receives y out)) back
+    → AreRejected next x.sends.vs x.sends.base y.takes.received (receives y out) (rejections back)
+    → Mid x y out back → Mid (record x { state = next }) y out back
+entered next x y out back consistent opened none asked rejected m =
     let was = Some (reception_now x back) in
+    let now : Party = record x { state = next } in
+    let same : is_7_or_8 x.state ≡ is_7_or_8 next = m.opened ∙ sym opened in
     record {
-      opened = refl;
+      opened = opened;
       mine = record {
-        preserved = numbering m;
+        preserved = consistent;
         passed = m.mine.passed;
         past = m.mine.past;
         lately = m.mine.lately;
         none_yet = λ _. m.mine.none_yet m.opened;
         below = λ _. m.mine.below (open_holds x.state x.asked x.leaving m.opened);
-        reception = on_map (IsReceivable x y was) (IsReceivable (recovering x) y was) (receives y out) (λ h i. record {
-          stream = subst (λ b. IsStream b x.sends y.takes.received h.vr h.rejecting (messages h.frames)) m.opened i.stream;
-          acks = subst (λ b. AreAcknowledging b x.takes y.sends.base h.va h.vs (numbers h.frames)) m.opened i.acks;
-          asked = i.asked;
-          rejected = i.rejected;
-        }) m.mine.reception;
-        exchange = subst (λ n. IsExchange n out back) (open_asks_none x.state m.opened) m.mine.exchange;
+        reception = on_map (IsReceivable x y was) (IsReceivable now y was) (receives y out) (λ h i.
+            record {
+              stream = subst
+                  (λ b. IsStream b x.sends y.takes.received h.vr h.rejecting (messages h.frames))
+                  same i.stream;
+              acks = subst
+                  (λ b. AreAcknowledging b x.takes y.sends.base h.va h.vs (numbers h.frames))
+                  same i.acks;
+              asked = i.asked;
+              rejected = i.rejected;
+            }) m.mine.reception;
+        exchange = subst (λ n. IsExchange n out back)
+            (open_asks_none x.state m.opened ∙ sym none) m.mine.exchange;
         histories = m.mine.histories;
       };
       its = record {
@@ -111,13 +124,20 @@ to_recovery x y out back settled m =
         reception = record {
           stream = m.its.reception.stream;
           acks = m.its.reception.acks;
-          asked = settled_asks x.sends.base y.takes.received (frames_received (receives y out)) back settled.polls settled.finals;
-          rejected = tt;
+          asked = asked;
+          rejected = rejected;
         };
         exchange = m.its.exchange;
         histories = m.its.histories;
       };
     }
+
+pub to_recovery : (x y : Party) (out back : List Kind)
+    → IsSettled x y out back → Mid x y out back → Mid (recovering x) y out back
+to_recovery x y out back settled m =
+    let frames = frames_received (receives y out) in
+    entered TimerRecovery x y out back (numbering m) refl refl
+    (settled_asks x.sends.base y.takes.received frames back settled.polls settled.finals) tt m
 
 -- the poll is sent
 asked_once : (base : ℕ) (received : List Receipt) (u : Kind) (there : Option Reception) (back : List Kind) → message_of u ≡ [] → poll_of u ≡ 1 → tally poll_of (frames_received there) ≡ 0 → tally final_of back ≡ 0
@@ -152,39 +172,8 @@ established x = record x { state = MultipleFrameEstablished }
 
 pub to_established : (x y : Party) (out back : List Kind) → IsSettled x y out back → rejections back ≡ [] → Mid x y out back → Mid (established x) y out back
 to_established x y out back settled none m =
-    let was = Some (reception_now x back) in
-    record {
-      opened = refl;
-      mine = record {
-        preserved = numbering m;
-        passed = m.mine.passed;
-        past = m.mine.past;
-        lately = m.mine.lately;
-        none_yet = λ _. m.mine.none_yet m.opened;
-        below = λ _. m.mine.below (open_holds x.state x.asked x.leaving m.opened);
-        reception = on_map (IsReceivable x y was) (IsReceivable (established x) y was) (receives y out) (λ h i. record {
-          stream = subst (λ b. IsStream b x.sends y.takes.received h.vr h.rejecting (messages h.frames)) m.opened i.stream;
-          acks = subst (λ b. AreAcknowledging b x.takes y.sends.base h.va h.vs (numbers h.frames)) m.opened i.acks;
-          asked = i.asked;
-          rejected = i.rejected;
-        }) m.mine.reception;
-        exchange = subst (λ n. IsExchange n out back) (open_asks_none x.state m.opened) m.mine.exchange;
-        histories = m.mine.histories;
-      };
-      its = record {
-        preserved = m.its.preserved;
-        passed = m.its.passed;
-        past = m.its.past;
-        lately = m.its.lately;
-        none_yet = m.its.none_yet;
-        below = m.its.below;
-        reception = record {
-          stream = m.its.reception.stream;
-          acks = m.its.reception.acks;
-          asked = record { polls = settled.polls; finals = settled.finals };
-          rejected = subst (λ ns. AreRejected MultipleFrameEstablished x.sends.vs x.sends.base y.takes.received (receives y out) ns) (sym none) tt;
-        };
-        exchange = m.its.exchange;
-        histories = m.its.histories;
-      };
-    }
+    let base = x.sends.base in
+    entered MultipleFrameEstablished x y out back (numbering m) refl refl
+    (record { polls = settled.polls; finals = settled.finals })
+    (subst (AreRejected MultipleFrameEstablished x.sends.vs base y.takes.received (receives y out))
+    (sym none) tt) m

@@ -115,12 +115,8 @@ next_more u None = refl
 next_more u (Some l) = refl
 
 more_in : (state : State) (leaving : Bool) (now : Reception) (ks : List Kind) (u : Kind) → is_acceptance u ≡ false → received_in state leaving (one_more u now) (ks ++ u ∷ []) ≡ option_map (one_more u) (received_in state leaving now ks)
-more_in TeiAssigned leaving now ks u other = refl
-more_in AwaitingEstablishment true now ks u other = refl
 more_in AwaitingEstablishment false now ks u other = ap (λ o. option_map next_reception o) (behind_more u ks other) ∙ next_more u (behind_acceptance ks)
-more_in AwaitingRelease leaving now ks u other = refl
-more_in MultipleFrameEstablished leaving now ks u other = refl
-more_in TimerRecovery leaving now ks u other = refl
+more_in state leaving now ks u other = refl
 
 pub receives_more : (y : Party) (ks : List Kind) (u : Kind) → is_acceptance u ≡ false → receives y (ks ++ u ∷ []) ≡ option_map (one_more u) (receives y ks)
 receives_more y ks u other = more_in y.state y.leaving (reception_now y ks) ks u other

@@ -66,10 +66,6 @@ other_sent at establishment given sent_in within unsent place beyond =
 pub unsent_then : (e : End) (o : Occasion) (out : Out) (outs : List Out) (t : Story) → AreInOrder e t.history.passed (out ∷ outs)
     → AreUnsentFrom (length e.given) t.history.sent_in → AreUnsentFrom (length e.given) (after_output o out t).history.sent_in
 unsent_then e o (SendMessage n control) outs t order unsent = other_sent (t.history.passed + n) o.establishment (length e.given) t.history.sent_in (message_is_given e t.history.passed n control outs order) unsent
-unsent_then e o (Acknowledged n) outs t order unsent = unsent
-unsent_then e o (Dropped n) outs t order unsent = unsent
-unsent_then e o Up outs t order unsent = unsent
-unsent_then e o UnitUp outs t order unsent = unsent
 unsent_then e o out outs t order unsent = unsent
 
 -- ---- The line.
@@ -96,10 +92,6 @@ proper_then e o (Send role control) outs t order short few proper = proper_behin
 proper_then e o (SendMessage n control) outs t order short few proper =
     proper_behind t.line (message_frame o control (t.history.passed + n)) proper (order.spoken.0 (length (get_or o.given (t.history.passed + n) [])) (message_is_short o.given (t.history.passed + n) short))
 proper_then e o SendUnit outs t order short few proper = proper_behind t.line (unit_frame o.octets) proper (unit_is_proper (length o.octets) few)
-proper_then e o (Acknowledged n) outs t order short few proper = proper
-proper_then e o (Dropped n) outs t order short few proper = proper
-proper_then e o Up outs t order short few proper = proper
-proper_then e o UnitUp outs t order short few proper = proper
 proper_then e o out outs t order short few proper = proper
 
 ui_has_none : (r : Reading) → HasNumbers r (Ui false)
@@ -110,10 +102,6 @@ pub carried_then : (r : Reading) (o : Occasion) (out : Out) (outs : List Out) (t
 carried_then r o (Send role control) outs t numbered carried = carried_behind r t.line (without_info role control) carried numbered.0
 carried_then r o (SendMessage n control) outs t numbered carried = carried_behind r t.line (message_frame o control (t.history.passed + n)) carried numbered.0
 carried_then r o SendUnit outs t numbered carried = carried_behind r t.line (unit_frame o.octets) carried (ui_has_none r)
-carried_then r o (Acknowledged n) outs t numbered carried = carried
-carried_then r o (Dropped n) outs t numbered carried = carried
-carried_then r o Up outs t numbered carried = carried
-carried_then r o UnitUp outs t numbered carried = carried
 carried_then r o out outs t numbered carried = carried
 
 -- ---- All of them.

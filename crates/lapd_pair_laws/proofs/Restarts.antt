@@ -26,11 +26,8 @@ nothing_asked MultipleFrameEstablished base received = record { polls = refl; fi
 nothing_asked TimerRecovery base received = record { one = omega arith; behind = tt; alone = λ final. refl; names = tt }
 
 nothing_rejected : (state : State) (vs base : ℕ) (received : List Receipt) (waiting : Option Reception) → AreRejected state vs base received waiting []
-nothing_rejected TeiAssigned vs base received waiting = tt
 nothing_rejected AwaitingEstablishment vs base received waiting = refl
-nothing_rejected AwaitingRelease vs base received waiting = tt
-nothing_rejected MultipleFrameEstablished vs base received waiting = tt
-nothing_rejected TimerRecovery vs base received waiting = tt
+nothing_rejected state vs base received waiting = tt
 
 nothing_exchanged : (most : ℕ) → IsExchange most [] []
 nothing_exchanged most = record { one = omega arith; behind = tt; before = λ answer. refl; clean = refl }

@@ -63,24 +63,18 @@ network_is_safe = record {
 
 -- one message, received twice
 twice_at : (places : List ℕ) → RiseFrom 0 places → map (λ place. slice_get one_message place) places ≡ Some (1 ∷ []) ∷ Some (1 ∷ []) ∷ [] → ⊥
-twice_at [] rising same = cc
-twice_at (zero ∷ []) rising same = cc
 twice_at (zero ∷ zero ∷ places) rising same = omega (arith, rising.1.0)
-twice_at (zero ∷ suc place ∷ places) rising same = cc
-twice_at (suc place ∷ places) rising same = cc
+twice_at places rising same = cc
 
 pub twice_is_not_safe : IsSafe one_message in_first [] (receipt 0 1 (1 ∷ []) ∷ receipt 0 2 (1 ∷ []) ∷ []) → ⊥
 twice_is_not_safe safe = twice_at safe.places safe.rising safe.same
 
 -- two messages, received in the wrong order
 swapped_at : (places : List ℕ) → RiseFrom 0 places → map (λ place. slice_get two_messages place) places ≡ Some (2 ∷ []) ∷ Some (1 ∷ []) ∷ [] → ⊥
-swapped_at [] rising same = cc
 swapped_at (zero ∷ places) rising same = grind (arith, same)
-swapped_at (suc zero ∷ []) rising same = cc
 swapped_at (suc zero ∷ zero ∷ places) rising same = omega (arith, rising.1.0)
 swapped_at (suc zero ∷ suc zero ∷ places) rising same = grind (arith, same)
-swapped_at (suc zero ∷ suc (suc place) ∷ places) rising same = cc
-swapped_at (suc (suc place) ∷ places) rising same = cc
+swapped_at places rising same = cc
 
 pub swapped_is_not_safe : IsSafe two_messages in_first [] (receipt 1 1 (2 ∷ []) ∷ receipt 0 2 (1 ∷ []) ∷ []) → ⊥
 swapped_is_not_safe safe = swapped_at safe.places safe.rising safe.same
@@ -90,12 +84,9 @@ skipped_at : (places : List ℕ) → AreNeighbours places (receipt 0 1 (1 ∷ []
     → map (λ place. slice_get three_messages place) places ≡ Some (1 ∷ []) ∷ Some (3 ∷ []) ∷ [] → ⊥
 skipped_at [] neighbours same = cc
 skipped_at (zero ∷ []) neighbours same = cc
-skipped_at (zero ∷ zero ∷ places) neighbours same = grind (arith, same)
-skipped_at (zero ∷ suc zero ∷ places) neighbours same = grind (arith, same)
 skipped_at (zero ∷ suc (suc place) ∷ places) neighbours same = let next : suc (suc place) ≡ 0 + 1 = neighbours.0 refl in omega (arith, next)
-skipped_at (suc zero ∷ places) neighbours same = grind (arith, same)
-skipped_at (suc (suc zero) ∷ places) neighbours same = grind (arith, same)
 skipped_at (suc (suc (suc place)) ∷ places) neighbours same = cc
+skipped_at places neighbours same = grind (arith, same)
 
 pub skipped_is_not_safe : IsSafe three_messages (in_first_but 1) [] (receipt 0 1 (1 ∷ []) ∷ receipt 2 1 (3 ∷ []) ∷ []) → ⊥
 skipped_is_not_safe safe = skipped_at safe.places safe.neighbours safe.same

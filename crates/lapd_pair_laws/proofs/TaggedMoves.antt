@@ -14,7 +14,7 @@ use Rattle.lapd_supervision.specs.Tags.{tag_control}
 use Rattle.lapd_supervision.proofs.Tagging.{initial_variables_on_tags}
 use Rattle.lapd_link_definition.specs.declared.event.LinkFault.{LinkFault}
 use Rattle.lapd_link_definition.specs.declared.out.Out.{Out}
-use Rattle.lapd_link_definition.specs.declared.out.Out.TheVariants.{Send, SendMessage, SendUnit, Up, UnitUp, Acknowledged, Dropped}
+use Rattle.lapd_link_definition.specs.declared.out.Out.TheVariants.{Send, SendMessage, SendUnit}
 use Rattle.lapd_link_definition.specs.End.{End, StepState}
 use Rattle.lapd_link_definition.specs.Input as input
 use Rattle.lapd_link_definition.specs.Input.{Input}
@@ -82,10 +82,6 @@ unfolding tag_control
 after_output_on_tags o (Send role control) t = rw (map-append tag_flight t.line (without_info role control ∷ [])) refl
 after_output_on_tags o (SendMessage n control) t = rw (map-append tag_flight t.line (message_frame o control (t.history.passed + n) ∷ [])) refl
 after_output_on_tags o SendUnit t = rw (map-append tag_flight t.line (unit_frame o.octets ∷ [])) refl
-after_output_on_tags o (Acknowledged n) t = refl
-after_output_on_tags o (Dropped n) t = refl
-after_output_on_tags o Up t = refl
-after_output_on_tags o UnitUp t = refl
 after_output_on_tags o out t = refl
 
 after_outputs_on_tags : (o : Occasion) (outs : List Out) (t : Story) → after_outputs o (map tag_out outs) (tag_story t) ≡ tag_story (after_outputs o outs t)

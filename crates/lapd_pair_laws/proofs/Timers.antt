@@ -237,10 +237,7 @@ timed_row state (Give message) s q t = timed_by_state state (Give message) s q t
 
 runs_then : (state : State) (vs va : ℕ) (busy : Bool) → is_established state ≡ true → IsTimedIn state true vs va busy
 runs_then MultipleFrameEstablished vs va busy is = λ no. cc
-runs_then TeiAssigned vs va busy is = cc
-runs_then AwaitingEstablishment vs va busy is = cc
-runs_then AwaitingRelease vs va busy is = cc
-runs_then TimerRecovery vs va busy is = cc
+runs_then state vs va busy is = cc
 
 timed_send_all : (n : ℕ) (s : StepState) → After s → After (send_all Whole n s)
 unfolding send_all transmit_i_frame ensure_t200

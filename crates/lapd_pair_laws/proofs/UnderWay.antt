@@ -5,7 +5,7 @@ use Rattle.std.specs.List.{position_or_len}
 use Rattle.lapd_frame.specs.declared.Role.{Role}
 use Rattle.lapd_frame.specs.declared.Role.TheVariants.{Command, Answer}
 use Rattle.lapd_frame.specs.declared.Control.{Control}
-use Rattle.lapd_frame.specs.declared.Control.TheVariants.{I, Rr, Rnr, Rej, Sabme, Dm, Ui, Disc, Ua, Frmr, Xid}
+use Rattle.lapd_frame.specs.declared.Control.TheVariants.{I, Rr, Rnr, Rej, Sabme, Dm, Disc, Ua}
 use Rattle.lapd_frame.specs.Reading.{is_command}
 use Rattle.lapd_link_definition.specs.declared.state.State.{State}
 use Rattle.lapd_link_definition.specs.declared.state.State.TheVariants.{TeiAssigned, AwaitingEstablishment, AwaitingRelease, MultipleFrameEstablished, TimerRecovery}
@@ -36,70 +36,28 @@ unless_found p xs none = none_passes p xs (not_found (nat_lt (position_or_len p 
 
 quiet_poll : (role : Role) (control : Control) (info : List ℕ) (place : ℕ) → (is_command role && poll_final control) ≡ false → (poll_of (kind_of role control info place) ≡ 0) × (ask_of (kind_of role control info place) ≡ 0)
 quiet_poll Command (I ns nr true) info place none = cc
-quiet_poll Command (I ns nr false) info place none = (refl, refl)
 quiet_poll Command (Rr nr true) info place none = cc
-quiet_poll Command (Rr nr false) info place none = (refl, refl)
 quiet_poll Command (Rnr nr true) info place none = cc
-quiet_poll Command (Rnr nr false) info place none = (refl, refl)
 quiet_poll Command (Sabme true) info place none = cc
-quiet_poll Command (Sabme false) info place none = (refl, refl)
 quiet_poll Command (Disc true) info place none = cc
-quiet_poll Command (Disc false) info place none = (refl, refl)
-quiet_poll Command (Rej nr pf) info place none = (refl, refl)
-quiet_poll Command (Ui p) info place none = (refl, refl)
-quiet_poll Command (Ua f) info place none = (refl, refl)
-quiet_poll Command (Dm f) info place none = (refl, refl)
-quiet_poll Command (Frmr f) info place none = (refl, refl)
-quiet_poll Command (Xid f) info place none = (refl, refl)
 quiet_poll Answer (Rr nr true) info place none = (refl, refl)
-quiet_poll Answer (Rr nr false) info place none = (refl, refl)
 quiet_poll Answer (Rnr nr true) info place none = (refl, refl)
-quiet_poll Answer (Rnr nr false) info place none = (refl, refl)
 quiet_poll Answer (Rej nr true) info place none = (refl, refl)
-quiet_poll Answer (Rej nr false) info place none = (refl, refl)
 quiet_poll Answer (Ua true) info place none = (refl, refl)
-quiet_poll Answer (Ua false) info place none = (refl, refl)
 quiet_poll Answer (Dm true) info place none = (refl, refl)
-quiet_poll Answer (Dm false) info place none = (refl, refl)
-quiet_poll Answer (I ns nr p) info place none = (refl, refl)
-quiet_poll Answer (Sabme p) info place none = (refl, refl)
-quiet_poll Answer (Disc p) info place none = (refl, refl)
-quiet_poll Answer (Ui p) info place none = (refl, refl)
-quiet_poll Answer (Frmr f) info place none = (refl, refl)
-quiet_poll Answer (Xid f) info place none = (refl, refl)
+quiet_poll role control info place none = (refl, refl)
 
 quiet_final : (role : Role) (control : Control) (info : List ℕ) (place : ℕ) → (not (is_command role) && poll_final control) ≡ false → (final_of (kind_of role control info place) ≡ 0) × (answer_of (kind_of role control info place) ≡ 0)
-quiet_final Command (I ns nr p) info place none = (refl, refl)
 quiet_final Command (Rr nr true) info place none = (refl, refl)
-quiet_final Command (Rr nr false) info place none = (refl, refl)
 quiet_final Command (Rnr nr true) info place none = (refl, refl)
-quiet_final Command (Rnr nr false) info place none = (refl, refl)
 quiet_final Command (Sabme true) info place none = (refl, refl)
-quiet_final Command (Sabme false) info place none = (refl, refl)
 quiet_final Command (Disc true) info place none = (refl, refl)
-quiet_final Command (Disc false) info place none = (refl, refl)
-quiet_final Command (Rej nr pf) info place none = (refl, refl)
-quiet_final Command (Ui p) info place none = (refl, refl)
-quiet_final Command (Ua f) info place none = (refl, refl)
-quiet_final Command (Dm f) info place none = (refl, refl)
-quiet_final Command (Frmr f) info place none = (refl, refl)
-quiet_final Command (Xid f) info place none = (refl, refl)
 quiet_final Answer (Rr nr true) info place none = cc
-quiet_final Answer (Rr nr false) info place none = (refl, refl)
 quiet_final Answer (Rnr nr true) info place none = cc
-quiet_final Answer (Rnr nr false) info place none = (refl, refl)
 quiet_final Answer (Rej nr true) info place none = cc
-quiet_final Answer (Rej nr false) info place none = (refl, refl)
 quiet_final Answer (Ua true) info place none = cc
-quiet_final Answer (Ua false) info place none = (refl, refl)
 quiet_final Answer (Dm true) info place none = cc
-quiet_final Answer (Dm false) info place none = (refl, refl)
-quiet_final Answer (I ns nr p) info place none = (refl, refl)
-quiet_final Answer (Sabme p) info place none = (refl, refl)
-quiet_final Answer (Disc p) info place none = (refl, refl)
-quiet_final Answer (Ui p) info place none = (refl, refl)
-quiet_final Answer (Frmr f) info place none = (refl, refl)
-quiet_final Answer (Xid f) info place none = (refl, refl)
+quiet_final role control info place none = (refl, refl)
 
 both_none : (f g : Kind → ℕ) (p : Flight → Bool) (fs : List Flight) → ((x : Flight) → p x ≡ false → (f (kind x) ≡ 0) × (g (kind x) ≡ 0)) → Each (λ x. p x ≡ false) fs → (tally f (kinds fs) ≡ 0) × (tally g (kinds fs) ≡ 0)
 both_none f g p [] each none = (refl, refl)
