@@ -200,10 +200,7 @@ again_or_none N false u = inl refl
 
 finds_few : (N : ℕ) (state : State) (left : ℕ) → left ≤ N → finds_in N state left ≤ 2 * N + 5
 finds_few N TimerRecovery left few = omega (arith, few)
-finds_few N TeiAssigned left few = omega arith
-finds_few N AwaitingEstablishment left few = omega arith
-finds_few N AwaitingRelease left few = omega arith
-finds_few N MultipleFrameEstablished left few = omega arith
+finds_few N state left few = omega arith
 
 polls_few : (N : ℕ) (state : State) (t200 : Bool) (left : ℕ) → left ≤ N → polls_in N state t200 left ≤ 2 * N + 3
 polls_few N TimerRecovery t200 left few = omega (arith, few)

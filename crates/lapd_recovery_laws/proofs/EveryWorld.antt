@@ -4,7 +4,7 @@ use Rattle.std.proofs.Common.{◌≡◌, inl, inr, ℕ, ◌+◌, ◌-◌, ◌*�
 use Rattle.lapd_frame.specs.declared.Side.{Side}
 use Rattle.lapd_mod128.specs.Counting.{Reading, Whole, Tagged}
 use Rattle.lapd_link_definition.specs.declared.state.State.{State}
-use Rattle.lapd_link_definition.specs.declared.state.State.TheVariants.{TeiAssigned, AwaitingEstablishment, AwaitingRelease, MultipleFrameEstablished, TimerRecovery}
+use Rattle.lapd_link_definition.specs.declared.state.State.TheVariants.{AwaitingEstablishment, MultipleFrameEstablished, TimerRecovery}
 use Rattle.lapd_link_definition.specs.EndOfStep.{is_7_or_8}
 use Rattle.lapd_link_definition.specs.Parameters.{Parameters}
 use Rattle.lapd_link_definition.specs.End.{End, unsent, waiting}
@@ -48,14 +48,11 @@ record Comes (N n : ℕ) (w : World) (moves : List Move) : Type 0 where
 
 -- three for each unsent message: a closed side has none, but in state 5
 load_unsent : (state : State) (asked leaving : Bool) (s : Sender) (m f e a : ℕ) → IsConsistentSender state asked leaving s → load_in state leaving (length s.given - s.next) m f e ≤ a → 3 * (length s.given - s.next) ≤ a
-load_unsent TeiAssigned asked leaving s m f e a none le = let next = none.next in omega (arith, next)
-load_unsent AwaitingEstablishment true true s m f e a none le = let next = none.next in omega (arith, next)
 load_unsent AwaitingEstablishment true false s m f e a none le = omega (arith, le)
-load_unsent AwaitingEstablishment false true s m f e a none le = let next = none.next in omega (arith, next)
 load_unsent AwaitingEstablishment false false s m f e a holds le = omega (arith, le)
-load_unsent AwaitingRelease asked leaving s m f e a none le = let next = none.next in omega (arith, next)
 load_unsent MultipleFrameEstablished asked leaving s m f e a n le = omega (arith, le)
 load_unsent TimerRecovery asked leaving s m f e a n le = omega (arith, le)
+load_unsent state asked leaving s m f e a none le = let next = none.next in omega (arith, next)
 
 share_unsent : (x y : Station) (base its_base : ℕ) (out back : List Kind) (n : ℕ) → Both (party base x) (party its_base y) out back → Share x.end y.end out back n → 3 * unsent x.end ≤ n
 share_unsent x y base its_base out back n both (inl enough) =

@@ -218,12 +218,7 @@ never_203 b w l have due = by_states w.user.end.state w.network.end.state refl r
     by_states TimerRecovery other is its_is o p = user_off w.user.end.t200 w.network.end.t200 off (timers_in TimerRecovery w.user.end have.user is).0
     by_states MultipleFrameEstablished TimerRecovery is its_is o p = network_off w.user.end.t200 w.network.end.t200 off (timers_in TimerRecovery w.network.end have.network its_is).0
     by_states MultipleFrameEstablished MultipleFrameEstablished is its_is o p = let never : are_apart w ≡ false = rw (is, its_is) refl in let yes_ = apart in cc
-    by_states TeiAssigned other is its_is o p = cc
-    by_states AwaitingEstablishment other is its_is o p = cc
-    by_states AwaitingRelease other is its_is o p = cc
-    by_states MultipleFrameEstablished TeiAssigned is its_is o p = cc
-    by_states MultipleFrameEstablished AwaitingEstablishment is its_is o p = cc
-    by_states MultipleFrameEstablished AwaitingRelease is its_is o p = cc
+    by_states one other is its_is o p = cc
 
 -- ---- A frame is lost.
 

@@ -16,7 +16,7 @@ use Rattle.lapd_pair_laws.specs.Conjuncts.{IsEmpty, IsConsistentSender}
 use Rattle.lapd_pair_laws.specs.Consistent.{AreSettled, IsConsistentWorld}
 use Rattle.lapd_pair_laws.specs.Invariant.{IsInvariant}
 use Rattle.lapd_pair_laws.specs.Line.{Flight, first_poll, first_final}
-use Rattle.lapd_pair_laws.specs.Move.{PairEvent, Give, Establish, Release, Deliver, Lose, Expire200, Expire203, Busy, UnitData, Restart, Move, Station, View, ViewStep, Refusal, NotRunning, acts, takes, delivers, expires_200, expires_203, unless_under_way}
+use Rattle.lapd_pair_laws.specs.Move.{PairEvent, Deliver, Expire200, Expire203, Move, Station, View, ViewStep, Refusal, NotRunning, acts, takes, delivers, expires_200, expires_203, unless_under_way}
 use Rattle.lapd_pair_laws.specs.Parties.{party}
 use Rattle.lapd_pair_laws.specs.Timed.{AreSettledEnds}
 use Rattle.lapd_pair_laws.specs.World.{World, swapped, view_of, with_view, world_after, happens, run, left_of}
@@ -339,13 +339,7 @@ due_swapped Expire203 w =
     ap (λ b. b && not (w.user.end.t200 || w.network.end.t200) && are_apart w) (and_swap (is_empty w.to_user) (is_empty w.to_network))
     ∙ ap (λ b. is_line_empty (swapped w) && not b && are_apart w) (or_swap w.user.end.t200 w.network.end.t200)
     ∙ ap (λ b. is_line_empty (swapped w) && not (w.network.end.t200 || w.user.end.t200) && b) (apart_swap (is_established w.user.end.state) (is_established w.network.end.state))
-due_swapped (Give message) w = refl
-due_swapped Establish w = refl
-due_swapped Release w = refl
-due_swapped (Lose at) w = refl
-due_swapped (Busy on) w = refl
-due_swapped (UnitData octets) w = refl
-due_swapped Restart w = refl
+due_swapped event w = refl
 
 coming_swapped : (n : ℕ) (w : World) → ComesOn n w → ComesOn n (swapped w)
 coming_swapped n w c = record { some = c.some; arriving = by_coming c.arriving }

@@ -4,7 +4,7 @@ use Rattle.std.proofs.Common.{◌≡◌, inl, ℕ, ◌+◌, ◌-◌, ◌≤◌, 
 use Rattle.lapd_frame.specs.declared.Role.TheVariants.{Answer}
 use Rattle.lapd_frame.specs.declared.Control.TheVariants.{Rr}
 use Rattle.lapd_link_definition.specs.declared.state.State.{State}
-use Rattle.lapd_link_definition.specs.declared.state.State.TheVariants.{TeiAssigned, AwaitingEstablishment, AwaitingRelease, MultipleFrameEstablished, TimerRecovery}
+use Rattle.lapd_link_definition.specs.declared.state.State.TheVariants.{TimerRecovery}
 use Rattle.lapd_link_definition.specs.EndOfStep.{is_7_or_8}
 use Rattle.lapd_pair_laws.specs.Histories.{Receipt}
 use Rattle.lapd_pair_laws.specs.Line.{Flight, without_info}
@@ -46,10 +46,7 @@ asked_with_final TimerRecovery base vr received out back is lost named asked =
       alone = λ _. lost.no_message;
       names = finals_more base (high received) (Final vr) back refl (named, refl) asked.names;
     }
-asked_with_final MultipleFrameEstablished base vr received out back is lost named asked = cc
-asked_with_final TeiAssigned base vr received out back is lost named asked = cc
-asked_with_final AwaitingEstablishment base vr received out back is lost named asked = cc
-asked_with_final AwaitingRelease base vr received out back is lost named asked = cc
+asked_with_final state base vr received out back is lost named asked = cc
 
 -- the invariant allows the final
 pub with_final_of_peer : (x y : Party) (out back : List Kind) → x.state ≡ TimerRecovery → is_7_or_8 y.state ≡ true → IsLost out back → Both x y out back → Both x y out (back ++ Final y.takes.vr ∷ [])

@@ -3,7 +3,7 @@ use Rattle.std.proofs.Common.{◌≡◌, inl, inr, ℕ, ◌+◌, ◌-◌, ◌*�
 use Rattle.std.proofs.lemmas.Bool.Decides.{nat_tests}
 use Rattle.lapd_mod128.specs.Counting.{Whole}
 use Rattle.lapd_link_definition.specs.declared.state.State.{State}
-use Rattle.lapd_link_definition.specs.declared.state.State.TheVariants.{TeiAssigned, AwaitingEstablishment, AwaitingRelease, MultipleFrameEstablished, TimerRecovery}
+use Rattle.lapd_link_definition.specs.declared.state.State.TheVariants.{MultipleFrameEstablished, TimerRecovery}
 use Rattle.lapd_link_definition.specs.EndOfStep.{is_7_or_8}
 use Rattle.lapd_link_definition.specs.End.{End}
 use Rattle.lapd_pair_laws.specs.Consistent.{is_one_of, AreSettled, IsConsistentWorld}
@@ -150,12 +150,7 @@ module _ (x y : Station) (i : IsInvariant (at x y [] [])) (ends_settled : AreSet
       by_states TimerRecovery MultipleFrameEstablished is its_is o p = inr (inl (user_in_8 is its_is))
       by_states MultipleFrameEstablished TimerRecovery is its_is o p = inr (inr (inl (network_in_8 is its_is)))
       by_states TimerRecovery TimerRecovery is its_is o p = inr (inr (inr (both_in_8 is its_is)))
-      by_states TeiAssigned other is its_is o p = cc
-      by_states AwaitingEstablishment other is its_is o p = cc
-      by_states AwaitingRelease other is its_is o p = cc
-      by_states one TeiAssigned is its_is o p = cc
-      by_states one AwaitingEstablishment is its_is o p = cc
-      by_states one AwaitingRelease is its_is o p = cc
+      by_states one other is its_is o p = cc
 
 module _ (x y : Station) (i : IsInvariant (at x y [] [])) (ends_settled : AreSettledEnds (at x y [] [])) (x_settled : AreSettled x.history) (y_settled : AreSettled y.history) (last : Bool) (x_opened : is_7_or_8 x.end.state ≡ true) (y_opened : is_7_or_8 y.end.state ≡ true) (x_free : x.end.window.own_busy ≡ false) (y_free : y.end.window.own_busy ≡ false) (x_tries : x.end.state ≡ TimerRecovery → (last || nat_lt x.end.rc x.end.parameters.n200) ≡ true) (y_tries : y.end.state ≡ TimerRecovery → (last || nat_lt y.end.rc y.end.parameters.n200) ≡ true) where
   abbrev w : World

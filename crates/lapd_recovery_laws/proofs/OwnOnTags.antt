@@ -6,7 +6,7 @@ use Rattle.lapd_link_definition.specs.End.{End}
 use Rattle.lapd_link_definition.specs.Tagging.{tag_end}
 use Rattle.lapd_pair_laws.specs.Consistent.{IsConsistentWorld}
 use Rattle.lapd_pair_laws.specs.Line.{Flight}
-use Rattle.lapd_pair_laws.specs.Move.{PairEvent, Give, Establish, Release, Deliver, Lose, Expire200, Expire203, Busy, UnitData, Restart, Move, Refusal}
+use Rattle.lapd_pair_laws.specs.Move.{PairEvent, Expire200, Expire203, Move, Refusal}
 use Rattle.lapd_pair_laws.specs.Tagged.{tag_flight, tag_world, tag_outcome}
 use Rattle.lapd_pair_laws.specs.World.{World, Happened, world_after, happens, run}
 use Rattle.lapd_pair_laws.specs.Invariant.{IsInvariant}
@@ -39,16 +39,9 @@ empty_on_tags [] = refl
 empty_on_tags (f ∷ fs) = refl
 
 pub due_on_tags : (event : PairEvent) (w : World) → is_due event (tag_world w) ≡ is_due event w
-due_on_tags Deliver w = refl
 due_on_tags Expire200 w = rw (empty_on_tags w.to_user, empty_on_tags w.to_network) refl
 due_on_tags Expire203 w = rw (empty_on_tags w.to_user, empty_on_tags w.to_network) refl
-due_on_tags (Give message) w = refl
-due_on_tags Establish w = refl
-due_on_tags Release w = refl
-due_on_tags (Lose at) w = refl
-due_on_tags (Busy on) w = refl
-due_on_tags (UnitData octets) w = refl
-due_on_tags Restart w = refl
+due_on_tags event w = refl
 
 pub ok_on_tags : (move : Move) (w : World) → IsInvariant w → IsConsistentWorld Whole w → is_ok (happens Tagged move (tag_world w)) ≡ is_ok (happens Whole move w)
 ok_on_tags move w i preserved = ap is_ok (move_tagged move w i preserved) ∙ admitted_on_tags (happens Whole move w)

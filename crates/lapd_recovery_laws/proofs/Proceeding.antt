@@ -5,7 +5,7 @@ use Rattle.lapd_link_definition.specs.declared.state.State.{State}
 use Rattle.lapd_link_definition.specs.declared.state.State.TheVariants.{TeiAssigned, AwaitingEstablishment, AwaitingRelease, MultipleFrameEstablished, TimerRecovery}
 use Rattle.lapd_link_definition.specs.EndOfStep.{is_7_or_8}
 use Rattle.lapd_link_definition.specs.End.{End, unsent, waiting}
-use Rattle.lapd_pair_laws.specs.Kinds.{Message, Kind, Numbered, Status, Rejection, Enquiry, Final, Asks, Accepts, Refuses, Unnumbered, Foreign, message_of, messages, numbers, rejections, tally, answer_of, is_acceptance}
+use Rattle.lapd_pair_laws.specs.Kinds.{Message, Kind, Numbered, Enquiry, Asks, Accepts, Refuses, Unnumbered, Foreign, message_of, messages, numbers, rejections, tally, answer_of, is_acceptance}
 use Rattle.lapd_pair_laws.specs.Parties.{Reception, behind, behind_acceptance, next_reception, received_in, OnReception}
 use Rattle.lapd_pair_laws.proofs.Flow.{IsWhole, IsJunkThenWhole, IsInTransit, fresh}
 use Rattle.lapd_pair_laws.proofs.Lists.{messages_append, rejections_append, tally_append}
@@ -20,15 +20,9 @@ heavy false = 1
 -- accounts for the answer.
 abbrev pub weight_of : Kind → ℕ
 weight_of (Numbered m nr) = heavy m.polled
-weight_of (Status nr) = 1
-weight_of (Rejection nr) = 1
 weight_of (Enquiry nr) = 2
-weight_of (Final nr) = 1
 weight_of Asks = 2
-weight_of Accepts = 1
-weight_of Refuses = 1
-weight_of Unnumbered = 1
-weight_of Foreign = 1
+weight_of k = 1
 
 abbrev pub weigh : List Kind → ℕ
 weigh ks = tally weight_of ks
@@ -49,15 +43,7 @@ both_few (Numbered m nr) = by_poll m.polled
     by_poll : (b : Bool) → heavy b + light b ≤ 2
     by_poll true = omega arith
     by_poll false = omega arith
-both_few (Status nr) = omega arith
-both_few (Rejection nr) = omega arith
-both_few (Enquiry nr) = omega arith
-both_few (Final nr) = omega arith
-both_few Asks = omega arith
-both_few Accepts = omega arith
-both_few Refuses = omega arith
-both_few Unnumbered = omega arith
-both_few Foreign = omega arith
+both_few k = omega arith
 
 pub weight_some : (k : Kind) → 1 ≤ weight_of k
 weight_some (Numbered m nr) = by_poll m.polled
@@ -65,15 +51,7 @@ weight_some (Numbered m nr) = by_poll m.polled
     by_poll : (b : Bool) → 1 ≤ heavy b
     by_poll true = omega arith
     by_poll false = omega arith
-weight_some (Status nr) = omega arith
-weight_some (Rejection nr) = omega arith
-weight_some (Enquiry nr) = omega arith
-weight_some (Final nr) = omega arith
-weight_some Asks = omega arith
-weight_some Accepts = omega arith
-weight_some Refuses = omega arith
-weight_some Unnumbered = omega arith
-weight_some Foreign = omega arith
+weight_some k = omega arith
 
 pub weigh_few : (ks : List Kind) → weigh ks + tally plain_of ks ≤ 2 * length ks
 weigh_few [] = omega arith
@@ -81,28 +59,16 @@ weigh_few (k ∷ ks) = let one = both_few k in let rest = weigh_few ks in omega 
 
 pub no_message_plain : (k : Kind) → message_of k ≡ [] → plain_of k ≡ 0
 no_message_plain (Numbered m nr) none = cc
-no_message_plain (Status nr) none = refl
-no_message_plain (Rejection nr) none = refl
-no_message_plain (Enquiry nr) none = refl
-no_message_plain (Final nr) none = refl
-no_message_plain Asks none = refl
-no_message_plain Accepts none = refl
-no_message_plain Refuses none = refl
-no_message_plain Unnumbered none = refl
-no_message_plain Foreign none = refl
+no_message_plain k none = refl
 
 pub no_number_plain : (ks : List Kind) → numbers ks ≡ [] → tally plain_of ks ≡ 0
 no_number_plain [] none = refl
-no_number_plain (Numbered m nr ∷ ks) none = cc
-no_number_plain (Status nr ∷ ks) none = cc
-no_number_plain (Rejection nr ∷ ks) none = cc
-no_number_plain (Enquiry nr ∷ ks) none = cc
-no_number_plain (Final nr ∷ ks) none = cc
 no_number_plain (Asks ∷ ks) none = let rest = no_number_plain ks none in omega (arith, rest)
 no_number_plain (Accepts ∷ ks) none = let rest = no_number_plain ks none in omega (arith, rest)
 no_number_plain (Refuses ∷ ks) none = let rest = no_number_plain ks none in omega (arith, rest)
 no_number_plain (Unnumbered ∷ ks) none = let rest = no_number_plain ks none in omega (arith, rest)
 no_number_plain (Foreign ∷ ks) none = let rest = no_number_plain ks none in omega (arith, rest)
+no_number_plain (k ∷ ks) none = cc
 
 -- ---- Lists.
 
@@ -135,16 +101,12 @@ none_rejected ks ls a b = rejections_append ks ls ∙ ap (λ l. l ++ rejections 
 
 pub no_number_no_rejection : (ks : List Kind) → numbers ks ≡ [] → rejections ks ≡ []
 no_number_no_rejection [] none = refl
-no_number_no_rejection (Numbered m nr ∷ ks) none = cc
-no_number_no_rejection (Status nr ∷ ks) none = cc
-no_number_no_rejection (Rejection nr ∷ ks) none = cc
-no_number_no_rejection (Enquiry nr ∷ ks) none = cc
-no_number_no_rejection (Final nr ∷ ks) none = cc
 no_number_no_rejection (Asks ∷ ks) none = no_number_no_rejection ks none
 no_number_no_rejection (Accepts ∷ ks) none = no_number_no_rejection ks none
 no_number_no_rejection (Refuses ∷ ks) none = no_number_no_rejection ks none
 no_number_no_rejection (Unnumbered ∷ ks) none = no_number_no_rejection ks none
 no_number_no_rejection (Foreign ∷ ks) none = no_number_no_rejection ks none
+no_number_no_rejection (k ∷ ks) none = cc
 
 -- ---- The frames that an end will process.
 
@@ -152,16 +114,8 @@ abbrev pub heard : End → List Kind → Option Reception
 heard e ks = received_in e.state e.release_pending (record { vs = e.window.vs; va = e.window.va; vr = e.window.vr; rejecting = e.window.rejecting; frames = ks }) ks
 
 pub not_acceptance : (k : Kind) → answer_of k ≡ 0 → is_acceptance k ≡ false
-not_acceptance (Numbered m nr) none = refl
-not_acceptance (Status nr) none = refl
-not_acceptance (Rejection nr) none = refl
-not_acceptance (Enquiry nr) none = refl
-not_acceptance (Final nr) none = refl
-not_acceptance Asks none = refl
 not_acceptance Accepts none = absurd (omega (arith, none))
-not_acceptance Refuses none = refl
-not_acceptance Unnumbered none = refl
-not_acceptance Foreign none = refl
+not_acceptance k none = refl
 
 pub no_acceptance : (ks : List Kind) → tally answer_of ks ≡ 0 → behind_acceptance ks ≡ None
 no_acceptance [] none = refl
@@ -241,12 +195,8 @@ behind_few [] = omega arith
 behind_few (k ∷ ks) = plain_behind (is_acceptance k) k ks (behind_acceptance ks) (behind_few ks)
 
 plain_few : (state : State) (leaving : Bool) (vs va vr : ℕ) (rejecting : Bool) (ks : List Kind) → plain_in (received_in state leaving (hearing vs va vr rejecting ks) ks) ≤ tally plain_of ks
-plain_few TeiAssigned leaving vs va vr rejecting ks = omega arith
-plain_few AwaitingEstablishment true vs va vr rejecting ks = omega arith
 plain_few AwaitingEstablishment false vs va vr rejecting ks = behind_few ks
-plain_few AwaitingRelease leaving vs va vr rejecting ks = omega arith
-plain_few MultipleFrameEstablished leaving vs va vr rejecting ks = omega arith
-plain_few TimerRecovery leaving vs va vr rejecting ks = omega arith
+plain_few state leaving vs va vr rejecting ks = omega arith
 
 pub extra_few : (y : End) (ks : List Kind) → extra y ks ≤ tally plain_of ks
 extra_few y ks = plain_few y.state y.release_pending y.window.vs y.window.va y.window.vr y.window.rejecting ks
@@ -356,10 +306,7 @@ load_open AwaitingRelease leaving u m f e opened = cc
 pub once_more_few : (state : State) (m n j : ℕ) → n ≤ m + j → (j ≡ 0) ⊎ (state ≡ MultipleFrameEstablished) → once_more state n ≤ once_more state m
 once_more_few TimerRecovery m n j le (inl none) = omega (arith, le, none)
 once_more_few TimerRecovery m n j le (inr is) = cc
-once_more_few MultipleFrameEstablished m n j le sent = omega arith
-once_more_few TeiAssigned m n j le sent = omega arith
-once_more_few AwaitingEstablishment m n j le sent = omega arith
-once_more_few AwaitingRelease m n j le sent = omega arith
+once_more_few state m n j le sent = omega arith
 
 pub none_more : (state : State) (m : ℕ) → state ≡ MultipleFrameEstablished → once_more state m ≡ 0
 none_more state m is = ap (λ st. once_more st m) is

@@ -7,7 +7,7 @@ use Rattle.lapd_frame.specs.declared.Control.TheVariants.{I, Rr, Rnr, Rej}
 use Rattle.lapd_mod128.specs.Counting.{Whole}
 use Rattle.lapd_supervision.specs.StateVariables.{is_valid_nr}
 use Rattle.lapd_link_definition.specs.declared.state.State.{State}
-use Rattle.lapd_link_definition.specs.declared.state.State.TheVariants.{TeiAssigned, AwaitingEstablishment, AwaitingRelease, MultipleFrameEstablished, TimerRecovery}
+use Rattle.lapd_link_definition.specs.declared.state.State.TheVariants.{TimerRecovery}
 use Rattle.lapd_link_definition.specs.EndOfStep.{is_7_or_8, send_next, send_all, acknowledge_pending, end_step, may_send_next}
 use Rattle.lapd_link_definition.specs.End.{End, StepState, unsent, begin}
 use Rattle.lapd_link_definition.specs.Established.{in_7_and_8}
@@ -63,10 +63,7 @@ module _ (rc : ℕ) where
   by_8 : (state : State) (control : Control) (role : Role) (s : StepState) → state ≡ TimerRecovery → Stays (timer_recovery Whole (Heard control role) s) → Stays (by_state Whole state (Heard control role) s)
   unfolding by_state
   by_8 TimerRecovery control role s is stays = stays
-  by_8 MultipleFrameEstablished control role s is stays = cc
-  by_8 TeiAssigned control role s is stays = cc
-  by_8 AwaitingEstablishment control role s is stays = cc
-  by_8 AwaitingRelease control role s is stays = cc
+  by_8 state control role s is stays = cc
 
 -- the step by a frame that ends in states 7 and 8 send
 pub same_rc : (control : Control) (role : Role) (e : End) → is_ready control ≡ true → e.state ≡ TimerRecovery

@@ -6,7 +6,7 @@ use Rattle.lapd_frame.specs.declared.Role.TheVariants.{Command}
 use Rattle.lapd_mod128.specs.Counting.{Whole}
 use Rattle.lapd_supervision.specs.StateVariables.{StateVariables, status_frame, without_ack_pending}
 use Rattle.lapd_link_definition.specs.declared.state.State.{State}
-use Rattle.lapd_link_definition.specs.declared.state.State.TheVariants.{TeiAssigned, AwaitingEstablishment, AwaitingRelease, MultipleFrameEstablished, TimerRecovery}
+use Rattle.lapd_link_definition.specs.declared.state.State.TheVariants.{TimerRecovery}
 use Rattle.lapd_link_definition.specs.EndOfStep.{end_step}
 use Rattle.lapd_link_definition.specs.End.{End, StepState, begin}
 use Rattle.lapd_link_definition.specs.Input.{Expiry}
@@ -83,10 +83,7 @@ module _ (station peer : Station) (n : ℕ) where
   by_8 : (state : State) → state ≡ TimerRecovery → Draws c peer.end [] n (timer_recovery_t200 (begin e)) → Draws c peer.end [] n (by_state Whole state (Expiry T200) (begin e))
   unfolding by_state timer_recovery
   by_8 TimerRecovery is d = d
-  by_8 MultipleFrameEstablished is d = cc
-  by_8 TeiAssigned is d = cc
-  by_8 AwaitingEstablishment is d = cc
-  by_8 AwaitingRelease is d = cc
+  by_8 state is d = cc
 
   draws_row : e.t200 ≡ true → Retries e peer.end n → Draws c peer.end [] n done
   unfolding row begin story_after

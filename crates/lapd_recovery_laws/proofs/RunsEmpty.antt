@@ -149,13 +149,10 @@ load_few TimerRecovery leaving u w m f e le one some = let few = some refl in om
 
 -- the first unsent message is not before the first waiting one
 in_queue : (state : State) (asked leaving : Bool) (s : Sender) → IsConsistentSender state asked leaving s → s.first ≤ s.next
-in_queue TeiAssigned asked leaving s e = let a = e.first in let b = e.next in omega (arith, a, b)
-in_queue AwaitingEstablishment true leaving s e = let a = e.first in let b = e.next in omega (arith, a, b)
-in_queue AwaitingEstablishment false true s e = let a = e.first in let b = e.next in omega (arith, a, b)
 in_queue AwaitingEstablishment false false s h = let a = h.first in let b = h.next in let o = h.ordered in omega (arith, a, b, o)
-in_queue AwaitingRelease asked leaving s e = let a = e.first in let b = e.next in omega (arith, a, b)
 in_queue MultipleFrameEstablished asked leaving s n = let a = n.first in let b = n.next in let o = n.ordered in omega (arith, a, b, o)
 in_queue TimerRecovery asked leaving s n = let a = n.first in let b = n.next in let o = n.ordered in omega (arith, a, b, o)
+in_queue state asked leaving s e = let a = e.first in let b = e.next in omega (arith, a, b)
 
 -- an open side misses no more than is outstanding
 pub missing_few : (x y : Station) (base its_base : ℕ) (out back : List Kind) → Both (party base x) (party its_base y) out back → is_7_or_8 x.end.state ≡ true → missing x.end y.end ≤ waiting x.end - unsent x.end

@@ -7,7 +7,7 @@ use Rattle.lapd_mod128.specs.Counting.{Reading, Whole, Tagged, tag}
 use Rattle.lapd_supervision.specs.Tags.{tag_variables}
 use Rattle.lapd_link_definition.specs.declared.event.LinkFault.{LinkFault}
 use Rattle.lapd_link_definition.specs.declared.state.State.{State}
-use Rattle.lapd_link_definition.specs.declared.state.State.TheVariants.{TeiAssigned, AwaitingEstablishment, AwaitingRelease, MultipleFrameEstablished, TimerRecovery}
+use Rattle.lapd_link_definition.specs.declared.state.State.TheVariants.{MultipleFrameEstablished}
 use Rattle.lapd_link_definition.specs.End.{End, StepState}
 use Rattle.lapd_link_definition.specs.Input as input
 use Rattle.lapd_link_definition.specs.Input.{Input, Heard, Expiry}
@@ -95,11 +95,8 @@ new_has_timers user network = record { user = timers_begin user; network = timer
 -- ---- On tags.
 
 timers_by : {A B : Type 0} (state : State) (t200 t203 : Bool) → (A → B) → AreTimersOf state t200 t203 A → AreTimersOf state t200 t203 B
-timers_by TeiAssigned t200 t203 f have = have
-timers_by AwaitingEstablishment t200 t203 f have = have
-timers_by AwaitingRelease t200 t203 f have = have
 timers_by MultipleFrameEstablished t200 t203 f have = (have.0, λ off. f (have.1 off))
-timers_by TimerRecovery t200 t203 f have = have
+timers_by state t200 t203 f have = have
 
 end_on_tags : (e : End) → HasTimersOfState e → HasTimersOfState (tag_end e)
 unfolding tag_variables
