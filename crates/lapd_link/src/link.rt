@@ -138,9 +138,9 @@ impl Link {
         self.machine.predicted_step(kind, nr)
     }
 
-    /// A message with these octets, to be passed to [`Link::give`]. It is in the room of an
-    /// acknowledged message if the link keeps one, so it allocates only if none is kept or the room
-    /// is too small. The link keeps the rooms of up to eight messages.
+    /// A message with these octets, to be passed to [`Link::give`]. Uses the room of an acknowledged
+    /// message if the link keeps one, so it allocates only if none is kept or the room is too small.
+    /// The link keeps the rooms of up to eight messages.
     ///
     /// # Errors
     ///

@@ -107,8 +107,8 @@ impl IQueue {
         self.messages.get(usize::from(i)).map(Vec::as_slice)
     }
 
-    /// A message with these octets, to be passed to `put`. It is in the room of an acknowledged
-    /// message if one is kept, so it allocates only if none is kept or the room is too small.
+    /// A message with these octets, to be passed to `put`. Uses the room of an acknowledged message
+    /// if one is kept, so it allocates only if none is kept or the room is too small.
     ///
     /// # Errors
     ///

@@ -376,8 +376,8 @@ impl LinkTable {
         self.links[key.place].predicted_step(kind, nr)
     }
 
-    /// A message with these octets, to be submitted to the link with this key. It is in the room of
-    /// an acknowledged message of the link, if one is kept ([`Link::new_message`]).
+    /// A message with these octets, to be submitted to the link with this key. Uses the room of an
+    /// acknowledged message of the link, if one is kept ([`Link::new_message`]).
     ///
     /// # Errors
     ///
