@@ -55,7 +55,7 @@ live_net_shapes = waiting_shapes ++
     (codes "establish", Sapi ∷ Tei ∷ []) ∷ (codes "release", Sapi ∷ Tei ∷ [])
     ∷ (codes "give", Sapi ∷ Tei ∷ Hex ∷ []) ∷ (codes "unit", Sapi ∷ Tei ∷ Hex ∷ [])
     ∷ (codes "busy", Sapi ∷ Tei ∷ OnOff ∷ []) ∷ (codes "check", Tei ∷ [])
-    ∷ (codes "state", OptionalSapi ∷ Tei ∷ []) ∷ (codes "stats", [])
+    ∷ (codes "remove", Tei ∷ []) ∷ (codes "state", OptionalSapi ∷ Tei ∷ []) ∷ (codes "stats", [])
     ∷ (codes "impair", Loss ∷ Delay ∷ []) ∷ []
 
 -- the lines of `user` with the real clock, which name no TEI: its links have the terminal's own

@@ -126,6 +126,7 @@ const LIVE_NET: &[Form] = &[
     line!("unit" Sapi Tei Hex),
     line!("busy" Sapi Tei OnOff),
     line!("check" Tei),
+    line!("remove" Tei),
     line!("state" OptionalSapi Tei),
     line!("stats"),
     line!("impair" Loss Delay),

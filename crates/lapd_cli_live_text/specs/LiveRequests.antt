@@ -8,7 +8,7 @@ use Rattle.lapd_cli_script.specs.Line.{words_of, nothing_of, parsed_number}
 use Rattle.lapd_table.specs.declared.link_id.LinkId.{LinkId}
 use Rattle.lapd_sides.specs.declared.request.Request.{Request}
 use Rattle.lapd_sides.specs.declared.request.Request.TheVariants as request
-use Rattle.lapd_cli_side_lines.specs.LineRequests.{LineRequest, AskTei, check_request, parsed_id, link_request, named, parsed_sapi, span_at, line_request_of}
+use Rattle.lapd_cli_side_lines.specs.LineRequests.{LineRequest, AskTei, Check, Remove, parsed_id, link_request, named, tei_behind, parsed_sapi, span_at, line_request_of}
 use Rattle.lapd_cli_live_text.specs.declared.words.LiveLine.{LiveLine}
 use Rattle.lapd_cli_live_text.specs.declared.words.LiveLine.TheVariants as line
 
@@ -147,8 +147,11 @@ impair_request (word ∷ words) = option_and_then
 abbrev pub own_live_request : Side → ℕ → List ℕ → List (List ℕ) → Option LiveRequest
 own_live_request User own word behind = if bytes_eq word (codes "ask")
     then bare_live_request (Ask AskTei) behind else with_link User own word behind
-own_live_request Network own word behind = if bytes_eq word (codes "check")
-    then option_map Ask (check_request behind) else with_link Network own word behind
+own_live_request Network own word behind =
+    if bytes_eq word (codes "check") then option_map (λ tei. Ask (Check tei)) (tei_behind behind)
+    else (if bytes_eq word (codes "remove")
+    then option_map (λ tei. Ask (Remove tei)) (tei_behind behind)
+    else with_link Network own word behind)
 
 -- what a word other than `expect` requests
 abbrev pub live_request_of_word : Side → ℕ → List ℕ → List (List ℕ) → Option LiveRequest

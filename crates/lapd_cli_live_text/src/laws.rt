@@ -4,7 +4,7 @@ ghost use Rattle.std.specs.Prelude.{◌≡◌, ◌∷◌, List, [], codes, false
 ghost use Rattle.lapd_frame.specs.declared.Side.{Side};
 ghost use Rattle.lapd_frame.specs.declared.Side.TheVariants.{Network, User};
 ghost use Rattle.lapd_frame.specs.declared.Sapi.TheVariants.{Call, Packet};
-ghost use Rattle.lapd_cli_side_lines.specs.LineRequests.{Release, named};
+ghost use Rattle.lapd_cli_side_lines.specs.LineRequests.{Release, Remove, named};
 ghost use Rattle.lapd_cli_live_text.specs.AwaitedText.{shown_chars};
 ghost use Rattle.lapd_cli_live_text.specs.LiveRequests.{Ask, Busy, Expect, Impair, Read, Run, State, live_request_of_line};
 ghost use Rattle.lapd_cli_live_text.specs.Histories.{CountsEvents, StatsEvent, stats_after};
@@ -60,6 +60,8 @@ pub fn worked_requests()
         ≡ Some (Ask (Release (named Call 70))) }
     ensures busy { live_request_of_line Network 127 (codes "busy 16 5 off")
         ≡ Some (Busy (named Packet 5) false) }
+    ensures remove { live_request_of_line Network 127 (codes "remove 64")
+        ≡ Some (Ask (Remove 64)) }
     ensures impair { live_request_of_line Network 127 (codes "impair 20% 100")
         ≡ Some (Impair 20 100) }
     ensures no_delay { live_request_of_line User 70 (codes "impair 0") ≡ Some (Impair 0 0) }

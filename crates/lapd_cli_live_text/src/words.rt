@@ -3,12 +3,11 @@
 ghost use Rattle.std.specs.Prelude.{◌≡◌, ◌∷◌, ◌++◌, List, ℕ, option_and_then, option_map, IfNone, IfSome};
 ghost use Rattle.std.specs.Str.{is_utf8 as is_utf8_octets};
 ghost use Rattle.lapd_cli_script.specs.Line.{HasNoSpace, Reads, words_left, words_of};
-ghost use Rattle.lapd_cli_side_lines.specs.LineRequests.{check_request};
-ghost use Rattle.lapd_cli_live_text.specs.LiveRequests.{Ask as Asks, delay_left, expect_request, impair_request, expected, link_named, live_request_of, live_request_of_line, live_request_of_word, parsed_loss, network_link, own_live_request, span_behind, span_left, parsed_span, state_request, switch_behind, request_of_link, with_link, without_percent as digits_of_percent};
+ghost use Rattle.lapd_cli_live_text.specs.LiveRequests.{delay_left, expect_request, impair_request, expected, link_named, live_request_of, live_request_of_line, live_request_of_word, parsed_loss, network_link, own_live_request, span_behind, span_left, parsed_span, state_request, switch_behind, request_of_link, with_link, without_percent as digits_of_percent};
 
 use lapd_cli_outside::Impairment;
 use lapd_cli_script::{LineFault, Words, number_of};
-use lapd_cli_side_lines::{SideLine, link_line, sapi_of, tei_of};
+use lapd_cli_side_lines::{SideLine, last_tei, link_line, sapi_of, tei_of};
 use lapd_frame::{Side, Tei};
 use lapd_sides::{LinkId, Request};
 use memchr::memrchr;
@@ -113,23 +112,14 @@ fn own_line<'l>(
         }
         Side::Network => {
             if word == b"check".as_slice() {
-                return check(behind);
+                return Ok(LiveLine::Ask(Request::Check(last_tei(behind)?)));
+            }
+            if word == b"remove".as_slice() {
+                return Ok(LiveLine::Ask(Request::Remove(last_tei(behind)?)));
             }
         }
     }
     of_link(alloc, side, own, word, behind)
-}
-
-/// A TEI is checked.
-fn check<'l>(mut behind: Words<'_>) -> Result<LiveLine<'l>, LineFault>
-    ensures { Reads live_request_of result (option_map Asks (check_request behind.entry)) }
-{
-    let Some(word) = behind.next_word() else {
-        return Err(LineFault::Bad);
-    };
-    behind.nothing()?;
-    let tei = tei_of(word)?;
-    Ok(LiveLine::Ask(Request::Check(tei)))
 }
 
 /// The request of a word for the link that the next words name.

@@ -438,6 +438,7 @@ wait:
 MS is 1 to 3600000. `tick` is not valid; the other lines above are, and so are these:
   busy SAPI TEI on      this side can receive no more messages of the link (own receiver busy)
   busy SAPI TEI off     it can receive them again
+  remove TEI            removes a TEI from the terminals that have it, and its links
   state [SAPI TEI]      prints the state of the link, or of each link: the state, V(S), V(A), V(R),
                         RC, the messages in its queue, who is busy, and each running timer with the
                         milliseconds left

@@ -64,13 +64,10 @@ bare_request line_request behind = option_map (λ none. line_request) (nothing_o
 abbrev pub tick_request : List (List ℕ) → Option LineRequest
 tick_request behind = option_map Tick (option_and_then span_at (number_behind behind))
 
-abbrev pub parsed_check : List ℕ → List (List ℕ) → Option LineRequest
-parsed_check word behind = option_and_then (λ none. option_map Check (parsed_tei word))
-    (nothing_of behind)
-
-abbrev pub check_request : List (List ℕ) → Option LineRequest
-check_request [] = None
-check_request (word ∷ behind) = parsed_check word behind
+-- the TEI of the last word
+abbrev pub tei_behind : List (List ℕ) → Option ℕ
+tei_behind [] = None
+tei_behind (word ∷ words) = option_and_then (λ none. parsed_tei word) (nothing_of words)
 
 -- what a word requests of a link, with the words after its SAPI and TEI
 abbrev pub link_request : List ℕ → LinkId → List (List ℕ) → Option LineRequest
@@ -93,8 +90,8 @@ with_sapi word (sapi ∷ behind) = with_tei word sapi behind
 abbrev pub own_request : Side → List ℕ → List (List ℕ) → Option LineRequest
 own_request User word behind = if bytes_eq word (codes "ask") then bare_request AskTei behind
     else with_sapi word behind
-own_request Network word behind = if bytes_eq word (codes "check") then check_request behind
-    else with_sapi word behind
+own_request Network word behind = if bytes_eq word (codes "check")
+    then option_map Check (tei_behind behind) else with_sapi word behind
 
 abbrev pub request_of_word : Side → List ℕ → List (List ℕ) → Option LineRequest
 request_of_word side word behind =

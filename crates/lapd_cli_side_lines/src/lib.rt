@@ -13,5 +13,5 @@ mod side_texts;
 
 pub use frame_lines::{push_frame, push_frame_of, push_trace_of};
 pub use line_style::LineStyle;
-pub use side_lines::{SideLine, link_line, read_line, sapi_of, tei_of};
+pub use side_lines::{SideLine, last_tei, link_line, read_line, sapi_of, tei_of};
 pub use side_texts::{push_primitive, push_primitives, put_refusal, put_refused};

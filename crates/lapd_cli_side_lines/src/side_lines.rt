@@ -3,7 +3,7 @@
 ghost use Rattle.std.specs.Prelude.{◌≡◌, option_map};
 ghost use Rattle.lapd_frame.specs.Address.{number_at, sapi_at};
 ghost use Rattle.lapd_cli_script.specs.Line.{Reads};
-ghost use Rattle.lapd_cli_side_lines.specs.LineRequests.{bare_request, check_request, parsed_id, link_request, parsed_octet, own_request, parsed_sapi, span_at, parsed_tei, tick_request, request_of, request_of_line, request_of_word, with_sapi};
+ghost use Rattle.lapd_cli_side_lines.specs.LineRequests.{bare_request, tei_behind, parsed_id, link_request, parsed_octet, own_request, parsed_sapi, span_at, parsed_tei, tick_request, request_of, request_of_line, request_of_word, with_sapi};
 
 use lapd_cli_script::{LineFault, Words, number_of};
 use lapd_frame::{Sapi, Side, Tei};
@@ -71,7 +71,7 @@ fn own_line(
         }
         Side::Network => {
             if word == b"check".as_slice() {
-                return check(behind);
+                return Ok(SideLine::Ask(Request::Check(last_tei(behind)?)));
             }
         }
     }
@@ -98,16 +98,19 @@ fn tick(behind: Words<'_>) -> Result<SideLine, LineFault>
     }
 }
 
-/// Parses the TEI after `check`.
-fn check(mut behind: Words<'_>) -> Result<SideLine, LineFault>
-    ensures { Reads request_of result (check_request behind.entry) }
+/// The TEI of the last word.
+///
+/// # Errors
+///
+/// `Bad` if no word is left, or several, or the word is not a TEI, 0 to 127.
+pub fn last_tei(mut behind: Words<'_>) -> Result<Tei, LineFault>
+    ensures { Reads (λ tei. tei) result (tei_behind behind.entry) }
 {
     let Some(word) = behind.next_word() else {
         return Err(LineFault::Bad);
     };
     behind.nothing()?;
-    let tei = tei_of(word)?;
-    Ok(SideLine::Ask(Request::Check(tei)))
+    tei_of(word)
 }
 
 /// Parses the line of a link, whose SAPI and TEI are the next two words.

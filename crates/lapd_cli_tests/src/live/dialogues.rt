@@ -15,6 +15,20 @@ state 0 64
 5 N>U SAPI 0 TEI 64 R UA F=1
 5 0 64 established
 100 0 64 state 7 V(S)=0 V(A)=0 V(R)=0 RC=0 queue=0 T203=9905
+=== a TEI is removed from its terminal, with its links (Q.921 5.3.4)
+net file done
+5 00817f
+---
+run 10
+remove 64
+---
+5 U>N SAPI 0 TEI 64 C SABME P=1
+5 N>U SAPI 0 TEI 64 R UA F=1
+5 0 64 established
+10 N>U SAPI 63 TEI 127 C UI P=0 info=0f00000681
+10 N>U SAPI 63 TEI 127 C UI P=0 info=0f00000681
+10 tei free 64
+10 0 64 released
 === T200 expires N200 times, and once more (Q.921 5.5.1.3)
 net file done
 ---
