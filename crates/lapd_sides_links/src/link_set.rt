@@ -501,6 +501,7 @@ impl LinkSet {
     ///
     /// B1 if the link does not exist, and L1 to L5 if it refuses. The message is returned in the
     /// error, and nothing is changed.
+    #[inline(always)]
     pub fn give(
         &mut self,
         id: &LinkId,
