@@ -14,6 +14,7 @@ pub mod Receptions
 pub mod Parts
 pub mod Losses
 pub mod Worlds
+pub mod EachMove
 pub mod EndsPreserved
 pub mod Moves
 pub mod MidSteps
