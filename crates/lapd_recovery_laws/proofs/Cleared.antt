@@ -1,16 +1,13 @@
 -- In state 5 the conditions that an establishment clears stay cleared: after each step, each move
 -- and each run.
-use Rattle.std.proofs.Common.{◌≡◌, ℕ, zero, suc, ◌==◌, ◌&&◌, nat_lt, Option, Some, None, Result, Ok, Err, Bool, true, false, List, [], ◌∷◌, length, subst, refl, sym, ap, ◌∙◌}
+use Rattle.std.proofs.Common.{◌≡◌, ℕ, zero, suc, ◌==◌, ◌&&◌, nat_lt, Ok, Bool, true, false, List, subst, refl, sym, ap, ◌∙◌}
 use Rattle.lapd_timers.specs.declared.timer.Timer.TheVariants.{T200, T203}
-use Rattle.lapd_frame.specs.declared.Side.{Side}
-use Rattle.lapd_frame.specs.declared.Side.TheVariants as side
 use Rattle.lapd_frame.specs.declared.Role.{Role}
 use Rattle.lapd_frame.specs.declared.Role.TheVariants.{Command, Answer}
 use Rattle.lapd_frame.specs.declared.Control.TheVariants.{I, Rr, Rnr, Rej, Sabme, Dm, Disc, Ua, Frmr}
 use Rattle.lapd_frame.specs.declared.fault_kind.FaultKind.{FaultKind}
 use Rattle.lapd_mod128.specs.Counting.{Whole}
 use Rattle.lapd_supervision.specs.StateVariables.{is_valid_nr, acknowledges_all, without_exceptions, without_ack_pending}
-use Rattle.lapd_link_definition.specs.declared.event.LinkFault.{LinkFault}
 use Rattle.lapd_link_definition.specs.declared.out.Letter.TheVariants as letter
 use Rattle.lapd_link_definition.specs.declared.out.Out.TheVariants.{Report}
 use Rattle.lapd_link_definition.specs.declared.state.State.{State}
@@ -20,7 +17,6 @@ use Rattle.lapd_link_definition.specs.AwaitingRelease.{confirm_release, awaiting
 use Rattle.lapd_link_definition.specs.EndOfStep.{send_next, is_7_or_8, is_established, send_all, acknowledge_pending, end_step, may_send_next}
 use Rattle.lapd_link_definition.specs.End.{End, StepState, unsent, runs, begin}
 use Rattle.lapd_link_definition.specs.Established.{sends_last, established_t200, acknowledge_with_timers, i_frame_nr, poll_or_final, rr_nr, rej_nr, rnr_nr, busy_on, busy_off, in_7_and_8, multiple_frame_established}
-use Rattle.lapd_link_definition.specs.Input as input
 use Rattle.lapd_link_definition.specs.Input.{Input, Heard, Faulty, Expiry, Establish, Release, BusyOn, BusyOff, UnitData, Give}
 use Rattle.lapd_link_definition.specs.Parameters.{Parameters}
 use Rattle.lapd_link_definition.specs.Procedures.{put, state_to, rc_to, increment_rc, layer3_initiated_to, release_pending_to, start, stop, expired, clear_exception_conditions, zero_state_variables, set_peer_busy, set_own_busy, enquiry_response, transmit_enquiry, queue_up, discard_i_queue, acknowledge, invoke_retransmission, i_frame_ns, discard_unacknowledged, transmit_i_frame, ensure_t200, transmit_rr, establish_data_link, reestablish_data_link, nr_error_recovery}
@@ -31,12 +27,10 @@ use Rattle.lapd_link_definition.specs.TimerRecovery.{i_frame_nr_in_recovery, pol
 use Rattle.lapd_link_definition.proofs.PreservedByStep.{taken}
 use Rattle.lapd_link_definition.proofs.Sending.{both_true}
 use Rattle.lapd_link_definition.proofs.Soundness.{established_is}
-use Rattle.lapd_pair_laws.specs.Line.{Flight, first_poll, first_final}
-use Rattle.lapd_pair_laws.specs.Move.{PairEvent, Deliver, Lose, Expire200, Expire203, Busy, Restart, Move, View, ViewStep, Refusal, acts, stepped, view_after, receives, takes, delivers, loses, unless_under_way, expires_200, expires_203, restarts, busy_input}
-use Rattle.lapd_pair_laws.specs.Move as move
-use Rattle.lapd_pair_laws.specs.World.{World, view_of, in_world, world_after, happens, run, new_world}
+use Rattle.lapd_pair_laws.specs.Move.{Move, restarted}
+use Rattle.lapd_pair_laws.specs.World.{World, world_after, happens, run, new_world}
+use Rattle.lapd_pair_laws.proofs.EachMove.{AreBoth, kept_by_move, kept_by_run}
 use Rattle.lapd_pair_laws.proofs.Lists.{by_test}
-use Rattle.lapd_pair_laws.proofs.Worlds.{left_by}
 
 -- neither own receiver busy nor an acknowledgement pending
 pub record AreClear (e : End) : Type 0 where
@@ -253,68 +247,19 @@ clear_step : (what : Input) (e : End) (s : StepState) → IsClearIn5 e → step 
 unfolding step begin
 clear_step what e s c done = let F : StepState → Type 0 = λ d. After d in subst F (taken (refused what e) _ s done).1 (clear_close (row Whole e.state what (begin e)) (clear_row e.state what (begin e) refl c))
 
--- ---- The moves of a side.
-
-abbrev Left : View → Result ViewStep Refusal → Type 0
-Left v r = IsClearIn5 (left_by v r).station.end
-
-module _ (s : Side) (v : View) (has : IsClearIn5 v.station.end) where
-  by_outcome : (what : Input) (octets : List ℕ) (place : ℕ) (incoming : List Flight) (r : Result StepState LinkFault) → step Whole what v.station.end ≡ r
-      → Left v (stepped octets place (record v { incoming = incoming }) r)
-  unfolding view_after
-  by_outcome what octets place incoming (Ok t) is = clear_step what v.station.end t has is
-  by_outcome what octets place incoming (Err fault) is = has
-
-  took : (what : Input) (octets : List ℕ) → Left v (takes Whole what octets v)
-  unfolding takes
-  took what octets = by_outcome what octets 0 v.incoming (step Whole what v.station.end) refl
-
-  delivered : (frames : List Flight) → Left v (delivers Whole frames v)
-  unfolding delivers receives
-  delivered [] = has
-  delivered (frame ∷ rest) = by_outcome (Heard frame.control frame.role) frame.info frame.place rest (step Whole (Heard frame.control frame.role) v.station.end) refl
-
-  admitted : (poll final : Option ℕ) (outcome : Result ViewStep Refusal) → Left v outcome → Left v (unless_under_way s poll final outcome)
-  admitted (Some at) final outcome left = has
-  admitted None (Some at) outcome left = has
-  admitted None None outcome left = left
-
-  clear_after : (event : PairEvent) → Left v (acts Whole s event v)
-  unfolding acts loses expires_200 expires_203 restarts
-  clear_after (move.Give message) = took (input.Give message) []
-  clear_after move.Establish = took input.Establish []
-  clear_after move.Release = took input.Release []
-  clear_after Deliver = delivered v.incoming
-  clear_after (Lose at) = by_test (Left v) (nat_lt at (length v.incoming)) _ _ (λ _. has) (λ _. has)
-  clear_after Expire200 = by_test (Left v) v.station.end.t200 _ _ (λ _. admitted (first_poll v.outgoing) (first_final v.incoming) (takes Whole (Expiry T200) [] v) (took (Expiry T200) [])) (λ _. has)
-  clear_after Expire203 = by_test (Left v) v.station.end.t203 _ _ (λ _. took (Expiry T203) []) (λ _. has)
-  clear_after (Busy on) = took (busy_input on) []
-  clear_after (move.UnitData octets) = took (input.UnitData (length octets)) octets
-  clear_after Restart = λ is. cc
-
 -- ---- Moves and runs.
 
-pub record AreClearIn5 (w : World) : Type 0 where
-  pub user : IsClearIn5 w.user.end
-  pub network : IsClearIn5 w.network.end
+abbrev pub AreClearIn5 : World → Type 0
+AreClearIn5 w = AreBoth IsClearIn5 w
 
-by_side : (s : Side) (w : World) (r : Result ViewStep Refusal) → AreClearIn5 w → Left (view_of s w) r → AreClearIn5 (world_after w (in_world s w r))
-by_side side.User w (Ok acted) are left = record { user = left; network = are.network }
-by_side side.User w (Err refusal) are left = are
-by_side side.Network w (Ok acted) are left = record { user = are.user; network = left }
-by_side side.Network w (Err refusal) are left = are
-
-seen_clear : (s : Side) (w : World) → AreClearIn5 w → IsClearIn5 (view_of s w).station.end
-seen_clear side.User w are = are.user
-seen_clear side.Network w are = are.network
+clear_again : (e : End) → IsClearIn5 e → IsClearIn5 (restarted e)
+clear_again e clear = λ is. cc
 
 pub clear_after_move : (move : Move) (w : World) → AreClearIn5 w → AreClearIn5 (world_after w (happens Whole move w))
-unfolding happens
-clear_after_move move w are = by_side move.side w (acts Whole move.side move.event (view_of move.side w)) are (clear_after move.side (view_of move.side w) (seen_clear move.side w are) move.event)
+clear_after_move = kept_by_move IsClearIn5 clear_step clear_again
 
 pub clear_after_run : (moves : List Move) (w : World) → AreClearIn5 w → AreClearIn5 (run Whole moves w)
-clear_after_run [] w are = are
-clear_after_run (move ∷ moves) w are = clear_after_run moves (world_after w (happens Whole move w)) (clear_after_move move w are)
+clear_after_run = kept_by_run IsClearIn5 clear_step clear_again
 
 pub new_is_clear : (user network : Parameters) → AreClearIn5 (new_world user network)
 new_is_clear user network = record { user = λ is. cc; network = λ is. cc }
