@@ -167,7 +167,7 @@ seems_reestablish c s p l w = seems_establish c (layer3_initiated_to false s) (r
 
 -- ---- The end of a step that leaves the side closed.
 
-not_established : (state : State) → is_7_or_8 state ≡ false → is_established state ≡ false
+pub not_established : (state : State) → is_7_or_8 state ≡ false → is_established state ≡ false
 not_established TeiAssigned closed = refl
 not_established AwaitingEstablishment closed = refl
 not_established AwaitingRelease closed = refl

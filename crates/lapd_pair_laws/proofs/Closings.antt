@@ -75,7 +75,7 @@ asker_closed AwaitingRelease n one = refl
 asker_closed MultipleFrameEstablished n one = absurd (omega (arith, one))
 asker_closed TimerRecovery n one = absurd (omega (arith, one))
 
-most_is_one : (state : State) → most_asks state ≤ 1
+pub most_is_one : (state : State) → most_asks state ≤ 1
 most_is_one TeiAssigned = omega arith
 most_is_one AwaitingEstablishment = omega arith
 most_is_one AwaitingRelease = omega arith

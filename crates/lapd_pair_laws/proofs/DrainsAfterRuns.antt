@@ -9,7 +9,7 @@ use Rattle.lapd_pair_laws.specs.Move.{Move, Refusal}
 use Rattle.lapd_pair_laws.specs.Tagged.{tag_flight, tag_world, tag_outcome}
 use Rattle.lapd_pair_laws.specs.World.{World, Happened, new_world, world_after, happens, run}
 use Rattle.lapd_pair_laws.proofs.Consistency.{new_world_consistent, run_consistent}
-use Rattle.lapd_pair_laws.proofs.TaggedMoves.{move_on_tags, move_near, run_on_tags, left_on_tags, safe_on_tags}
+use Rattle.lapd_pair_laws.proofs.TaggedMoves.{move_on_tags, move_near, run_on_tags, left_on_tags, safe_on_tags, after_on_tags}
 use Rattle.lapd_pair_laws.specs.Invariant.{IsInvariant}
 use Rattle.lapd_pair_laws.proofs.Nearness.{within_by_invariant}
 use Rattle.lapd_pair_laws.proofs.Reached.{near_moves, reached_tags}
@@ -22,11 +22,12 @@ use Rattle.lapd_pair_laws.proofs.Settles.{quiet_line_drains}
 
 -- ---- On tags the same moves are made.
 
-admitted_on_tags : (r : Result Happened Refusal) → is_ok (tag_outcome r) ≡ is_ok r
+pub admitted_on_tags : (r : Result Happened Refusal) → is_ok (tag_outcome r) ≡ is_ok r
 admitted_on_tags (Ok happened) = refl
 admitted_on_tags (Err refusal) = refl
 
-move_tagged : (move : Move) (w : World) → IsInvariant w → IsConsistentWorld Whole w → happens Tagged move (tag_world w) ≡ tag_outcome (happens Whole move w)
+pub move_tagged : (move : Move) (w : World) → IsInvariant w → IsConsistentWorld Whole w
+    → happens Tagged move (tag_world w) ≡ tag_outcome (happens Whole move w)
 move_tagged move w i preserved = move_on_tags move w preserved (move_near move w preserved (within_by_invariant w i))
 
 first_on_tags : (moves : List Move) (w : World) → IsInvariant w → IsConsistentWorld Whole w → first_admitted Tagged moves (tag_world w) ≡ first_admitted Whole moves w
@@ -34,10 +35,6 @@ first_on_tags [] w i preserved = refl
 first_on_tags (move ∷ moves) w i preserved =
     let here : is_ok (happens Tagged move (tag_world w)) ≡ is_ok (happens Whole move w) = ap is_ok (move_tagged move w i preserved) ∙ admitted_on_tags (happens Whole move w) in
     rw (here, first_on_tags moves w i preserved) refl
-
-after_on_tags : (w : World) (r : Result Happened Refusal) → world_after (tag_world w) (tag_outcome r) ≡ tag_world (world_after w r)
-after_on_tags w (Ok happened) = refl
-after_on_tags w (Err refusal) = refl
 
 then_same : (o : Option Move) (f g : Move → List Move) → ((move : Move) → f move ≡ g move) → then_on o f ≡ then_on o g
 then_same None f g same = refl
@@ -77,7 +74,7 @@ drained_on_tags w i preserved d =
 
 -- ---- From a new world.
 
-unmapped : (l : List Flight) → map tag_flight l ≡ [] → l ≡ []
+pub unmapped : (l : List Flight) → map tag_flight l ≡ [] → l ≡ []
 unmapped [] none = refl
 unmapped (f ∷ fs) none = cc
 

@@ -125,7 +125,8 @@ flow_polled x z y u nr n runs poll mild no_final same_source same_sink f =
       most = let le = f.most in let some = l.some in omega (arith, le, some);
     }
 
-ready_enquiry : (w : StateVariables) → w.own_busy ≡ false → is_ready (status_frame true w) ≡ true
+pub ready_enquiry : (w : StateVariables) → w.own_busy ≡ false
+    → is_ready (status_frame true w) ≡ true
 unfolding status_frame
 ready_enquiry w free = rw free refl
 

@@ -37,12 +37,12 @@ from_open Q y ks opened q = subst (λ o. OnReception Q o) (open_receives y ks op
 
 -- ---- With no answer in transit, only an open side processes frames.
 
-not_acceptance : (k : Kind) → answer_of k ≡ 0 → is_acceptance k ≡ false
+pub not_acceptance : (k : Kind) → answer_of k ≡ 0 → is_acceptance k ≡ false
 not_acceptance Accepts none = absurd (omega (arith, none))
 not_acceptance Asks none = refl
 not_acceptance k none = refl
 
-unanswered : (ks : List Kind) → tally answer_of ks ≡ 0 → behind_acceptance ks ≡ None
+pub unanswered : (ks : List Kind) → tally answer_of ks ≡ 0 → behind_acceptance ks ≡ None
 unanswered [] none = refl
 unanswered (k ∷ ks) none = ap (λ b. behind b ks (behind_acceptance ks)) (not_acceptance k (omega (arith, none))) ∙ unanswered ks (omega (arith, none))
 

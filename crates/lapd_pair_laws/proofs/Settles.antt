@@ -36,7 +36,11 @@ use Rattle.lapd_pair_laws.proofs.Stepping.{user_move, network_move}
 
 -- ---- One move.
 
-user_drains : (n : ℕ) (event : PairEvent) (w : World) → Drains n w → Seen (n - 1) (left_by (view_of side.User w) (acts Whole side.User event (view_of side.User w))) w.network → Drains (n - 1) (world_after w (happens Whole (user_move event) w))
+pub user_drains : (n : ℕ) (event : PairEvent) (w : World) → Drains n w
+    → Seen (n - 1)
+    (left_by (view_of side.User w) (acts Whole side.User event (view_of side.User w)))
+    w.network
+    → Drains (n - 1) (world_after w (happens Whole (user_move event) w))
 unfolding happens
 user_drains n event w d s = record {
   holds = each_move_preserves (user_move event) w d.holds;
@@ -55,7 +59,11 @@ pub record SameDropped (w v : World) : Type 0 where
 same_twice : {w v u : World} → SameDropped w v → SameDropped v u → SameDropped w u
 same_twice a b = record { user = b.user ∙ a.user; network = b.network ∙ a.network }
 
-user_preserved : (event : PairEvent) (w : World) → (left_by (view_of side.User w) (acts Whole side.User event (view_of side.User w))).station.history.dropped ≡ w.user.history.dropped → SameDropped w (world_after w (happens Whole (user_move event) w))
+pub user_preserved : (event : PairEvent) (w : World)
+    → (left_by (view_of side.User w)
+    (acts Whole side.User event (view_of side.User w))).station.history.dropped
+    ≡ w.user.history.dropped
+    → SameDropped w (world_after w (happens Whole (user_move event) w))
 unfolding happens
 user_preserved event w same = rw (after_by_user w (acts Whole side.User event (view_of side.User w))) (record { user = same; network = refl })
 
@@ -97,7 +105,7 @@ module _ (n : ℕ) (user network : Station) where
   expired on d = user_drains n Expire200 (at [] []) d (seen_expired user network n on d.sees)
 
 -- if T200 runs and the line is empty, work remains
-some_at : (x : Source) (y : Sink) (a : ℕ) → x.t200 ≡ true → Stream x y [] [] a → 1 ≤ a
+pub some_at : (x : Source) (y : Sink) (a : ℕ) → x.t200 ≡ true → Stream x y [] [] a → 1 ≤ a
 some_at x y a on s = by_stage s.stage s.so s.most
   where
     still : (rejecting : Bool) → (y.vr < x.vs) ⊎ IsAmong x.vs [] → IsInTransit rejecting y.vr x.vs [] → ⊥
@@ -236,7 +244,9 @@ nothing_left begun w preserved e =
 
 -- ---- The remaining work of a quiet line.
 
-stream_begins : (x : Source) (y : Sink) → x.state ≡ MultipleFrameEstablished → x.va ≤ y.vr → y.vr ≤ x.vs → (x.t200 ≡ false → (x.vs ≡ x.va) × (x.busy ≡ false)) → Stream x y [] [] (3 * (x.unsent + (x.vs - x.va)) + 4)
+pub stream_begins : (x : Source) (y : Sink) → x.state ≡ MultipleFrameEstablished → x.va ≤ y.vr
+    → y.vr ≤ x.vs → (x.t200 ≡ false → (x.vs ≡ x.va) × (x.busy ≡ false))
+    → Stream x y [] [] (3 * (x.unsent + (x.vs - x.va)) + 4)
 stream_begins x y is low high timed = by_timer x.t200 refl
   where
     same_in_transit : (rejecting : Bool) → y.vr ≡ x.vs → IsInTransit rejecting y.vr x.vs []
@@ -258,11 +268,15 @@ stream_begins x y is low high timed = by_timer x.t200 refl
           most = omega (arith, same);
         }
 
-in_7 : (e : End) → e.state ≡ MultipleFrameEstablished → IsTimedIn e.state e.t200 e.window.vs e.window.va e.window.peer_busy → e.t200 ≡ false → (e.window.vs ≡ e.window.va) × (e.window.peer_busy ≡ false)
+pub in_7 : (e : End) → e.state ≡ MultipleFrameEstablished
+    → IsTimedIn e.state e.t200 e.window.vs e.window.va e.window.peer_busy → e.t200 ≡ false
+    → (e.window.vs ≡ e.window.va) × (e.window.peer_busy ≡ false)
 in_7 e is timed = let t : IsTimedIn MultipleFrameEstablished e.t200 e.window.vs e.window.va e.window.peer_busy = rw is at timed in t
 
 -- the messages of a side that are left
-side_left : (s : Station) (base : ℕ) → IsNumbering (party base s).sends → s.history.passed ≡ s.end.first → AreSettled s.history → left_of s ≡ (length s.end.given - s.end.next) + (s.end.window.vs - s.end.window.va)
+pub side_left : (s : Station) (base : ℕ) → IsNumbering (party base s).sends
+    → s.history.passed ≡ s.end.first → AreSettled s.history
+    → left_of s ≡ (length s.end.given - s.end.next) + (s.end.window.vs - s.end.window.va)
 side_left s base num passed settled =
     let first : s.end.first ≡ base + s.end.window.va = num.first in
     let next : s.end.next ≡ base + s.end.window.vs = num.next in
@@ -319,11 +333,12 @@ quiet_drains w i preserved ends_settled q =
 
 -- ---- The theorem, on whole numbers.
 
-or_second : (a b : Bool) → b ≡ false → (a || b) ≡ true → a ≡ true
+pub or_second : (a b : Bool) → b ≡ false → (a || b) ≡ true → a ≡ true
 or_second true b absent either = refl
 or_second false b absent either = cc
 
-side_served : (before after : Station) → AreSettled after.history → left_of after ≡ 0 → after.history.dropped ≡ before.history.dropped → IsServed before after
+pub side_served : (before after : Station) → AreSettled after.history → left_of after ≡ 0
+    → after.history.dropped ≡ before.history.dropped → IsServed before after
 side_served before after settled none same = record {
   dropped = same;
   acknowledged = λ place there not_dropped.

@@ -174,7 +174,8 @@ sends x y out back m n u a in_7 one_more is s = by_stage s.stage s.so s.most
 
 -- ---- T200 expires while the line is empty.
 
-in_transit_none : (rejecting : Bool) (low end : ℕ) → IsInTransit rejecting low end [] → low ≡ end
+pub in_transit_none : (rejecting : Bool) (low end : ℕ) → IsInTransit rejecting low end []
+    → low ≡ end
 in_transit_none false low end c = c
 in_transit_none true low end c = c
 

@@ -31,13 +31,15 @@ among_more n m (x ∷ ns) (inl same) = inl same
 among_more n m (x ∷ ns) (inr rest) = inr (among_more n m ns rest)
 
 -- the awaited message is accepted
-whole_taken : (rejecting : Bool) (low end : ℕ) (m : Message) (ms : List Message) → m.number ≡ low → IsInTransit rejecting low end (m ∷ ms) → IsWhole (low + 1) end ms
+pub whole_taken : (rejecting : Bool) (low end : ℕ) (m : Message) (ms : List Message)
+    → m.number ≡ low → IsInTransit rejecting low end (m ∷ ms) → IsWhole (low + 1) end ms
 whole_taken false low end m ms is c = c.1
 whole_taken true low end m ms is (inl w) = w.1
 whole_taken true low end m ms is (inr j) = let above = j.0 in absurd (omega (arith, above, is))
 
 -- any other is discarded
-junk_passed : (low end : ℕ) (m : Message) (ms : List Message) → (m.number ≡ low → ⊥) → IsInTransit true low end (m ∷ ms) → IsInTransit true low end ms
+pub junk_passed : (low end : ℕ) (m : Message) (ms : List Message) → (m.number ≡ low → ⊥)
+    → IsInTransit true low end (m ∷ ms) → IsInTransit true low end ms
 junk_passed low end m ms other (inl w) = absurd (other w.0)
 junk_passed low end m ms other (inr j) = j.1
 
