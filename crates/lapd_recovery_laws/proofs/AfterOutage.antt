@@ -1,5 +1,5 @@
 -- A line recovers after an outage, by own moves in any order.
-use Rattle.std.proofs.Common.{◌≡◌, ◌⊎◌, inl, inr, ℕ, zero, suc, ◌+◌, ◌*◌, ◌-◌, ◌≤◌, ◌==◌, not, Bool, true, false, List, [], ◌∷◌, map, length, refl, sym, ap, subst, ◌∙◌, arith}
+use Rattle.std.proofs.Common.{◌≡◌, ◌⊎◌, inl, inr, ℕ, zero, suc, ◌+◌, ◌*◌, ◌-◌, ◌≤◌, ◌==◌, not, Bool, true, false, List, [], ◌∷◌, length, refl, sym, ap, subst, ◌∙◌, arith}
 use Rattle.lapd_frame.specs.declared.Side.{Side}
 use Rattle.lapd_frame.specs.declared.Side.TheVariants as side
 use Rattle.lapd_mod128.specs.Counting.{Reading, Whole, Tagged}
@@ -17,7 +17,7 @@ use Rattle.lapd_pair_laws.specs.Invariant.{IsInvariant}
 use Rattle.lapd_pair_laws.specs.Line.{Flight}
 use Rattle.lapd_pair_laws.specs.Move.{PairEvent, Expire203, Move, Station}
 use Rattle.lapd_pair_laws.specs.Parties.{party}
-use Rattle.lapd_pair_laws.specs.Tagged.{tag_flight, tag_world}
+use Rattle.lapd_pair_laws.specs.Tagged.{tag_world}
 use Rattle.lapd_pair_laws.specs.Timed.{AreSettledEnds}
 use Rattle.lapd_pair_laws.specs.World.{World, swapped, view_of, world_after, happens, new_world, run, left, left_of}
 use Rattle.lapd_pair_laws.specs.Settle.{most_moves}
@@ -32,6 +32,7 @@ use Rattle.lapd_pair_laws.proofs.Stepping.{user_move, network_move}
 use Rattle.lapd_pair_laws.proofs.TaggedMoves.{left_on_tags}
 use Rattle.lapd_pair_laws.proofs.Whole.{each_move_preserves, each_run_preserves}
 use Rattle.lapd_pair_laws.proofs.Worlds.{new_holds, exchanged}
+use Rattle.lapd_pair_laws.proofs.DrainsAfterRuns.{unmapped}
 use Rattle.lapd_recovery_laws.specs.AfterOutage.{IsAfterOutage, IsKept, IsHeldUp, StaysUp}
 use Rattle.lapd_recovery_laws.specs.Agreed.{AreLevel, AreAgreed, ComesBack}
 use Rattle.lapd_recovery_laws.specs.Own.{IsOwn, AreOwn, Rests, IsFree, most_own_moves}
@@ -426,10 +427,6 @@ comes_back_on_tags N w i preserved c = record {
       let still : Rests Whole now = rests_by_tags now (each_run_preserves moves w i) (run_consistent Whole moves w preserved) (subst (λ v. Rests Tagged v) same rests) in
       subst AreAgreed (sym same) (agreed_on_tags now (c.agreed moves (are_own_by_tags moves w i preserved own) still));
 }
-
-unmapped : (l : List Flight) → map tag_flight l ≡ [] → l ≡ []
-unmapped [] none = refl
-unmapped (f ∷ fs) none = cc
 
 pub free_by_tags : (e : End) → IsFree (tag_end e) → IsFree e
 unfolding tag_variables

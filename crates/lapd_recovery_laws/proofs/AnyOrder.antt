@@ -1,5 +1,5 @@
 -- The own moves of an open line, in any order: each reduces the remaining work.
-use Rattle.std.proofs.Common.{◌≡◌, ◌⊎◌, inl, inr, ℕ, ◌-◌, ◌<◌, ◌≤◌, nat_lt, not, ◌||◌, Bool, true, false, List, [], ◌∷◌, length, Result, Ok, Err, is_ok, refl, sym, subst, ◌∙◌, arith}
+use Rattle.std.proofs.Common.{◌≡◌, ◌⊎◌, inl, inr, ℕ, ◌-◌, ◌≤◌, nat_lt, not, ◌||◌, Bool, true, false, List, [], ◌∷◌, length, Result, Ok, Err, is_ok, refl, sym, subst, ◌∙◌, arith}
 use Rattle.lapd_frame.specs.declared.Side.{Side}
 use Rattle.lapd_frame.specs.declared.Side.TheVariants as side
 use Rattle.lapd_mod128.specs.Counting.{Whole}
@@ -11,21 +11,16 @@ use Rattle.lapd_link_definition.proofs.Sending.{both_true}
 use Rattle.lapd_pair_laws.specs.Line.{Flight}
 use Rattle.lapd_pair_laws.specs.Move.{PairEvent, Deliver, Expire200, Expire203, Move, Station, View, ViewStep, Refusal, acts, receives, delivers, takes, expires_200}
 use Rattle.lapd_pair_laws.specs.World.{World, swapped, view_of, in_world, world_after, happens, run}
-use Rattle.lapd_pair_laws.specs.Invariant.{IsInvariant}
-use Rattle.lapd_pair_laws.specs.Timed.{AreSettledEnds}
-use Rattle.lapd_pair_laws.proofs.Drains.{Seen, Drains, drains_swapped, seen_delivered, preserved_delivered}
+use Rattle.lapd_pair_laws.proofs.Drains.{Drains, drains_swapped, seen_delivered, preserved_delivered}
 use Rattle.lapd_pair_laws.proofs.DrainsByT200.{seen_expired, preserved_expired}
-use Rattle.lapd_pair_laws.proofs.Flow.{Source, Sink, source, sink, Stage, Clean, Waiting, Polling, Answered, IsAt, weight, Stream, IsInTransit}
-use Rattle.lapd_pair_laws.proofs.SettledEnds.{move_settles}
-use Rattle.lapd_pair_laws.proofs.Settles.{SameDropped, IsStill}
+use Rattle.lapd_pair_laws.proofs.Flow.{Source, Sink, source, sink, Stage, Clean, Waiting, Polling, Answered, IsAt, Stream}
+use Rattle.lapd_pair_laws.proofs.Settles.{SameDropped, IsStill, user_drains, user_preserved, some_at}
 use Rattle.lapd_pair_laws.proofs.Stepping.{user_move, network_move}
 use Rattle.lapd_pair_laws.proofs.Swaps.{network_alike}
-use Rattle.lapd_pair_laws.proofs.Whole.{each_move_preserves}
-use Rattle.lapd_pair_laws.proofs.Worlds.{left_by}
 use Rattle.lapd_recovery_laws.specs.Own.{are_apart, is_line_empty, is_due, IsOwn, AreOwn, Rests}
 use Rattle.lapd_recovery_laws.specs.Timers.{HaveTimersOfStates}
 use Rattle.lapd_recovery_laws.proofs.Lost.{at, UserLost}
-use Rattle.lapd_recovery_laws.proofs.LostMoves.{moved_user, lost_user_receives, lost_user_receives_dropped, lost_peer_receives, lost_peer_receives_dropped}
+use Rattle.lapd_recovery_laws.proofs.LostMoves.{lost_user_receives, lost_user_receives_dropped, lost_peer_receives, lost_peer_receives_dropped}
 use Rattle.lapd_recovery_laws.proofs.LostExpires.{BothLost, both_swapped, lost_user_expires, lost_user_expires_dropped, lost_peer_expires, lost_peer_expires_dropped, both_lost_expires, both_lost_expires_dropped}
 use Rattle.lapd_recovery_laws.proofs.TimersOfRuns.{timers_after_move}
 
@@ -61,18 +56,6 @@ moves_swapped last n event w m =
 
 -- ---- A frame is delivered.
 
-drains_on : (n : ℕ) (event : PairEvent) (w : World) → Drains n w → Seen (n - 1) (left_by (view_of side.User w) (acts Whole side.User event (view_of side.User w))) w.network → Drains (n - 1) (world_after w (happens Whole (user_move event) w))
-drains_on n event w d s =
-    let same = moved_user event w in
-    subst (λ v. Drains (n - 1) v) (sym same) (record {
-      holds = subst IsInvariant same (each_move_preserves (user_move event) w d.holds);
-      ends_settled = subst AreSettledEnds same (move_settles (user_move event) w d.ends_settled);
-      sees = s;
-    })
-
-dropped_on : (event : PairEvent) (w : World) → (left_by (view_of side.User w) (acts Whole side.User event (view_of side.User w))).station.history.dropped ≡ w.user.history.dropped → SameDropped w (world_after w (happens Whole (user_move event) w))
-dropped_on event w same = subst (λ v. SameDropped w v) (sym (moved_user event w)) (record { user = same; network = refl })
-
 -- the other side is lost
 peer_receives : (last : Bool) (n : ℕ) (x y : Station) (back : List Flight) (frame : Flight) (rest : List Flight) → UserLost last n (at x y back (frame ∷ rest)) → Moves last n (at y x (frame ∷ rest) back) (world_after (at y x (frame ∷ rest) back) (happens Whole (user_move Deliver) (at y x (frame ∷ rest) back)))
 peer_receives last n x y back frame rest l =
@@ -89,8 +72,12 @@ peer_receives last n x y back frame rest l =
 user_receives : (last : Bool) (n : ℕ) (x y : Station) (frame : Flight) (rest to_network : List Flight) → Draining last n (at x y (frame ∷ rest) to_network) → Moves last n (at x y (frame ∷ rest) to_network) (world_after (at x y (frame ∷ rest) to_network) (happens Whole (user_move Deliver) (at x y (frame ∷ rest) to_network)))
 user_receives last n x y frame rest to_network (inl d) = record {
   some = let le = d.sees.flow.most in omega (arith, le);
-  draining = inl (drains_on n Deliver (at x y (frame ∷ rest) to_network) d (seen_delivered x y frame rest to_network n d.holds.user_base d.holds.network_base d.holds.both d.ends_settled.user d.sees));
-  preserved = dropped_on Deliver (at x y (frame ∷ rest) to_network) (preserved_delivered x y frame rest to_network n d.holds.user_base d.holds.network_base d.holds.both d.ends_settled.user d.sees);
+  draining = inl (user_drains n Deliver (at x y (frame ∷ rest) to_network) d
+      (seen_delivered x y frame rest to_network n d.holds.user_base d.holds.network_base
+      d.holds.both d.ends_settled.user d.sees));
+  preserved = user_preserved Deliver (at x y (frame ∷ rest) to_network)
+      (preserved_delivered x y frame rest to_network n d.holds.user_base d.holds.network_base
+      d.holds.both d.ends_settled.user d.sees);
 }
 user_receives last n x y frame rest to_network (inr (inl l)) = record {
   some = let two = l.two in omega (arith, two);
@@ -117,23 +104,6 @@ peer_expires last n x y l on =
       preserved = record { user = preserved.network; network = preserved.user };
     }
 
--- if T200 runs and the line is empty, work remains
-some_at : (x : Source) (y : Sink) (a : ℕ) → x.t200 ≡ true → Stream x y [] [] a → 1 ≤ a
-some_at x y a on s = by_stage s.stage s.so s.most
-  where
-    none : (rejecting : Bool) (low end : ℕ) → low < end → IsInTransit rejecting low end [] → ⊥
-    none false low end less same = absurd (omega (arith, less, same))
-    none true low end less same = absurd (omega (arith, less, same))
-
-    by_stage : (stage : Stage) → IsAt stage x y [] [] → weight stage x y ≤ a → 1 ≤ a
-    by_stage Clean c most = elim (c.stopped on) [
-      | inl less ↦ absurd (none y.rejecting y.vr x.vs less c.arriving)
-      | inr among ↦ absurd among
-    ]
-    by_stage Waiting w most = omega (arith, most)
-    by_stage Polling w most = absurd (omega (arith, w.1))
-    by_stage Answered w most = absurd (omega (arith, w.1))
-
 -- an end in state 8 has a retry left, if the last try is admitted
 abbrev pub MayRetry : Bool → End → Type 0
 MayRetry last e = last ≡ true → e.state ≡ TimerRecovery → nat_lt e.rc e.parameters.n200 ≡ true
@@ -145,8 +115,8 @@ tries_now false e tries may is = tries
 user_expires : (last : Bool) (n : ℕ) (x y : Station) → Draining last n (at x y [] []) → x.end.t200 ≡ true → MayRetry last x.end → Moves last n (at x y [] []) (world_after (at x y [] []) (happens Whole (user_move Expire200) (at x y [] [])))
 user_expires last n x y (inl d) on may = record {
   some = let le = d.sees.flow.most in let some = some_at (source x.end) (sink y.end) d.sees.flow.a on d.sees.flow.mine in omega (arith, le, some);
-  draining = inl (drains_on n Expire200 (at x y [] []) d (seen_expired x y n on d.sees));
-  preserved = dropped_on Expire200 (at x y [] []) (preserved_expired x y n on d.sees);
+  draining = inl (user_drains n Expire200 (at x y [] []) d (seen_expired x y n on d.sees));
+  preserved = user_preserved Expire200 (at x y [] []) (preserved_expired x y n on d.sees);
 }
 user_expires last n x y (inr (inl l)) on may = record {
   some = let two = l.two in omega (arith, two);

@@ -1,5 +1,5 @@
 -- Any frame is delivered to an end in state 4, 5 or 6: the weight falls.
-use Rattle.std.proofs.Common.{◌≡◌, inl, inr, ℕ, ◌+◌, ◌-◌, ◌*◌, ◌≤◌, ◌==◌, nat_lt, if◌then◌else◌, Bool, true, false, List, [], ◌∷◌, ◌++◌, length, option_map, append-nil, refl, sym, ap, subst, ◌∙◌, arith}
+use Rattle.std.proofs.Common.{◌≡◌, inl, inr, ℕ, ◌+◌, ◌-◌, ◌*◌, ◌≤◌, ◌==◌, nat_lt, Bool, true, false, List, [], ◌∷◌, ◌++◌, length, option_map, append-nil, refl, sym, ap, subst, ◌∙◌, arith}
 use Rattle.std.proofs.lemmas.Bool.{eqb-true}
 use Rattle.lapd_timers.specs.declared.timer.Timer.TheVariants.{T200, T203}
 use Rattle.lapd_frame.specs.declared.Role.{Role}
@@ -11,13 +11,13 @@ use Rattle.lapd_supervision.specs.StateVariables.{without_exceptions, with_zero_
 use Rattle.lapd_link_definition.specs.declared.state.State.{State}
 use Rattle.lapd_link_definition.specs.declared.state.State.TheVariants.{TeiAssigned, AwaitingEstablishment, AwaitingRelease, MultipleFrameEstablished, TimerRecovery}
 use Rattle.lapd_link_definition.specs.declared.out.Letter.TheVariants as letter
-use Rattle.lapd_link_definition.specs.declared.out.Out.TheVariants.{Send, Start, Stop, Report, Dropped, ReleaseConfirm, Confirmed, Established, UnitUp}
-use Rattle.lapd_link_definition.specs.AwaitingEstablishment.{release_primitive, end_establishment, confirm_or_indicate, ua_final, awaiting_establishment}
+use Rattle.lapd_link_definition.specs.declared.out.Out.TheVariants.{Send, Start, Stop, Report, ReleaseConfirm, Confirmed, UnitUp}
+use Rattle.lapd_link_definition.specs.AwaitingEstablishment.{end_establishment, confirm_or_indicate, ua_final, awaiting_establishment}
 use Rattle.lapd_link_definition.specs.AwaitingRelease.{confirm_release, awaiting_release}
 use Rattle.lapd_link_definition.specs.EndOfStep.{is_7_or_8, end_step}
 use Rattle.lapd_link_definition.specs.End.{End, StepState, ◌▷◌, begin, unsent, waiting}
 use Rattle.lapd_link_definition.specs.Input.{Heard}
-use Rattle.lapd_link_definition.specs.Procedures.{out_where, put, state_to, rc_to, start, stop, release_pending_to, clear_exception_conditions, zero_state_variables, discard_i_queue, discard_unacknowledged}
+use Rattle.lapd_link_definition.specs.Procedures.{out_where, put, state_to, rc_to, start, stop, release_pending_to, clear_exception_conditions, zero_state_variables, discard_i_queue}
 use Rattle.lapd_link_definition.specs.Table.{by_state, row, is_unit_data}
 use Rattle.lapd_link_definition.specs.TeiAssigned.{tei_assigned}
 use Rattle.lapd_pair_laws.specs.Histories.{Occasion, Story, after_outputs}
@@ -34,14 +34,18 @@ use Rattle.lapd_pair_laws.proofs.Flow.{IsWhole, fresh}
 use Rattle.lapd_pair_laws.proofs.Lists.{by_test}
 use Rattle.lapd_pair_laws.proofs.MidSteps.{open_numbering}
 use Rattle.lapd_pair_laws.proofs.Steps.{context, begun}
+use Rattle.lapd_pair_laws.proofs.Closed.{unsaid_rejections}
+use Rattle.lapd_pair_laws.proofs.Closings.{most_is_one}
 use Rattle.lapd_recovery_laws.specs.Own.{IsFree}
 use Rattle.lapd_recovery_laws.proofs.Cleared.{IsClearIn5, AreClear}
 use Rattle.lapd_recovery_laws.proofs.EndSends.{Unsending, pending_in, pending, end_closes}
 use Rattle.lapd_recovery_laws.proofs.Establishes.{discards_by}
 use Rattle.lapd_recovery_laws.proofs.LoneSteps.{sends_nothing}
-use Rattle.lapd_recovery_laws.proofs.OpenDelivers.{Delivered, heard_in}
-use Rattle.lapd_recovery_laws.proofs.OpenFrames.{unit_kind, most_one, asks_closed, reset_arrives}
-use Rattle.lapd_recovery_laws.proofs.Proceeding.{weight_of, weigh, weight_some, plain_of, plain_in, no_number_plain, no_number_no_rejection, heard, extra, extra_few, extra_shut, extra_more, extra_first, extra_passed, Arrives, Hears, in_transit_of_whole, none_rejected, missing_in, missing, load_in, load, load_open, load_less, load_closed, load_least, once_more, none_more, fresh_few, Share, Pays}
+use Rattle.lapd_recovery_laws.proofs.OpenDelivers.{Delivered, heard_in, never}
+use Rattle.lapd_recovery_laws.proofs.OpenFrames.{unit_kind, asks_closed, reset_arrives}
+use Rattle.lapd_recovery_laws.proofs.Proceeding.{weight_of, weigh, weight_some, plain_of, plain_in, no_number_plain, heard, extra, extra_few, extra_shut, extra_more, extra_first, extra_passed, Arrives, Hears, in_transit_of_whole, none_rejected, missing_in, missing, load_in, load, load_open, load_less, load_closed, load_least, once_more, none_more, fresh_few, Share, Pays}
+use Rattle.lapd_recovery_laws.proofs.HalfSteps.{refused_line}
+use Rattle.lapd_recovery_laws.proofs.SendsOn.{indicated_line, by_each}
 
 -- ---- What a closed end will process.
 
@@ -54,10 +58,6 @@ passed_over Q AwaitingEstablishment false before now k ks closed other a = subst
 passed_over Q AwaitingRelease leaving before now k ks closed other a = tt
 passed_over Q MultipleFrameEstablished leaving before now k ks closed other a = cc
 passed_over Q TimerRecovery leaving before now k ks closed other a = cc
-
-never : {A : Type 0} (b : Bool) → b ≡ true → b ≡ false → A
-never true on off = cc
-never false on off = cc
 
 -- the UA of the peer
 abbrev is_ua : Control → Role → Bool
@@ -88,16 +88,6 @@ not_ua control Answer octets place other = refl
 
 -- ---- Outputs that send no frame.
 
-refused_line : (c b l : Bool) (n : ℕ) (o : Occasion) (t : Story) → (after_outputs o ((out_where c (Dropped n) ++ out_where b (Stop T200)) ++ release_primitive l ∷ []) t).line ≡ t.line
-refused_line true true true n o t = refl
-refused_line true true false n o t = refl
-refused_line true false true n o t = refl
-refused_line true false false n o t = refl
-refused_line false true true n o t = refl
-refused_line false true false n o t = refl
-refused_line false false true n o t = refl
-refused_line false false false n o t = refl
-
 confirmed_line : (b : Bool) (o : Occasion) (t : Story) → (after_outputs o (out_where b (Stop T200) ++ ReleaseConfirm ∷ []) t).line ≡ t.line
 confirmed_line true o t = refl
 confirmed_line false o t = refl
@@ -105,18 +95,6 @@ confirmed_line false o t = refl
 opened_line : (b : Bool) (o : Occasion) (t : Story) → (after_outputs o ((Confirmed ∷ []) ++ out_where b (Stop T200) ++ Start T203 ∷ []) t).line ≡ t.line
 opened_line true o t = refl
 opened_line false o t = refl
-
-indicated_line : (test c b : Bool) (n : ℕ) (o : Occasion) (t : Story) → (after_outputs o ((if test then [] else out_where c (Dropped n) ++ Established ∷ []) ++ out_where b (Stop T200) ++ Start T203 ∷ []) t).line ≡ t.line
-indicated_line true c true n o t = refl
-indicated_line true c false n o t = refl
-indicated_line false true true n o t = refl
-indicated_line false true false n o t = refl
-indicated_line false false true n o t = refl
-indicated_line false false false n o t = refl
-
-by_each : (P : StepState → Type 0) (s : StepState) → ((test : Bool) → (s.end.window.vs == s.end.window.va) ≡ test → P (discards_by test s)) → P (discard_unacknowledged s)
-unfolding discard_unacknowledged
-by_each P s each = each (s.end.window.vs == s.end.window.va) refl
 
 module _ (station peer : Station) (frame : Flight) (rest outgoing : List Flight) (base its_base : ℕ) (clear : IsClearIn5 station.end) (closed : is_7_or_8 station.end.state ≡ false) (both : Both (party base station) (party its_base peer) (kinds outgoing) (kinds (frame ∷ rest))) where
   abbrev v : View
@@ -235,7 +213,10 @@ module _ (station peer : Station) (frame : Flight) (rest outgoing : List Flight)
     asks_one = let one = b.its.exchange.one in omega (arith, one)
 
     no_answer : tally answer_of out ≡ 0
-    no_answer = let one = asks_one in let most = most_one peer.end.state in omega (arith, one, most)
+    no_answer =
+        let one = asks_one in
+        let most = most_is_one peer.end.state in
+        omega (arith, one, most)
 
     peer_asks : 1 ≤ most_asks peer.end.state
     peer_asks = let one = asks_one in omega (arith, one)
@@ -308,7 +289,7 @@ module _ (station peer : Station) (frame : Flight) (rest outgoing : List Flight)
               share = inr (
                 record {
                   in_7 = refl;
-                  wanted = no_number_no_rejection ks (no_numbers b);
+                  wanted = unsaid_rejections ks (no_numbers b);
                   hears = inr (reset_arrives peer.end.state peer.end.release_pending peer.end.window.vs peer.end.window.va peer.end.window.vr 0 peer.end.window.rejecting out [] (peer_closed b) (no_answer b) refl);
                 },
                 omega (arith, lack, first, next),

@@ -24,6 +24,8 @@ use Rattle.lapd_pair_laws.proofs.MidSteps.{Mid, enter}
 use Rattle.lapd_pair_laws.proofs.Reached.{reached_tags}
 use Rattle.lapd_pair_laws.proofs.TaggedMoves.{left_on_tags}
 use Rattle.lapd_pair_laws.proofs.Whole.{each_run_preserves}
+use Rattle.lapd_pair_laws.proofs.Settles.{in_7}
+use Rattle.lapd_pair_laws.proofs.Speaks.{in_transit_none}
 use Rattle.lapd_recovery_laws.specs.Agreed.{AreAgreed}
 use Rattle.lapd_recovery_laws.specs.EveryWorld.{IsFreeWorld, WorldComesBack}
 use Rattle.lapd_recovery_laws.specs.Deliveries.{most_deliveries}
@@ -32,7 +34,7 @@ use Rattle.lapd_recovery_laws.proofs.AfterOutage.{facts_after, Returns, returns_
 use Rattle.lapd_recovery_laws.proofs.AnyOrder.{Draining, rests_still}
 use Rattle.lapd_recovery_laws.proofs.Lost.{at}
 use Rattle.lapd_recovery_laws.proofs.OpenDelivers.{hears_in}
-use Rattle.lapd_recovery_laws.proofs.OpenLine.{in_7, in_transit_none, same_in_transit, draining_from}
+use Rattle.lapd_recovery_laws.proofs.OpenLine.{same_in_transit, draining_from}
 use Rattle.lapd_recovery_laws.proofs.Outage.{Facts}
 use Rattle.lapd_recovery_laws.proofs.OwnOnTags.{are_own_by_tags, rests_by_tags, ran_on_tags, agreed_on_tags}
 use Rattle.lapd_recovery_laws.proofs.Proceeding.{Arrives, Hears, extra, missing_in, missing, load_in, load, load_open, once_more, fresh_few, Share, Flowing}

@@ -1,5 +1,5 @@
 -- Few losses: both ends stay in states 7 and 8, and no message is dropped.
-use Rattle.std.proofs.Common.{◌≡◌, ◌⊎◌, inl, inr, ℕ, zero, suc, ◌+◌, ◌-◌, ◌≤◌, nat_lt, not, ◌||◌, ◌&&◌, Bool, true, false, List, [], ◌∷◌, length, is_ok, refl, sym, ap, subst, ◌∙◌, arith, ◌*◌}
+use Rattle.std.proofs.Common.{◌≡◌, ◌⊎◌, inl, inr, ℕ, zero, suc, ◌+◌, ◌-◌, ◌≤◌, nat_lt, not, ◌||◌, Bool, true, false, List, [], ◌∷◌, length, is_ok, refl, sym, ap, subst, ◌∙◌, arith, ◌*◌}
 use Rattle.std.proofs.lemmas.Bool.Decides.{nat_tests}
 use Rattle.std.proofs.lemmas.Nat.{mul-le}
 use Rattle.lapd_frame.specs.declared.Side.{Side}
@@ -29,6 +29,7 @@ use Rattle.lapd_pair_laws.proofs.Swaps.{network_alike}
 use Rattle.lapd_pair_laws.proofs.TaggedMoves.{left_on_tags}
 use Rattle.lapd_pair_laws.proofs.Whole.{each_run_preserves}
 use Rattle.lapd_pair_laws.proofs.Worlds.{left_by, exchanged, safe_by_invariant}
+use Rattle.lapd_pair_laws.proofs.Settles.{side_served}
 use Rattle.lapd_recovery_laws.specs.Agreed.{AreLevel, AreReleased}
 use Rattle.lapd_recovery_laws.specs.FewLosses.{Outlasts, OutlastLosses, StaysOpen, most_open_moves, KeepsAll}
 use Rattle.lapd_recovery_laws.specs.Deliveries.{frames}
@@ -43,14 +44,13 @@ use Rattle.lapd_recovery_laws.proofs.CountedMoves.{after, Keeps, IsWeight, moves
 use Rattle.lapd_recovery_laws.proofs.DespiteLosses.{despite_losses, own_or_losses_by_tags}
 use Rattle.lapd_recovery_laws.proofs.EveryWorld.{drains_at}
 use Rattle.lapd_recovery_laws.proofs.LosesFrame.{user_loses}
-use Rattle.lapd_recovery_laws.proofs.Lone.{t200_runs, ok_of_side}
+use Rattle.lapd_recovery_laws.proofs.Lone.{t200_runs, ok_of_side, last_of}
 use Rattle.lapd_recovery_laws.proofs.LoneSteps.{Polls, polls_by_t200, polls_again}
 use Rattle.lapd_recovery_laws.proofs.Lost.{at}
 use Rattle.lapd_recovery_laws.proofs.LostMoves.{moved_user}
 use Rattle.lapd_recovery_laws.proofs.OpenAfterRuns.{up_on_tags}
 use Rattle.lapd_recovery_laws.proofs.OpenFrames.{Stays, open_delivered}
-use Rattle.lapd_recovery_laws.proofs.OpenLine.{side_served}
-use Rattle.lapd_recovery_laws.proofs.Outage.{Facts}
+use Rattle.lapd_recovery_laws.proofs.Outage.{Facts, second_of}
 use Rattle.lapd_recovery_laws.proofs.OwnOnTags.{rests_by_tags, ran_on_tags}
 use Rattle.lapd_recovery_laws.proofs.RunsEmpty as runs
 use Rattle.lapd_recovery_laws.proofs.Transitions.{timers_in}
@@ -186,16 +186,6 @@ expire b s x y (frame ∷ rest) to_network l due ok = cc
 expire b s x y [] (frame ∷ rest) l due ok = cc
 
 -- T203 does not: both ends are in state 7, or T200 runs
-second_of : (a b c : Bool) → (a && b && c) ≡ true → b ≡ true
-second_of true true c all = refl
-second_of true false c all = cc
-second_of false b c all = cc
-
-third_of : (a b c : Bool) → (a && b && c) ≡ true → c ≡ true
-third_of true true c all = all
-third_of true false c all = cc
-third_of false b c all = cc
-
 never_203 : (b : ℕ) (w : World) → Lasts b w → HaveTimersOfStates w → is_due Expire203 w ≡ true → ⊥
 never_203 b w l have due = by_states w.user.end.state w.network.end.state refl refl l.user.open_state l.network.open_state
   where
@@ -203,7 +193,7 @@ never_203 b w l have due = by_states w.user.end.state w.network.end.state refl r
     off = second_of (is_line_empty w) _ (are_apart w) due
 
     apart : are_apart w ≡ true
-    apart = third_of (is_line_empty w) (not (w.user.end.t200 || w.network.end.t200)) _ due
+    apart = last_of (is_line_empty w) (not (w.user.end.t200 || w.network.end.t200)) _ due
 
     user_off : (a c : Bool) → not (a || c) ≡ true → a ≡ true → ⊥
     user_off true c is on = cc

@@ -1,5 +1,5 @@
 -- The steps of an end in state 5, and of others that a SABME or DISC closes or an answer ends.
-use Rattle.std.proofs.Common.{◌≡◌, ℕ, ◌+◌, nat_lt, Bool, true, false, List, [], ◌∷◌, ◌++◌, length, append-nil, refl, sym, ap, subst, ◌∙◌}
+use Rattle.std.proofs.Common.{◌≡◌, ℕ, ◌+◌, nat_lt, Bool, true, false, [], ◌∷◌, ◌++◌, length, append-nil, refl, sym, ap, subst, ◌∙◌}
 use Rattle.lapd_timers.specs.declared.timer.Timer.TheVariants.{T200, T203}
 use Rattle.lapd_frame.specs.declared.Role.{Role}
 use Rattle.lapd_frame.specs.declared.Role.TheVariants.{Command, Answer}
@@ -22,11 +22,11 @@ use Rattle.lapd_link_definition.specs.TeiAssigned.{tei_assigned}
 use Rattle.lapd_link_definition.specs.TimerRecovery.{timer_recovery}
 use Rattle.lapd_pair_laws.specs.Histories.{Occasion, Story, after_outputs}
 use Rattle.lapd_pair_laws.specs.Line.{Flight, without_info}
-use Rattle.lapd_pair_laws.specs.Move.{View, story_after}
+use Rattle.lapd_pair_laws.specs.Move.{story_after}
 use Rattle.lapd_pair_laws.proofs.ClosedActions.{closes_nothing}
 use Rattle.lapd_pair_laws.proofs.Lists.{by_test}
 use Rattle.lapd_recovery_laws.proofs.ClosedSteps.{Yields}
-use Rattle.lapd_recovery_laws.proofs.LoneSteps.{is_ignored, sabme, ua}
+use Rattle.lapd_recovery_laws.proofs.LoneSteps.{is_ignored, sabme, ua, no_frame, same_end}
 
 abbrev pub dm : Flight
 dm = without_info Answer (Dm true)
@@ -43,7 +43,10 @@ given_up_line true false n o t = refl
 given_up_line false true n o t = refl
 given_up_line false false n o t = refl
 
-refused_line : (c b leaving : Bool) (n : ℕ) (o : Occasion) (t : Story) → (after_outputs o ((out_where c (Dropped n) ++ out_where b (Stop T200)) ++ release_primitive leaving ∷ []) t).line ≡ t.line
+pub refused_line : (c b leaving : Bool) (n : ℕ) (o : Occasion) (t : Story)
+    → (after_outputs o
+    ((out_where c (Dropped n) ++ out_where b (Stop T200)) ++ release_primitive leaving ∷ [])
+    t).line ≡ t.line
 refused_line true true true n o t = refl
 refused_line true true false n o t = refl
 refused_line true false true n o t = refl
@@ -165,14 +168,6 @@ ignores (Rej nr pf) role AwaitingRelease s is closed ignored = closes_nothing s 
 ignores control role MultipleFrameEstablished s is closed ignored = cc
 ignores control role TimerRecovery s is closed ignored = cc
 ignores control role state s is closed ignored = cc
-
-no_frame : (e : End) (octets : List ℕ) (place : ℕ) (v : View) → (story_after octets place v (begin e)).line ≡ v.outgoing ++ []
-unfolding story_after begin
-no_frame e octets place v = sym (append-nil v.outgoing)
-
-same_end : (e : End) → (begin e).end ≡ e
-unfolding begin
-same_end e = refl
 
 pub ignored_if_closed : (e : End) (control : Control) (role : Role) → is_7_or_8 e.state ≡ false → is_ignored control ≡ true → Yields e (end_step Whole (row Whole e.state (Heard control role) (begin e))) e []
 ignored_if_closed e control role closed ignored =

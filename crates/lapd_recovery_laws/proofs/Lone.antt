@@ -10,7 +10,7 @@ use Rattle.lapd_link_definition.specs.declared.state.State.TheVariants.{TeiAssig
 use Rattle.lapd_link_definition.specs.EndOfStep.{is_7_or_8, is_established}
 use Rattle.lapd_link_definition.specs.End.{End, unsent}
 use Rattle.lapd_link_definition.specs.Input.{Expiry}
-use Rattle.lapd_link_definition.specs.RunningTimers.{AreTimersOf, HasTimersOfState}
+use Rattle.lapd_link_definition.specs.RunningTimers.{HasTimersOfState}
 use Rattle.lapd_link_definition.specs.Table.{step}
 use Rattle.lapd_pair_laws.specs.Conjuncts.{IsEmpty, IsConsistentSender}
 use Rattle.lapd_pair_laws.specs.Consistent.{AreSettled, IsConsistentWorld}
@@ -24,7 +24,7 @@ use Rattle.lapd_pair_laws.proofs.Consistency.{run_consistent}
 use Rattle.lapd_pair_laws.proofs.Drains.{Drains}
 use Rattle.lapd_pair_laws.proofs.MidSteps.{enter, numbering}
 use Rattle.lapd_pair_laws.proofs.SettledEnds.{move_settles}
-use Rattle.lapd_pair_laws.proofs.Settles.{IsStill}
+use Rattle.lapd_pair_laws.proofs.Settles.{IsStill, side_left}
 use Rattle.lapd_pair_laws.proofs.Stepping.{user_move, network_move}
 use Rattle.lapd_pair_laws.proofs.Swaps.{network_alike}
 use Rattle.lapd_pair_laws.proofs.Whole.{each_move_preserves}
@@ -39,8 +39,9 @@ use Rattle.lapd_recovery_laws.proofs.Establishes.{seen_established}
 use Rattle.lapd_recovery_laws.proofs.LoneSteps.{is_ignored, ignored_in_4, Polls, polls_by_t200, polls_by_t203, polls_again, AsksItself, sabme, asking, last_try_in_8, asks_itself, IsNew, ua, established, sabme_in_4, is_new}
 use Rattle.lapd_recovery_laws.proofs.Lost.{at}
 use Rattle.lapd_recovery_laws.proofs.LostMoves.{moved_user, moved_network, seen_by_network}
-use Rattle.lapd_recovery_laws.proofs.OpenLine.{side_left, up_so}
+use Rattle.lapd_recovery_laws.proofs.OpenLine.{up_so}
 use Rattle.lapd_recovery_laws.proofs.TimersOfRuns.{timers_after_move}
+use Rattle.lapd_recovery_laws.proofs.Transitions.{literally, timers_in}
 
 -- ---- Situations. The user is the lone end.
 
@@ -94,12 +95,6 @@ Coming n w = Draining false n w ⊎ (Lone n w ⊎ Lone n (swapped w))
 record ComesOn (n : ℕ) (now : World) : Type 0 where
   some : 1 ≤ n
   arriving : Coming (n - 1) now
-
-literally : (P : List Flight → List Flight → Type 0) (a b c d : List Flight) → a ≡ c → b ≡ d → P c d → P a b
-literally P a b c d is its_is p = subst (λ l. P l b) (sym is) (subst (λ l. P c l) (sym its_is) p)
-
-timers_in : (state : State) (e : End) → HasTimersOfState e → e.state ≡ state → AreTimersOf state e.t200 e.t203 (e.window.vs ≡ e.window.va)
-timers_in state e has is = subst (λ s. AreTimersOf s e.t200 e.t203 (e.window.vs ≡ e.window.va)) is has
 
 module _ (n : ℕ) (x y : Station) where
   abbrev Before : List Flight → List Flight → World

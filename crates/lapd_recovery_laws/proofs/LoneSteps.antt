@@ -54,11 +54,12 @@ passes_over (Rnr nr pf) role s is ignored = closes_nothing s (ap is_7_or_8 is)
 passes_over (Rej nr pf) role s is ignored = closes_nothing s (ap is_7_or_8 is)
 passes_over control role s is ignored = cc
 
-no_frame : (e : End) (octets : List ℕ) (place : ℕ) (v : View) → (story_after octets place v (begin e)).line ≡ v.outgoing ++ []
+pub no_frame : (e : End) (octets : List ℕ) (place : ℕ) (v : View)
+    → (story_after octets place v (begin e)).line ≡ v.outgoing ++ []
 unfolding story_after begin
 no_frame e octets place v = sym (append-nil v.outgoing)
 
-same_end : (e : End) → (begin e).end ≡ e
+pub same_end : (e : End) → (begin e).end ≡ e
 unfolding begin
 same_end e = refl
 
@@ -82,7 +83,7 @@ pub record HasPolled (before : End) (rc : ℕ) (e : End) : Type 0 where
   pub waiting_is : waiting e ≡ waiting before
   pub window : e.window ≡ without_ack_pending before.window
 
-and_off : (a b : Bool) → b ≡ false → (a && b) ≡ true → ⊥
+pub and_off : (a b : Bool) → b ≡ false → (a && b) ≡ true → ⊥
 and_off true b off on = cc
 and_off false b off on = cc
 

@@ -1,14 +1,13 @@
 -- An open line recovers after every run from a new world, on whole numbers and on tags.
-use Rattle.std.proofs.Common.{◌≡◌, ◌+◌, ◌*◌, ◌≤◌, List, [], ◌∷◌, map, refl, sym, ap, subst, arith}
+use Rattle.std.proofs.Common.{◌≡◌, ◌+◌, ◌*◌, ◌≤◌, List, sym, ap, subst, arith}
 use Rattle.lapd_mod128.specs.Counting.{Reading, Whole, Tagged}
 use Rattle.lapd_supervision.specs.Tags.{tag_variables}
 use Rattle.lapd_link_definition.specs.End.{End}
 use Rattle.lapd_link_definition.specs.Parameters.{Parameters}
 use Rattle.lapd_link_definition.specs.Tagging.{tag_end}
 use Rattle.lapd_pair_laws.specs.Consistent.{IsConsistentWorld}
-use Rattle.lapd_pair_laws.specs.Line.{Flight}
 use Rattle.lapd_pair_laws.specs.Move.{Move}
-use Rattle.lapd_pair_laws.specs.Tagged.{tag_flight, tag_world}
+use Rattle.lapd_pair_laws.specs.Tagged.{tag_world}
 use Rattle.lapd_pair_laws.specs.World.{World, new_world, run}
 use Rattle.lapd_pair_laws.specs.Invariant.{IsInvariant}
 use Rattle.lapd_pair_laws.specs.Settle.{most_moves}
@@ -18,6 +17,7 @@ use Rattle.lapd_pair_laws.proofs.SettledEnds.{new_settles, run_settles}
 use Rattle.lapd_pair_laws.proofs.TaggedMoves.{left_on_tags, safe_on_tags}
 use Rattle.lapd_pair_laws.proofs.Whole.{each_run_preserves}
 use Rattle.lapd_pair_laws.proofs.Worlds.{new_holds}
+use Rattle.lapd_pair_laws.proofs.DrainsAfterRuns.{unmapped}
 use Rattle.lapd_recovery_laws.specs.OpenLine.{IsOpen, IsOpenLine, IsUp, ComesUp}
 use Rattle.lapd_recovery_laws.specs.Own.{Rests}
 use Rattle.lapd_recovery_laws.proofs.OpenLine.{open_line_comes_up}
@@ -45,10 +45,6 @@ comes_up_on_tags w i preserved c = record {
       let still : Rests Whole now = rests_by_tags now (each_run_preserves moves w i) (run_consistent Whole moves w preserved) (subst (λ v. Rests Tagged v) same rests) in
       subst (λ v. IsUp (tag_world w) v) (sym same) (up_on_tags w now (c.up moves (are_own_by_tags moves w i preserved own) still));
 }
-
-unmapped : (l : List Flight) → map tag_flight l ≡ [] → l ≡ []
-unmapped [] none = refl
-unmapped (f ∷ fs) none = cc
 
 open_by_tags : (e : End) → IsOpen (tag_end e) → IsOpen e
 unfolding tag_variables

@@ -47,7 +47,7 @@ heard_in Q e ks opened q = by_case e.state opened
     by_case AwaitingEstablishment o = cc
     by_case AwaitingRelease o = cc
 
-never : {A : Type 0} (b : Bool) → b ≡ true → b ≡ false → A
+pub never : {A : Type 0} (b : Bool) → b ≡ true → b ≡ false → A
 never true on off = cc
 never false on off = cc
 

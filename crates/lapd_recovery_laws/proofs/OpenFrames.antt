@@ -16,7 +16,7 @@ use Rattle.lapd_link_definition.specs.EndOfStep.{is_7_or_8, end_step}
 use Rattle.lapd_link_definition.specs.End.{End, StepState, ◌▷◌, begin, unsent, waiting}
 use Rattle.lapd_link_definition.specs.Established.{in_7_and_8, multiple_frame_established}
 use Rattle.lapd_link_definition.specs.Input.{Heard}
-use Rattle.lapd_link_definition.specs.Procedures.{out_where, put, state_to, start, stop, clear_exception_conditions, zero_state_variables, discard_i_queue, discard_unacknowledged}
+use Rattle.lapd_link_definition.specs.Procedures.{out_where, put, state_to, start, stop, clear_exception_conditions, zero_state_variables, discard_i_queue}
 use Rattle.lapd_link_definition.specs.Table.{by_state, row, is_unit_data}
 use Rattle.lapd_link_definition.specs.TimerRecovery.{timer_recovery}
 use Rattle.lapd_pair_laws.specs.Histories.{Occasion, Story, after_outputs}
@@ -34,23 +34,15 @@ use Rattle.lapd_pair_laws.proofs.Lists.{by_test, tally_append}
 use Rattle.lapd_pair_laws.proofs.MidSteps.{enter, numbering, open_asks_none}
 use Rattle.lapd_pair_laws.proofs.OpenRows.{no_foreign}
 use Rattle.lapd_pair_laws.proofs.Steps.{context, begun}
+use Rattle.lapd_pair_laws.proofs.Closed.{unsaid_rejections}
+use Rattle.lapd_pair_laws.proofs.Closings.{most_is_one}
 use Rattle.lapd_recovery_laws.proofs.EndSends.{Unsending, pending_in, pending, kinds_append, end_closes}
 use Rattle.lapd_recovery_laws.proofs.Establishes.{discards_by}
 use Rattle.lapd_recovery_laws.proofs.LoneSteps.{is_ignored}
 use Rattle.lapd_recovery_laws.proofs.OpenDelivers.{Delivered, by_answer, answered_so, by_back}
-use Rattle.lapd_recovery_laws.proofs.Proceeding.{weigh, plain_of, heard, extra, extra_few, extra_open, extra_first, Arrives, no_number_no_rejection, behind_first, missing_in, missing, load, load_open, load_closed, once_more, none_more, Share, Pays}
+use Rattle.lapd_recovery_laws.proofs.Proceeding.{weigh, plain_of, heard, extra, extra_few, extra_open, extra_first, Arrives, behind_first, missing_in, missing, load, load_open, load_closed, once_more, none_more, Share, Pays}
 use Rattle.lapd_recovery_laws.proofs.Replies.{Sending, Keeps, Replies, Backs, Turns, passes, i_in_7, i_in_8, rr_in_7, rr_in_8, rnr_in_7, rnr_in_8, rej_in_7, rej_in_8}
-
-pub most_one : (state : State) → most_asks state ≤ 1
-most_one TeiAssigned = omega arith
-most_one AwaitingEstablishment = omega arith
-most_one AwaitingRelease = omega arith
-most_one MultipleFrameEstablished = omega arith
-most_one TimerRecovery = omega arith
-
-by_each : (P : StepState → Type 0) (s : StepState) → ((test : Bool) → (s.end.window.vs == s.end.window.va) ≡ test → P (discards_by test s)) → P (discard_unacknowledged s)
-unfolding discard_unacknowledged
-by_each P s each = each (s.end.window.vs == s.end.window.va) refl
+use Rattle.lapd_recovery_laws.proofs.SendsOn.{by_each}
 
 -- the frames but for the messages, of each case
 reset_line : (test c b : Bool) (n : ℕ) (o : Occasion) (t : Story) → (after_outputs o (((Send Answer (Ua true) ∷ Report letter.F ∷ []) ++ (if test then [] else out_where c (Dropped n) ++ Established ∷ [])) ++ out_where b (Stop T200) ++ Start T203 ∷ []) t).line ≡ t.line ++ without_info Answer (Ua true) ∷ []
@@ -203,13 +195,13 @@ module _ (station peer : Station) (frame : Flight) (rest outgoing : List Flight)
     asks_one = let one = m.its.exchange.one in omega (arith, one)
 
     no_ua : tally answer_of out ≡ 0
-    no_ua = let one = asks_one in let most = most_one peer.end.state in omega (arith, one, most)
+    no_ua = let one = asks_one in let most = most_is_one peer.end.state in omega (arith, one, most)
 
     peer_asks : 1 ≤ most_asks peer.end.state
     peer_asks = let one = asks_one in omega (arith, one)
 
     nothing_behind : rejections ks ≡ []
-    nothing_behind = no_number_no_rejection ks (m.its.exchange.behind.0 (omega arith))
+    nothing_behind = unsaid_rejections ks (m.its.exchange.behind.0 (omega arith))
 
     not_in_7 : peer.end.state ≡ MultipleFrameEstablished → ⊥
     not_in_7 is = let none : most_asks peer.end.state ≡ 0 = ap most_asks is in let some = peer_asks in omega (arith, none, some)

@@ -1,30 +1,28 @@
 -- An open line with no frame in transit drains by its own moves, in any order.
-use Rattle.std.proofs.Common.{◌≡◌, inl, inr, ℕ, ◌+◌, ◌-◌, ◌*◌, ◌<◌, ◌≤◌, nat_lt, ◌||◌, Bool, true, false, List, [], ◌∷◌, length, refl, sym, ap, ◌∙◌, arith}
+use Rattle.std.proofs.Common.{◌≡◌, inl, inr, ℕ, ◌+◌, ◌-◌, ◌*◌, ◌<◌, ◌≤◌, nat_lt, ◌||◌, Bool, true, false, List, [], ◌∷◌, length, refl, sym, arith}
 use Rattle.std.proofs.lemmas.Bool.Decides.{nat_tests}
 use Rattle.lapd_mod128.specs.Counting.{Whole}
 use Rattle.lapd_link_definition.specs.declared.state.State.{State}
 use Rattle.lapd_link_definition.specs.declared.state.State.TheVariants.{MultipleFrameEstablished, TimerRecovery}
 use Rattle.lapd_link_definition.specs.EndOfStep.{is_7_or_8}
 use Rattle.lapd_link_definition.specs.End.{End}
-use Rattle.lapd_pair_laws.specs.Consistent.{is_one_of, AreSettled, IsConsistentWorld}
-use Rattle.lapd_pair_laws.specs.Drained.{IsServed}
+use Rattle.lapd_pair_laws.specs.Consistent.{AreSettled, IsConsistentWorld}
 use Rattle.lapd_pair_laws.specs.Line.{Flight}
 use Rattle.lapd_pair_laws.specs.Move.{Station}
-use Rattle.lapd_pair_laws.specs.World.{World, swapped, run, left, left_of}
+use Rattle.lapd_pair_laws.specs.World.{World, swapped, run, left}
 use Rattle.lapd_pair_laws.specs.Parties.{party}
-use Rattle.lapd_pair_laws.specs.Conjuncts.{IsNumbering}
 use Rattle.lapd_pair_laws.specs.Invariant.{IsInvariant}
 use Rattle.lapd_pair_laws.specs.Settle.{most_moves}
-use Rattle.lapd_pair_laws.specs.Timed.{IsTimedIn, AreSettledEnds}
+use Rattle.lapd_pair_laws.specs.Timed.{AreSettledEnds}
 use Rattle.lapd_pair_laws.proofs.Consistency.{run_consistent}
 use Rattle.lapd_pair_laws.proofs.Drains.{Drains}
 use Rattle.lapd_pair_laws.proofs.Facts.{between_open}
 use Rattle.lapd_pair_laws.proofs.Flow.{Source, Sink, source, sink, Stage, Clean, Waiting, Polling, Answered, IsAt, IsInTransit, burden, fresh, Stream}
 use Rattle.lapd_pair_laws.proofs.MidSteps.{Mid, enter, numbering}
-use Rattle.lapd_pair_laws.proofs.Settled.{left_settled}
-use Rattle.lapd_pair_laws.proofs.Settles.{SameDropped, IsStill, Ends, nothing_left}
+use Rattle.lapd_pair_laws.proofs.Settles.{SameDropped, IsStill, Ends, nothing_left, stream_begins, side_left, side_served, in_7}
 use Rattle.lapd_pair_laws.proofs.Stepping.{next_none}
 use Rattle.lapd_pair_laws.proofs.Worlds.{safe_by_invariant, exchanged}
+use Rattle.lapd_pair_laws.proofs.Speaks.{in_transit_none}
 use Rattle.lapd_recovery_laws.specs.Agreed.{IsLevel, AreLevel}
 use Rattle.lapd_recovery_laws.specs.OpenLine.{IsOpenLine, IsUp, ComesUp}
 use Rattle.lapd_recovery_laws.specs.Timers.{HaveTimersOfStates}
@@ -45,33 +43,6 @@ burden_begins x y low high = by_fresh y.rejecting
     by_fresh : (rejecting : Bool) → 3 * x.unsent + 2 * (x.vs - y.vr) + fresh rejecting + 3 ≤ 3 * (x.unsent + (x.vs - x.va)) + 4
     by_fresh true = omega (arith, low, high)
     by_fresh false = omega (arith, low, high)
-
--- in state 7
-pub stream_begins : (x : Source) (y : Sink) → x.state ≡ MultipleFrameEstablished → x.va ≤ y.vr → y.vr ≤ x.vs → (x.t200 ≡ false → (x.vs ≡ x.va) × (x.busy ≡ false)) → Stream x y [] [] (3 * (x.unsent + (x.vs - x.va)) + 4)
-stream_begins x y is low high timed = by_timer x.t200 refl
-  where
-    by_timer : (on : Bool) → x.t200 ≡ on → Stream x y [] [] (3 * (x.unsent + (x.vs - x.va)) + 4)
-    by_timer true on = record { stage = Waiting; so = (is, on); most = burden_begins x y low high }
-    by_timer false off =
-        let t = timed off in
-        let same : y.vr ≡ x.vs = omega (arith, low, high, t.0) in
-        record {
-          stage = Clean;
-          so = record { in_7 = is; free = t.1; arriving = same_in_transit y.rejecting y.vr x.vs same; wanted = refl; timed = λ _. t.0; stopped = λ on. cc };
-          most = omega (arith, same);
-        }
-
-pub in_7 : (e : End) → e.state ≡ MultipleFrameEstablished → IsTimedIn e.state e.t200 e.window.vs e.window.va e.window.peer_busy → e.t200 ≡ false → (e.window.vs ≡ e.window.va) × (e.window.peer_busy ≡ false)
-in_7 e is timed = let t : IsTimedIn MultipleFrameEstablished e.t200 e.window.vs e.window.va e.window.peer_busy = rw is at timed in t
-
--- the messages of a side that are left
-pub side_left : (s : Station) (base : ℕ) → IsNumbering (party base s).sends → s.history.passed ≡ s.end.first → AreSettled s.history → left_of s ≡ (length s.end.given - s.end.next) + (s.end.window.vs - s.end.window.va)
-side_left s base num passed settled =
-    let first : s.end.first ≡ base + s.end.window.va = num.first in
-    let next : s.end.next ≡ base + s.end.window.vs = num.next in
-    let ordered : s.end.window.va ≤ s.end.window.vs = num.ordered in
-    let within : s.end.next ≤ length s.end.given = num.within in
-    left_settled s settled ∙ omega (arith, passed, first, next, ordered, within)
 
 tries_so : (a b : ℕ) → a < b → nat_lt a b ≡ true
 tries_so a b less = grind (arith, nat_tests, less)
@@ -194,10 +165,6 @@ module _ (x y : Station) (i : IsInvariant (at x y [] [])) (ends_settled : AreSet
 
 -- ---- The world at the end.
 
-pub in_transit_none : (rejecting : Bool) (low end : ℕ) → IsInTransit rejecting low end [] → low ≡ end
-in_transit_none false low end c = c
-in_transit_none true low end c = c
-
 level_so : (x y : End) (a : ℕ) → Stream (source x) (sink y) [] [] a → x.t200 ≡ false → IsLevel x y
 level_so x y a s off = by_stage s.stage s.so
   where
@@ -206,22 +173,6 @@ level_so x y a s off = by_stage s.stage s.so
     by_stage Waiting w = let on = w.1 in cc
     by_stage Polling w = absurd (omega (arith, w.1))
     by_stage Answered w = absurd (omega (arith, w.1))
-
-or_second : (a b : Bool) → b ≡ false → (a || b) ≡ true → a ≡ true
-or_second true b absent either = refl
-or_second false b absent either = cc
-
-pub side_served : (before after : Station) → AreSettled after.history → left_of after ≡ 0 → after.history.dropped ≡ before.history.dropped → IsServed before after
-side_served before after settled none same = record {
-  dropped = same;
-  acknowledged = λ place there not_dropped.
-      let left : left_of after ≡ length after.end.given - after.history.passed = left_settled after settled in
-      let passed : nat_lt place after.history.passed ≡ true = all_passed place (length after.end.given) after.history.passed there (omega (arith, left, none)) in
-      or_second (is_one_of after.history.acked place) (is_one_of after.history.dropped place) (ap (λ l. is_one_of l place) same ∙ not_dropped) (settled.settled place ∙ passed);
-}
-  where
-    all_passed : (place given passed : ℕ) → place < given → given ≤ passed → nat_lt place passed ≡ true
-    all_passed place given passed there all = grind (arith, nat_tests, there, all)
 
 up_at : (n : ℕ) (begun : World) (x y : Station) → IsConsistentWorld Whole (at x y [] []) → Drains n (at x y [] []) → x.end.t200 ≡ false → y.end.t200 ≡ false → SameDropped begun (at x y [] []) → IsUp begun (at x y [] [])
 up_at n begun x y preserved d off none same =

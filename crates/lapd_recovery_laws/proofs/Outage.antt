@@ -5,7 +5,7 @@ use Rattle.lapd_frame.specs.declared.Side.TheVariants as side
 use Rattle.lapd_mod128.specs.Counting.{Whole}
 use Rattle.lapd_link_definition.specs.declared.state.State.{State}
 use Rattle.lapd_link_definition.specs.declared.state.State.TheVariants.{TeiAssigned, AwaitingEstablishment, AwaitingRelease, MultipleFrameEstablished, TimerRecovery}
-use Rattle.lapd_link_definition.specs.EndOfStep.{is_7_or_8, is_established}
+use Rattle.lapd_link_definition.specs.EndOfStep.{is_7_or_8}
 use Rattle.lapd_link_definition.specs.End.{End, unsent}
 use Rattle.lapd_link_definition.specs.RunningTimers.{HasTimersOfState}
 use Rattle.lapd_pair_laws.specs.Conjuncts.{IsEmpty, IsConsistentSender}
@@ -49,7 +49,7 @@ pub record Facts (N : ℕ) (w : World) : Type 0 where
   pub few_user : w.user.end.parameters.n200 ≤ N
   pub few_network : w.network.end.parameters.n200 ≤ N
 
-facts_swapped : (N : ℕ) (w : World) → Facts N w → Facts N (swapped w)
+pub facts_swapped : (N : ℕ) (w : World) → Facts N w → Facts N (swapped w)
 facts_swapped N w f = record {
   holds = exchanged w f.holds;
   settled = record { user = f.settled.network; network = f.settled.user };
@@ -86,7 +86,7 @@ first_of : (a b c : Bool) → (a && b && c) ≡ true → a ≡ true
 first_of true b c all = refl
 first_of false b c all = cc
 
-second_of : (a b c : Bool) → (a && b && c) ≡ true → b ≡ true
+pub second_of : (a b c : Bool) → (a && b && c) ≡ true → b ≡ true
 second_of true true c all = refl
 second_of true false c all = cc
 second_of false b c all = cc
@@ -104,13 +104,6 @@ stream_unsent x y out back n s = by_stage s.stage s.so s.most
     by_stage Waiting w most = omega (arith, most)
     by_stage Polling w most = omega (arith, most)
     by_stage Answered w most = omega (arith, most)
-
-closed_not_7 : (state : State) → is_7_or_8 state ≡ false → is_established state ≡ false
-closed_not_7 TeiAssigned c = refl
-closed_not_7 AwaitingEstablishment c = refl
-closed_not_7 AwaitingRelease c = refl
-closed_not_7 MultipleFrameEstablished c = cc
-closed_not_7 TimerRecovery c = cc
 
 no_t203_if_closed : (e : End) → HasTimersOfState e → is_7_or_8 e.state ≡ false → e.t203 ≡ false
 no_t203_if_closed e has c = by_state e.state refl c

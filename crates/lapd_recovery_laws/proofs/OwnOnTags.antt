@@ -1,35 +1,24 @@
 -- The own moves on tags are those on whole numbers.
-use Rattle.std.proofs.Common.{◌≡◌, ◌⊎◌, inl, inr, List, [], ◌∷◌, map, Result, Ok, Err, is_ok, refl, sym, ap, subst, ◌∙◌}
+use Rattle.std.proofs.Common.{◌≡◌, ◌⊎◌, inl, inr, List, [], ◌∷◌, map, is_ok, refl, sym, ap, subst, ◌∙◌}
 use Rattle.lapd_mod128.specs.Counting.{Whole, Tagged, tag}
 use Rattle.lapd_supervision.specs.Tags.{tag_variables}
 use Rattle.lapd_link_definition.specs.End.{End}
 use Rattle.lapd_link_definition.specs.Tagging.{tag_end}
 use Rattle.lapd_pair_laws.specs.Consistent.{IsConsistentWorld}
 use Rattle.lapd_pair_laws.specs.Line.{Flight}
-use Rattle.lapd_pair_laws.specs.Move.{PairEvent, Expire200, Expire203, Move, Refusal}
-use Rattle.lapd_pair_laws.specs.Tagged.{tag_flight, tag_world, tag_outcome}
-use Rattle.lapd_pair_laws.specs.World.{World, Happened, world_after, happens, run}
+use Rattle.lapd_pair_laws.specs.Move.{PairEvent, Expire200, Expire203, Move}
+use Rattle.lapd_pair_laws.specs.Tagged.{tag_flight, tag_world}
+use Rattle.lapd_pair_laws.specs.World.{World, world_after, happens, run}
 use Rattle.lapd_pair_laws.specs.Invariant.{IsInvariant}
 use Rattle.lapd_pair_laws.proofs.Consistency.{run_consistent}
-use Rattle.lapd_pair_laws.proofs.Nearness.{within_by_invariant}
 use Rattle.lapd_pair_laws.proofs.Reached.{near_moves}
-use Rattle.lapd_pair_laws.proofs.TaggedMoves.{move_on_tags, move_near, run_on_tags, left_on_tags}
+use Rattle.lapd_pair_laws.proofs.TaggedMoves.{run_on_tags, left_on_tags, after_on_tags}
 use Rattle.lapd_pair_laws.proofs.Whole.{each_move_preserves}
+use Rattle.lapd_pair_laws.proofs.DrainsAfterRuns.{admitted_on_tags, move_tagged}
 use Rattle.lapd_recovery_laws.specs.Own.{is_empty, is_due, IsOwn, AreOwn, Rests}
 use Rattle.lapd_recovery_laws.specs.Agreed.{IsLevel, AreLevel, AreReleased, AreAgreed}
 
 -- ---- Moves.
-
-move_tagged : (move : Move) (w : World) → IsInvariant w → IsConsistentWorld Whole w → happens Tagged move (tag_world w) ≡ tag_outcome (happens Whole move w)
-move_tagged move w i preserved = move_on_tags move w preserved (move_near move w preserved (within_by_invariant w i))
-
-admitted_on_tags : (r : Result Happened Refusal) → is_ok (tag_outcome r) ≡ is_ok r
-admitted_on_tags (Ok happened) = refl
-admitted_on_tags (Err refusal) = refl
-
-after_on_tags : (w : World) (r : Result Happened Refusal) → world_after (tag_world w) (tag_outcome r) ≡ tag_world (world_after w r)
-after_on_tags w (Ok happened) = refl
-after_on_tags w (Err refusal) = refl
 
 pub world_on_tags : (move : Move) (w : World) → IsInvariant w → IsConsistentWorld Whole w → world_after (tag_world w) (happens Tagged move (tag_world w)) ≡ tag_world (world_after w (happens Whole move w))
 world_on_tags move w i preserved = ap (λ r. world_after (tag_world w) r) (move_tagged move w i preserved) ∙ after_on_tags w (happens Whole move w)

@@ -9,6 +9,7 @@ use Rattle.lapd_pair_laws.specs.Kinds.{Message, Kind, Numbered, Enquiry, Asks, A
 use Rattle.lapd_pair_laws.specs.Parties.{Reception, behind, behind_acceptance, next_reception, received_in, OnReception}
 use Rattle.lapd_pair_laws.proofs.Flow.{IsWhole, IsJunkThenWhole, IsInTransit, fresh}
 use Rattle.lapd_pair_laws.proofs.Lists.{messages_append, rejections_append, tally_append}
+use Rattle.lapd_pair_laws.proofs.Receptions.{not_acceptance, unanswered}
 
 -- ---- Weights.
 
@@ -76,7 +77,8 @@ whole_append : (low middle end : ℕ) (ms ws : List Message) → IsWhole low mid
 whole_append low middle end [] ws w v = subst (λ n. IsWhole n end ws) (sym w) v
 whole_append low middle end (m ∷ ms) ws w v = (w.0, whole_append (low + 1) middle end ms ws w.1 v)
 
-junk_of_whole : (low end : ℕ) (ms : List Message) → IsWhole low end ms → IsJunkThenWhole low end ms
+pub junk_of_whole : (low end : ℕ) (ms : List Message) → IsWhole low end ms
+    → IsJunkThenWhole low end ms
 junk_of_whole low end [] w = w
 junk_of_whole low end (m ∷ ms) w = inl w
 
@@ -99,27 +101,10 @@ whole_joined low middle end ks ls w v = subst (λ ms. IsWhole low end ms) (sym (
 pub none_rejected : (ks ls : List Kind) → rejections ks ≡ [] → rejections ls ≡ [] → rejections (ks ++ ls) ≡ []
 none_rejected ks ls a b = rejections_append ks ls ∙ ap (λ l. l ++ rejections ls) a ∙ b
 
-pub no_number_no_rejection : (ks : List Kind) → numbers ks ≡ [] → rejections ks ≡ []
-no_number_no_rejection [] none = refl
-no_number_no_rejection (Asks ∷ ks) none = no_number_no_rejection ks none
-no_number_no_rejection (Accepts ∷ ks) none = no_number_no_rejection ks none
-no_number_no_rejection (Refuses ∷ ks) none = no_number_no_rejection ks none
-no_number_no_rejection (Unnumbered ∷ ks) none = no_number_no_rejection ks none
-no_number_no_rejection (Foreign ∷ ks) none = no_number_no_rejection ks none
-no_number_no_rejection (k ∷ ks) none = cc
-
 -- ---- The frames that an end will process.
 
 abbrev pub heard : End → List Kind → Option Reception
 heard e ks = received_in e.state e.release_pending (record { vs = e.window.vs; va = e.window.va; vr = e.window.vr; rejecting = e.window.rejecting; frames = ks }) ks
-
-pub not_acceptance : (k : Kind) → answer_of k ≡ 0 → is_acceptance k ≡ false
-not_acceptance Accepts none = absurd (omega (arith, none))
-not_acceptance k none = refl
-
-pub no_acceptance : (ks : List Kind) → tally answer_of ks ≡ 0 → behind_acceptance ks ≡ None
-no_acceptance [] none = refl
-no_acceptance (k ∷ ks) none = ap (λ b. behind b ks (behind_acceptance ks)) (not_acceptance k (omega (arith, none))) ∙ no_acceptance ks (omega (arith, none))
 
 -- the frames behind the first UA, with these appended
 behind_either : (test : Bool) (ks fs : List Kind) (later more : Option (List Kind)) → more ≡ option_map (λ l. l ++ fs) later → behind test (ks ++ fs) more ≡ option_map (λ l. l ++ fs) (behind test ks later)
@@ -163,7 +148,9 @@ arrives_in : (state : State) (leaving : Bool) (vs va vr : ℕ) (rejecting : Bool
 arrives_in TeiAssigned leaving vs va vr rejecting low end out fs none w a = tt
 arrives_in AwaitingEstablishment true vs va vr rejecting low end out fs none w a = tt
 arrives_in AwaitingEstablishment false vs va vr rejecting low end out fs none w a =
-    subst (λ o. OnReception (Arrives end) (option_map next_reception o)) (sym (behind_append out fs (no_acceptance fs none))) (next_arrives low end fs (behind_acceptance out) w a)
+    subst (λ o. OnReception (Arrives end) (option_map next_reception o))
+    (sym (behind_append out fs (unanswered fs none)))
+    (next_arrives low end fs (behind_acceptance out) w a)
 arrives_in AwaitingRelease leaving vs va vr rejecting low end out fs none w a = tt
 arrives_in MultipleFrameEstablished leaving vs va vr rejecting low end out fs none w a = now_arrives rejecting vr low end out fs w a
 arrives_in TimerRecovery leaving vs va vr rejecting low end out fs none w a = now_arrives rejecting vr low end out fs w a

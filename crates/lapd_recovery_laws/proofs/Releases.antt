@@ -34,6 +34,7 @@ use Rattle.lapd_recovery_laws.proofs.ClosedSteps.{Sees, seen_after_t200, seen_af
 use Rattle.lapd_recovery_laws.proofs.Lost.{at}
 use Rattle.lapd_recovery_laws.proofs.LostMoves.{moved_user}
 use Rattle.lapd_recovery_laws.proofs.TimersOfRuns.{timers_after_move}
+use Rattle.lapd_recovery_laws.proofs.Transitions.{literally}
 
 -- ---- Situations.
 
@@ -96,9 +97,6 @@ record MovesOn (n : ℕ) (now : World) : Type 0 where
 
 abbrev After : PairEvent → ℕ → Station → Station → List Flight → List Flight → Type 0
 After event n x y to_user to_network = is_ok (happens Whole (user_move event) (at x y to_user to_network)) ≡ true → MovesOn n (world_after (at x y to_user to_network) (happens Whole (user_move event) (at x y to_user to_network)))
-
-literally : (P : List Flight → List Flight → Type 0) (a b c d : List Flight) → a ≡ c → b ≡ d → P c d → P a b
-literally P a b c d is its_is p = subst (λ l. P l b) (sym is) (subst (λ l. P c l) (sym its_is) p)
 
 off_in_4 : (e : End) → HasTimersOfState e → e.state ≡ TeiAssigned → e.t200 ≡ false
 off_in_4 e has is = let t : AreTimersOf TeiAssigned e.t200 e.t203 (e.window.vs ≡ e.window.va) = subst (λ s. AreTimersOf s e.t200 e.t203 (e.window.vs ≡ e.window.va)) is has in t.0

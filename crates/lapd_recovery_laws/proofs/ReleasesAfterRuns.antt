@@ -1,20 +1,20 @@
 -- A line with both ends in states 4 and 6 is released after every run from a new world, on whole
 -- numbers and on tags.
-use Rattle.std.proofs.Common.{◌≡◌, inl, inr, ◌≤◌, List, [], ◌∷◌, map, refl, sym, subst}
+use Rattle.std.proofs.Common.{◌≡◌, inl, inr, ◌≤◌, List, sym, subst}
 use Rattle.lapd_mod128.specs.Counting.{Reading, Whole, Tagged}
 use Rattle.lapd_link_definition.specs.End.{End}
 use Rattle.lapd_link_definition.specs.Parameters.{Parameters}
 use Rattle.lapd_link_definition.specs.Tagging.{tag_end}
 use Rattle.lapd_pair_laws.specs.Consistent.{IsConsistentWorld}
 use Rattle.lapd_pair_laws.specs.Invariant.{IsInvariant}
-use Rattle.lapd_pair_laws.specs.Line.{Flight}
 use Rattle.lapd_pair_laws.specs.Move.{Move}
-use Rattle.lapd_pair_laws.specs.Tagged.{tag_flight, tag_world}
+use Rattle.lapd_pair_laws.specs.Tagged.{tag_world}
 use Rattle.lapd_pair_laws.specs.World.{World, new_world, run}
 use Rattle.lapd_pair_laws.proofs.Consistency.{new_world_consistent, run_consistent}
 use Rattle.lapd_pair_laws.proofs.Reached.{reached_tags}
 use Rattle.lapd_pair_laws.proofs.Whole.{each_run_preserves}
 use Rattle.lapd_pair_laws.proofs.Worlds.{new_holds}
+use Rattle.lapd_pair_laws.proofs.DrainsAfterRuns.{unmapped}
 use Rattle.lapd_recovery_laws.specs.Own.{Rests}
 use Rattle.lapd_recovery_laws.specs.ReleasedLine.{IsReleasing, IsReleasedLine, IsDown, ComesDown}
 use Rattle.lapd_recovery_laws.proofs.OwnOnTags.{are_own_by_tags, rests_by_tags, ran_on_tags, agreed_on_tags}
@@ -33,10 +33,6 @@ comes_down_on_tags w i preserved c = record {
       let still : Rests Whole now = rests_by_tags now (each_run_preserves moves w i) (run_consistent Whole moves w preserved) (subst (λ v. Rests Tagged v) same rests) in
       subst IsDown (sym same) (down_on_tags now (c.down moves (are_own_by_tags moves w i preserved own) still));
 }
-
-unmapped : (l : List Flight) → map tag_flight l ≡ [] → l ≡ []
-unmapped [] none = refl
-unmapped (f ∷ fs) none = cc
 
 releasing_by_tags : (e : End) → IsReleasing (tag_end e) → IsReleasing e
 releasing_by_tags e (inl is) = inl is

@@ -19,13 +19,13 @@ use Rattle.lapd_link_definition.specs.Procedures.{out_where, state_to, start, st
 use Rattle.lapd_link_definition.specs.TimerRecovery.{poll, i_frame_nr_in_recovery, rr_nr_in_recovery, rnr_nr_in_recovery, timer_recovery}
 use Rattle.lapd_pair_laws.specs.Line.{Flight, without_info}
 use Rattle.lapd_pair_laws.specs.Move.{story_after}
-use Rattle.lapd_pair_laws.specs.Kinds.{Message, Kind, Numbered, Status, Rejection, Enquiry, Final, kind_of, kinds, message_of, messages, numbers, rejection_of, rejections, tally, answer_of, poll_of, final_of}
+use Rattle.lapd_pair_laws.specs.Kinds.{Kind, Numbered, Status, Rejection, Enquiry, Final, kind_of, kinds, message_of, messages, numbers, rejection_of, rejections, tally, answer_of, poll_of, final_of}
 use Rattle.lapd_pair_laws.specs.Conjuncts.{IsNumbering}
 use Rattle.lapd_link_definition.specs.EndOfStep.{is_7_or_8}
 use Rattle.lapd_pair_laws.specs.Parties.{receives, OnReception}
 use Rattle.lapd_pair_laws.proofs.ActionEffects.{Context, story, occasion, seen, line, HoldsMid, after_outputs_append, after_stop, mid_peer_busy, mid_response, final_kind}
 use Rattle.lapd_pair_laws.proofs.Facts.{taken_below, rejected_so, final_so}
-use Rattle.lapd_pair_laws.proofs.Flow.{IsWhole, IsInTransit, fresh}
+use Rattle.lapd_pair_laws.proofs.Flow.{IsInTransit, fresh}
 use Rattle.lapd_pair_laws.proofs.FrameOfStep.{turned, rejection_left, final_left}
 use Rattle.lapd_pair_laws.proofs.GoingBack.{asked_in_8, sent_back_in_7}
 use Rattle.lapd_pair_laws.proofs.Lists.{by_test}
@@ -36,6 +36,7 @@ use Rattle.lapd_pair_laws.proofs.Receptions.{by_open}
 use Rattle.lapd_pair_laws.proofs.Runs.{climb_top}
 use Rattle.lapd_pair_laws.proofs.Sends.{same_or_not}
 use Rattle.lapd_pair_laws.proofs.States.{PutsFrame, start_200_puts, start_203_puts, stop_200_puts, acknowledge_puts, response_puts, unanswered_puts, answered_puts}
+use Rattle.lapd_pair_laws.proofs.StreamReceipts.{whole_taken, junk_passed}
 use Rattle.lapd_recovery_laws.proofs.EndSends.{pending_in, pending, IsCalm, then_calm}
 use Rattle.lapd_recovery_laws.proofs.Proceeding.{weight_of, weigh, plain_of, Arrives}
 
@@ -228,15 +229,6 @@ answers_by c k s t u q is no_message no_answer one polls no_final rc relief two 
     }
 
 -- ---- N(S).
-
-whole_taken : (rejecting : Bool) (low end : ℕ) (m : Message) (ms : List Message) → m.number ≡ low → IsInTransit rejecting low end (m ∷ ms) → IsWhole (low + 1) end ms
-whole_taken false low end m ms is c = c.1
-whole_taken true low end m ms is (inl w) = w.1
-whole_taken true low end m ms is (inr j) = let above = j.0 in absurd (omega (arith, above, is))
-
-junk_passed : (low end : ℕ) (m : Message) (ms : List Message) → (m.number ≡ low → ⊥) → IsInTransit true low end (m ∷ ms) → IsInTransit true low end ms
-junk_passed low end m ms other (inl w) = absurd (other w.0)
-junk_passed low end m ms other (inr j) = j.1
 
 module _ (c : Context) (ns nr : ℕ) (s : StepState) (none_pending : s.end.window.ack_pending ≡ false) where
   abbrev w : StateVariables

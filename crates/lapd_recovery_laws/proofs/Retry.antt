@@ -4,7 +4,7 @@ use Rattle.lapd_timers.specs.declared.timer.Timer.TheVariants.{T200}
 use Rattle.lapd_frame.specs.declared.Side.TheVariants as side
 use Rattle.lapd_frame.specs.declared.Role.TheVariants.{Command}
 use Rattle.lapd_mod128.specs.Counting.{Whole}
-use Rattle.lapd_supervision.specs.StateVariables.{StateVariables, status_frame, without_ack_pending}
+use Rattle.lapd_supervision.specs.StateVariables.{status_frame, without_ack_pending}
 use Rattle.lapd_link_definition.specs.declared.state.State.{State}
 use Rattle.lapd_link_definition.specs.declared.state.State.TheVariants.{TimerRecovery}
 use Rattle.lapd_link_definition.specs.EndOfStep.{end_step}
@@ -22,15 +22,11 @@ use Rattle.lapd_pair_laws.proofs.Steps.{context}
 use Rattle.lapd_pair_laws.proofs.Worlds.{left_by}
 use Rattle.lapd_pair_laws.proofs.Flow.{source, sink, Polling, burden, Stream, Flow}
 use Rattle.lapd_pair_laws.proofs.StreamReceipts as receives
-use Rattle.lapd_pair_laws.proofs.Draws.{is_ready, Draws}
-use Rattle.lapd_pair_laws.proofs.DrawCloses.{draws_close}
+use Rattle.lapd_pair_laws.proofs.Draws.{Draws}
+use Rattle.lapd_pair_laws.proofs.DrawCloses.{draws_close, ready_enquiry}
 use Rattle.lapd_pair_laws.proofs.Drains.{Seen, mine_open, after_step, preserved_after}
 use Rattle.lapd_pair_laws.proofs.SettledEnds.{closed_step}
 use Rattle.lapd_pair_laws.proofs.States.{enquiry_puts}
-
-ready_enquiry : (w : StateVariables) → w.own_busy ≡ false → is_ready (status_frame true w) ≡ true
-unfolding status_frame
-ready_enquiry w free = rw free refl
 
 -- the remaining work after a poll is that of the peer's stream, and of the poll
 pub record Retries (x y : End) (n : ℕ) : Type 0 where

@@ -30,7 +30,7 @@ use Rattle.lapd_pair_laws.proofs.Stepping.{user_move, network_move}
 use Rattle.lapd_pair_laws.proofs.Swaps.{network_alike}
 use Rattle.lapd_pair_laws.proofs.TaggedMoves.{left_on_tags}
 use Rattle.lapd_pair_laws.proofs.Whole.{each_move_preserves, each_run_preserves}
-use Rattle.lapd_pair_laws.proofs.Worlds.{new_holds, left_by, exchanged}
+use Rattle.lapd_pair_laws.proofs.Worlds.{new_holds, left_by}
 use Rattle.lapd_recovery_laws.specs.Deliveries.{AreDeliveries, NothingArrives, frames, most_deliveries, RunsEmpty}
 use Rattle.lapd_recovery_laws.specs.Own.{IsFree, is_line_empty}
 use Rattle.lapd_recovery_laws.proofs.AfterOutage.{facts_after}
@@ -42,7 +42,7 @@ use Rattle.lapd_recovery_laws.proofs.Lost.{at, kinds_length}
 use Rattle.lapd_recovery_laws.proofs.LostMoves.{moved_user}
 use Rattle.lapd_recovery_laws.proofs.OpenDelivers.{Delivered}
 use Rattle.lapd_recovery_laws.proofs.OpenFrames.{open_delivered}
-use Rattle.lapd_recovery_laws.proofs.Outage.{Facts}
+use Rattle.lapd_recovery_laws.proofs.Outage.{Facts, facts_swapped}
 use Rattle.lapd_recovery_laws.proofs.OwnOnTags.{ok_on_tags, world_on_tags}
 use Rattle.lapd_recovery_laws.proofs.Proceeding.{weigh_few, extra, extra_few, missing_in, missing, load_in, load, fresh_few, Flowing, flowing_turned, flows_on}
 use Rattle.lapd_recovery_laws.proofs.TimersOfRuns.{new_has_timers, timers_after_run}
@@ -110,16 +110,6 @@ user_delivers N n x y frame rest to_network f flow =
     let i = f.holds in
     let s = delivered x y frame rest to_network i.user_base i.network_base n f.settled.user f.clear.user i.both flow in
     subst (λ v. Delivers n w v) (sym (moved_user Deliver w)) (record { some = s.some; flow = s.flowing; user_fewer = s.fewer; network_fewer = omega arith; user_free = s.free; network_free = λ free. free })
-
-facts_swapped : (N : ℕ) (w : World) → Facts N w → Facts N (swapped w)
-facts_swapped N w f = record {
-  holds = exchanged w f.holds;
-  settled = record { user = f.settled.network; network = f.settled.user };
-  have = record { user = f.have.network; network = f.have.user };
-  clear = record { user = f.clear.network; network = f.clear.user };
-  few_user = f.few_network;
-  few_network = f.few_user;
-}
 
 delivers_swapped : (n : ℕ) (w now : World) → Delivers n (swapped w) now → Delivers n w (swapped now)
 delivers_swapped n w now d = record { some = d.some; flow = flowing_turned d.flow; user_fewer = d.network_fewer; network_fewer = d.user_fewer; user_free = d.network_free; network_free = d.user_free }

@@ -33,7 +33,7 @@ use Rattle.lapd_pair_laws.proofs.States.{next_sent, next_puts, ensure_puts}
 use Rattle.lapd_pair_laws.proofs.Worlds.{left_by}
 use Rattle.lapd_recovery_laws.proofs.Beside.{seeing}
 use Rattle.lapd_recovery_laws.proofs.Establishes.{discards_by, by_outstanding}
-use Rattle.lapd_recovery_laws.proofs.LoneSteps.{is_ignored, sabme, ua}
+use Rattle.lapd_recovery_laws.proofs.LoneSteps.{is_ignored, sabme, ua, and_off}
 
 abbrev pub AreIgnored : List Flight → Type 0
 AreIgnored [] = Unit {0}
@@ -117,10 +117,6 @@ sends_all : (c : Context) (n : ℕ) (s : StepState) → s.end.window.ack_pending
 unfolding send_all transmit_i_frame ensure_t200 after_sending
 sends_all c zero s none = nothing_sent c s none
 sends_all c (suc n) s none = by_test (λ (t : StepState). SendsOn c s t) (may_send_next Whole s) _ _ (λ go. one_sent c s (send_all Whole n (send_next Whole s)) go (sends_all c n (send_next Whole s) refl)) (λ _. nothing_sent c s none)
-
-and_off : (a b : Bool) → b ≡ false → (a && b) ≡ true → ⊥
-and_off true b off on = cc
-and_off false b off on = cc
 
 pub sends_on : (c : Context) (s : StepState) → s.end.window.ack_pending ≡ false → SendsOn c s (end_step Whole s)
 unfolding end_step acknowledge_pending
@@ -269,7 +265,10 @@ confirmed_line : (b : Bool) (o : Occasion) (t : Story) → (after_outputs o ((Co
 confirmed_line true o t = refl
 confirmed_line false o t = refl
 
-indicated_line : (test c b : Bool) (n : ℕ) (o : Occasion) (t : Story) → (after_outputs o ((if test then [] else out_where c (Dropped n) ++ Established ∷ []) ++ out_where b (Stop T200) ++ Start T203 ∷ []) t).line ≡ t.line
+pub indicated_line : (test c b : Bool) (n : ℕ) (o : Occasion) (t : Story)
+    → (after_outputs o
+    ((if test then [] else out_where c (Dropped n) ++ Established ∷ [])
+    ++ out_where b (Stop T200) ++ Start T203 ∷ []) t).line ≡ t.line
 indicated_line true c true n o t = refl
 indicated_line true c false n o t = refl
 indicated_line false true true n o t = refl
@@ -289,7 +288,9 @@ pub sendable_few : (same : Bool) (u : ℕ) → sendable_in same u ≤ u
 sendable_few true u = omega arith
 sendable_few false u = omega arith
 
-by_each : (P : StepState → Type 0) (s : StepState) → ((test : Bool) → (s.end.window.vs == s.end.window.va) ≡ test → P (discards_by test s)) → P (discard_unacknowledged s)
+pub by_each : (P : StepState → Type 0) (s : StepState)
+    → ((test : Bool) → (s.end.window.vs == s.end.window.va) ≡ test → P (discards_by test s))
+    → P (discard_unacknowledged s)
 unfolding discard_unacknowledged
 by_each P s each = each (s.end.window.vs == s.end.window.va) refl
 

@@ -14,9 +14,9 @@ use Rattle.lapd_pair_laws.specs.Line.{Flight}
 use Rattle.lapd_pair_laws.specs.Move.{Expire200, Station, View, acts}
 use Rattle.lapd_pair_laws.specs.Timed.{AreSettledEnds}
 use Rattle.lapd_pair_laws.specs.World.{World, swapped}
-use Rattle.lapd_pair_laws.specs.Kinds.{Message, kinds, messages}
+use Rattle.lapd_pair_laws.specs.Kinds.{kinds, messages}
 use Rattle.lapd_pair_laws.proofs.Drains.{Drains}
-use Rattle.lapd_pair_laws.proofs.Flow.{source, sink, IsWhole, IsJunkThenWhole, IsInTransit, Clean, Stream}
+use Rattle.lapd_pair_laws.proofs.Flow.{source, sink, IsWhole, Clean, Stream}
 use Rattle.lapd_pair_laws.proofs.Worlds.{left_by}
 use Rattle.lapd_recovery_laws.proofs.AnyOrder.{Draining}
 use Rattle.lapd_recovery_laws.proofs.Beside.{seeing}
@@ -25,6 +25,7 @@ use Rattle.lapd_recovery_laws.proofs.HalfSteps.{dm, disc}
 use Rattle.lapd_recovery_laws.proofs.LoneSteps.{is_ignored, Polls, polls_by_t200, polls_again, sabme, ua, asking, last_try_in_8}
 use Rattle.lapd_recovery_laws.proofs.Lost.{at, kinds_length}
 use Rattle.lapd_recovery_laws.proofs.SendsOn.{AreIgnored, IsUpWith}
+use Rattle.lapd_recovery_laws.proofs.Proceeding.{in_transit_of_whole}
 
 -- ---- What one end can still do by its timers.
 
@@ -301,21 +302,16 @@ module _ (N : ℕ) where
 
 -- ---- Both ends are up: the line drains.
 
-whole_is_junk : (low end : ℕ) (ms : List Message) → IsWhole low end ms → IsJunkThenWhole low end ms
-whole_is_junk low end [] w = w
-whole_is_junk low end (m ∷ ms) w = inl w
-
-in_transit : (rejecting : Bool) (low end : ℕ) (ms : List Message) → IsWhole low end ms → IsInTransit rejecting low end ms
-in_transit false low end ms w = w
-in_transit true low end ms w = whole_is_junk low end ms w
-
 up_stream : (x y : End) (out back : List Flight) → IsUpWith out x → IsUpWith back y → Stream (source x) (sink y) (kinds out) (kinds back) (2 * unsent x + x.window.vs)
 up_stream x y out back up peer = record {
   stage = Clean;
   so = record {
     in_7 = up.in_7;
     free = up.free;
-    arriving = in_transit y.window.rejecting y.window.vr x.window.vs (messages (kinds out)) (subst (λ low. IsWhole low x.window.vs (messages (kinds out))) (sym peer.vr) up.messages_are.whole);
+    arriving =
+        let sent = messages (kinds out) in
+        in_transit_of_whole y.window.rejecting y.window.vr x.window.vs sent
+        (subst (λ low. IsWhole low x.window.vs sent) (sym peer.vr) up.messages_are.whole);
     wanted = peer.messages_are.rejections_none;
     timed = λ off. elim up.on [
       | inl none ↦ let count = up.count in let va = up.va in omega (arith, count, none, va)
