@@ -21,6 +21,15 @@ pub mod TerminalOwn
 pub mod UserOwn
 pub mod AsMade
 pub mod NewLinks
+pub mod EndAnswers
+pub mod EachLink
+pub mod EachNetwork
+pub mod EachUser
+pub mod OwedAnswers
+pub mod EachEvent
+pub mod UsualLinks
+pub mod AnsweredSides
+pub mod AnsweredRequests
 pub mod ExactLinks
 pub mod ExactNetwork
 pub mod ExactUser

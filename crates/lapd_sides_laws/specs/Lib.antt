@@ -11,3 +11,5 @@ pub mod ManagementTimers
 pub mod Calls
 pub mod Schedule
 pub mod NewLinks
+pub mod EndAnswers
+pub mod Answers

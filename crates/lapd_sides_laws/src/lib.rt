@@ -34,6 +34,8 @@
 //!   event of that side follows. `ManagementTimers`: T201 and T202 run exactly while TEI management
 //!   waits.
 //! - `NewLinks`: a TEI has no links, in the definition and in the table of the code.
+//! - `EndAnswers`, `Answers`: the requests of layer 3 to establish and to release a link, their
+//!   answers, how often T200 expires until then, and when timers are expired in time.
 //! - `Calls`: which event a call of a side in code is. `Schedule`: worked runs.
 //!
 //! The laws:
@@ -49,13 +51,19 @@
 //!   arrives and whatever the side does.
 //! - [`management_timers_run_while_it_waits`]: the same for TEI management.
 //! - [`added_links_are_new`]: a TEI has no links when a side assigns or obtains it.
+//! - [`every_end_answers`]: an end answers each request of layer 3 before its T200 has expired too
+//!   often, whatever its inputs are.
+//! - [`every_request_is_answered`]: so does a side, whatever arrives, and in time if its timers are
+//!   expired when they are due.
 //!
 //! [`NetSide`]: lapd_sides::NetSide
 //! [`UserSide`]: lapd_sides::UserSide
 #![tactic(auto)]
 
+mod answers;
 mod laws;
 
+pub use answers::{every_end_answers, every_request_is_answered};
 pub use laws::{
     added_links_are_new, calls_are_events, each_link_gets_its_own, each_link_is_safe,
     each_premise_is_needed, management_timers_run_while_it_waits, schedule_is_computed,
