@@ -57,7 +57,7 @@ unclocked : (S : Type 0) (w : Behaviour S) (side_steps : List SideStep) (v : Sid
 unclocked S w [] v = tt
 unclocked S w (x ∷ xs) v = (λ ticks. cc, unclocked S w xs (stepped w x v))
 
-clocked : (S : Type 0) (w : Behaviour S) (side_steps : List SideStep) (v : SideView S)
+pub clocked : (S : Type 0) (w : Behaviour S) (side_steps : List SideStep) (v : SideView S)
     → Throughout w (IsPunctual w) side_steps v
     → Throughout w (λ event s. true ≡ true → IsPunctual w event s) side_steps v
 clocked S w [] v h = tt

@@ -36,7 +36,7 @@ has_links config sapi.Call is = tt
 has_links config sapi.Packet is = tt
 has_links config sapi.Management is = cc
 
-most_left : (asked : Asked) (n : ℕ) (was : Situation) (rc len : ℕ)
+pub most_left : (asked : Asked) (n : ℕ) (was : Situation) (rc len : ℕ)
     → len + periods asked n was rc * len ≤ most_periods asked n * len
 most_left asked n was rc len = product (periods asked n was rc) (most_periods asked n)
     (below asked was)
@@ -58,7 +58,7 @@ there (Some deadline) h = (deadline, refl)
 there None h = cc
 
 -- a timer that is not overdue
-quiet_until : (s : Served) (id : LinkId) (l : Linked) (deadline moment : ℕ) → s.links id ≡ Some l
+pub quiet_until : (s : Served) (id : LinkId) (l : Linked) (deadline moment : ℕ) → s.links id ≡ Some l
     → deadline_of T200 l.timers ≡ Some deadline → IsQuietBefore s moment → moment ≤ deadline
 quiet_until s id l deadline moment is runs quiet = elim (cases_lt deadline moment) [
   | inl overdue ↦
@@ -76,13 +76,13 @@ quiet_until s id l deadline moment is runs quiet = elim (cases_lt deadline momen
 ]
 
 module _ (config : Config) (id : LinkId) (asked : Asked) (clock : Bool) (now : ℕ) where
-  abbrev N200 : ℕ
+  abbrev pub N200 : ℕ
   N200 = (parameters_for config id.sapi).n200
 
-  abbrev T200Length : ℕ
+  abbrev pub T200Length : ℕ
   T200Length = config.durations.t200
 
-  abbrev Limit : ℕ
+  abbrev pub Limit : ℕ
   Limit = now + most_periods asked N200 * T200Length
 
   abbrev pub Debt : ℕ → ℕ → Option Linked → Type 0
@@ -130,11 +130,11 @@ module _ (config : Config) (id : LinkId) (asked : Asked) (clock : Bool) (now : �
   }
 
   module _ (S : Type 0) (w : Behaviour S) where
-    abbrev Link : S → Option Linked
+    abbrev pub Link : S → Option Linked
     Link s = (w.served s).links id
 
     -- by the clock, each event is punctual
-    abbrev Ready : SideEvent → S → Type 0
+    abbrev pub Ready : SideEvent → S → Type 0
     Ready event s = clock ≡ true → IsPunctual w event s
 
     at_moment : (m last moment : ℕ) (s : S) (l : Option Linked) → Link s ≡ l
@@ -158,7 +158,7 @@ module _ (config : Config) (id : LinkId) (asked : Asked) (clock : Bool) (now : �
           };
     }
 
-    advance : (m last : ℕ) (event : SideEvent) (s : S) → Ready event s → Debt m last (Link s)
+    pub advance : (m last : ℕ) (event : SideEvent) (s : S) → Ready event s → Debt m last (Link s)
         → Debt m (moment_or last event) (Link s)
     advance m last (Take moment) s ready o = at_moment m last moment s (Link s) refl ready o
     advance m last (Lose at) s ready o = o

@@ -30,6 +30,12 @@ pub mod EachEvent
 pub mod UsualLinks
 pub mod AnsweredSides
 pub mod AnsweredRequests
+pub mod EachTerminal
+pub mod WaitingUser
+pub mod WaitingSteps
+pub mod WaitingRuns
+pub mod UsualTerminal
+pub mod AnsweredWithoutTei
 pub mod ExactLinks
 pub mod ExactNetwork
 pub mod ExactUser

@@ -1,14 +1,16 @@
 -- Layer 3's requests to a side, their answers among the primitives of a link, and how often T200 of
 -- the link expires.
-use Rattle.std.specs.Prelude.{◌≡◌, ℕ, ◌+◌, ◌*◌, ◌≤◌, ◌==◌, Bool, true, false, List, [], ◌∷◌, ◌++◌, Some}
+use Rattle.std.specs.Prelude.{◌≡◌, ℕ, ◌+◌, ◌*◌, ◌≤◌, ◌==◌, ◌&&◌, Bool, true, false, List, [], ◌∷◌, ◌++◌, Some}
 use Rattle.std.specs.List.{list_any, count_by}
 use Rattle.lapd_timers.specs.declared.timer.Timer.TheVariants.{T200}
+use Rattle.lapd_frame.specs.declared.Sapi.{Sapi}
 use Rattle.lapd_frame.specs.declared.Side.{Side}
 use Rattle.lapd_frame.specs.declared.Side.TheVariants as side
 use Rattle.lapd_frame.specs.Address.{sapi_value}
 use Rattle.lapd_table.specs.declared.link_id.LinkId.{LinkId}
 use Rattle.lapd_table.specs.LinkId.{id_eq}
 use Rattle.lapd_sides_links.specs.declared.primitive.Primitive.{Primitive}
+use Rattle.lapd_sides_links.specs.declared.primitive.Primitive.TheVariants.{Of, Management}
 use Rattle.lapd_sides_links.specs.declared.primitive.What.{What}
 use Rattle.lapd_sides_links.specs.declared.primitive.What.TheVariants as what
 use Rattle.lapd_sides_links.specs.Expiries.{IsQuietBefore}
@@ -38,6 +40,14 @@ answers asked other = false
 
 abbrev pub HasAnswer : Asked → LinkId → List Primitive → Type 0
 HasAnswer asked id primitives = list_any (answers asked) (link_primitives id primitives) ≡ true
+
+-- the primitives of a SAPI that answer, with any TEI: without a TEI they name the group TEI
+abbrev pub answers_for : Asked → Sapi → Primitive → Bool
+answers_for asked sapi (Of id w) = (sapi_value sapi == sapi_value id.sapi) && answers asked w
+answers_for asked sapi (Management outcome) = false
+
+abbrev pub HasAnswerFor : Asked → Sapi → List Primitive → Type 0
+HasAnswerFor asked sapi primitives = list_any (answers_for asked sapi) primitives ≡ true
 
 -- ---- Events after the request.
 
@@ -101,6 +111,12 @@ after_request w a side_steps = stepped_by_all w side_steps (new_view a.after)
 abbrev pub IsAnswered : {S : Type 0} → Asked → LinkId → Behaviour S → Reaction S → List SideStep
     → Type 0
 IsAnswered asked id w a side_steps = HasAnswer asked id
+    (a.effects.primitives ++ (after_request w a side_steps).delivered)
+
+-- the same with any TEI
+abbrev pub IsAnsweredFor : {S : Type 0} → Asked → Sapi → Behaviour S → Reaction S → List SideStep
+    → Type 0
+IsAnsweredFor asked sapi w a side_steps = HasAnswerFor asked sapi
     (a.effects.primitives ++ (after_request w a side_steps).delivered)
 
 -- Every timer of the side is expired no later than it is due, up to this moment.

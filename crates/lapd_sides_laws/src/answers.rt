@@ -1,6 +1,6 @@
 //! Requests of layer 3 are answered. A call of the law does nothing.
 
-ghost use Rattle.std.specs.Prelude.{◌≡◌, ◌<◌, ◌≤◌, ◌+◌, ◌*◌, ◌++◌, true, false, ℕ, List, Option, Some, Ok};
+ghost use Rattle.std.specs.Prelude.{◌≡◌, ◌<◌, ◌≤◌, ◌+◌, ◌*◌, ◌++◌, true, false, ℕ, List, Option, Some, None, Ok};
 ghost use Rattle.std.specs.List.{All, list_any};
 ghost use Rattle.rand_pcg.specs.Lcg.{Lcg};
 ghost use Rattle.lapd_frame.specs.declared.Side.TheVariants as side;
@@ -9,13 +9,13 @@ ghost use Rattle.lapd_link_definition.specs.End.{End, StepState};
 ghost use Rattle.lapd_link_definition.specs.Input.{Input};
 ghost use Rattle.lapd_link_definition.specs.RunningTimers.{HasTimersOfState};
 ghost use Rattle.lapd_link_definition.specs.Table.{step};
-ghost use Rattle.lapd_tei.specs.Terminal.{tei_of};
+ghost use Rattle.lapd_tei.specs.Terminal.{n202, tei_of};
 ghost use Rattle.lapd_table.specs.declared.link_id.LinkId.{LinkId};
 ghost use Rattle.lapd_sides_links.specs.declared.config.Config.{Config};
 ghost use Rattle.lapd_sides_links.specs.Links.{Reaction, parameters_for};
 ghost use Rattle.lapd_sides.specs.Network.{Network, network_requested};
 ghost use Rattle.lapd_sides.specs.User.{User, user_requested};
-ghost use Rattle.lapd_sides_laws.specs.Answers.{asks, expiries_of, KeepsRequest, IsBy, most_periods, IsAnswered, AreExpiredInTime};
+ghost use Rattle.lapd_sides_laws.specs.Answers.{asks, expiries_of, KeepsRequest, IsBy, most_periods, IsAnswered, IsAnsweredFor, AreExpiredInTime};
 ghost use Rattle.lapd_sides_laws.specs.EndAnswers.{Asked, request_of, may_release, most_expiries, is_answered, is_release, t200_expiries, outs_of};
 ghost use Rattle.lapd_sides_laws.specs.ExactTimers.{SideStep, BringsOctets};
 ghost use Rattle.lapd_sides_laws.specs.Interface.{network_behaviour, user_behaviour};
@@ -58,6 +58,9 @@ pub fn every_end_answers()
 ///   when it is due, the answer comes after (N200 + 1) T200 at the latest, and 2 (N200 + 1) T200 if
 ///   layer 3 may have requested the release: 4 s and 8 s with the values of Q.921. The request is
 ///   not earlier than the events before it.
+/// - `user_without_tei`: on a user side that has no TEI, in any phase of requesting one. The answer
+///   comes N202 T202 later at the latest, so an establishment is answered after 10 s. It names the
+///   group TEI if no TEI was obtained, and else the TEI (`IsAnsweredFor`).
 pub fn every_request_is_answered()
     ensures network { (config : Config) (known : List ℕ) (before after : List SideStep)
         (asked : Asked) (id : LinkId) (now : ℕ) (a : Reaction Network)
@@ -94,4 +97,15 @@ pub fn every_request_is_answered()
         → now + most_periods asked (parameters_for config id.sapi).n200 * config.durations.t200
         < moment
         → IsAnswered asked id (user_behaviour config) a after }
+    ensures user_without_tei { (config : Config) (fixed : Option ℕ) (random : Lcg)
+        (before after : List SideStep) (asked : Asked) (id : LinkId) (now moment : ℕ)
+        (a : Reaction User)
+        → All (λ side_step. IsBy now side_step.event) before
+        → tei_of (user_after config fixed random before).terminal ≡ None
+        → user_requested config (asks asked id) now (user_after config fixed random before) ≡ Ok a
+        → KeepsRequest asked side.User id after
+        → AreExpiredInTime (user_behaviour config) a after moment
+        → now + n202 * config.durations.t202
+        + most_periods asked (parameters_for config id.sapi).n200 * config.durations.t200 < moment
+        → IsAnsweredFor asked id.sapi (user_behaviour config) a after }
 {}

@@ -1,0 +1,292 @@
+-- Any events while a terminal awaits a TEI for a kept establishment: layer 3 has its answer in
+-- time, from the terminal or from the link of the TEI.
+use Rattle.std.proofs.Common.{◌≡◌, ◌⊎◌, inl, inr, ℕ, ◌+◌, ◌-◌, ◌*◌, ◌≤◌, ◌<◌, ◌==◌, ◌&&◌, ◌||◌, Bool, true, false, List, [], ◌∷◌, ◌++◌, Option, Some, None, refl, ap, subst, arith}
+use Rattle.std.specs.Prelude.{is_some}
+use Rattle.std.specs.List.{list_any}
+use Rattle.std.proofs.lemmas.Bool.{cases_lt, or_left, or_right}
+use Rattle.lapd_timers.specs.declared.timer.Timer.TheVariants.{T202}
+use Rattle.lapd_timers.specs.Due.{deadline_of}
+use Rattle.lapd_frame.specs.declared.Sapi.{Sapi}
+use Rattle.lapd_frame.specs.declared.Sapi.TheVariants as sapi
+use Rattle.lapd_frame.specs.declared.Side.TheVariants as side
+use Rattle.lapd_frame.specs.Address.{sapi_value}
+use Rattle.lapd_tei.specs.declared.phase.Phase.{Phase}
+use Rattle.lapd_table.specs.declared.link_id.LinkId.{LinkId}
+use Rattle.lapd_table.specs.LinkId.{id_eq}
+use Rattle.lapd_table.proofs.Ids.{same_id_eq}
+use Rattle.lapd_sides_links.specs.declared.config.Config.{Config}
+use Rattle.lapd_sides_links.specs.declared.primitive.Primitive.{Primitive}
+use Rattle.lapd_sides_links.specs.declared.primitive.Primitive.TheVariants.{Of, Management}
+use Rattle.lapd_sides_links.specs.declared.primitive.What.{What}
+use Rattle.lapd_sides_links.specs.declared.running_timer.RunningTimer.{RunningTimer}
+use Rattle.lapd_sides_links.specs.Expiries.{IsQuietBefore}
+use Rattle.lapd_sides_links.specs.Links.{Linked, Links, Served, parameters_for}
+use Rattle.lapd_sides.specs.User.{User}
+use Rattle.lapd_sides_laws.specs.Answers.{answers, answers_for, HasAnswer, HasAnswerFor, KeepsRequest, requests_release, IsPunctual, Throughout, expiries_of, most_periods}
+use Rattle.lapd_sides_laws.specs.EndAnswers.{Asked, may_release, most_expiries}
+use Rattle.lapd_sides_laws.specs.ExactTimers.{SideStep, stepped, stepped_by_all}
+use Rattle.lapd_sides_laws.specs.Interface.{user_behaviour}
+use Rattle.lapd_sides_laws.specs.ManagementTimers.{HasTimerOfTerminal}
+use Rattle.lapd_sides_laws.specs.Primitives.{link_primitives}
+use Rattle.lapd_sides_laws.specs.SideView.{SideView, SideEvent, Take, Lose, Expire, Ask, reaction, does}
+use Rattle.lapd_sides_laws.proofs.AnsweredSides.{Debt, debt_closed, advance, Ready, quiet_until}
+use Rattle.lapd_sides_laws.proofs.AnsweredRequests.{clocked}
+use Rattle.lapd_sides_laws.proofs.EachEvent.{moment_or, user_ways, all_go}
+use Rattle.lapd_sides_laws.proofs.EachLink.{HasLinks}
+use Rattle.lapd_sides_laws.proofs.EachTerminal.{IsNow, user_reacts}
+use Rattle.lapd_sides_laws.proofs.LinkParts.{any_more, any_behind}
+use Rattle.lapd_sides_laws.proofs.ManagementSides.{preserved_by_event, user_preserves_its_timer}
+use Rattle.lapd_sides_laws.proofs.UserOwn.{AreOwn, user_preserves}
+use Rattle.lapd_sides_laws.proofs.TerminalOwn.{Owns}
+use Rattle.lapd_sides_laws.proofs.WaitingSteps.{waiting_is_ruled}
+use Rattle.lapd_sides_laws.proofs.WaitingUser.{Establishes, Waits, Continues, IsReady, HasBegun, Answers, with_tei_of}
+
+-- ---- An answer about a link is one about its SAPI.
+
+one_of : (a b : Bool) → (a || b) ≡ true → (a ≡ true) ⊎ (b ≡ true)
+one_of true b h = inl refl
+one_of false b h = inr h
+
+both_are : {a b : Bool} → a ≡ true → b ≡ true → (a && b) ≡ true
+both_are one other = rw (one, other) refl
+
+module _ (asked : Asked) (id : LinkId) where
+  same_sapi : (other : LinkId) → id_eq id other ≡ true
+      → (sapi_value id.sapi == sapi_value other.sapi) ≡ true
+  same_sapi other same =
+      let is : id.sapi ≡ other.sapi = ap (λ (k : LinkId). k.sapi) (same_id_eq id other same) in
+      rw is (itself other.sapi)
+    where
+      itself : (at : Sapi) → (sapi_value at == sapi_value at) ≡ true
+      itself sapi.Call = refl
+      itself sapi.Packet = refl
+      itself sapi.Management = refl
+
+  abbrev AmongOthers : List Primitive → Type 0
+  AmongOthers ps = HasAnswer asked id ps → HasAnswerFor asked id.sapi ps
+
+  first_of : (other : LinkId) (w : What) (ps : List Primitive) (test : Bool)
+      → id_eq id other ≡ test → AmongOthers ps → AmongOthers (Of other w ∷ ps)
+  first_of other w ps true same more h =
+      let found : (answers asked w || list_any (answers asked) (link_primitives id ps)) ≡ true =
+      (let at : HasAnswer asked id (Of other w ∷ ps)
+      ≡ ((answers asked w || list_any (answers asked) (link_primitives id ps)) ≡ true) =
+      rw same refl in subst (λ X. X) at h) in
+      elim (one_of (answers asked w) (list_any (answers asked) (link_primitives id ps)) found) [
+        | inl it ↦ or_left _ _ (both_are (same_sapi other same) it)
+        | inr later ↦ or_right _ _ (more later)
+      ]
+  first_of other w ps false apart more h = or_right _ _ (more (rw apart at h))
+
+  pub for_sapi : (ps : List Primitive) → AmongOthers ps
+  for_sapi [] h = cc
+  for_sapi (Of other w ∷ ps) h = first_of other w ps (id_eq id other) refl (for_sapi ps) h
+  for_sapi (Management o ∷ ps) h = for_sapi ps h
+
+-- ---- T202 is not overdue.
+
+quiet_managed : (s : Served) (deadline moment : ℕ) → deadline_of T202 s.timers ≡ Some deadline
+    → IsQuietBefore s moment → moment ≤ deadline
+quiet_managed s deadline moment runs quiet = elim (cases_lt deadline moment) [
+  | inl overdue ↦
+      let e : RunningTimer = record { timer = T202; of = None; deadline = deadline } in
+      absurd (quiet deadline overdue e (record {
+        runs = record { its = s.timers; there = refl; own = tt; until = runs };
+        is_past = omega arith;
+      }))
+  | inr early ↦ early
+]
+
+no_link : (l : Option Linked) → (is_some l ≡ true → ⊥) → l ≡ None
+no_link None none = refl
+no_link (Some l) none = absurd (none refl)
+
+neither : (a b : Bool) → (a || b) ≡ false → (a ≡ false) × (b ≡ false)
+neither false b h = (refl, h)
+neither true b h = cc
+
+module _ (config : Config) (id : LinkId) (asked : Asked) (limit : ℕ) (is : Establishes asked)
+    (has : HasLinks id.sapi) where
+  abbrev Wait : ℕ → User → Type 0
+  Wait last s = Waits config id asked limit last s
+
+  abbrev Begun : ℕ → Links → Type 0
+  Begun last links = HasBegun config id asked limit last links
+
+  abbrev Has : SideView User → Type 0
+  Has v = HasAnswerFor asked id.sapi v.delivered
+
+  later : (last moment : ℕ) (s : User) → IsReady config id asked limit last s
+      → IsQuietBefore s.served moment → IsReady config id asked limit moment s
+  later last moment s h quiet =
+      let w = h.waits in
+      record {
+        waits = record {
+          purpose = w.purpose;
+          count = w.count;
+          ri = w.ri;
+          phase = w.phase;
+          kept = w.kept;
+          served = w.served;
+          durations = w.durations;
+          deadline = w.deadline;
+          runs = w.runs;
+          early = quiet_managed s.served w.deadline moment w.runs quiet;
+          late = w.late;
+          bounded = w.bounded;
+        };
+        no_links = h.no_links;
+        timer = h.timer;
+      }
+
+  at_event : (event : SideEvent) (last : ℕ) (s : User) → IsPunctual (user_behaviour config) event s
+      → IsReady config id asked limit last s
+      → IsReady config id asked limit (moment_or last event) s
+  at_event (Take moment) last s quiet h = later last moment s h quiet
+  at_event (Lose at) last s quiet h = h
+  at_event (Expire timer of moment) last s quiet h = later last moment s h quiet
+  at_event (Ask request moment) last s quiet h = later last moment s h quiet
+
+  abbrev Happens : ℕ → SideEvent → Type 0
+  Happens now event = IsNow config now id (may_release asked) (Answers config id asked limit)
+      (IsReady config id asked limit now) (Continues config id asked limit now)
+      (waiting_is_ruled config id asked limit is now) event
+
+  at_its_moment : (event : SideEvent) (last : ℕ) → Happens (moment_or last event) event
+  at_its_moment (Take moment) last = refl
+  at_its_moment (Lose at) last = tt
+  at_its_moment (Expire timer of moment) last = refl
+  at_its_moment (Ask request moment) last = refl
+
+  -- a waiting terminal has no links
+  pub ready_again : (now : ℕ) (s : User) → Wait now s → AreOwn s → HasTimerOfTerminal s
+      → IsReady config id asked limit now s
+  ready_again now s w own timer = record {
+    waits = w;
+    no_links = λ k. no_link (s.served.links k)
+        (λ there. subst (λ (phase : Phase). Owns phase k.tei) w.phase (own k there));
+    timer = timer;
+  }
+
+  -- the state after one event
+  pub record IsPending (last : ℕ) (s : User) : Type 0 where
+    pub ready : IsReady config id asked limit last s
+    pub own : AreOwn s
+
+  abbrev After : ℕ → SideView User → Type 0
+  After last v = Has v ⊎ (IsPending last v.now ⊎ Begun last v.now.served.links)
+
+  one_event : (x : SideStep) (v : SideView User) (last : ℕ)
+      → (may_release asked ≡ false → requests_release side.User id x.event ≡ false)
+      → IsPunctual (user_behaviour config) x.event v.now → IsPending last v.now
+      → After (moment_or last x.event) (stepped (user_behaviour config) x v)
+  unfolding does
+  one_event x v last keeps quiet h =
+      let w = user_behaviour config in
+      let before : SideView User = record v { incoming = v.incoming ++ x.arrives } in
+      let now = moment_or last x.event in
+      let ready = at_event x.event last v.now quiet h.ready in
+      let own = (user_preserves config before x.event h.own).after in
+      let timer = preserved_by_event User w HasTimerOfTerminal (user_preserves_its_timer config)
+      x.event before h.ready.timer in
+      elim (user_reacts config now id (may_release asked) (Answers config id asked limit)
+      (IsReady config id asked limit now) (Continues config id asked limit now)
+      (waiting_is_ruled config id asked limit is now) x.event before
+      (at_its_moment x.event last) keeps ready) [
+        | inl answered ↦ inl (any_behind (answers_for asked id.sapi) v.delivered
+            (reaction w x.event before).effects.primitives answered)
+        | inr (inl waits) ↦ inr (inl (record {
+          ready = ready_again now (reaction w x.event before).after waits own timer;
+          own = own;
+        }))
+        | inr (inr begun) ↦ inr (inr begun)
+      ]
+
+  still_has : (xs : List SideStep) (v : SideView User) → Has v
+      → Has (stepped_by_all (user_behaviour config) xs v)
+  unfolding does
+  still_has [] v h = h
+  still_has (x ∷ xs) v h =
+      let w = user_behaviour config in
+      let before : SideView User = record v { incoming = v.incoming ++ x.arrives } in
+      still_has xs (stepped w x v) (any_more (answers_for asked id.sapi) v.delivered
+      (reaction w x.event before).effects.primitives h)
+
+  -- a debt of the link of some TEI
+  pub record IsIndebted (links : Links) : Type 0 where
+    pub own : ℕ
+    pub since : ℕ
+    pub last : ℕ
+    pub m : ℕ
+    pub in_time : since ≤ limit
+    pub debt : Debt config (with_tei_of config id asked limit own) asked true since m last
+        (links (with_tei_of config id asked limit own))
+
+  abbrev pub Outcome : SideView User → Type 0
+  Outcome v = Has v ⊎ (((last : ℕ) × IsPending last v.now) ⊎ IsIndebted v.now.served.links)
+
+  abbrev Keeps : List SideStep → Type 0
+  Keeps xs = KeepsRequest asked side.User id xs
+
+  begun_goes : (xs : List SideStep) (v : SideView User) (last : ℕ) → Keeps xs
+      → Throughout (user_behaviour config) (IsPunctual (user_behaviour config)) xs v
+      → Begun last v.now.served.links → Outcome (stepped_by_all (user_behaviour config) xs v)
+  begun_goes xs v last keeps quiet b =
+      let w = user_behaviour config in
+      let its = with_tei_of config id asked limit b.own in
+      let D = Debt config its asked true b.since in
+      let closed = debt_closed config its asked true b.since has in
+      let v2 = stepped_by_all w xs v in
+      elim (all_go its (may_release asked) (answers asked) D config User w side.User closed
+      (user_ways its (may_release asked) (answers asked) D config closed)
+      (Ready config its asked true b.since User w) (advance config its asked true b.since User w)
+      xs v (most_expiries asked (parameters_for config id.sapi).n200) keeps (clocked User w xs v quiet)
+      (inr (last, b.debt))) [
+        | inl h ↦ inl (for_sapi asked its v2.delivered h)
+        | inr (final, o) ↦ inr (inr (record {
+          own = b.own;
+          since = b.since;
+          last = final;
+          m = most_expiries asked (parameters_for config id.sapi).n200 - expiries_of its xs;
+          in_time = b.in_time;
+          debt = o;
+        }))
+      ]
+
+  pub all_wait : (xs : List SideStep) (v : SideView User) (last : ℕ) → Keeps xs
+      → Throughout (user_behaviour config) (IsPunctual (user_behaviour config)) xs v
+      → After last v → Outcome (stepped_by_all (user_behaviour config) xs v)
+  all_wait xs v last keeps quiet (inl h) = inl (still_has xs v h)
+  all_wait xs v last keeps quiet (inr (inr b)) = begun_goes xs v last keeps quiet b
+  all_wait [] v last keeps quiet (inr (inl h)) = inr (inl (last, h))
+  all_wait (x ∷ xs) v last keeps quiet (inr (inl h)) =
+      let w = user_behaviour config in
+      let both : may_release asked ≡ false → (requests_release side.User id x.event ≡ false)
+      × (list_any (λ y. requests_release side.User id y.event) xs ≡ false) =
+      λ may_not. neither (requests_release side.User id x.event)
+      (list_any (λ y. requests_release side.User id y.event) xs) (keeps may_not) in
+      all_wait xs (stepped w x v) (moment_or last x.event) (λ may_not. (both may_not).1) quiet.1
+      (one_event x v last (λ may_not. (both may_not).0) quiet.0 h)
+
+  -- by then the answer is there
+  pub answered_by : (moment : ℕ) (v : SideView User) → IsQuietBefore v.now.served moment
+      → limit + most_periods asked (parameters_for config id.sapi).n200 * config.durations.t200 < moment
+      → Outcome v → Has v
+  answered_by moment v quiet late (inl h) = h
+  answered_by moment v quiet late (inr (inl (last, h))) =
+      let w = h.ready.waits in
+      let early = quiet_managed v.now.served w.deadline moment w.runs quiet in
+      absurd (omega (arith, early, w.bounded, late))
+  answered_by moment v quiet late (inr (inr o)) =
+      absurd (too_late (v.now.served.links (with_tei_of config id asked limit o.own)) refl o.debt)
+    where
+      too_late : (l : Option Linked)
+          → v.now.served.links (with_tei_of config id asked limit o.own) ≡ l
+          → Debt config (with_tei_of config id asked limit o.own) asked true o.since o.m o.last l
+          → ⊥
+      too_late None none debt = debt
+      too_late (Some l) there debt =
+          let t = debt.in_time refl in
+          let early = quiet_until v.now.served (with_tei_of config id asked limit o.own) l
+          debt.deadline moment there debt.runs quiet in
+          omega (arith, early, t.bounded, o.in_time, late)
