@@ -36,6 +36,7 @@ pub mod WaitingSteps
 pub mod WaitingRuns
 pub mod UsualTerminal
 pub mod AnsweredWithoutTei
+pub mod AnswersComputed
 pub mod ExactLinks
 pub mod ExactNetwork
 pub mod ExactUser

@@ -1,5 +1,5 @@
 -- A link that owes layer 3 an answer: with few expiries of T200 left, and, by the clock, with T200
--- early enough. Each of its steps keeps this, or gives the answer.
+-- early enough. Each of its steps keeps this, or is the answer.
 use Rattle.std.proofs.Common.{◌≡◌, ◌⊎◌, inl, inr, ℕ, ◌+◌, ◌-◌, ◌*◌, ◌≤◌, Bool, true, false, List, [], ◌∷◌, ◌++◌, Option, Some, None, Ok, refl, ap, ◌∙◌, arith}
 use Rattle.std.specs.Prelude.{◌||◌}
 use Rattle.std.specs.List.{filter_map, list_any}

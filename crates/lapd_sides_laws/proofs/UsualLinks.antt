@@ -145,7 +145,7 @@ module _ (config : Config) (id : LinkId) (clock : Bool) (bound : ℕ) where
     idle = λ m now l off u. idle_usual m now l u;
   }
 
-  -- each event comes in time
+  -- no event is later than the bound
   abbrev pub Comes : {S : Type 0} → SideEvent → S → Type 0
   Comes event s = clock ≡ true → IsBy bound event
 

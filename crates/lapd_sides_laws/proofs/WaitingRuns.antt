@@ -268,7 +268,7 @@ module _ (config : Config) (id : LinkId) (asked : Asked) (limit : ℕ) (is : Est
       all_wait xs (stepped w x v) (moment_or last x.event) (λ may_not. (both may_not).1) quiet.1
       (one_event x v last (λ may_not. (both may_not).0) quiet.0 h)
 
-  -- by then the answer is there
+  -- layer 3 has the answer by then
   pub answered_by : (moment : ℕ) (v : SideView User) → IsQuietBefore v.now.served moment
       → limit + most_periods asked (parameters_for config id.sapi).n200 * config.durations.t200 < moment
       → Outcome v → Has v

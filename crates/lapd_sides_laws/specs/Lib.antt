@@ -13,3 +13,4 @@ pub mod Schedule
 pub mod NewLinks
 pub mod EndAnswers
 pub mod Answers
+pub mod AnswerRuns

@@ -1,38 +1,48 @@
 //! Requests of layer 3 are answered. A call of the law does nothing.
 
-ghost use Rattle.std.specs.Prelude.{◌≡◌, ◌<◌, ◌≤◌, ◌+◌, ◌*◌, ◌++◌, true, false, ℕ, List, Option, Some, None, Ok};
+ghost use Rattle.std.specs.Prelude.{◌≡◌, ◌<◌, ◌≤◌, ◌+◌, ◌*◌, ◌++◌, true, false, ℕ, List, [], ◌∷◌, Option, Some, None, Ok};
 ghost use Rattle.std.specs.List.{All, list_any};
 ghost use Rattle.rand_pcg.specs.Lcg.{Lcg};
+ghost use Rattle.lapd_frame.specs.declared.Sapi.TheVariants.{Call};
 ghost use Rattle.lapd_frame.specs.declared.Side.TheVariants as side;
 ghost use Rattle.lapd_mod128.specs.Counting.{Reading};
+ghost use Rattle.lapd_link_definition.specs.declared.out.Letter.TheVariants as letter;
 ghost use Rattle.lapd_link_definition.specs.End.{End, StepState};
 ghost use Rattle.lapd_link_definition.specs.Input.{Input};
 ghost use Rattle.lapd_link_definition.specs.RunningTimers.{HasTimersOfState};
 ghost use Rattle.lapd_link_definition.specs.Table.{step};
+ghost use Rattle.lapd_tei.specs.declared.out.TeiOut.TheVariants as outcome;
 ghost use Rattle.lapd_tei.specs.Terminal.{n202, tei_of};
 ghost use Rattle.lapd_table.specs.declared.link_id.LinkId.{LinkId};
 ghost use Rattle.lapd_sides_links.specs.declared.config.Config.{Config};
-ghost use Rattle.lapd_sides_links.specs.Links.{Reaction, parameters_for};
+ghost use Rattle.lapd_sides_links.specs.declared.primitive.Primitive.TheVariants.{Of, Management};
+ghost use Rattle.lapd_sides_links.specs.declared.primitive.What.TheVariants as what;
+ghost use Rattle.lapd_sides_links.specs.Links.{Reaction, of_sapi, parameters_for};
+ghost use Rattle.lapd_sides.specs.declared.request.Request.TheVariants as request;
 ghost use Rattle.lapd_sides.specs.Network.{Network, network_requested};
 ghost use Rattle.lapd_sides.specs.User.{User, user_requested};
+ghost use Rattle.lapd_sides.specs.Worked.{both_sapis};
+ghost use Rattle.lapd_sides_laws.specs.AnswerRuns.{alone, t200_at, user_with, primitives_of_run, establishing, three_expiries, releasing, six_expiries, seeking, late_assignment, withdrawing, backwards};
 ghost use Rattle.lapd_sides_laws.specs.Answers.{asks, expiries_of, KeepsRequest, IsBy, most_periods, IsAnswered, IsAnsweredFor, AreExpiredInTime};
 ghost use Rattle.lapd_sides_laws.specs.EndAnswers.{Asked, request_of, may_release, most_expiries, is_answered, is_release, t200_expiries, outs_of};
 ghost use Rattle.lapd_sides_laws.specs.ExactTimers.{SideStep, BringsOctets};
 ghost use Rattle.lapd_sides_laws.specs.Interface.{network_behaviour, user_behaviour};
 ghost use Rattle.lapd_sides_laws.specs.NewLinks.{network_after, user_after};
+ghost use Rattle.lapd_sides_laws.specs.Schedule.{call};
+ghost use Rattle.lapd_sides_laws.specs.SideView.{Ask};
 
 /// An end answers each request of layer 3 before its T200 has expired too often, whatever the
 /// inputs are.
 ///
 /// Take any list of inputs after an accepted request: frames of any kind in any order, faults,
-/// expiries and requests. Premises on them there are none, but those in the table. If T200 expires
-/// in it as often as the table says, the outputs contain the answer (Q.921 5.5.1, 5.5.3).
+/// expiries and requests. If T200 expires in it as often as the table says, the outputs contain the
+/// answer (Q.921 5.5.1, 5.5.3).
 ///
 /// | request | answer | expiries |
 /// |---|---|---|
-/// | DL-ESTABLISH, and no DL-RELEASE after it | DL-ESTABLISH confirm or DL-RELEASE indication | N200 + 1 |
+/// | DL-ESTABLISH, no DL-RELEASE later | DL-ESTABLISH confirm, DL-RELEASE indication | N200 + 1 |
 /// | DL-RELEASE | DL-RELEASE confirm | 2 N200 + 1 |
-/// | DL-ESTABLISH, and perhaps DL-RELEASE after it | one of the three | 2 N200 + 1 |
+/// | DL-ESTABLISH, perhaps DL-RELEASE later | one of the three | 2 N200 + 1 |
 ///
 /// At the request T200 and T203 run as the state of the end requires. They always do, by
 /// [`timers_run_as_ends_require`](crate::timers_run_as_ends_require).
@@ -55,12 +65,12 @@ pub fn every_end_answers()
 /// - `network`, `user`: on a network side, and on a user side that has a TEI. If the TEI is
 ///   removed, its release is the answer.
 /// - `network_in_time`, `user_in_time`: the same by the clock. If each timer of the side is expired
-///   when it is due, the answer comes after (N200 + 1) T200 at the latest, and 2 (N200 + 1) T200 if
-///   layer 3 may have requested the release: 4 s and 8 s with the values of Q.921. The request is
-///   not earlier than the events before it.
-/// - `user_without_tei`: on a user side that has no TEI, in any phase of requesting one. The answer
-///   comes N202 T202 later at the latest, so an establishment is answered after 10 s. It names the
-///   group TEI if no TEI was obtained, and else the TEI (`IsAnsweredFor`).
+///   when it is due, layer 3 has the answer after (N200 + 1) T200 at the latest, and after
+///   2 (N200 + 1) T200 if it may have requested the release: 4 s and 8 s with the values of Q.921.
+///   The request is not earlier than the events before it.
+/// - `user_without_tei`: on a user side that has no TEI, in any phase of requesting one. The bound
+///   is N202 T202 more, so an establishment is answered after 10 s at the latest. The answer names
+///   the group TEI if no TEI was obtained, and else the TEI (`IsAnsweredFor`).
 pub fn every_request_is_answered()
     ensures network { (config : Config) (known : List ℕ) (before after : List SideStep)
         (asked : Asked) (id : LinkId) (now : ℕ) (a : Reaction Network)
@@ -108,4 +118,58 @@ pub fn every_request_is_answered()
         → now + n202 * config.durations.t202
         + most_periods asked (parameters_for config id.sapi).n200 * config.durations.t200 < moment
         → IsAnsweredFor asked id.sapi (user_behaviour config) a after }
+{}
+
+/// The bounds of [`every_request_is_answered`] are reached, and its premises can be met.
+///
+/// Three worked runs of a user side with the values of Q.921. In each, all timers are expired when
+/// they are due, and layer 3 has its answer at the last moment and not before:
+///
+/// - `establish`: nothing arrives. After three expiries of T200, N200 of them, layer 3 has no
+///   answer. The fourth, at 4 s, ends the establishment.
+/// - `release`: the release is requested while the link is being established. The SABME is answered
+///   at 4 s, and the DISC never. After six expiries, 2 N200 of them, layer 3 has no answer. The
+///   seventh, at 8 s, confirms the release.
+/// - `without_tei`: the TEI is assigned at 6 s, when T202 is due for the third time, and the SABME
+///   is never answered. The establishment ends at 10 s.
+///
+/// Two more runs show that premises are needed:
+///
+/// - `withdrawn`: layer 3 requests the release after the establishment. After four expiries of T200
+///   it has the confirm of the release alone.
+/// - `backwards`: an event before the request is at 5 s, and the request at 0 s. T200 is not due
+///   before 6 s, so at 6 s layer 3 has no answer.
+pub fn bounds_are_reached()
+    ensures establish_accepted { user_requested both_sapis (request.Establish call) 0
+        (user_with (Some 64) []) ≡ Ok establishing }
+    ensures establish_in_time { AreExpiredInTime (user_behaviour both_sapis) establishing
+        three_expiries 4000 }
+    ensures establish_expiries { expiries_of call three_expiries ≡ 3 }
+    ensures establish_waits { primitives_of_run establishing three_expiries ≡ [] }
+    ensures establish_ends { primitives_of_run establishing (three_expiries ++ t200_at (4000 ∷ []))
+        ≡ Of call (what.Report letter.G) ∷ Of call what.Released ∷ [] }
+    ensures release_accepted { user_requested both_sapis (request.Release call) 0
+        (user_with (Some 64) (alone (Ask (request.Establish call) 0) ∷ [])) ≡ Ok releasing }
+    ensures release_in_time { AreExpiredInTime (user_behaviour both_sapis) releasing
+        six_expiries 8000 }
+    ensures release_expiries { expiries_of call six_expiries ≡ 6 }
+    ensures release_waits { primitives_of_run releasing six_expiries ≡ [] }
+    ensures release_ends { primitives_of_run releasing (six_expiries ++ t200_at (8000 ∷ []))
+        ≡ Of call (what.Report letter.H) ∷ Of call what.ReleaseConfirm ∷ [] }
+    ensures without_tei_accepted { user_requested both_sapis (request.Establish (of_sapi Call 0)) 0
+        (user_with None []) ≡ Ok seeking }
+    ensures without_tei_in_time { AreExpiredInTime (user_behaviour both_sapis) seeking
+        late_assignment 10000 }
+    ensures without_tei_waits { primitives_of_run seeking late_assignment
+        ≡ Management (outcome.Got 64) ∷ [] }
+    ensures without_tei_ends { primitives_of_run seeking (late_assignment ++ t200_at (10000 ∷ []))
+        ≡ Management (outcome.Got 64) ∷ Of call (what.Report letter.G) ∷ Of call what.Released
+        ∷ [] }
+    ensures withdrawn_expiries { expiries_of call withdrawing ≡ 4 }
+    ensures withdrawn { primitives_of_run establishing withdrawing
+        ≡ Of call (what.Report letter.G) ∷ Of call what.ReleaseConfirm ∷ [] }
+    ensures backwards_accepted { user_requested both_sapis (request.Establish call) 0
+        (user_with (Some 64) (alone (Ask (request.Establish call) 5000) ∷ [])) ≡ Ok backwards }
+    ensures backwards_in_time { AreExpiredInTime (user_behaviour both_sapis) backwards [] 6000 }
+    ensures backwards_waits { primitives_of_run backwards [] ≡ [] }
 {}

@@ -36,6 +36,7 @@
 //! - `NewLinks`: a TEI has no links, in the definition and in the table of the code.
 //! - `EndAnswers`, `Answers`: the requests of layer 3 to establish and to release a link, their
 //!   answers, how often T200 expires until then, and when timers are expired in time.
+//!   `AnswerRuns`: worked runs.
 //! - `Calls`: which event a call of a side in code is. `Schedule`: worked runs.
 //!
 //! The laws:
@@ -55,6 +56,7 @@
 //!   often, whatever its inputs are.
 //! - [`every_request_is_answered`]: so does a side, whatever arrives, and in time if its timers are
 //!   expired when they are due.
+//! - [`bounds_are_reached`]: worked runs in which layer 3 has its answer at the last moment.
 //!
 //! [`NetSide`]: lapd_sides::NetSide
 //! [`UserSide`]: lapd_sides::UserSide
@@ -63,7 +65,7 @@
 mod answers;
 mod laws;
 
-pub use answers::{every_end_answers, every_request_is_answered};
+pub use answers::{bounds_are_reached, every_end_answers, every_request_is_answered};
 pub use laws::{
     added_links_are_new, calls_are_events, each_link_gets_its_own, each_link_is_safe,
     each_premise_is_needed, management_timers_run_while_it_waits, schedule_is_computed,
