@@ -136,7 +136,7 @@ exact: yes
 net 64
 0 take 00817f: 008173;0 64 established;
 1 submit 0 64 010203: 02810000010203;
-2 submit 0 65 01: refused B1 NoLink;
+2 submit 0 65 01: refused B1 NoLink 01;
 3 take 02810102: 0 64 acknowledged 1;
 4 submit 0 64 04: 0281020004;
 shows: network;discarded 0;next 1004;holds 64;
