@@ -58,7 +58,8 @@ there (Some deadline) h = (deadline, refl)
 there None h = cc
 
 -- a timer that is not overdue
-pub quiet_until : (s : Served) (id : LinkId) (l : Linked) (deadline moment : ℕ) → s.links id ≡ Some l
+pub quiet_until : (s : Served) (id : LinkId) (l : Linked) (deadline moment : ℕ) → s.links id ≡ Some
+    l
     → deadline_of T200 l.timers ≡ Some deadline → IsQuietBefore s moment → moment ≤ deadline
 quiet_until s id l deadline moment is runs quiet = elim (cases_lt deadline moment) [
   | inl overdue ↦

@@ -70,7 +70,23 @@ pub record AreReached : Type 0 where
   pub backwards_waits : primitives_of_run backwards [] ≡ []
 
 pub are_reached : AreReached
-unfolding link_acts link_expires in_links with_tei without_tei primitive_of_tei manages assigner_acts link_of_network network_takes network_expires network_requested begin put state_to rc_to increment_rc layer3_initiated_to release_pending_to start stop expired clear_exception_conditions zero_state_variables set_peer_busy set_own_busy enquiry_response transmit_enquiry queue_up discard_i_queue acknowledge invoke_retransmission i_frame_ns discard_unacknowledged transmit_i_frame ensure_t200 transmit_rr establish_data_link reestablish_data_link end_establishment tei_assigned confirm_or_indicate ua_final awaiting_establishment_t200 awaiting_establishment confirm_release awaiting_release_t200 awaiting_release acknowledge_with_timers nr_error_recovery i_frame_nr i_frame_nr_in_recovery poll_or_final poll rr_nr rej_nr rnr_nr rr_nr_in_recovery rnr_nr_in_recovery timer_recovery_t200 busy_on busy_off in_7_and_8 established_t200 multiple_frame_established timer_recovery by_state report_fault row send_all acknowledge_pending end_step step initial_variables without_exceptions with_zero_counters status_frame acknowledgement without_ack_pending poll_response is_accepted is_rejected after_i_frame i_frame_response is_valid_nr with_va acknowledged_count acknowledges_all with_vs may_send next_i_frame after_sending with_own_busy with_peer_busy after steps lies_within link_of_user terminal_acts user_takes user_expires user_requested links_below does
+unfolding link_acts link_expires in_links with_tei without_tei primitive_of_tei manages
+    assigner_acts link_of_network network_takes network_expires network_requested begin put
+    state_to rc_to increment_rc layer3_initiated_to release_pending_to start stop expired
+    clear_exception_conditions zero_state_variables set_peer_busy set_own_busy enquiry_response
+    transmit_enquiry queue_up discard_i_queue acknowledge invoke_retransmission i_frame_ns
+    discard_unacknowledged transmit_i_frame ensure_t200 transmit_rr establish_data_link
+    reestablish_data_link end_establishment tei_assigned confirm_or_indicate ua_final
+    awaiting_establishment_t200 awaiting_establishment confirm_release awaiting_release_t200
+    awaiting_release acknowledge_with_timers nr_error_recovery i_frame_nr i_frame_nr_in_recovery
+    poll_or_final poll rr_nr rej_nr rnr_nr rr_nr_in_recovery rnr_nr_in_recovery timer_recovery_t200
+    busy_on busy_off in_7_and_8 established_t200 multiple_frame_established timer_recovery by_state
+    report_fault row send_all acknowledge_pending end_step step initial_variables
+    without_exceptions with_zero_counters status_frame acknowledgement without_ack_pending
+    poll_response is_accepted is_rejected after_i_frame i_frame_response is_valid_nr with_va
+    acknowledged_count acknowledges_all with_vs may_send next_i_frame after_sending with_own_busy
+    with_peer_busy after steps lies_within link_of_user terminal_acts user_takes user_expires
+    user_requested links_below does
 are_reached = record {
   establish_accepted = refl;
   establish_waits = refl;
@@ -212,8 +228,25 @@ ua = arriving (0x00 ∷ 0x81 ∷ 0x73 ∷ []) 4000
 abbrev tei : SideStep
 tei = arriving assignment 6000
 
-pub establish_in_time : AreExpiredInTime (user_behaviour sides.both_sapis) establishing three_expiries 4000
-unfolding link_acts link_expires in_links with_tei without_tei primitive_of_tei manages assigner_acts link_of_network network_takes network_expires network_requested begin put state_to rc_to increment_rc layer3_initiated_to release_pending_to start stop expired clear_exception_conditions zero_state_variables set_peer_busy set_own_busy enquiry_response transmit_enquiry queue_up discard_i_queue acknowledge invoke_retransmission i_frame_ns discard_unacknowledged transmit_i_frame ensure_t200 transmit_rr establish_data_link reestablish_data_link end_establishment tei_assigned confirm_or_indicate ua_final awaiting_establishment_t200 awaiting_establishment confirm_release awaiting_release_t200 awaiting_release acknowledge_with_timers nr_error_recovery i_frame_nr i_frame_nr_in_recovery poll_or_final poll rr_nr rej_nr rnr_nr rr_nr_in_recovery rnr_nr_in_recovery timer_recovery_t200 busy_on busy_off in_7_and_8 established_t200 multiple_frame_established timer_recovery by_state report_fault row send_all acknowledge_pending end_step step initial_variables without_exceptions with_zero_counters status_frame acknowledgement without_ack_pending poll_response is_accepted is_rejected after_i_frame i_frame_response is_valid_nr with_va acknowledged_count acknowledges_all with_vs may_send next_i_frame after_sending with_own_busy with_peer_busy after steps lies_within link_of_user terminal_acts user_takes user_expires user_requested links_below does
+pub establish_in_time : AreExpiredInTime (user_behaviour sides.both_sapis) establishing
+    three_expiries 4000
+unfolding link_acts link_expires in_links with_tei without_tei primitive_of_tei manages
+    assigner_acts link_of_network network_takes network_expires network_requested begin put
+    state_to rc_to increment_rc layer3_initiated_to release_pending_to start stop expired
+    clear_exception_conditions zero_state_variables set_peer_busy set_own_busy enquiry_response
+    transmit_enquiry queue_up discard_i_queue acknowledge invoke_retransmission i_frame_ns
+    discard_unacknowledged transmit_i_frame ensure_t200 transmit_rr establish_data_link
+    reestablish_data_link end_establishment tei_assigned confirm_or_indicate ua_final
+    awaiting_establishment_t200 awaiting_establishment confirm_release awaiting_release_t200
+    awaiting_release acknowledge_with_timers nr_error_recovery i_frame_nr i_frame_nr_in_recovery
+    poll_or_final poll rr_nr rej_nr rnr_nr rr_nr_in_recovery rnr_nr_in_recovery timer_recovery_t200
+    busy_on busy_off in_7_and_8 established_t200 multiple_frame_established timer_recovery by_state
+    report_fault row send_all acknowledge_pending end_step step initial_variables
+    without_exceptions with_zero_counters status_frame acknowledgement without_ack_pending
+    poll_response is_accepted is_rejected after_i_frame i_frame_response is_valid_nr with_va
+    acknowledged_count acknowledges_all with_vs may_send next_i_frame after_sending with_own_busy
+    with_peer_busy after steps lies_within link_of_user terminal_acts user_takes user_expires
+    user_requested links_below does
 establish_in_time = record {
   at_each = (
     quiet_with (At establishing ([])) 1000 (now_due 1000)
@@ -234,7 +267,23 @@ establish_in_time = record {
 }
 
 pub release_in_time : AreExpiredInTime (user_behaviour sides.both_sapis) releasing six_expiries 8000
-unfolding link_acts link_expires in_links with_tei without_tei primitive_of_tei manages assigner_acts link_of_network network_takes network_expires network_requested begin put state_to rc_to increment_rc layer3_initiated_to release_pending_to start stop expired clear_exception_conditions zero_state_variables set_peer_busy set_own_busy enquiry_response transmit_enquiry queue_up discard_i_queue acknowledge invoke_retransmission i_frame_ns discard_unacknowledged transmit_i_frame ensure_t200 transmit_rr establish_data_link reestablish_data_link end_establishment tei_assigned confirm_or_indicate ua_final awaiting_establishment_t200 awaiting_establishment confirm_release awaiting_release_t200 awaiting_release acknowledge_with_timers nr_error_recovery i_frame_nr i_frame_nr_in_recovery poll_or_final poll rr_nr rej_nr rnr_nr rr_nr_in_recovery rnr_nr_in_recovery timer_recovery_t200 busy_on busy_off in_7_and_8 established_t200 multiple_frame_established timer_recovery by_state report_fault row send_all acknowledge_pending end_step step initial_variables without_exceptions with_zero_counters status_frame acknowledgement without_ack_pending poll_response is_accepted is_rejected after_i_frame i_frame_response is_valid_nr with_va acknowledged_count acknowledges_all with_vs may_send next_i_frame after_sending with_own_busy with_peer_busy after steps lies_within link_of_user terminal_acts user_takes user_expires user_requested links_below does
+unfolding link_acts link_expires in_links with_tei without_tei primitive_of_tei manages
+    assigner_acts link_of_network network_takes network_expires network_requested begin put
+    state_to rc_to increment_rc layer3_initiated_to release_pending_to start stop expired
+    clear_exception_conditions zero_state_variables set_peer_busy set_own_busy enquiry_response
+    transmit_enquiry queue_up discard_i_queue acknowledge invoke_retransmission i_frame_ns
+    discard_unacknowledged transmit_i_frame ensure_t200 transmit_rr establish_data_link
+    reestablish_data_link end_establishment tei_assigned confirm_or_indicate ua_final
+    awaiting_establishment_t200 awaiting_establishment confirm_release awaiting_release_t200
+    awaiting_release acknowledge_with_timers nr_error_recovery i_frame_nr i_frame_nr_in_recovery
+    poll_or_final poll rr_nr rej_nr rnr_nr rr_nr_in_recovery rnr_nr_in_recovery timer_recovery_t200
+    busy_on busy_off in_7_and_8 established_t200 multiple_frame_established timer_recovery by_state
+    report_fault row send_all acknowledge_pending end_step step initial_variables
+    without_exceptions with_zero_counters status_frame acknowledgement without_ack_pending
+    poll_response is_accepted is_rejected after_i_frame i_frame_response is_valid_nr with_va
+    acknowledged_count acknowledges_all with_vs may_send next_i_frame after_sending with_own_busy
+    with_peer_busy after steps lies_within link_of_user terminal_acts user_takes user_expires
+    user_requested links_below does
 release_in_time = record {
   at_each = (
     quiet_with (At releasing ([])) 1000 (now_due 1000)
@@ -249,14 +298,21 @@ release_in_time = record {
           quiet_with (At releasing (t200 1000 ∷ t200 2000 ∷ t200 3000 ∷ [])) 4000 (now_due 4000)
               (λ id apart. rw apart (new_idle id)) (no_timers 4000),
           (
-            quiet_with (At releasing (t200 1000 ∷ t200 2000 ∷ t200 3000 ∷ ua ∷ [])) 5000 (now_due 5000)
+            quiet_with (At releasing (t200 1000 ∷ t200 2000 ∷ t200 3000 ∷ ua ∷ [])) 5000 (now_due
+                5000)
                 (λ id apart. rw apart (new_idle id)) (no_timers 5000),
             (
-              quiet_with (At releasing (t200 1000 ∷ t200 2000 ∷ t200 3000 ∷ ua ∷ t200 5000 ∷ [])) 6000 (now_due 6000)
-                  (λ id apart. behind _ _ _ apart (behind _ _ _ apart (behind _ _ _ apart (behind _ _ _ apart (behind _ _ _ apart (behind _ _ _ apart (behind _ _ _ apart (new_idle id)))))))) (no_timers 6000),
+              quiet_with (At releasing (t200 1000 ∷ t200 2000 ∷ t200 3000 ∷ ua ∷ t200 5000 ∷ []))
+                  6000 (now_due 6000)
+                  (λ id apart. behind _ _ _ apart (behind _ _ _ apart (behind _ _ _ apart (behind _
+                  _ _ apart (behind _ _ _ apart (behind _ _ _ apart (behind _ _ _ apart
+                  (new_idle id)))))))) (no_timers 6000),
               (
-                quiet_with (At releasing (t200 1000 ∷ t200 2000 ∷ t200 3000 ∷ ua ∷ t200 5000 ∷ t200 6000 ∷ [])) 7000 (now_due 7000)
-                    (λ id apart. behind _ _ _ apart (behind _ _ _ apart (behind _ _ _ apart (behind _ _ _ apart (behind _ _ _ apart (behind _ _ _ apart (behind _ _ _ apart (behind _ _ _ apart (new_idle id))))))))) (no_timers 7000),
+                quiet_with (At releasing (t200 1000 ∷ t200 2000 ∷ t200 3000 ∷ ua ∷ t200 5000 ∷ t200
+                    6000 ∷ [])) 7000 (now_due 7000)
+                    (λ id apart. behind _ _ _ apart (behind _ _ _ apart (behind _ _ _ apart (behind
+                    _ _ _ apart (behind _ _ _ apart (behind _ _ _ apart (behind _ _ _ apart
+                    (behind _ _ _ apart (new_idle id))))))))) (no_timers 7000),
                 tt,
               ),
             ),
@@ -266,27 +322,50 @@ release_in_time = record {
     ),
   );
   at_last =
-      quiet_with (At releasing (t200 1000 ∷ t200 2000 ∷ t200 3000 ∷ ua ∷ t200 5000 ∷ t200 6000 ∷ t200 7000 ∷ [])) 8000 (now_due 8000)
-      (λ id apart. behind _ _ _ apart (behind _ _ _ apart (behind _ _ _ apart (behind _ _ _ apart (behind _ _ _ apart (behind _ _ _ apart (behind _ _ _ apart (behind _ _ _ apart (behind _ _ _ apart (new_idle id)))))))))) (no_timers 8000);
+      quiet_with (At releasing (t200 1000 ∷ t200 2000 ∷ t200 3000 ∷ ua ∷ t200 5000 ∷ t200 6000 ∷
+      t200 7000 ∷ [])) 8000 (now_due 8000)
+      (λ id apart. behind _ _ _ apart (behind _ _ _ apart (behind _ _ _ apart (behind _ _ _ apart
+      (behind _ _ _ apart (behind _ _ _ apart (behind _ _ _ apart (behind _ _ _ apart (behind _
+      _ _ apart (new_idle id)))))))))) (no_timers 8000);
 }
 
-pub without_tei_in_time : AreExpiredInTime (user_behaviour sides.both_sapis) seeking late_assignment 10000
-unfolding link_acts link_expires in_links with_tei without_tei primitive_of_tei manages assigner_acts link_of_network network_takes network_expires network_requested begin put state_to rc_to increment_rc layer3_initiated_to release_pending_to start stop expired clear_exception_conditions zero_state_variables set_peer_busy set_own_busy enquiry_response transmit_enquiry queue_up discard_i_queue acknowledge invoke_retransmission i_frame_ns discard_unacknowledged transmit_i_frame ensure_t200 transmit_rr establish_data_link reestablish_data_link end_establishment tei_assigned confirm_or_indicate ua_final awaiting_establishment_t200 awaiting_establishment confirm_release awaiting_release_t200 awaiting_release acknowledge_with_timers nr_error_recovery i_frame_nr i_frame_nr_in_recovery poll_or_final poll rr_nr rej_nr rnr_nr rr_nr_in_recovery rnr_nr_in_recovery timer_recovery_t200 busy_on busy_off in_7_and_8 established_t200 multiple_frame_established timer_recovery by_state report_fault row send_all acknowledge_pending end_step step initial_variables without_exceptions with_zero_counters status_frame acknowledgement without_ack_pending poll_response is_accepted is_rejected after_i_frame i_frame_response is_valid_nr with_va acknowledged_count acknowledges_all with_vs may_send next_i_frame after_sending with_own_busy with_peer_busy after steps lies_within link_of_user terminal_acts user_takes user_expires user_requested links_below does
+pub without_tei_in_time : AreExpiredInTime (user_behaviour sides.both_sapis) seeking
+    late_assignment 10000
+unfolding link_acts link_expires in_links with_tei without_tei primitive_of_tei manages
+    assigner_acts link_of_network network_takes network_expires network_requested begin put
+    state_to rc_to increment_rc layer3_initiated_to release_pending_to start stop expired
+    clear_exception_conditions zero_state_variables set_peer_busy set_own_busy enquiry_response
+    transmit_enquiry queue_up discard_i_queue acknowledge invoke_retransmission i_frame_ns
+    discard_unacknowledged transmit_i_frame ensure_t200 transmit_rr establish_data_link
+    reestablish_data_link end_establishment tei_assigned confirm_or_indicate ua_final
+    awaiting_establishment_t200 awaiting_establishment confirm_release awaiting_release_t200
+    awaiting_release acknowledge_with_timers nr_error_recovery i_frame_nr i_frame_nr_in_recovery
+    poll_or_final poll rr_nr rej_nr rnr_nr rr_nr_in_recovery rnr_nr_in_recovery timer_recovery_t200
+    busy_on busy_off in_7_and_8 established_t200 multiple_frame_established timer_recovery by_state
+    report_fault row send_all acknowledge_pending end_step step initial_variables
+    without_exceptions with_zero_counters status_frame acknowledgement without_ack_pending
+    poll_response is_accepted is_rejected after_i_frame i_frame_response is_valid_nr with_va
+    acknowledged_count acknowledges_all with_vs may_send next_i_frame after_sending with_own_busy
+    with_peer_busy after steps lies_within link_of_user terminal_acts user_takes user_expires
+    user_requested links_below does
 without_tei_in_time = record {
   at_each = (
     quiet_with (At seeking ([])) 2000 tt (λ id apart. tt) (t202_due 2000),
     (
       quiet_with (At seeking (t202 2000 ∷ [])) 4000 tt (λ id apart. tt) (t202_due 4000),
       (
-        quiet_with (At seeking (t202 2000 ∷ t202 4000 ∷ [])) 6000 tt (λ id apart. tt) (t202_due 6000),
+        quiet_with (At seeking (t202 2000 ∷ t202 4000 ∷ [])) 6000 tt (λ id apart. tt) (t202_due
+            6000),
         (
           quiet_with (At seeking (t202 2000 ∷ t202 4000 ∷ tei ∷ [])) 7000 (now_due 7000)
               (λ id apart. rw apart (new_idle id)) (no_timers 7000),
           (
-            quiet_with (At seeking (t202 2000 ∷ t202 4000 ∷ tei ∷ t200 7000 ∷ [])) 8000 (now_due 8000)
+            quiet_with (At seeking (t202 2000 ∷ t202 4000 ∷ tei ∷ t200 7000 ∷ [])) 8000 (now_due
+                8000)
                 (λ id apart. rw apart (new_idle id)) (no_timers 8000),
             (
-              quiet_with (At seeking (t202 2000 ∷ t202 4000 ∷ tei ∷ t200 7000 ∷ t200 8000 ∷ [])) 9000 (now_due 9000)
+              quiet_with (At seeking (t202 2000 ∷ t202 4000 ∷ tei ∷ t200 7000 ∷ t200 8000 ∷ []))
+                  9000 (now_due 9000)
                   (λ id apart. rw apart (new_idle id)) (no_timers 9000),
               tt,
             ),
@@ -296,12 +375,29 @@ without_tei_in_time = record {
     ),
   );
   at_last =
-      quiet_with (At seeking (t202 2000 ∷ t202 4000 ∷ tei ∷ t200 7000 ∷ t200 8000 ∷ t200 9000 ∷ [])) 10000 (now_due 10000)
+      quiet_with (At seeking (t202 2000 ∷ t202 4000 ∷ tei ∷ t200 7000 ∷ t200 8000 ∷ t200 9000 ∷
+      [])) 10000 (now_due 10000)
       (λ id apart. rw apart (new_idle id)) (no_timers 10000);
 }
 
 pub backwards_in_time : AreExpiredInTime (user_behaviour sides.both_sapis) backwards [] 6000
-unfolding link_acts link_expires in_links with_tei without_tei primitive_of_tei manages assigner_acts link_of_network network_takes network_expires network_requested begin put state_to rc_to increment_rc layer3_initiated_to release_pending_to start stop expired clear_exception_conditions zero_state_variables set_peer_busy set_own_busy enquiry_response transmit_enquiry queue_up discard_i_queue acknowledge invoke_retransmission i_frame_ns discard_unacknowledged transmit_i_frame ensure_t200 transmit_rr establish_data_link reestablish_data_link end_establishment tei_assigned confirm_or_indicate ua_final awaiting_establishment_t200 awaiting_establishment confirm_release awaiting_release_t200 awaiting_release acknowledge_with_timers nr_error_recovery i_frame_nr i_frame_nr_in_recovery poll_or_final poll rr_nr rej_nr rnr_nr rr_nr_in_recovery rnr_nr_in_recovery timer_recovery_t200 busy_on busy_off in_7_and_8 established_t200 multiple_frame_established timer_recovery by_state report_fault row send_all acknowledge_pending end_step step initial_variables without_exceptions with_zero_counters status_frame acknowledgement without_ack_pending poll_response is_accepted is_rejected after_i_frame i_frame_response is_valid_nr with_va acknowledged_count acknowledges_all with_vs may_send next_i_frame after_sending with_own_busy with_peer_busy after steps lies_within link_of_user terminal_acts user_takes user_expires user_requested links_below does
+unfolding link_acts link_expires in_links with_tei without_tei primitive_of_tei manages
+    assigner_acts link_of_network network_takes network_expires network_requested begin put
+    state_to rc_to increment_rc layer3_initiated_to release_pending_to start stop expired
+    clear_exception_conditions zero_state_variables set_peer_busy set_own_busy enquiry_response
+    transmit_enquiry queue_up discard_i_queue acknowledge invoke_retransmission i_frame_ns
+    discard_unacknowledged transmit_i_frame ensure_t200 transmit_rr establish_data_link
+    reestablish_data_link end_establishment tei_assigned confirm_or_indicate ua_final
+    awaiting_establishment_t200 awaiting_establishment confirm_release awaiting_release_t200
+    awaiting_release acknowledge_with_timers nr_error_recovery i_frame_nr i_frame_nr_in_recovery
+    poll_or_final poll rr_nr rej_nr rnr_nr rr_nr_in_recovery rnr_nr_in_recovery timer_recovery_t200
+    busy_on busy_off in_7_and_8 established_t200 multiple_frame_established timer_recovery by_state
+    report_fault row send_all acknowledge_pending end_step step initial_variables
+    without_exceptions with_zero_counters status_frame acknowledgement without_ack_pending
+    poll_response is_accepted is_rejected after_i_frame i_frame_response is_valid_nr with_va
+    acknowledged_count acknowledges_all with_vs may_send next_i_frame after_sending with_own_busy
+    with_peer_busy after steps lies_within link_of_user terminal_acts user_takes user_expires
+    user_requested links_below does
 backwards_in_time = record {
   at_each = tt;
   at_last = quiet_with (At backwards []) 6000 (now_due 6000)

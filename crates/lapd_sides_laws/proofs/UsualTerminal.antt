@@ -142,10 +142,10 @@ left_pending now (outcome.Stop timer ∷ outs) s = left_pending now outs s
 some_same : (x y : ℕ) → Some x ≡ Some y → x ≡ y
 some_same x y h = cc
 
-module _ (config : Config) (bound : ℕ) where
+module _ (config : Config) (clock : Bool) (bound : ℕ) where
   pub record IsPlain (t : Timers) : Type 0 where
     pub durations : t.durations ≡ config.durations
-    pub early : (d : ℕ) → deadline_of T202 t ≡ Some d
+    pub early : clock ≡ true → (d : ℕ) → deadline_of T202 t ≡ Some d
         → (d ≤ bound + config.durations.t202) × (d ≤ last_moment)
 
   pub record IsUsualTerminal (terminal : Phase) (t : Timers) : Type 0 where
@@ -155,33 +155,40 @@ module _ (config : Config) (bound : ℕ) where
   abbrev pub UsualUser : User → Type 0
   UsualUser s = IsUsualTerminal s.terminal s.served.timers
 
-  plain_by : (now : ℕ) (o : TeiOut) (t : Timers) → now ≤ bound → IsPlain t
+  plain_by : (now : ℕ) (o : TeiOut) (t : Timers) → (clock ≡ true → now ≤ bound) → IsPlain t
       → IsPlain (managed_by now o t)
   plain_by now (outcome.Start T200) t by h = record { durations = h.durations; early = h.early }
   plain_by now (outcome.Start T201) t by h = record { durations = h.durations; early = h.early }
   plain_by now (outcome.Start T202) t by h = record {
     durations = h.durations;
-    early = λ d is.
+    early = λ ticks d is.
+        let earlier = by ticks in
         let length_is : t.durations.t202 ≡ config.durations.t202 =
         ap (λ (x : Lengths). x.t202) h.durations in
         let at : deadline_from now t.durations.t202 ≡ d =
         some_same (deadline_from now t.durations.t202) d is in
-        (omega (arith, by, length_is, at), omega (arith, at));
+        (omega (arith, earlier, length_is, at), omega (arith, at));
   }
   plain_by now (outcome.Start T203) t by h = record { durations = h.durations; early = h.early }
   plain_by now (outcome.Stop T200) t by h = record { durations = h.durations; early = h.early }
   plain_by now (outcome.Stop T201) t by h = record { durations = h.durations; early = h.early }
-  plain_by now (outcome.Stop T202) t by h = record { durations = h.durations; early = λ d is. cc }
+  plain_by now (outcome.Stop T202) t by h = record {
+    durations = h.durations;
+    early = λ ticks d is.
+        cc;
+  }
   plain_by now (outcome.Stop T203) t by h = record { durations = h.durations; early = h.early }
   plain_by now o t by h = h
 
-  plain_after : (now : ℕ) (outs : List TeiOut) (t : Timers) → now ≤ bound → IsPlain t
+  plain_after : (now : ℕ) (outs : List TeiOut) (t : Timers) → (clock ≡ true → now ≤ bound)
+      → IsPlain t
       → IsPlain (managed now outs t)
   plain_after now [] t by h = h
   plain_after now (o ∷ outs) t by h = plain_after now outs (managed_by now o t) by
       (plain_by now o t by h)
 
-  acts_usual : (now : ℕ) (e : ℕ → TerminalEvent) (s : User) → now ≤ bound → UsualUser s
+  acts_usual : (now : ℕ) (e : ℕ → TerminalEvent) (s : User) → (clock ≡ true → now ≤ bound)
+      → UsualUser s
       → UsualUser (terminal_acts config now e s).after
   unfolding terminal_acts manages
   acts_usual now e s by u =
@@ -200,7 +207,7 @@ module _ (config : Config) (bound : ℕ) where
       }
 
   plain_stopped : (timer : Timer) (t : Timers) → IsPlain t → IsPlain (stopped timer t)
-  plain_stopped timer t h = plain_by 0 (outcome.Stop timer) t (omega arith) h
+  plain_stopped timer t h = plain_by 0 (outcome.Stop timer) t (λ ticks. omega arith) h
 
   abbrev Never : List Primitive → Type 0
   Never ps = ⊥
@@ -211,7 +218,7 @@ module _ (config : Config) (bound : ℕ) where
   abbrev OrNeverIfOk : Result (Reaction User) SideKind → Type 0
   OrNeverIfOk r = IfOk r OrNever
 
-  usual_is_ruled : (now : ℕ) (id : LinkId) → now ≤ bound
+  usual_is_ruled : (now : ℕ) (id : LinkId) → (clock ≡ true → now ≤ bound)
       → IsRuled config now id true Never UsualUser UsualUser
   usual_is_ruled now id by = record {
     same = λ s u. u;
@@ -242,7 +249,7 @@ module _ (config : Config) (bound : ℕ) where
   moment_is_by (Expire timer of now) by = by
   moment_is_by (Ask request now) by = by
 
-  its_moment : (id : LinkId) (e : SideEvent) (by : moment_or 0 e ≤ bound)
+  its_moment : (id : LinkId) (e : SideEvent) (by : clock ≡ true → moment_or 0 e ≤ bound)
       → IsNow config (moment_or 0 e) id true Never UsualUser UsualUser
       (usual_is_ruled (moment_or 0 e) id by) e
   its_moment id (Take now) by = refl
@@ -256,13 +263,15 @@ module _ (config : Config) (bound : ℕ) where
     pub own : AreOwn s
     pub timer : HasTimerOfTerminal s
 
-  usual_event : (id : LinkId) (x : SideStep) (v : SideView User) → IsBy bound x.event
-      → HasUsual v.now → HasUsual (stepped (user_behaviour config) x v).now
+  usual_event : (id : LinkId) (x : SideStep) (v : SideView User)
+      → (clock ≡ true → IsBy bound x.event) → HasUsual v.now → HasUsual (stepped (user_behaviour
+      config) x v).now
   unfolding does
   usual_event id x v by h =
       let w = user_behaviour config in
       let before : SideView User = record v { incoming = v.incoming ++ x.arrives } in
-      let at = moment_is_by x.event by in
+      let at : clock ≡ true → moment_or 0 x.event ≤ bound =
+      λ ticks. moment_is_by x.event (by ticks) in
       record {
         usual = elim (user_reacts config (moment_or 0 x.event) id true Never UsualUser UsualUser
             (usual_is_ruled (moment_or 0 x.event) id at) x.event before
@@ -276,26 +285,27 @@ module _ (config : Config) (bound : ℕ) where
       }
 
   usual_events : (id : LinkId) (xs : List SideStep) (v : SideView User)
-      → All (λ x. IsBy bound x.event) xs → HasUsual v.now
+      → (clock ≡ true → All (λ x. IsBy bound x.event) xs) → HasUsual v.now
       → HasUsual (stepped_by_all (user_behaviour config) xs v).now
   usual_events id [] v by h = h
   usual_events id (x ∷ xs) v by h =
       let Is : SideStep → Type 0 = λ y. IsBy bound y.event in
-      usual_events id xs (stepped (user_behaviour config) x v) (All-tail Is x xs by)
-      (usual_event id x v (All-head Is x xs by) h)
+      usual_events id xs (stepped (user_behaviour config) x v) (λ ticks. All-tail Is x xs (by
+      ticks))
+      (usual_event id x v (λ ticks. All-head Is x xs (by ticks)) h)
 
   new_is_usual : (fixed : Option ℕ) (random : Lcg) → UsualUser (new_user config fixed random)
   new_is_usual None random = record {
     counted = tt;
-    plain = record { durations = refl; early = λ d is. cc };
+    plain = record { durations = refl; early = λ ticks d is. cc };
   }
   new_is_usual (Some tei) random = record {
     counted = tt;
-    plain = record { durations = refl; early = λ d is. cc };
+    plain = record { durations = refl; early = λ ticks d is. cc };
   }
 
   pub user_has_usual : (id : LinkId) (fixed : Option ℕ) (random : Lcg) (before : List SideStep)
-      → All (λ x. IsBy bound x.event) before
+      → (clock ≡ true → All (λ x. IsBy bound x.event) before)
       → HasUsual (user_after config fixed random before)
   user_has_usual id fixed random before by =
       usual_events id before (new_view (new_user config fixed random)) by (record {

@@ -1,7 +1,12 @@
 -- Any events while a terminal awaits a TEI for a kept establishment: layer 3 has its answer in
 -- time, from the terminal or from the link of the TEI.
-use Rattle.std.proofs.Common.{◌≡◌, ◌⊎◌, inl, inr, ℕ, ◌+◌, ◌-◌, ◌*◌, ◌≤◌, ◌<◌, ◌==◌, ◌&&◌, ◌||◌, Bool, true, false, List, [], ◌∷◌, ◌++◌, Option, Some, None, refl, ap, subst, arith}
-use Rattle.std.specs.Prelude.{is_some}
+use Rattle.std.proofs.Common.{◌≡◌, sym, if◌then◌else◌, ◌⊎◌, inl, inr, ℕ, ◌+◌, ◌-◌, ◌*◌, ◌≤◌, ◌<◌, ◌==◌, ◌&&◌, ◌||◌, Bool, true, false, List, [], ◌∷◌, ◌++◌, Option, Some, None, refl, ap, subst, arith}
+use Rattle.std.specs.Prelude.{is_some, cond}
+use Rattle.std.proofs.lemmas.List.Sums.{sum_by-cons}
+use Rattle.lapd_sides.specs.User.{management_expires, user_expires}
+use Rattle.lapd_sides_laws.specs.SideView.{unmoved}
+use Rattle.lapd_sides_laws.specs.Answers.{is_t202, t202_expiries}
+use Rattle.lapd_sides_links.specs.Links.{Reaction}
 use Rattle.std.specs.List.{list_any}
 use Rattle.std.proofs.lemmas.Bool.{cases_lt, or_left, or_right}
 use Rattle.lapd_timers.specs.declared.timer.Timer.TheVariants.{T202}
@@ -30,7 +35,6 @@ use Rattle.lapd_sides_laws.specs.ManagementTimers.{HasTimerOfTerminal}
 use Rattle.lapd_sides_laws.specs.Primitives.{link_primitives}
 use Rattle.lapd_sides_laws.specs.SideView.{SideView, SideEvent, Take, Lose, Expire, Ask, reaction, does}
 use Rattle.lapd_sides_laws.proofs.AnsweredSides.{Debt, debt_closed, advance, Ready, quiet_until}
-use Rattle.lapd_sides_laws.proofs.AnsweredRequests.{clocked}
 use Rattle.lapd_sides_laws.proofs.EachEvent.{moment_or, user_ways, all_go}
 use Rattle.lapd_sides_laws.proofs.EachLink.{HasLinks}
 use Rattle.lapd_sides_laws.proofs.EachTerminal.{IsNow, user_reacts}
@@ -38,8 +42,8 @@ use Rattle.lapd_sides_laws.proofs.LinkParts.{any_more, any_behind}
 use Rattle.lapd_sides_laws.proofs.ManagementSides.{preserved_by_event, user_preserves_its_timer}
 use Rattle.lapd_sides_laws.proofs.UserOwn.{AreOwn, user_preserves}
 use Rattle.lapd_sides_laws.proofs.TerminalOwn.{Owns}
-use Rattle.lapd_sides_laws.proofs.WaitingSteps.{waiting_is_ruled}
-use Rattle.lapd_sides_laws.proofs.WaitingUser.{Establishes, Waits, Continues, IsReady, HasBegun, Answers, with_tei_of}
+use Rattle.lapd_sides_laws.proofs.WaitingSteps.{waiting_is_ruled, expired}
+use Rattle.lapd_sides_laws.proofs.WaitingUser.{Establishes, Waits, Continues, IsReady, HasBegun, Answers, GoesWith, with_tei_of}
 
 -- ---- An answer about a link is one about its SAPI.
 
@@ -105,20 +109,29 @@ neither : (a b : Bool) → (a || b) ≡ false → (a ≡ false) × (b ≡ false)
 neither false b h = (refl, h)
 neither true b h = cc
 
-module _ (config : Config) (id : LinkId) (asked : Asked) (limit : ℕ) (is : Establishes asked)
-    (has : HasLinks id.sapi) where
-  abbrev Wait : ℕ → User → Type 0
-  Wait last s = Waits config id asked limit last s
+-- one if T202 of TEI management expires
+abbrev pub one_202 : SideEvent → ℕ
+one_202 event = cond (is_t202 event) 1 0
+
+module _ (config : Config) (id : LinkId) (asked : Asked) (clock : Bool) (limit : ℕ)
+    (is : Establishes asked) (has : HasLinks id.sapi) where
+  abbrev Wait : ℕ → ℕ → User → Type 0
+  Wait m last s = Waits config id asked clock limit m last s
 
   abbrev Begun : ℕ → Links → Type 0
-  Begun last links = HasBegun config id asked limit last links
+  Begun last links = HasBegun config id asked clock limit last links
 
   abbrev Has : SideView User → Type 0
   Has v = HasAnswerFor asked id.sapi v.delivered
 
-  later : (last moment : ℕ) (s : User) → IsReady config id asked limit last s
-      → IsQuietBefore s.served moment → IsReady config id asked limit moment s
-  later last moment s h quiet =
+  -- by the clock, each event is punctual
+  abbrev Punctual : SideEvent → User → Type 0
+  Punctual event s = clock ≡ true → IsPunctual (user_behaviour config) event s
+
+  later : (m last moment : ℕ) (s : User) → IsReady config id asked clock limit m last s
+      → (clock ≡ true → IsQuietBefore s.served moment)
+      → IsReady config id asked clock limit m moment s
+  later m last moment s h quiet =
       let w = h.waits in
       record {
         waits = record {
@@ -131,37 +144,78 @@ module _ (config : Config) (id : LinkId) (asked : Asked) (limit : ℕ) (is : Est
           durations = w.durations;
           deadline = w.deadline;
           runs = w.runs;
-          early = quiet_managed s.served w.deadline moment w.runs quiet;
-          late = w.late;
-          bounded = w.bounded;
+          few = w.few;
+          in_time = λ ticks.
+              let t = w.in_time ticks in
+              record {
+                early = quiet_managed s.served w.deadline moment w.runs (quiet ticks);
+                late = t.late;
+                bounded = t.bounded;
+              };
         };
         no_links = h.no_links;
         timer = h.timer;
       }
 
-  at_event : (event : SideEvent) (last : ℕ) (s : User) → IsPunctual (user_behaviour config) event s
-      → IsReady config id asked limit last s
-      → IsReady config id asked limit (moment_or last event) s
-  at_event (Take moment) last s quiet h = later last moment s h quiet
-  at_event (Lose at) last s quiet h = h
-  at_event (Expire timer of moment) last s quiet h = later last moment s h quiet
-  at_event (Ask request moment) last s quiet h = later last moment s h quiet
+  at_event : (event : SideEvent) (m last : ℕ) (s : User) → Punctual event s
+      → IsReady config id asked clock limit m last s
+      → IsReady config id asked clock limit m (moment_or last event) s
+  at_event (Take moment) m last s quiet h = later m last moment s h quiet
+  at_event (Lose at) m last s quiet h = h
+  at_event (Expire timer of moment) m last s quiet h = later m last moment s h quiet
+  at_event (Ask request moment) m last s quiet h = later m last moment s h quiet
 
-  abbrev Happens : ℕ → SideEvent → Type 0
-  Happens now event = IsNow config now id (may_release asked) (Answers config id asked limit)
-      (IsReady config id asked limit now) (Continues config id asked limit now)
-      (waiting_is_ruled config id asked limit is now) event
+  abbrev Happens : ℕ → ℕ → SideEvent → Type 0
+  Happens m now event = IsNow config now id (may_release asked)
+      (Answers config id asked clock limit) (IsReady config id asked clock limit m now)
+      (Continues config id asked clock limit m now)
+      (waiting_is_ruled config id asked clock limit is m now) event
 
-  at_its_moment : (event : SideEvent) (last : ℕ) → Happens (moment_or last event) event
-  at_its_moment (Take moment) last = refl
-  at_its_moment (Lose at) last = tt
-  at_its_moment (Expire timer of moment) last = refl
-  at_its_moment (Ask request moment) last = refl
+  at_its_moment : (event : SideEvent) (m last : ℕ) → Happens m (moment_or last event) event
+  at_its_moment (Take moment) m last = refl
+  at_its_moment (Lose at) m last = tt
+  at_its_moment (Expire timer of moment) m last = refl
+  at_its_moment (Ask request moment) m last = refl
+
+  abbrev GoesTo : ℕ → ℕ → Reaction User → Type 0
+  GoesTo m now a = GoesWith config id asked clock limit m now m a
+
+  reacts : (event : SideEvent) (v : SideView User) (m last : ℕ)
+      → (may_release asked ≡ false → requests_release side.User id event ≡ false)
+      → IsReady config id asked clock limit m (moment_or last event) v.now
+      → GoesTo m (moment_or last event) (reaction (user_behaviour config) event v)
+  reacts event v m last keeps ready =
+      let now = moment_or last event in
+      user_reacts config now id (may_release asked) (Answers config id asked clock limit)
+      (IsReady config id asked clock limit m now) (Continues config id asked clock limit m now)
+      (waiting_is_ruled config id asked clock limit is m now) event v
+      (at_its_moment event m last) keeps ready
+
+  none_spent : (m now spent : ℕ) (a : Reaction User) → spent ≡ 0 → GoesTo m now a
+      → GoesWith config id asked clock limit m now (m - spent) a
+  none_spent m now spent a none h =
+      subst (λ k. GoesWith config id asked clock limit m now k a) (omega (arith, none)) h
+
+  -- an expiry of T202 is counted
+  spends : (event : SideEvent) (v : SideView User) (m last : ℕ)
+      → (may_release asked ≡ false → requests_release side.User id event ≡ false)
+      → IsReady config id asked clock limit m (moment_or last event) v.now
+      → GoesWith config id asked clock limit m (moment_or last event) (m - one_202 event)
+      (reaction (user_behaviour config) event v)
+  unfolding user_expires
+  spends (Expire T202 None now) v m last keeps ready =
+      let on : is_some (deadline_of T202 v.now.served.timers) ≡ true = rw ready.waits.runs refl in
+      subst (λ test. GoesWith config id asked clock limit m now (m - 1)
+      (if test then management_expires config now T202 v.now else unmoved v.now)) (sym on)
+      (expired config id asked clock limit is m now v.now ready)
+  spends event v m last keeps ready =
+      none_spent m (moment_or last event) (one_202 event)
+      (reaction (user_behaviour config) event v) refl (reacts event v m last keeps ready)
 
   -- a waiting terminal has no links
-  pub ready_again : (now : ℕ) (s : User) → Wait now s → AreOwn s → HasTimerOfTerminal s
-      → IsReady config id asked limit now s
-  ready_again now s w own timer = record {
+  pub ready_again : (m now : ℕ) (s : User) → Wait m now s → AreOwn s → HasTimerOfTerminal s
+      → IsReady config id asked clock limit m now s
+  ready_again m now s w own timer = record {
     waits = w;
     no_links = λ k. no_link (s.served.links k)
         (λ there. subst (λ (phase : Phase). Owns phase k.tei) w.phase (own k there));
@@ -169,40 +223,38 @@ module _ (config : Config) (id : LinkId) (asked : Asked) (limit : ℕ) (is : Est
   }
 
   -- the state after one event
-  pub record IsPending (last : ℕ) (s : User) : Type 0 where
-    pub ready : IsReady config id asked limit last s
+  pub record IsPending (m last : ℕ) (s : User) : Type 0 where
+    pub ready : IsReady config id asked clock limit m last s
     pub own : AreOwn s
 
-  abbrev After : ℕ → SideView User → Type 0
-  After last v = Has v ⊎ (IsPending last v.now ⊎ Begun last v.now.served.links)
+  abbrev After : ℕ → ℕ → SideView User → Type 0
+  After m last v = Has v ⊎ (IsPending m last v.now ⊎ Begun last v.now.served.links)
 
-  one_event : (x : SideStep) (v : SideView User) (last : ℕ)
+  one_event : (x : SideStep) (v : SideView User) (m last : ℕ)
       → (may_release asked ≡ false → requests_release side.User id x.event ≡ false)
-      → IsPunctual (user_behaviour config) x.event v.now → IsPending last v.now
-      → After (moment_or last x.event) (stepped (user_behaviour config) x v)
+      → Punctual x.event v.now → IsPending m last v.now
+      → After (m - one_202 x.event) (moment_or last x.event)
+      (stepped (user_behaviour config) x v)
   unfolding does
-  one_event x v last keeps quiet h =
+  one_event x v m last keeps quiet h =
       let w = user_behaviour config in
       let before : SideView User = record v { incoming = v.incoming ++ x.arrives } in
-      let now = moment_or last x.event in
-      let ready = at_event x.event last v.now quiet h.ready in
+      let ready = at_event x.event m last v.now quiet h.ready in
       let own = (user_preserves config before x.event h.own).after in
       let timer = preserved_by_event User w HasTimerOfTerminal (user_preserves_its_timer config)
       x.event before h.ready.timer in
-      elim (user_reacts config now id (may_release asked) (Answers config id asked limit)
-      (IsReady config id asked limit now) (Continues config id asked limit now)
-      (waiting_is_ruled config id asked limit is now) x.event before
-      (at_its_moment x.event last) keeps ready) [
+      elim (spends x.event before m last keeps ready) [
         | inl answered ↦ inl (any_behind (answers_for asked id.sapi) v.delivered
             (reaction w x.event before).effects.primitives answered)
         | inr (inl waits) ↦ inr (inl (record {
-          ready = ready_again now (reaction w x.event before).after waits own timer;
+          ready = ready_again (m - one_202 x.event) (moment_or last x.event)
+              (reaction w x.event before).after waits own timer;
           own = own;
         }))
         | inr (inr begun) ↦ inr (inr begun)
       ]
 
-  still_has : (xs : List SideStep) (v : SideView User) → Has v
+  pub still_has : (xs : List SideStep) (v : SideView User) → Has v
       → Has (stepped_by_all (user_behaviour config) xs v)
   unfolding does
   still_has [] v h = h
@@ -218,75 +270,113 @@ module _ (config : Config) (id : LinkId) (asked : Asked) (limit : ℕ) (is : Est
     pub since : ℕ
     pub last : ℕ
     pub m : ℕ
-    pub in_time : since ≤ limit
-    pub debt : Debt config (with_tei_of config id asked limit own) asked true since m last
-        (links (with_tei_of config id asked limit own))
+    pub few : m ≤ most_expiries asked (parameters_for config id.sapi).n200
+    pub in_time : clock ≡ true → since ≤ limit
+    pub debt : Debt config (with_tei_of config id asked clock limit own) asked clock since m last
+        (links (with_tei_of config id asked clock limit own))
 
-  abbrev pub Outcome : SideView User → Type 0
-  Outcome v = Has v ⊎ (((last : ℕ) × IsPending last v.now) ⊎ IsIndebted v.now.served.links)
+  abbrev pub Outcome : ℕ → SideView User → Type 0
+  Outcome m v = Has v ⊎ (((last : ℕ) × IsPending m last v.now) ⊎ IsIndebted v.now.served.links)
 
   abbrev Keeps : List SideStep → Type 0
   Keeps xs = KeepsRequest asked side.User id xs
 
-  begun_goes : (xs : List SideStep) (v : SideView User) (last : ℕ) → Keeps xs
-      → Throughout (user_behaviour config) (IsPunctual (user_behaviour config)) xs v
-      → Begun last v.now.served.links → Outcome (stepped_by_all (user_behaviour config) xs v)
-  begun_goes xs v last keeps quiet b =
+  abbrev ArePunctual : List SideStep → SideView User → Type 0
+  ArePunctual xs v = Throughout (user_behaviour config) Punctual xs v
+
+  -- the link of the TEI from here on
+  pub indebted_goes : (xs : List SideStep) (v : SideView User) (own since m last : ℕ) → Keeps xs
+      → ArePunctual xs v
+      → Debt config (with_tei_of config id asked clock limit own) asked clock since m last
+      (v.now.served.links (with_tei_of config id asked clock limit own))
+      → Has (stepped_by_all (user_behaviour config) xs v)
+      ⊎ ((final : ℕ) × Debt config (with_tei_of config id asked clock limit own) asked clock since
+      (m - expiries_of (with_tei_of config id asked clock limit own) xs) final
+      ((stepped_by_all (user_behaviour config) xs v).now.served.links
+      (with_tei_of config id asked clock limit own)))
+  indebted_goes xs v own since m last keeps quiet debt =
       let w = user_behaviour config in
-      let its = with_tei_of config id asked limit b.own in
-      let D = Debt config its asked true b.since in
-      let closed = debt_closed config its asked true b.since has in
+      let its = with_tei_of config id asked clock limit own in
+      let D = Debt config its asked clock since in
+      let closed = debt_closed config its asked clock since has in
       let v2 = stepped_by_all w xs v in
       elim (all_go its (may_release asked) (answers asked) D config User w side.User closed
       (user_ways its (may_release asked) (answers asked) D config closed)
-      (Ready config its asked true b.since User w) (advance config its asked true b.since User w)
-      xs v (most_expiries asked (parameters_for config id.sapi).n200) keeps (clocked User w xs v quiet)
-      (inr (last, b.debt))) [
+      (Ready config its asked clock since User w) (advance config its asked clock since User w)
+      xs v m keeps quiet (inr (last, debt))) [
         | inl h ↦ inl (for_sapi asked its v2.delivered h)
+        | inr rest ↦ inr rest
+      ]
+
+  begun_goes : (xs : List SideStep) (v : SideView User) (m last : ℕ) → Keeps xs
+      → ArePunctual xs v → Begun last v.now.served.links
+      → Outcome m (stepped_by_all (user_behaviour config) xs v)
+  begun_goes xs v m last keeps quiet b =
+      let its = with_tei_of config id asked clock limit b.own in
+      let most = most_expiries asked (parameters_for config id.sapi).n200 in
+      elim (indebted_goes xs v b.own b.since most last keeps quiet b.debt) [
+        | inl h ↦ inl h
         | inr (final, o) ↦ inr (inr (record {
           own = b.own;
           since = b.since;
           last = final;
-          m = most_expiries asked (parameters_for config id.sapi).n200 - expiries_of its xs;
+          m = most - expiries_of its xs;
+          few = omega arith;
           in_time = b.in_time;
           debt = o;
         }))
       ]
 
-  pub all_wait : (xs : List SideStep) (v : SideView User) (last : ℕ) → Keeps xs
-      → Throughout (user_behaviour config) (IsPunctual (user_behaviour config)) xs v
-      → After last v → Outcome (stepped_by_all (user_behaviour config) xs v)
-  all_wait xs v last keeps quiet (inl h) = inl (still_has xs v h)
-  all_wait xs v last keeps quiet (inr (inr b)) = begun_goes xs v last keeps quiet b
-  all_wait [] v last keeps quiet (inr (inl h)) = inr (inl (last, h))
-  all_wait (x ∷ xs) v last keeps quiet (inr (inl h)) =
+  counted_202 : (x : SideStep) (xs : List SideStep)
+      → t202_expiries (x ∷ xs) ≡ one_202 x.event + t202_expiries xs
+  counted_202 x xs = sum_by-cons (λ y. cond {A = ℕ} (is_t202 y.event) 1 0) x xs
+
+  same_pending : (m k last : ℕ) (s : User) → m ≡ k → IsPending m last s → IsPending k last s
+  same_pending m k last s same h = subst (λ j. IsPending j last s) same h
+
+  pub all_wait : (xs : List SideStep) (v : SideView User) (m last : ℕ) → Keeps xs
+      → ArePunctual xs v → After m last v
+      → Outcome (m - t202_expiries xs) (stepped_by_all (user_behaviour config) xs v)
+  all_wait xs v m last keeps quiet (inl h) = inl (still_has xs v h)
+  all_wait xs v m last keeps quiet (inr (inr b)) =
+      begun_goes xs v (m - t202_expiries xs) last keeps quiet b
+  all_wait [] v m last keeps quiet (inr (inl h)) =
+      inr (inl (last, same_pending m (m - 0) last v.now (omega arith) h))
+  all_wait (x ∷ xs) v m last keeps quiet (inr (inl h)) =
       let w = user_behaviour config in
       let both : may_release asked ≡ false → (requests_release side.User id x.event ≡ false)
       × (list_any (λ y. requests_release side.User id y.event) xs ≡ false) =
       λ may_not. neither (requests_release side.User id x.event)
       (list_any (λ y. requests_release side.User id y.event) xs) (keeps may_not) in
-      all_wait xs (stepped w x v) (moment_or last x.event) (λ may_not. (both may_not).1) quiet.1
-      (one_event x v last (λ may_not. (both may_not).0) quiet.0 h)
+      let less = m - one_202 x.event in
+      let same : less - t202_expiries xs ≡ m - t202_expiries (x ∷ xs) =
+      omega (arith, counted_202 x xs) in
+      subst (λ k. Outcome k (stepped_by_all w xs (stepped w x v))) same
+      (all_wait xs (stepped w x v) less (moment_or last x.event) (λ may_not. (both may_not).1)
+      quiet.1 (one_event x v m last (λ may_not. (both may_not).0) quiet.0 h))
 
   -- layer 3 has the answer by then
-  pub answered_by : (moment : ℕ) (v : SideView User) → IsQuietBefore v.now.served moment
-      → limit + most_periods asked (parameters_for config id.sapi).n200 * config.durations.t200 < moment
-      → Outcome v → Has v
-  answered_by moment v quiet late (inl h) = h
-  answered_by moment v quiet late (inr (inl (last, h))) =
+  pub answered_by : (m moment : ℕ) (v : SideView User) → clock ≡ true
+      → IsQuietBefore v.now.served moment
+      → limit + most_periods asked (parameters_for config id.sapi).n200 * config.durations.t200
+      < moment → Outcome m v → Has v
+  answered_by m moment v ticks quiet late (inl h) = h
+  answered_by m moment v ticks quiet late (inr (inl (last, h))) =
       let w = h.ready.waits in
+      let t = w.in_time ticks in
       let early = quiet_managed v.now.served w.deadline moment w.runs quiet in
-      absurd (omega (arith, early, w.bounded, late))
-  answered_by moment v quiet late (inr (inr o)) =
-      absurd (too_late (v.now.served.links (with_tei_of config id asked limit o.own)) refl o.debt)
+      absurd (omega (arith, early, t.bounded, late))
+  answered_by m moment v ticks quiet late (inr (inr o)) =
+      let its = with_tei_of config id asked clock limit o.own in
+      absurd (too_late (v.now.served.links its) refl o.debt)
     where
       too_late : (l : Option Linked)
-          → v.now.served.links (with_tei_of config id asked limit o.own) ≡ l
-          → Debt config (with_tei_of config id asked limit o.own) asked true o.since o.m o.last l
-          → ⊥
+          → v.now.served.links (with_tei_of config id asked clock limit o.own) ≡ l
+          → Debt config (with_tei_of config id asked clock limit o.own) asked clock o.since o.m
+          o.last l → ⊥
       too_late None none debt = debt
       too_late (Some l) there debt =
-          let t = debt.in_time refl in
-          let early = quiet_until v.now.served (with_tei_of config id asked limit o.own) l
+          let t = debt.in_time ticks in
+          let early = quiet_until v.now.served (with_tei_of config id asked clock limit o.own) l
           debt.deadline moment there debt.runs quiet in
-          omega (arith, early, t.bounded, o.in_time, late)
+          omega (arith, early, t.bounded, o.in_time ticks, late)

@@ -1,5 +1,5 @@
 -- Each event while a terminal awaits a TEI for a kept establishment, and any list of them.
-use Rattle.std.proofs.Common.{◌≡◌, inl, inr, ℕ, ◌+◌, ◌<◌, ◌==◌, ◌&&◌, nat_lt, Bool, true, false, if◌then◌else◌, [], ◌∷◌, Some, None, Result, Ok, Err, refl, sym, subst, ◌∙◌, arith}
+use Rattle.std.proofs.Common.{◌≡◌, ◌-◌, inl, inr, ℕ, ◌+◌, ◌<◌, ◌==◌, ◌&&◌, nat_lt, Bool, true, false, if◌then◌else◌, [], ◌∷◌, Some, None, Result, Ok, Err, refl, sym, subst, ◌∙◌, arith}
 use Rattle.std.specs.Prelude.{IfOk}
 use Rattle.std.specs.List.{list_any}
 use Rattle.lapd_timers.specs.declared.timer.Timer.{Timer}
@@ -29,7 +29,7 @@ use Rattle.lapd_sides_laws.specs.EndAnswers.{Asked, Establishment, Withdrawal, C
 use Rattle.lapd_sides_laws.specs.SideView.{may_expire}
 use Rattle.lapd_sides_laws.proofs.EachTerminal.{IsRuled}
 use Rattle.lapd_sides_laws.proofs.ExactLinks.{if_either}
-use Rattle.lapd_sides_laws.proofs.WaitingUser.{Establishes, Continues, IsReady, Answers, Goes, Acts, awaits, again, fails, obtains}
+use Rattle.lapd_sides_laws.proofs.WaitingUser.{Establishes, Continues, IsReady, Answers, Goes, GoesWith, Acts, awaits, again, fails, obtains}
 
 -- ---- Kept establishments of either SAPI.
 
@@ -78,33 +78,40 @@ if_tested : {X : Type 0} (P : X → Type 0) (test : Bool) (a b : X) → (test �
 if_tested P true a b first second = first refl
 if_tested P false a b first second = second refl
 
-module _ (config : Config) (id : LinkId) (asked : Asked) (limit : ℕ) (is : Establishes asked)
-    (now : ℕ) where
+module _ (config : Config) (id : LinkId) (asked : Asked) (clock : Bool) (limit : ℕ)
+    (is : Establishes asked) (m now : ℕ) where
   abbrev Ready : User → Type 0
-  Ready s = IsReady config id asked limit now s
+  Ready s = IsReady config id asked clock limit m now s
 
   abbrev Next : Reaction User → Type 0
-  Next a = Goes config id asked limit now a
+  Next a = Goes config id asked clock limit m now a
+
+  abbrev pub NextWith : ℕ → Reaction User → Type 0
+  NextWith less a = GoesWith config id asked clock limit m now less a
 
   message_goes : (k : TeiKind) (its ai : ℕ) (s : User) (h : Ready s)
-      → Next (Acts config id asked limit now
+      → Next (Acts config id asked clock limit m now
       (awaiting_receives h.waits.purpose h.waits.count h.waits.ri k its ai) s)
   message_goes kind.Assigned its ai s h =
       let w = h.waits in
-      if_either (λ step. Next (Acts config id asked limit now step s))
+      if_either (λ step. Next (Acts config id asked clock limit m now step s))
       ((its == w.ri) && is_automatic ai)
       (moves_to (Assigned (Some w.ri) ai) (outcome.Stop T202 ∷ outcome.Got ai ∷ []))
       (moves_to (Awaiting w.purpose w.count w.ri) [])
-      (obtains config id asked limit now ai (Some w.ri) s is w h.no_links)
-      (awaits config id asked limit now w.purpose s w)
-  message_goes kind.Request its ai s h = awaits config id asked limit now h.waits.purpose s h.waits
-  message_goes kind.Denied its ai s h = awaits config id asked limit now h.waits.purpose s h.waits
+      (obtains config id asked clock limit m now ai (Some w.ri) s is w h.no_links)
+      (awaits config id asked clock limit m now w.purpose s w)
+  message_goes kind.Request its ai s h = awaits config id asked clock limit m now h.waits.purpose s
+      h.waits
+  message_goes kind.Denied its ai s h = awaits config id asked clock limit m now h.waits.purpose s
+      h.waits
   message_goes kind.CheckRequest its ai s h =
-      awaits config id asked limit now h.waits.purpose s h.waits
+      awaits config id asked clock limit m now h.waits.purpose s h.waits
   message_goes kind.CheckResponse its ai s h =
-      awaits config id asked limit now h.waits.purpose s h.waits
-  message_goes kind.Remove its ai s h = awaits config id asked limit now h.waits.purpose s h.waits
-  message_goes kind.Verify its ai s h = awaits config id asked limit now h.waits.purpose s h.waits
+      awaits config id asked clock limit m now h.waits.purpose s h.waits
+  message_goes kind.Remove its ai s h = awaits config id asked clock limit m now h.waits.purpose s
+      h.waits
+  message_goes kind.Verify its ai s h = awaits config id asked clock limit m now h.waits.purpose s
+      h.waits
 
   hears : (m : TeiMessage) (s : User) → Ready s
       → Next (terminal_acts config now (event.Heard m) s)
@@ -119,7 +126,7 @@ module _ (config : Config) (id : LinkId) (asked : Asked) (limit : ℕ) (is : Est
   asks s h =
       subst (λ phase. Next (assigned config now
       (terminal_step phase (event.Ask (next_reference s.random))) s)) (sym h.waits.phase)
-      (awaits config id asked limit now h.waits.purpose s h.waits)
+      (awaits config id asked clock limit m now h.waits.purpose s h.waits)
 
   wanting : (other : Sapi) (s : User) → Ready s
       → Next (terminal_acts config now event.Want
@@ -130,7 +137,7 @@ module _ (config : Config) (id : LinkId) (asked : Asked) (limit : ℕ) (is : Est
       let more : User = record s { pending = with_pending other true s.pending } in
       subst (λ phase. Next (assigned config now
       (terminal_step phase (event.Want (next_reference s.random))) more)) (sym w.phase)
-      (awaits config id asked limit now reason.Establishment more (record {
+      (awaits config id asked clock limit m now reason.Establishment more (record {
         purpose = w.purpose;
         count = w.count;
         ri = w.ri;
@@ -140,9 +147,8 @@ module _ (config : Config) (id : LinkId) (asked : Asked) (limit : ℕ) (is : Est
         durations = w.durations;
         deadline = w.deadline;
         runs = w.runs;
-        early = w.early;
-        late = w.late;
-        bounded = w.bounded;
+        few = w.few;
+        in_time = w.in_time;
       }))
 
   leaving : (tei : ℕ) (s : User) → has_tei tei (tei_of s.terminal) ≡ true → Ready s → ⊥
@@ -150,27 +156,44 @@ module _ (config : Config) (id : LinkId) (asked : Asked) (limit : ℕ) (is : Est
       not_both (subst (λ phase. has_tei tei (tei_of phase) ≡ true) h.waits.phase has)
 
   -- T202 expires
-  expired : (s : User) → Ready s → Next (management_expires config now T202 s)
+  pub expired : (s : User) → Ready s → NextWith (m - 1) (management_expires config now T202 s)
   unfolding terminal_acts
   expired s h =
       let w = h.waits in
       let off : User = record s {
         served = record { links = s.served.links; timers = stopped T202 s.served.timers };
       } in
-      subst (λ phase. Next (assigned config now
+      subst (λ phase. NextWith (m - 1) (assigned config now
       (terminal_step phase (event.T202 (next_reference s.random))) off)) (sym w.phase)
-      (if_tested (λ step. Next (Acts config id asked limit now step off))
+      (if_tested (λ step. NextWith (m - 1) (Acts config id asked clock limit m now step off))
       (nat_lt w.count n202)
       (moves_to (Awaiting w.purpose (w.count + 1) (next_reference s.random))
       (outcome.Send (request (next_reference s.random)) ∷ outcome.Start T202 ∷ []))
       (moves_to Unassigned (outcome.Failed ∷ []))
-      (λ more. again config id asked limit now (next_reference s.random) s w
+      (λ more. again config id asked clock limit m now (next_reference s.random) s w
       (below w.count n202 more))
-      (λ last. fails config id asked limit now off is w.kept))
+      (λ last. fails config id asked clock limit m now off is w.kept))
+
+  fewer : (a : Reaction User) → NextWith (m - 1) a → Next a
+  fewer a (inl h) = inl h
+  fewer a (inr (inr b)) = inr (inr b)
+  fewer a (inr (inl w)) = inr (inl (record {
+    purpose = w.purpose;
+    count = w.count;
+    ri = w.ri;
+    phase = w.phase;
+    kept = w.kept;
+    served = w.served;
+    durations = w.durations;
+    deadline = w.deadline;
+    runs = w.runs;
+    few = omega (arith, w.few);
+    in_time = w.in_time;
+  }))
 
   expires : (timer : Timer) (s : User) → may_expire timer None s.served ≡ true → Ready s
       → Next (management_expires config now timer s)
-  expires T202 s may h = expired s h
+  expires T202 s may h = fewer (management_expires config now T202 s) (expired s h)
   expires T200 s may h = absurd (not_both (sym (h.timer T200) ∙ may))
   expires T201 s may h = absurd (not_both (sym (h.timer T201) ∙ may))
   expires T203 s may h = absurd (not_both (sym (h.timer T203) ∙ may))
@@ -208,9 +231,8 @@ module _ (config : Config) (id : LinkId) (asked : Asked) (limit : ℕ) (is : Est
         durations = w.durations;
         deadline = w.deadline;
         runs = w.runs;
-        early = w.early;
-        late = w.late;
-        bounded = w.bounded;
+        few = w.few;
+        in_time = w.in_time;
       }))
 
   forgotten : (other : Sapi) (s : User)
@@ -225,8 +247,9 @@ module _ (config : Config) (id : LinkId) (asked : Asked) (limit : ℕ) (is : Est
       })) (Err NoLink)
       (forgot other s (sapi_value id.sapi == sapi_value other) refl keeps h) tt
 
-  pub waiting_is_ruled : IsRuled config now id (may_release asked) (Answers config id asked limit)
-      Ready (Continues config id asked limit now)
+  pub waiting_is_ruled : IsRuled config now id (may_release asked) (Answers config id asked clock
+      limit)
+      Ready (Continues config id asked clock limit m now)
   waiting_is_ruled = record {
     same = λ s h. inl h.waits;
     relinked = λ links s h. inl h.waits;

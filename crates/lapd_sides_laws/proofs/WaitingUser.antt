@@ -64,7 +64,9 @@ begun p = record {
 }
 
 begins : (p : Parameters) → step Tagged input.Establish (new_end p) ≡ Ok (begun p)
-unfolding step row by_state tei_assigned establish_data_link end_step send_all acknowledge_pending begin put state_to rc_to layer3_initiated_to release_pending_to start stop clear_exception_conditions discard_i_queue
+unfolding step row by_state tei_assigned establish_data_link end_step send_all acknowledge_pending
+    begin put state_to rc_to layer3_initiated_to release_pending_to start stop
+    clear_exception_conditions discard_i_queue
 begins p = refl
 
 -- a request to establish, not a release
@@ -77,11 +79,11 @@ establishes_fits Establishment is = tt
 establishes_fits Withdrawal is = tt
 establishes_fits Clearing is = absurd is
 
-begun_owes : (config : Config) (id : LinkId) (asked : Asked) (now last : ℕ) → Establishes asked
-    → last ≤ now → now ≤ last_moment
-    → Debt config id asked true now (most_expiries asked (parameters_for config id.sapi).n200) last
+begun_owes : (config : Config) (id : LinkId) (asked : Asked) (clock : Bool) (now last : ℕ)
+    → Establishes asked → last ≤ now → (clock ≡ true → now ≤ last_moment)
+    → Debt config id asked clock now (most_expiries asked (parameters_for config id.sapi).n200) last
     (Some (after_step now (all_stopped config.durations) (begun (parameters_for config id.sapi))))
-begun_owes config id asked now last is earlier some = record {
+begun_owes config id asked clock now last is earlier some = record {
   was = Establishing;
   fits = establishes_fits asked is;
   owed = (refl, refl, refl, refl);
@@ -91,7 +93,7 @@ begun_owes config id asked now last is earlier some = record {
   runs = refl;
   in_time = λ ticks. record {
     length_is = refl;
-    early = omega (arith, earlier, some);
+    early = let by = some ticks in omega (arith, earlier, by);
     late = omega arith;
     bounded = omega (
       arith,
@@ -103,9 +105,16 @@ begun_owes config id asked now last is earlier some = record {
 
 -- ---- While the terminal awaits a TEI.
 
--- until now; the deadline of T202, after which it may run n202 - count times more until `limit`
-pub record IsWaiting (config : Config) (at : Sapi) (limit now : ℕ) (terminal : Phase)
-    (pending : PendingEstablishments) (t : Timers) : Type 0 where
+-- By the clock: the deadline of T202 is not before now, and T202 may run n202 - count times more
+-- after it, until `limit`.
+pub record IsInTime202 (config : Config) (limit now count deadline : ℕ) : Type 0 where
+  pub early : now ≤ deadline
+  pub late : deadline ≤ last_moment
+  pub bounded : deadline + (n202 - count) * config.durations.t202 ≤ limit
+
+-- at most m more expiries of T202; with `clock`, in time
+pub record IsWaiting (config : Config) (at : Sapi) (clock : Bool) (limit m now : ℕ)
+    (terminal : Phase) (pending : PendingEstablishments) (t : Timers) : Type 0 where
   pub purpose : Purpose
   pub count : ℕ
   pub ri : ℕ
@@ -115,9 +124,8 @@ pub record IsWaiting (config : Config) (at : Sapi) (limit now : ℕ) (terminal :
   pub durations : t.durations ≡ config.durations
   pub deadline : ℕ
   pub runs : deadline_of T202 t ≡ Some deadline
-  pub early : now ≤ deadline
-  pub late : deadline ≤ last_moment
-  pub bounded : deadline + (n202 - count) * config.durations.t202 ≤ limit
+  pub few : n202 - count + 1 ≤ m
+  pub in_time : clock ≡ true → IsInTime202 config limit now count deadline
 
 -- ---- The kept establishment is released, or executed.
 
@@ -203,7 +211,7 @@ begun_in config now own sapi.Packet s kept was =
     ≡ Some (begun_link config id now)) (sym kept) (begun_by config now id first still)
 begun_in config now own sapi.Management s kept was = cc
 
-module _ (config : Config) (id : LinkId) (asked : Asked) (limit : ℕ) where
+module _ (config : Config) (id : LinkId) (asked : Asked) (clock : Bool) (limit : ℕ) where
   abbrev pub N200 : ℕ
   N200 = (parameters_for config id.sapi).n200
 
@@ -215,34 +223,37 @@ module _ (config : Config) (id : LinkId) (asked : Asked) (limit : ℕ) where
   pub record HasBegun (now : ℕ) (links : Links) : Type 0 where
     pub own : ℕ
     pub since : ℕ
-    pub in_time : since ≤ limit
-    pub debt : Debt config (with_tei_of own) asked true since (most_expiries asked N200) now
+    pub in_time : clock ≡ true → since ≤ limit
+    pub debt : Debt config (with_tei_of own) asked clock since (most_expiries asked N200) now
         (links (with_tei_of own))
 
-  abbrev pub Waits : ℕ → User → Type 0
-  Waits now s = IsWaiting config id.sapi limit now s.terminal s.pending s.served.timers
+  abbrev pub Waits : ℕ → ℕ → User → Type 0
+  Waits m now s = IsWaiting config id.sapi clock limit m now s.terminal s.pending s.served.timers
 
-  abbrev pub Continues : ℕ → User → Type 0
-  Continues now s = Waits now s ⊎ HasBegun now s.served.links
+  abbrev pub Continues : ℕ → ℕ → User → Type 0
+  Continues m now s = Waits m now s ⊎ HasBegun now s.served.links
 
   -- before an event: no link exists, and T202 alone runs
-  pub record IsReady (now : ℕ) (s : User) : Type 0 where
-    pub waits : Waits now s
+  pub record IsReady (m now : ℕ) (s : User) : Type 0 where
+    pub waits : Waits m now s
     pub no_links : (k : LinkId) → s.served.links k ≡ None
     pub timer : HasTimerOfTerminal s
 
   abbrev pub Answers : List Primitive → Type 0
   Answers primitives = HasAnswerFor asked id.sapi primitives
 
-  module _ (now : ℕ) where
+  module _ (m now : ℕ) where
+    abbrev pub GoesWith : ℕ → Reaction User → Type 0
+    GoesWith less a = Answers a.effects.primitives ⊎ Continues less now a.after
+
     abbrev pub Goes : Reaction User → Type 0
-    Goes a = Answers a.effects.primitives ⊎ Continues now a.after
+    Goes a = GoesWith m a
 
     abbrev pub Acts : TerminalStep → User → Reaction User
     Acts step s = assigned config now step s
 
     -- still awaiting the answer to the same request
-    pub awaits : (purpose : Purpose) (s : User) (w : Waits now s)
+    pub awaits : (purpose : Purpose) (s : User) (w : Waits m now s)
         → Goes (Acts (moves_to (Awaiting purpose w.count w.ri) []) s)
     unfolding manages
     awaits purpose s w = inr (inl (record {
@@ -255,9 +266,8 @@ module _ (config : Config) (id : LinkId) (asked : Asked) (limit : ℕ) where
       durations = w.durations;
       deadline = w.deadline;
       runs = w.runs;
-      early = w.early;
-      late = w.late;
-      bounded = w.bounded;
+      few = w.few;
+      in_time = w.in_time;
     }))
 
     product_less : (a b len : ℕ) → a + 1 ≤ b → len + a * len ≤ b * len
@@ -265,8 +275,8 @@ module _ (config : Config) (id : LinkId) (asked : Asked) (limit : ℕ) where
         let m : (a + 1) * len ≤ b * len = grind (arith, h) in grind (arith, m)
 
     -- T202 has expired, and the TEI is requested again
-    pub again : (new : ℕ) (s : User) (w : Waits now s) → w.count < n202
-        → Goes (Acts (moves_to (Awaiting w.purpose (w.count + 1) new)
+    pub again : (new : ℕ) (s : User) (w : Waits m now s) → w.count < n202
+        → GoesWith (m - 1) (Acts (moves_to (Awaiting w.purpose (w.count + 1) new)
         (outcome.Send (request new) ∷ outcome.Start T202 ∷ []))
         (record s {
           served = record { links = s.served.links; timers = stopped T202 s.served.timers };
@@ -287,14 +297,19 @@ module _ (config : Config) (id : LinkId) (asked : Asked) (limit : ℕ) where
           durations = w.durations;
           deadline = deadline_from now s.served.timers.durations.t202;
           runs = refl;
-          early = omega (arith, w.early, w.late);
-          late = omega arith;
-          bounded = omega (arith, w.bounded, w.early, less, is);
+          few = omega (arith, w.few, more);
+          in_time = λ ticks.
+              let t = w.in_time ticks in
+              record {
+                early = omega (arith, t.early, t.late);
+                late = omega arith;
+                bounded = omega (arith, t.bounded, t.early, less, is);
+              };
         }))
 
     -- no TEI was obtained
     pub fails : (s : User) → Establishes asked → is_pending id.sapi s.pending ≡ true
-        → Goes (Acts (moves_to Unassigned (outcome.Failed ∷ [])) s)
+        → GoesWith (m - 1) (Acts (moves_to Unassigned (outcome.Failed ∷ [])) s)
     unfolding manages
     fails s is kept = inl (released_for asked id.sapi s.pending is kept)
 
@@ -308,7 +323,7 @@ module _ (config : Config) (id : LinkId) (asked : Asked) (limit : ℕ) where
         rw (is, none) refl
 
     -- the TEI is obtained
-    pub obtains : (own : ℕ) (by : Option ℕ) (s : User) → Establishes asked → Waits now s
+    pub obtains : (own : ℕ) (by : Option ℕ) (s : User) → Establishes asked → Waits m now s
         → ((k : LinkId) → s.served.links k ≡ None)
         → Goes (Acts (moves_to (Assigned by own) (outcome.Stop T202 ∷ outcome.Got own ∷ [])) s)
     unfolding manages
@@ -321,12 +336,14 @@ module _ (config : Config) (id : LinkId) (asked : Asked) (limit : ℕ) where
         } in
         let new = joins own s.served.links w.served (none (with_tei_of own)) in
         let now_begun = begun_in config now own id.sapi middle w.kept new in
-        let moment : now ≤ last_moment = omega (arith, w.early, w.late) in
+        let moment : clock ≡ true → now ≤ last_moment = λ ticks.
+        let t = w.in_time ticks in omega (arith, t.early, t.late) in
         inr (inr (record {
           own = own;
           since = now;
-          in_time = omega (arith, w.early, w.bounded);
-          debt = subst (Debt config (with_tei_of own) asked true now (most_expiries asked N200) now)
-              (sym now_begun) (begun_owes config (with_tei_of own) asked now now is
+          in_time = λ ticks. let t = w.in_time ticks in omega (arith, t.early, t.bounded);
+          debt = subst (Debt config (with_tei_of own) asked clock now (most_expiries asked N200)
+              now)
+              (sym now_begun) (begun_owes config (with_tei_of own) asked clock now now is
               (omega arith) moment);
         }))

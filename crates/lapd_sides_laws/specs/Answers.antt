@@ -1,8 +1,8 @@
 -- Layer 3's requests to a side, their answers among the primitives of a link, and how often T200 of
 -- the link expires.
-use Rattle.std.specs.Prelude.{◌≡◌, ℕ, ◌+◌, ◌*◌, ◌≤◌, ◌==◌, ◌&&◌, Bool, true, false, List, [], ◌∷◌, ◌++◌, Some}
+use Rattle.std.specs.Prelude.{◌≡◌, ℕ, ◌+◌, ◌*◌, ◌≤◌, ◌==◌, ◌&&◌, Bool, true, false, List, [], ◌∷◌, ◌++◌, Some, None}
 use Rattle.std.specs.List.{list_any, count_by}
-use Rattle.lapd_timers.specs.declared.timer.Timer.TheVariants.{T200}
+use Rattle.lapd_timers.specs.declared.timer.Timer.TheVariants.{T200, T202}
 use Rattle.lapd_frame.specs.declared.Sapi.{Sapi}
 use Rattle.lapd_frame.specs.declared.Side.{Side}
 use Rattle.lapd_frame.specs.declared.Side.TheVariants as side
@@ -58,6 +58,14 @@ is_t200_of id event = false
 -- how often T200 of the link expires
 abbrev pub expiries_of : LinkId → List SideStep → ℕ
 expiries_of id side_steps = count_by (λ side_step. is_t200_of id side_step.event) side_steps
+
+-- how often T202 of TEI management expires
+abbrev pub is_t202 : SideEvent → Bool
+is_t202 (Expire T202 None now) = true
+is_t202 event = false
+
+abbrev pub t202_expiries : List SideStep → ℕ
+t202_expiries side_steps = count_by (λ side_step. is_t202 side_step.event) side_steps
 
 -- A request of the network side names its link. On a user side only the SAPI counts, since a
 -- terminal has one TEI.

@@ -23,7 +23,7 @@ ghost use Rattle.lapd_sides.specs.Network.{Network, network_requested};
 ghost use Rattle.lapd_sides.specs.User.{User, user_requested};
 ghost use Rattle.lapd_sides.specs.Worked.{both_sapis};
 ghost use Rattle.lapd_sides_laws.specs.AnswerRuns.{alone, t200_at, user_with, primitives_of_run, establishing, three_expiries, releasing, six_expiries, seeking, late_assignment, withdrawing, backwards};
-ghost use Rattle.lapd_sides_laws.specs.Answers.{asks, expiries_of, KeepsRequest, IsBy, most_periods, IsAnswered, IsAnsweredFor, AreExpiredInTime};
+ghost use Rattle.lapd_sides_laws.specs.Answers.{asks, expiries_of, t202_expiries, KeepsRequest, IsBy, most_periods, after_request, IsAnswered, IsAnsweredFor, AreExpiredInTime};
 ghost use Rattle.lapd_sides_laws.specs.EndAnswers.{Asked, request_of, may_release, most_expiries, is_answered, is_release, t200_expiries, outs_of};
 ghost use Rattle.lapd_sides_laws.specs.ExactTimers.{SideStep, BringsOctets};
 ghost use Rattle.lapd_sides_laws.specs.Interface.{network_behaviour, user_behaviour};
@@ -68,9 +68,12 @@ pub fn every_end_answers()
 ///   when it is due, layer 3 has the answer after (N200 + 1) T200 at the latest, and after
 ///   2 (N200 + 1) T200 if it may have requested the release: 4 s and 8 s with the values of Q.921.
 ///   The request is not earlier than the events before it.
-/// - `user_without_tei`: on a user side that has no TEI, in any phase of requesting one. The bound
-///   is N202 T202 more, so an establishment is answered after 10 s at the latest. The answer names
-///   the group TEI if no TEI was obtained, and else the TEI (`IsAnsweredFor`).
+/// - `user_without_tei`: on a user side that has no TEI, in any phase of requesting one. Layer 3
+///   has the answer if T202 expires N202 times, and then T200 of the link of the TEI as often as
+///   above, if the terminal has one by then. The answer names the group TEI if no TEI was obtained,
+///   and else the TEI (`IsAnsweredFor`).
+/// - `user_without_tei_in_time`: the same by the clock. The bound is N202 T202 more, so an
+///   establishment is answered after 10 s at the latest.
 pub fn every_request_is_answered()
     ensures network { (config : Config) (known : List ℕ) (before after : List SideStep)
         (asked : Asked) (id : LinkId) (now : ℕ) (a : Reaction Network)
@@ -108,6 +111,18 @@ pub fn every_request_is_answered()
         < moment
         → IsAnswered asked id (user_behaviour config) a after }
     ensures user_without_tei { (config : Config) (fixed : Option ℕ) (random : Lcg)
+        (before first second : List SideStep) (asked : Asked) (id : LinkId) (now : ℕ)
+        (a : Reaction User)
+        → tei_of (user_after config fixed random before).terminal ≡ None
+        → user_requested config (asks asked id) now (user_after config fixed random before) ≡ Ok a
+        → KeepsRequest asked side.User id (first ++ second)
+        → n202 ≤ t202_expiries first
+        → ((own : ℕ)
+        → tei_of (after_request (user_behaviour config) a first).now.terminal ≡ Some own
+        → most_expiries asked (parameters_for config id.sapi).n200
+        ≤ expiries_of (of_sapi id.sapi own) second)
+        → IsAnsweredFor asked id.sapi (user_behaviour config) a (first ++ second) }
+    ensures user_without_tei_in_time { (config : Config) (fixed : Option ℕ) (random : Lcg)
         (before after : List SideStep) (asked : Asked) (id : LinkId) (now moment : ℕ)
         (a : Reaction User)
         → All (λ side_step. IsBy now side_step.event) before

@@ -1,5 +1,5 @@
 use Rattle.lapd_sides_laws.proofs.AnsweredRequests.{network_counts, user_counts, network_is_in_time, user_is_in_time}
-use Rattle.lapd_sides_laws.proofs.AnsweredWithoutTei.{user_without_tei}
+use Rattle.lapd_sides_laws.proofs.AnsweredWithoutTei.{user_without_tei, user_without_tei_in_time}
 use Rattle.lapd_sides_laws.proofs.answers.every_request_is_answered.Goals as goal
 
 pub returns : goal.returns
@@ -16,4 +16,5 @@ returns c = record {
       user_is_in_time config fixed random before asked id now a octets own done after keeps
       moment by t.at_each t.at_last late;
   user_without_tei = user_without_tei;
+  user_without_tei_in_time = user_without_tei_in_time;
 }
