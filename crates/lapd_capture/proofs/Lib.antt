@@ -1,5 +1,7 @@
+pub mod Fronts
 pub mod Heads
 pub mod ReadBack
 pub mod Steps
 pub mod Taken
 pub mod Units
+pub mod Unserved

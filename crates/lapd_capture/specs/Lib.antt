@@ -1,3 +1,4 @@
+pub mod FileKind
 pub mod Moment
 pub mod Octets
 pub mod Packet

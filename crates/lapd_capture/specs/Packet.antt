@@ -1,7 +1,7 @@
 -- The content of a packet of a capture, by the link type of its interface. All places are indices
 -- of the capture's octets. A part of a packet lies from `start` to `end`, and was captured up to
 -- `kept`, which may be before `end`. Lengths in the packet are compared with `end`.
-use Rattle.std.specs.Prelude.{ℕ, ◌+◌, ◌*◌, ◌/◌, ◌%◌, ◌-◌, ◌≤◌, ◌==◌, max, min, nat_lt, not, if◌then◌else◌, Bool, true, List, slice_index, Option, Some, None, ⊤}
+use Rattle.std.specs.Prelude.{ℕ, ◌+◌, ◌*◌, ◌/◌, ◌%◌, ◌-◌, ◌≤◌, ◌==◌, ◌||◌, max, min, nat_lt, not, if◌then◌else◌, Bool, true, List, slice_index, Option, Some, None, ⊤}
 use Rattle.lapd_field.specs.declared.side.Side.{Side}
 use Rattle.lapd_field.specs.declared.side.Side.TheVariants.{Network, User}
 use Rattle.lapd_field.specs.Address.{other_side}
@@ -10,17 +10,19 @@ use Rattle.lapd_capture.specs.declared.item.CaptureItem.{CaptureItem}
 use Rattle.lapd_capture.specs.declared.item.CaptureItem.TheVariants.{Frame, Other, Unreadable, End}
 use Rattle.lapd_capture.specs.declared.item.PacketFault.TheVariants.{BadLength, BadHeader, CutHeader}
 use Rattle.lapd_capture.specs.declared.link_type.LinkType.{LinkType}
-use Rattle.lapd_capture.specs.declared.link_type.LinkType.TheVariants.{LinuxLapd, Lapd, Ethernet, Ip, NotServed}
+use Rattle.lapd_capture.specs.declared.link_type.LinkType.TheVariants.{LinuxLapd, Lapd, Ethernet, Ip, Cooked, Cooked2, NotServed}
 use Rattle.lapd_capture.specs.Octets.{number_at}
 
 -- the link type with this number: LINKTYPE_LINUX_LAPD, LINKTYPE_LAPD, LINKTYPE_ETHERNET,
--- LINKTYPE_RAW and LINKTYPE_IPV4
+-- LINKTYPE_RAW, LINKTYPE_IPV4, LINKTYPE_LINUX_SLL and LINKTYPE_LINUX_SLL2
 abbrev pub link_type_of : ℕ → LinkType
 link_type_of number = if number == 177 then LinuxLapd else (
     if number == 203 then Lapd else (
     if number == 1 then Ethernet else (
     if number == 101 then Ip else (
-    if number == 228 then Ip else NotServed))))
+    if number == 228 then Ip else (
+    if number == 113 then Cooked else (
+    if number == 276 then Cooked2 else NotServed number))))))
 
 -- ---- LINKTYPE_LINUX_LAPD: 16 octets before each frame.
 
@@ -109,12 +111,81 @@ ip start kept end octets = if nat_lt (end - start) 20 then Unreadable BadLength 
     ip_payload (slice_index octets start % 16 * 4) (number_at Big 2 (start + 2) octets) start kept
     end octets))))
 
--- an Ethernet frame that carries IPv4
+-- ---- Ethernet: after both addresses an EtherType, perhaps VLAN tags, and what it names.
+
+-- the EtherType of a VLAN tag (IEEE 802.1Q): of a customer, or of a provider
+abbrev pub is_tag : ℕ → Bool
+is_tag type = (type == 0x8100) || (type == 0x88A8)
+
+-- the content of this EtherType: IPv4
+abbrev pub untagged : ℕ → ℕ → ℕ → ℕ → List ℕ → CaptureItem
+untagged type start kept end octets = if type == 0x0800 then ip start kept end octets else Other
+
+-- the content after the last tag: two octets of it, and the EtherType of what follows
+abbrev pub last_tag : ℕ → ℕ → ℕ → List ℕ → CaptureItem
+last_tag start kept end octets = if nat_lt (end - start) 4 then Unreadable BadLength else (
+    if nat_lt (kept - start) 4 then Unreadable CutHeader else
+    untagged (number_at Big 2 (start + 2) octets) (start + 4) kept end octets)
+
+-- the content after the first tag, of two at most
+abbrev pub first_tag : ℕ → ℕ → ℕ → List ℕ → CaptureItem
+first_tag start kept end octets = if nat_lt (end - start) 4 then Unreadable BadLength else (
+    if nat_lt (kept - start) 4 then Unreadable CutHeader else (
+    if is_tag (number_at Big 2 (start + 2) octets) then last_tag (start + 4) kept end octets else
+    untagged (number_at Big 2 (start + 2) octets) (start + 4) kept end octets))
+
+-- the content after this EtherType
+abbrev pub typed : ℕ → ℕ → ℕ → ℕ → List ℕ → CaptureItem
+typed type start kept end octets = if is_tag type then first_tag start kept end octets
+    else untagged type start kept end octets
+
 abbrev pub ethernet : ℕ → ℕ → ℕ → List ℕ → CaptureItem
 ethernet start kept end octets = if nat_lt (end - start) 14 then Unreadable BadLength else (
-    if nat_lt (kept - start) 14 then Unreadable CutHeader else (
-    if number_at Big 2 (start + 12) octets == 0x0800 then ip (start + 14) kept end octets
-    else Other))
+    if nat_lt (kept - start) 14 then Unreadable CutHeader else
+    typed (number_at Big 2 (start + 12) octets) (start + 14) kept end octets)
+
+-- ---- LINKTYPE_LINUX_SLL and LINKTYPE_LINUX_SLL2: a header with the EtherType of what follows, or
+-- the protocol of LAPD.
+
+-- the protocol number of LAPD
+abbrev pub is_lapd : ℕ → Bool
+is_lapd protocol = protocol == 0x0030
+
+-- the content after 16 octets with this protocol. With that of LAPD they are those of
+-- LINKTYPE_LINUX_LAPD.
+abbrev pub by_protocol : ℕ → ℕ → ℕ → ℕ → List ℕ → CaptureItem
+by_protocol protocol start kept end octets = if is_lapd protocol
+    then linux_lapd start kept end octets else typed protocol (start + 16) kept end octets
+
+-- 16 octets: packet type, ARPHRD type, length of the address, 8 octets of address, and the
+-- protocol
+abbrev pub cooked : ℕ → ℕ → ℕ → List ℕ → CaptureItem
+cooked start kept end octets = if nat_lt (end - start) 16 then Unreadable BadLength else (
+    if nat_lt (kept - start) 16 then Unreadable CutHeader else
+    by_protocol (number_at Big 2 (start + 14) octets) start kept end octets)
+
+-- the frame after 20 octets
+abbrev pub lapd2 : ℕ → ℕ → ℕ → List ℕ → CaptureItem
+lapd2 start kept end octets = Frame (record {
+  from = sender_of (slice_index octets (start + 10))
+      (capturing_side (slice_index octets (start + 12)));
+  is_sure = true;
+  start = start + 20;
+  end = kept;
+  is_cut = nat_lt kept end;
+})
+
+-- the content after 20 octets with this protocol
+abbrev pub by_protocol2 : ℕ → ℕ → ℕ → ℕ → List ℕ → CaptureItem
+by_protocol2 protocol start kept end octets = if is_lapd protocol
+    then lapd2 start kept end octets else typed protocol (start + 20) kept end octets
+
+-- 20 octets: the protocol, 2 octets, the index of the interface, ARPHRD type, packet type, length
+-- of the address, and 8 octets of address
+abbrev pub cooked2 : ℕ → ℕ → ℕ → List ℕ → CaptureItem
+cooked2 start kept end octets = if nat_lt (end - start) 20 then Unreadable BadLength else (
+    if nat_lt (kept - start) 20 then Unreadable CutHeader else
+    by_protocol2 (number_at Big 2 start octets) start kept end octets)
 
 -- ---- All link types.
 
@@ -130,7 +201,9 @@ packet_at Lapd start kept end octets = Frame (record {
 })
 packet_at Ethernet start kept end octets = ethernet start kept end octets
 packet_at Ip start kept end octets = ip start kept end octets
-packet_at NotServed start kept end octets = Other
+packet_at Cooked start kept end octets = cooked start kept end octets
+packet_at Cooked2 start kept end octets = cooked2 start kept end octets
+packet_at (NotServed number) start kept end octets = Other
 
 -- the same for a packet of this original length, captured from `start` to `kept`: it was cut if
 -- fewer octets were captured

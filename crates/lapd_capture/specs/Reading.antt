@@ -9,7 +9,7 @@ use Rattle.lapd_capture.specs.declared.item.PacketFault.TheVariants.{NoInterface
 use Rattle.lapd_capture.specs.declared.fault.CaptureFault.{CaptureFault}
 use Rattle.lapd_capture.specs.declared.fault.CaptureFault.TheVariants.{NotACapture, Gzip, LinkNotServed, Cut, BadLength, TooManyInterfaces}
 use Rattle.lapd_capture.specs.declared.link_type.LinkType.{LinkType}
-use Rattle.lapd_capture.specs.declared.link_type.LinkType.TheVariants.{NotServed}
+use Rattle.lapd_capture.specs.declared.link_type.LinkType.TheVariants.{LinuxLapd, Lapd, Ethernet, Ip, Cooked, Cooked2, NotServed}
 use Rattle.lapd_capture.specs.declared.interface.Interface.{Interface}
 use Rattle.lapd_capture.specs.declared.format.Format.{Format}
 use Rattle.lapd_capture.specs.declared.format.Format.TheVariants.{Pcap, Pcapng}
@@ -213,6 +213,31 @@ block_step r = if nat_lt (length r.left) 12 then Err Cut else
 
 -- ---- Both formats.
 
+-- the number of a link type from which frames can't be read
+abbrev pub unserved : LinkType → Option ℕ
+unserved LinuxLapd = None
+unserved Lapd = None
+unserved Ethernet = None
+unserved Ip = None
+unserved Cooked = None
+unserved Cooked2 = None
+unserved (NotServed number) = Some number
+
+-- the same of the first of these interfaces
+abbrev pub front_unserved : List Interface → Option ℕ
+front_unserved [] = None
+front_unserved (interface ∷ interfaces) = unserved interface.link
+
+abbrev pub or_number : Option ℕ → Option ℕ → Option ℕ
+or_number None second = second
+or_number (Some number) second = Some number
+
+-- of the first of them that has one
+abbrev pub first_unserved : List Interface → Option ℕ
+first_unserved [] = None
+first_unserved (interface ∷ interfaces) =
+    or_number (front_unserved (interface ∷ interfaces)) (first_unserved interfaces)
+
 -- this step, or the end if no octets are left
 abbrev pub or_end : (Reading → Result Step CaptureFault) → Reading → Result Step CaptureFault
 or_end step r = if length r.left == 0 then Ok (record { item = End; reading = r }) else step r
@@ -240,7 +265,7 @@ units_of_pcap magic = if (magic == 0xA1B23C4D) || (magic == 0x4D3CB2A1) then 100
     else 1000000
 
 abbrev pub with_link : Order → LinkType → ℕ → Reading → Result Reading CaptureFault
-with_link order NotServed units r = Err LinkNotServed
+with_link order (NotServed number) units r = Err (LinkNotServed number)
 with_link order link units r = Ok (record r {
   place = 24;
   order = order;

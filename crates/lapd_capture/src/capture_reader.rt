@@ -2,12 +2,12 @@ ghost use Rattle.std.specs.Prelude.{◌≡◌, ◌≤◌, ◌<◌, ◌-◌, ◌+
 ghost use Rattle.lapd_capture.specs.Octets.{number_at};
 ghost use Rattle.lapd_capture.specs.Packet.{IsWithin};
 ghost use Rattle.lapd_capture.specs.Reader.{Opens, OpensAs, Steps, TakesBody, TakesLast, reading_of, unread};
-ghost use Rattle.lapd_capture.specs.Reading.{after_section, block_after, block_ended, block_moment, block_of_kind, block_of_length, block_order, block_rest, block_step, enhanced_packet, fault_of_magic, interface_step, item_on, moment_at, moment_on, next_step, opened, opened_from, or_end, order_of_magic, order_of_pcap, other_step, pcap_opened, record_after, record_found, record_step, section_step, simple_packet, snapped, units_of_pcap, unread_capture, with_link};
+ghost use Rattle.lapd_capture.specs.Reading.{after_section, first_unserved, block_after, block_ended, block_moment, block_of_kind, block_of_length, block_order, block_rest, block_step, enhanced_packet, fault_of_magic, interface_step, item_on, moment_at, moment_on, next_step, opened, opened_from, or_end, order_of_magic, order_of_pcap, other_step, pcap_opened, record_after, record_found, record_step, section_step, simple_packet, snapped, units_of_pcap, unread_capture, with_link};
 ghost use Rattle.lapd_capture.specs.Takes.{IsApart};
 
 use crate::fault::{CaptureFault, ReadFault};
 use crate::format::Format;
-use crate::interface::{Interface, units_in};
+use crate::interface::{Interface, first_unserved, units_in};
 use crate::item::{CaptureItem, PacketFault, Span};
 use crate::link_type::LinkType;
 use crate::order::Order;
@@ -29,7 +29,7 @@ const MOST_INTERFACES: usize = 64;
 
 /// The kind of a section header, the first block of a pcapng file. Both byte orders have the same
 /// number.
-const SECTION: usize = 0x0a0d_0d0a;
+pub(crate) const SECTION: usize = 0x0a0d_0d0a;
 
 /// The kind of an interface description.
 const INTERFACE: usize = 1;
@@ -145,6 +145,14 @@ impl<R: Read> CaptureReader<R> {
         &self.body.as_slice()[frame.start..frame.end]
     }
 
+    /// The number of the first interface's link type from which frames can't be read, of the
+    /// interfaces that the present section of a pcapng file has described so far.
+    pub fn unserved(&self) -> Option<usize>
+        ensures { result ≡ first_unserved self.now.interfaces.items }
+    {
+        first_unserved(self.interfaces.as_slice())
+    }
+
     /// Reads the next record or block.
     ///
     /// # Errors
@@ -248,8 +256,8 @@ impl<R: Read> CaptureReader<R> {
             → Opens R.remaining (with_link order link units (reading_of self.old left)) result
             self.new }
     {
-        if link == LinkType::NotServed {
-            return Err(ReadFault::Capture(CaptureFault::LinkNotServed));
+        if let LinkType::NotServed(number) = link {
+            return Err(ReadFault::Capture(CaptureFault::LinkNotServed(number)));
         }
         self.interfaces.clear();
         self.interfaces.push(Interface {
@@ -668,7 +676,7 @@ fn block_order(head: &[u8; LEAST_BLOCK], order: Order) -> Result<Order, CaptureF
 }
 
 /// The byte order of a pcap file, by its first four octets.
-fn order_of_pcap(magic: usize) -> Option<Order>
+pub(crate) fn order_of_pcap(magic: usize) -> Option<Order>
     ensures { result ≡ order_of_pcap magic }
 {
     match magic {

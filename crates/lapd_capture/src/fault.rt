@@ -10,9 +10,9 @@ pub enum CaptureFault {
     /// A file compressed by gzip.
     #[error("compressed by gzip; pipe it through zcat to --pcap -")]
     Gzip,
-    /// Frames can't be read from the link type of a pcap file.
-    #[error("unsupported link type")]
-    LinkNotServed,
+    /// Frames can't be read from the link type of a pcap file, which has this number.
+    #[error("unsupported link type {0}")]
+    LinkNotServed(usize),
     /// It ends within a header, a packet or a block.
     #[error("cut short")]
     Cut,

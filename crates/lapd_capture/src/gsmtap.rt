@@ -1,14 +1,11 @@
-//! GSMTAP over UDP over IPv4, with or without Ethernet.
+//! GSMTAP over UDP over IPv4.
 
 ghost use Rattle.std.specs.Prelude.{◌≡◌, ◌≤◌, ◌<◌, ◌+◌, length};
-ghost use Rattle.lapd_capture.specs.Packet.{ethernet, ip, ip_payload, udp, gsmtap, gsmtap_frame, gsmtap_sender, is_uplink, IsWithin};
+ghost use Rattle.lapd_capture.specs.Packet.{ip, ip_payload, udp, gsmtap, gsmtap_frame, gsmtap_sender, is_uplink, IsWithin};
 
 use crate::item::{CaptureItem, PacketFault, Span};
 use crate::order::Order;
 use lapd_field::Side;
-
-/// The EtherType of IPv4.
-const IP: usize = 0x0800;
 
 /// The protocol number of UDP.
 const UDP: u8 = 17;
@@ -28,27 +25,6 @@ const LAPD_SUBTYPE: u8 = 1;
 const BAD_LENGTH: CaptureItem = CaptureItem::Unreadable(PacketFault::BadLength);
 
 const CUT: CaptureItem = CaptureItem::Unreadable(PacketFault::CutHeader);
-
-/// The content of an Ethernet frame.
-pub(crate) fn ethernet(start: usize, kept: usize, end: usize, octets: &[u8]) -> CaptureItem
-    requires order { start ≤ kept }
-    requires cut { kept ≤ end }
-    requires within { kept ≤ length octets.now }
-    ensures exact { result ≡ ethernet start kept end octets.now }
-    ensures within { IsWithin (length octets.now) result }
-{
-    if end - start < 14 {
-        return BAD_LENGTH;
-    }
-    if kept - start < 14 {
-        return CUT;
-    }
-    if Order::Big.u16_at(start + 12, octets) == IP {
-        ip(start + 14, kept, end, octets)
-    } else {
-        CaptureItem::Other
-    }
-}
 
 /// The content of an IPv4 packet, if it is no fragment and carries UDP.
 pub(crate) fn ip(start: usize, kept: usize, end: usize, octets: &[u8]) -> CaptureItem

@@ -1,7 +1,7 @@
 //! The units of time of an interface.
 
 ghost use Rattle.std.specs.Prelude.{◌≡◌, ◌<◌, ◌^◌, ◌*◌, ◌+◌, drop, Some};
-ghost use Rattle.lapd_capture.specs.Reading.{snapped};
+ghost use Rattle.lapd_capture.specs.Reading.{first_unserved, front_unserved, snapped};
 ghost use Rattle.lapd_capture.specs.Moment.{moment_in, padded, units_in, units_of};
 
 use crate::link_type::LinkType;
@@ -23,6 +23,31 @@ pub struct Interface {
     /// The most octets of a packet that are captured; 0 if there is no limit, and for pcap, where
     /// each record says how many were captured.
     pub(crate) snap: usize,
+}
+
+/// The number of the first link type of these interfaces from which frames can't be read.
+#[tactic(auto, using(crate::proofs::Unserved::number_found, crate::proofs::Unserved::number_passed))]
+pub(crate) fn first_unserved(interfaces: &[Interface]) -> Option<usize>
+    ensures { result ≡ first_unserved interfaces.now }
+{
+    let mut rest = interfaces;
+    while let [_, behind @ ..] = rest {
+        match front_unserved(rest) {
+            Some(number) => return Some(number),
+            None => rest = behind,
+        }
+    }
+    None
+}
+
+/// The number of the first link type, if frames can't be read from it.
+fn front_unserved(interfaces: &[Interface]) -> Option<usize>
+    ensures { result ≡ front_unserved interfaces.now }
+{
+    match interfaces {
+        [] => None,
+        [interface, ..] => interface.link.unserved(),
+    }
 }
 
 /// The moment after this many units of time, in microseconds.

@@ -3,7 +3,9 @@
 ghost use Rattle.std.specs.Prelude.{◌≡◌, ◌≤◌, ◌<◌, ◌+◌, ◌^◌, length};
 ghost use Rattle.lapd_capture.specs.Packet.{linux_lapd, capturing_side, captured_packet_at, sender_of, packet_at, IsWithin};
 
-use crate::gsmtap;
+use crate::cooked::{cooked, cooked2};
+use crate::ethernet::ethernet;
+use crate::gsmtap::ip;
 use crate::item::{CaptureItem, PacketFault, Span};
 use crate::link_type::LinkType;
 use crate::order::Order;
@@ -13,7 +15,7 @@ use lapd_field::Side;
 const LINUX_HEADER: usize = 16;
 
 /// The protocol number of LAPD in this header, ETH_P_LAPD.
-const PROTOCOL: usize = 0x0030;
+pub(crate) const PROTOCOL: usize = 0x0030;
 
 /// The content of a packet of this original length, captured from `start` to `kept`. A frame in it
 /// is what was captured of it.
@@ -51,14 +53,16 @@ fn packet_at(link: LinkType, start: usize, kept: usize, end: usize, octets: &[u8
             end: kept,
             is_cut: kept < end,
         }),
-        LinkType::Ethernet => gsmtap::ethernet(start, kept, end, octets),
-        LinkType::Ip => gsmtap::ip(start, kept, end, octets),
-        LinkType::NotServed => CaptureItem::Other,
+        LinkType::Ethernet => ethernet(start, kept, end, octets),
+        LinkType::Ip => ip(start, kept, end, octets),
+        LinkType::Cooked => cooked(start, kept, end, octets),
+        LinkType::Cooked2 => cooked2(start, kept, end, octets),
+        LinkType::NotServed(_) => CaptureItem::Other,
     }
 }
 
 /// The frame after the header of link type 177.
-fn linux_lapd(start: usize, kept: usize, end: usize, octets: &[u8]) -> CaptureItem
+pub(crate) fn linux_lapd(start: usize, kept: usize, end: usize, octets: &[u8]) -> CaptureItem
     requires order { start ≤ kept }
     requires cut { kept ≤ end }
     requires within { kept ≤ length octets.now }
@@ -85,7 +89,7 @@ fn linux_lapd(start: usize, kept: usize, end: usize, octets: &[u8]) -> CaptureIt
 }
 
 /// The side that captured, by the first octet of the address.
-fn capturing_side(first: u8) -> Side
+pub(crate) fn capturing_side(first: u8) -> Side
     ensures { result ≡ capturing_side first }
 {
     match first {
@@ -95,7 +99,7 @@ fn capturing_side(first: u8) -> Side
 }
 
 /// Who sent a frame that this side captured, by the packet type.
-fn sender_of(packet_type: usize, side: Side) -> Option<Side>
+pub(crate) fn sender_of(packet_type: usize, side: Side) -> Option<Side>
     ensures { result ≡ sender_of packet_type side }
 {
     match packet_type {

@@ -64,7 +64,7 @@ pub(crate) fn skip<R: Read>(source: &mut R, count: usize) -> Result<bool, ReadFa
 
 /// Reads until the slice is full or the reader is at its end, and returns how many octets were
 /// read.
-fn fill<R: Read>(source: &mut R, octets: &mut [u8]) -> Result<usize, ReadFault>
+pub(crate) fn fill<R: Read>(source: &mut R, octets: &mut [u8]) -> Result<usize, ReadFault>
     ensures bound { IfOk result (λ count. count ≤ length octets.new) }
     ensures octets { IfOk result (λ count. Consumes (R.remaining source.old)
         (R.remaining source.new) (take count octets.new)

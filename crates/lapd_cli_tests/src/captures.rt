@@ -4,6 +4,7 @@
 mod chosen;
 mod colors;
 mod followed;
+mod kinds;
 mod lines;
 mod live_ladder;
 mod names;
