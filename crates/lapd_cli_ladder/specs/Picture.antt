@@ -6,6 +6,7 @@ use Rattle.lapd_frame.specs.declared.Side.{Side}
 use Rattle.lapd_frame.specs.declared.Side.TheVariants.{Network, User}
 use Rattle.lapd_follow.specs.declared.remarks.Remarks.{Remarks}
 use Rattle.lapd_follow.specs.Listening.{Listening}
+use Rattle.lapd_follow.specs.Remarks.{has_violation}
 use Rattle.lapd_follow.specs.Texts.{remarks_text}
 use Rattle.lapd_cli_render.specs.Names.{names_text}
 use Rattle.lapd_cli_render.specs.declared.Packet.{Packet}
@@ -101,10 +102,17 @@ unfoldable pub label_element : Option Side → List ℕ → List ℕ
 label_element from octets = text_element (codes "x=\"560\" y=\"-5\" class=\"middle\"")
     (shortened 66 (frame_words from octets (reading_of from octets)))
 
+-- the attributes of the notes: those with a violation are red
+abbrev pub note_attributes : Option Remarks → List ℕ
+note_attributes None = codes "x=\"560\" y=\"12\" class=\"middle note\""
+note_attributes (Some said) = if has_violation said
+    then codes "x=\"560\" y=\"12\" class=\"middle note violation\""
+    else codes "x=\"560\" y=\"12\" class=\"middle note\""
+
 -- the notes on it, below the arrow
 unfoldable pub notes_element : Bool → Packet → Option Side → List ℕ → Option Remarks → List ℕ
 notes_element names packet from octets said =
-    text_element (codes "x=\"560\" y=\"12\" class=\"middle note\"")
+    text_element (note_attributes said)
     (shortened 110 (note_words names packet from octets said))
 
 -- octets, of this sender if it is known, after so many drawn frames, with what is known of both
@@ -125,7 +133,7 @@ page_height page = codes "<style>svg{height:" ++ (decimal (page + 1) ++ codes "0
 -- its border, the headings of its columns, and its number from 1
 unfoldable pub page_border : ℕ → List ℕ
 page_border page = begin_page page
-    ++ (codes "<path d=\"M0 0H940V1000H0Z\" class=\"page\"/><text x=\"60\" y=\"40\" class=\"end\">packet</text><text x=\"190\" y=\"40\" class=\"end\">time</text><text x=\"310\" y=\"40\" class=\"middle\">user</text><text x=\"810\" y=\"40\" class=\"middle\">network</text><text x=\"470\" y=\"990\" class=\"middle\">"
+    ++ (codes "<rect width=\"940\" height=\"1000\" class=\"page\"/><text x=\"60\" y=\"40\" class=\"end\">packet</text><text x=\"190\" y=\"40\" class=\"end\">time</text><text x=\"310\" y=\"40\" class=\"middle\">user</text><text x=\"810\" y=\"40\" class=\"middle\">network</text><text x=\"470\" y=\"990\" class=\"middle\">"
     ++ (decimal (page + 1) ++ codes "</text></g>\n"))
 
 abbrev pub page_element : ℕ → List ℕ

@@ -4,7 +4,7 @@ ghost use Rattle.std.specs.Prelude.{◌≡◌, ◌++◌, ◌<◌, ◌^◌, IfOk,
 ghost use Rattle.std.specs.Fmt.{decimal};
 ghost use Rattle.lapd_cli_ladder.specs.Columns.{shortened};
 ghost use Rattle.lapd_cli_ladder.specs.Words.{frame_words, known_words, reading_of};
-ghost use Rattle.lapd_cli_ladder.specs.Picture.{arrow_element, begin_frame, begin_page, element_front, end_attributes, end_element, ends_elements, escaped, escaped_octet, frame_element, label_element, notes_element, number_element, page_before, page_border, page_element, page_height, picture_part, text_element, time_element};
+ghost use Rattle.lapd_cli_ladder.specs.Picture.{arrow_element, begin_frame, begin_page, element_front, end_attributes, end_element, ends_elements, escaped, escaped_octet, frame_element, label_element, note_attributes, notes_element, number_element, page_before, page_border, page_element, page_height, picture_part, text_element, time_element};
 
 use crate::columns::push_shortened;
 use crate::ends::known_words;
@@ -33,14 +33,14 @@ const MOST_NOTES: usize = 110;
 
 /// The beginning of a picture, before the parts of its frames.
 pub const PICTURE_BEGIN: &str =
-    "<svg xmlns=\"http://www.w3.org/2000/svg\" width=\"940\">\n<style>svg{background:white}text{font:12px monospace;white-space:pre}.end{text-anchor:end}.middle{text-anchor:middle}.note{font-size:10px}path{fill:none;stroke:black}.page{stroke:silver}#head path{fill:black}</style>\n<marker id=\"head\" viewBox=\"0 0 10 10\" refX=\"10\" refY=\"5\" markerWidth=\"10\" markerHeight=\"10\" orient=\"auto\"><path d=\"M0 1 10 5 0 9z\"/></marker>\n";
+    "<svg xmlns=\"http://www.w3.org/2000/svg\" width=\"940\">\n<style>@page{size:940px 1000px;margin:0}text{font:12px monospace;white-space:pre}.end{text-anchor:end}.middle{text-anchor:middle}.note{font-size:10px}path{fill:none;stroke:black}.page{fill:white;stroke:silver}.violation{fill:red}#head path{fill:black}</style>\n<marker id=\"head\" viewBox=\"0 0 10 10\" refX=\"10\" refY=\"5\" markerWidth=\"10\" markerHeight=\"10\" orient=\"auto\"><path d=\"M0 1 10 5 0 9z\"/></marker>\n";
 
 /// The end of a picture, after the parts of its frames.
 pub const PICTURE_END: &str = "</svg>\n";
 
 /// The border of a page, and the headings of its columns.
 const HEADINGS: &[u8] =
-    b"<path d=\"M0 0H940V1000H0Z\" class=\"page\"/><text x=\"60\" y=\"40\" class=\"end\">packet</text><text x=\"190\" y=\"40\" class=\"end\">time</text><text x=\"310\" y=\"40\" class=\"middle\">user</text><text x=\"810\" y=\"40\" class=\"middle\">network</text><text x=\"470\" y=\"990\" class=\"middle\">";
+    b"<rect width=\"940\" height=\"1000\" class=\"page\"/><text x=\"60\" y=\"40\" class=\"end\">packet</text><text x=\"190\" y=\"40\" class=\"end\">time</text><text x=\"310\" y=\"40\" class=\"middle\">user</text><text x=\"810\" y=\"40\" class=\"middle\">network</text><text x=\"470\" y=\"990\" class=\"middle\">";
 
 /// Appends the part of a picture for octets in this packet at this time, of this sender if it is
 /// known, as the frame of this place, from 0. `listener` knows the ends of its link after it.
@@ -294,11 +294,23 @@ fn push_element_notes(
     push_note_words(alloc, &mut words, names, packet, from, octets, said)?;
     let mut notes = Vec::new(alloc);
     push_shortened(&mut notes, MOST_NOTES, words.as_slice())?;
-    push_text(
-        text,
-        b"x=\"560\" y=\"12\" class=\"middle note\"",
-        notes.as_slice(),
-    )
+    push_text(text, note_attributes(said), notes.as_slice())
+}
+
+/// The attributes of the words below an arrow: they are red if a remark is a violation.
+fn note_attributes(said: &Option<Remarks>) -> &'static [u8]
+    ensures { result.now ≡ note_attributes said.now }
+{
+    match said {
+        None => b"x=\"560\" y=\"12\" class=\"middle note\"",
+        Some(said) => {
+            if said.has_violation() {
+                b"x=\"560\" y=\"12\" class=\"middle note violation\""
+            } else {
+                b"x=\"560\" y=\"12\" class=\"middle note\""
+            }
+        }
+    }
 }
 
 /// The arrow of a frame that this side sent. It has no head if the sender is not known.
