@@ -24,6 +24,10 @@ _lapd() {
         --tei | --k | --n200 | --room | --terminals | --idle-limit | --t20? | --seed | --count) return ;;
         --listen | --connect | --gsmtap) return ;;
     esac
+    if [[ -z $offered && ${COMP_WORDS[1]} == decode && $word == [!-]* ]]; then
+        mapfile -t COMPREPLY < <(compgen -f -- "$word")
+        return
+    fi
     if [[ -z $offered ]]; then
         if ((COMP_CWORD == 1)); then
             offered="$commands help --help --version"

@@ -15,11 +15,11 @@ use std::fs::File;
 use std::io::{BufWriter, ErrorKind, Read, Write};
 use std::process::ExitCode;
 
-/// The exit status after a capture that could not be read to its end.
-const UNREADABLE: u8 = 1;
+/// The exit status after a file that could not be read to its end.
+pub const UNREADABLE: u8 = 1;
 
 /// The name of standard input as a file.
-const STANDARD_INPUT: &str = "-";
+pub const STANDARD_INPUT: &str = "-";
 
 /// Prints the frames of the capture in this file, or of standard input, and reports how that ended.
 pub fn do_capture<O: Write + Drop>(
@@ -38,8 +38,8 @@ pub fn do_capture<O: Write + Drop>(
     }
 }
 
-// Prints the frames of the capture in this reader.
-fn read_capture<R: Read + Drop, O: Write + Drop>(
+/// Prints the frames of the capture in this reader, which reads this file.
+pub fn read_capture<R: Read + Drop, O: Write + Drop>(
     rt: &HostRuntime,
     file: &str,
     source: R,
@@ -72,7 +72,7 @@ fn print_capture<R: Read, O: Write + Drop>(
         is_picture,
     } = output;
     let how = CaptureStyle {
-        frames: frames_of(rt, options),
+        frames: frames_of(rt, options, options.time_in_capture()),
         sender: options.sender,
         keeps_going: options.keep_going,
     };
@@ -87,7 +87,7 @@ fn print_capture<R: Read, O: Write + Drop>(
     let (watched, _left) = out.into_parts();
     match ended {
         Ok(seen) if is_written => {
-            print_none(rt, seen, capture.packets());
+            print_none(rt, seen, capture.packets(), capture.unserved());
             if strict && seen.is_violated {
                 print_violation(rt)
             } else {
@@ -113,11 +113,17 @@ fn print_frames<R: Read, W: Write>(
     }
 }
 
-// Reports that a capture had no frame.
-fn print_none(rt: &HostRuntime, seen: Seen, packets: u64) {
-    if !seen.any {
-        let _ = eprintln!(rt; "0 of {packets} packets are LAPD");
+// Reports that a capture had no frame, and a link type from which none can be read.
+fn print_none(rt: &HostRuntime, seen: Seen, packets: u64, unserved: Option<usize>) {
+    if seen.any {
+        return;
     }
+    let _ = match unserved {
+        Some(number) => eprintln!(rt;
+            "0 of {packets} packets are LAPD; unsupported link type {number}"
+        ),
+        None => eprintln!(rt; "0 of {packets} packets are LAPD"),
+    };
 }
 
 /// Reports why a file could not be read or created.

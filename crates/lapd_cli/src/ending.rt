@@ -7,13 +7,13 @@ ghost use Rattle.lapd_cli_script.specs.Script.{status_of as status_of_fault};
 use lapd_cli_console::{FaultReport, Script};
 use lapd_cli_io::NoTaps;
 use lapd_cli_options::{Clock, NoInvocation, WordsFault};
-use lapd_cli_script::{Reason, ScriptFault};
+use lapd_cli_script::{KindReason, Reason, ScriptFault};
 use std::fmt::Display;
 use std::io::{self, ErrorKind};
 use std::process::ExitCode;
 
 /// The exit status after a fault in the command line.
-const COMMAND_LINE: u8 = 2;
+pub const COMMAND_LINE: u8 = 2;
 
 /// The exit status after a script with a refused line, or with a frame that violates Q.921, under
 /// `--strict`, and after `expect` has failed.
@@ -40,6 +40,8 @@ pub enum Stop {
 /// The facts that are known when a script has ended.
 #[derive(Clone, Copy)]
 pub struct Ending<'a> {
+    /// The file of the script; standard input if `None`.
+    pub file: Option<&'a str>,
     /// What the report of a fault needs.
     pub report: FaultReport<'a>,
     /// The clock of the command.
@@ -69,7 +71,7 @@ pub fn print_ending(rt: &HostRuntime, ending: &Ending<'_>, ended: &Result<(), St
             Some(ScriptFault::Device)
         }
         Err(Stop::Script(fault)) => {
-            ending.report.print(rt, *fault);
+            print_script_fault(rt, ending, *fault);
             Some(*fault)
         }
         Err(Stop::Unmet) => {
@@ -79,6 +81,21 @@ pub fn print_ending(rt: &HostRuntime, ending: &Ending<'_>, ended: &Result<(), St
         Err(Stop::Violated) => return print_violation(rt),
     };
     ExitCode::from(status_of(fault, ending.strict, !ending.refusal.is_empty()))
+}
+
+// Reports the fault of a script, and its file.
+fn print_script_fault(rt: &HostRuntime, ending: &Ending<'_>, fault: ScriptFault) {
+    match (ending.file, fault, ending.report.input) {
+        (Some(file), ScriptFault::Device, Some(kind)) => {
+            let _ = eprintln!(rt; "{fault}");
+            let _ = eprintln!(rt; "{file}: {}", KindReason(kind));
+        }
+        (Some(file), ScriptFault::BadLine(_), _) => {
+            let _ = eprint!(rt; "{file}: ");
+            ending.report.print(rt, fault);
+        }
+        _ => ending.report.print(rt, fault),
+    }
 }
 
 // The exit status after a script, by the fault that ended it, if any, and whether a line was

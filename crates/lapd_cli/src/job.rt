@@ -5,8 +5,8 @@ use crate::live::do_live;
 use lapd_cli_answer::answer;
 use lapd_cli_console::Script;
 use lapd_cli_decode::{
-    Drawing, Filter, Follow, FrameStyle, FrameTime, Layout, LineForm, LinesStyle, Style, decode,
-    decode_good_lines, decode_lines, print_lines,
+    Drawing, Filter, Follow, FrameStyle, FrameTime, JoinedDumps, Layout, LineForm, LinesStyle,
+    Style, decode, decode_good_lines, decode_lines, print_lines,
 };
 use lapd_cli_io::{Notes, connection};
 use lapd_cli_link_commands::{bus, draw_pair, loop_over, pair};
@@ -140,33 +140,51 @@ fn do_decode<R: Read, W: Write>(
     options: DecodeOptions,
     strict: bool,
 ) -> Result<(), Stop> {
-    let form = form_of(options);
-    let frames = frames_of(rt, options);
-    if options.follow.is_some()
+    let frames = frames_of(rt, options, PrintedTime::Hidden);
+    if options.loose
+        || options.follow.is_some()
         || frames.filter.is_some()
         || frames.any_sapi
         || frames.is_colored
         || frames.count.is_some()
     {
         let how = LinesStyle {
-            form,
+            form: form_of(options),
             frames,
             keeps_going: options.keep_going,
             follow: follow_of(options),
         };
-        return do_lines(rt, script, out, how, strict);
+        return do_any_lines(rt, script, out, how, strict);
     }
     let ended = if options.keep_going {
-        decode_good_lines(rt.alloc(), script, out, form, frames.style, rt.stderr())
+        decode_good_lines(rt.alloc(), script, out, frames.style, rt.stderr())
     } else if is_usual(options) {
         decode(rt.alloc(), script, out)
     } else {
-        decode_lines(rt.alloc(), script, out, form, frames.style)
+        decode_lines(rt.alloc(), script, out, frames.style)
     };
     ended.map_err(Stop::Script)
 }
 
-// Executes a script of lines with octets, of which not all are printed or links are followed.
+// Executes a script of lines with octets in this form. Of loose lines those of a dump are joined.
+fn do_any_lines<R: Read, W: Write>(
+    rt: &HostRuntime,
+    script: &mut R,
+    out: &mut W,
+    how: LinesStyle,
+    strict: bool,
+) -> Result<(), Stop> {
+    match how.form {
+        LineForm::Strict => do_lines(rt, script, out, how, strict),
+        LineForm::Loose(_) => {
+            let mut joined = JoinedDumps::new(rt.alloc(), script);
+            do_lines(rt, &mut joined, out, how, strict)
+        }
+    }
+}
+
+// Executes a script of lines with octets, if they are loose, not all are printed or links are
+// followed.
 fn do_lines<R: Read, W: Write>(
     rt: &HostRuntime,
     script: &mut R,
@@ -181,26 +199,26 @@ fn do_lines<R: Read, W: Write>(
     }
 }
 
-// Whether `decode` reads strict lines and prints trace lines, as it does without options.
+// Whether `decode` prints trace lines, as it does without options.
 fn is_usual(options: DecodeOptions) -> bool {
-    !options.loose && !options.json && !options.names
+    !options.json && !options.names
 }
 
 // The form of the lines that `decode` reads.
 fn form_of(options: DecodeOptions) -> LineForm {
     if options.loose {
-        LineForm::Loose(options.sender.unwrap_or(Side::Network))
+        LineForm::Loose(options.sender)
     } else {
         LineForm::Strict
     }
 }
 
-/// How `decode` prints frames, and which.
-pub fn frames_of(rt: &HostRuntime, options: DecodeOptions) -> FrameStyle {
+/// How `decode` prints frames, and which, with this time.
+pub fn frames_of(rt: &HostRuntime, options: DecodeOptions, time: PrintedTime) -> FrameStyle {
     FrameStyle {
         layout: layout_of(options),
         style: style_of(options),
-        time: time_of(options.time),
+        time: time_of(time),
         filter: filter_of(options.frames),
         any_sapi: options.any_sapi,
         is_colored: is_colored(rt, options.color),

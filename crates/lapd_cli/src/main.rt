@@ -14,6 +14,7 @@
 
 mod capture;
 mod ending;
+mod files;
 mod greeting;
 mod job;
 mod live;
@@ -22,12 +23,13 @@ mod picture;
 
 use capture::{do_capture, print_no_file};
 use ending::{Ending, Stop, print_ending, print_memory, print_no_invocation, print_words_fault};
+use files::do_files;
 use greeting::Greeting;
 use job::{do_job, script_of};
 use lapd_cli_console::{FaultReport, PrintedAnswers, RecentLines, Refusals, Session, Watched};
-use lapd_cli_options::{Clock, Invocation, Job, parse_words, words};
+use lapd_cli_options::{Clock, DecodeOptions, Invocation, Job, parse_words, words};
 use lapd_cli_script::{Reason, ScriptFault};
-use picture::{Output, begin_picture, end_picture};
+use picture::{Output, begin_picture, end_picture, standard_output};
 use std::fs::File;
 use std::io::{BufWriter, IsTerminal, Read, Write};
 use std::process::ExitCode;
@@ -46,15 +48,7 @@ fn main(rt: HostRuntime) -> ExitCode {
 // Runs the chosen job. Its output is written to standard output, or to the file of its picture.
 fn do_chosen(rt: &HostRuntime, chosen: &Invocation<'_>) -> ExitCode {
     let Some(name) = chosen.svg else {
-        return do_output(
-            rt,
-            chosen,
-            Output {
-                writer: rt.stdout(),
-                name: "standard output",
-                is_picture: false,
-            },
-        );
+        return do_output(rt, chosen, standard_output(rt));
     };
     match File::create(rt, name) {
         Ok(writer) => do_output(
@@ -76,11 +70,23 @@ fn do_output<O: Write + Drop>(
     chosen: &Invocation<'_>,
     output: Output<'_, O>,
 ) -> ExitCode {
-    match (&chosen.job, chosen.pcap) {
-        (Job::Decode(options), Some(file)) => {
-            do_capture(rt, file, *options, chosen.strict, output)
-        }
+    match &chosen.job {
+        Job::Decode(options) => do_decode(rt, chosen, *options, output),
         _ => do_lines(rt, chosen, output),
+    }
+}
+
+// Runs `decode` over its files, its capture or standard input.
+fn do_decode<O: Write + Drop>(
+    rt: &HostRuntime,
+    chosen: &Invocation<'_>,
+    options: DecodeOptions,
+    output: Output<'_, O>,
+) -> ExitCode {
+    match (chosen.files.as_slice(), chosen.pcap) {
+        ([], Some(file)) => do_capture(rt, file, options, chosen.strict, output),
+        ([], None) => do_lines(rt, chosen, output),
+        (files, _) => do_files(rt, chosen, files, options, output),
     }
 }
 
@@ -95,9 +101,15 @@ fn do_lines<O: Write + Drop>(
         let script = script_of(&chosen.job, &chosen.clock);
         let answers = PrintedAnswers::new(rt.stderr());
         let session = Session::new(rt.alloc(), script, rt.reader(), answers);
-        do_script(rt, chosen, Greeting::new(session, rt.stderr()), output)
+        do_script(
+            rt,
+            chosen,
+            None,
+            Greeting::new(session, rt.stderr()),
+            output,
+        )
     } else {
-        do_script(rt, chosen, rt.stdin(), output)
+        do_script(rt, chosen, None, rt.stdin(), output)
     }
 }
 
@@ -110,10 +122,12 @@ fn has_forms(chosen: &Invocation<'_>) -> bool {
     }
 }
 
-// Runs the chosen job over a script from this reader, and reports how it ended.
-fn do_script<R: Read + Drop, O: Write + Drop>(
+/// Runs the chosen job over a script from this reader, and reports how it ended. The reader is
+/// standard input if `file` is `None`.
+pub fn do_script<R: Read + Drop, O: Write + Drop>(
     rt: &HostRuntime,
     chosen: &Invocation<'_>,
+    file: Option<&str>,
     reader: R,
     destination: Output<'_, O>,
 ) -> ExitCode {
@@ -133,6 +147,7 @@ fn do_script<R: Read + Drop, O: Write + Drop>(
     let output = watched.fault();
     let refusals = watched.into_inner();
     let ending = Ending {
+        file,
         report: FaultReport {
             script: script_of(&chosen.job, &chosen.clock),
             line: bad_line(&recent, &ended),

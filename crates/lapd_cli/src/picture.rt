@@ -1,7 +1,7 @@
 //! The output of a job: standard output, or the file of a picture.
 
 use lapd_cli_decode::{PICTURE_BEGIN, PICTURE_END};
-use std::io::Write;
+use std::io::{Stdout, Write};
 
 /// The destination of a job's text, and its name in messages.
 #[derive(Drop)]
@@ -12,6 +12,15 @@ pub struct Output<'a, O> {
     pub name: &'a str,
     /// Whether a picture is written.
     pub is_picture: bool,
+}
+
+/// Standard output as the output of a job.
+pub fn standard_output(rt: &HostRuntime) -> Output<'static, Stdout> {
+    Output {
+        writer: rt.stdout(),
+        name: "standard output",
+        is_picture: false,
+    }
 }
 
 /// Writes the beginning of a picture, if one is written. Returns whether the writer did not fail.

@@ -6,7 +6,7 @@ use Rattle.std.proofs.lemmas.Grind.{common_steps}
 use Rattle.std.proofs.lemmas.List.{drop_all, drop_more, take_all, take_more}
 use Rattle.std.proofs.lemmas.List.Splits.{slice_split_first, slice_split_none}
 use Rattle.std.proofs.lemmas.List.Sums.{fails_before_first, prefix_len-le-length}
-use Rattle.lapd_frame.specs.declared.Side.{Side}
+use Rattle.lapd_cli_decode.specs.declared.line_sender.LineSender.{LineSender}
 use Rattle.lapd_cli_decode.specs.Loose.{before_gap, bracketed, digits_in, is_separator, logged_line, without_0x}
 
 -- ---- The place of the first octet that passes.
@@ -19,11 +19,11 @@ unwrap_place test xs = unwrap_cut (position_or_len test xs) (length xs) (prefix_
 
 -- ---- A line of a log.
 
-pub log_passed : (printer : Side) (rest behind : List ℕ) (octet : ℕ) → rest ≡ octet ∷ behind → bracketed printer rest ≡ None → logged_line printer rest ≡ logged_line printer behind
-log_passed printer rest behind octet e none = ap (logged_line printer) e ∙ (let here : bracketed printer (octet ∷ behind) ≡ None = ap (bracketed printer) (sym e) ∙ none in rw here refl)
+pub log_passed : (rest behind : List ℕ) (octet : ℕ) → rest ≡ octet ∷ behind → bracketed rest ≡ None → logged_line rest ≡ logged_line behind
+log_passed rest behind octet e none = ap logged_line e ∙ (let here : bracketed (octet ∷ behind) ≡ None = ap bracketed (sym e) ∙ none in rw here refl)
 
-pub log_found : (printer : Side) (rest behind : List ℕ) (octet : ℕ) (sent : Side × List ℕ) → rest ≡ octet ∷ behind → bracketed printer rest ≡ Some sent → logged_line printer rest ≡ Some sent
-log_found printer rest behind octet sent e found = ap (logged_line printer) e ∙ (let here : bracketed printer (octet ∷ behind) ≡ Some sent = ap (bracketed printer) (sym e) ∙ found in rw here refl)
+pub log_found : (rest behind : List ℕ) (octet : ℕ) (sent : LineSender × List ℕ) → rest ≡ octet ∷ behind → bracketed rest ≡ Some sent → logged_line rest ≡ Some sent
+log_found rest behind octet sent e found = ap logged_line e ∙ (let here : bracketed (octet ∷ behind) ≡ Some sent = ap bracketed (sym e) ∙ found in rw here refl)
 
 -- ---- The gap of a dump.
 

@@ -8,6 +8,7 @@ pub mod Frames
 pub mod Lines
 pub mod LinesPrinter
 pub mod LiveLadder
+pub mod LogSenders
 pub mod Loose
 pub mod PrintedLines
 pub mod Remarked

@@ -1,15 +1,12 @@
--- The lines of `decode`: strict, or loose.
+-- The strict lines of `decode`.
 use Rattle.std.specs.Prelude.{ℕ, if◌then◌else◌, List, [], ◌∷◌, codes, Option, Some, None, option_map}
 use Rattle.std.specs.Str.{bytes_eq}
 use Rattle.lapd_frame.specs.declared.Side.{Side}
 use Rattle.lapd_frame.specs.declared.Side.TheVariants.{Network, User}
 use Rattle.lapd_cli_script.specs.Line.{octets_behind, text_line, words_of}
 use Rattle.lapd_cli_script.specs.Script.{LineOutcome}
-use Rattle.lapd_cli_decode.specs.declared.line_form.LineForm.{LineForm}
-use Rattle.lapd_cli_decode.specs.declared.line_form.LineForm.TheVariants.{Strict, Loose}
 use Rattle.lapd_cli_decode.specs.declared.style.Style.{Style}
 use Rattle.lapd_cli_decode.specs.declared.style.Style.TheVariants.{Plain}
-use Rattle.lapd_cli_decode.specs.Loose.{loose_line}
 use Rattle.lapd_cli_decode.specs.Sent.{sent_by}
 use Rattle.lapd_cli_decode.specs.Style.{styled_text}
 
@@ -21,26 +18,24 @@ strict_words (word ∷ behind) =
     if bytes_eq word (codes "user") then sent_by User (octets_behind behind) else (
     if bytes_eq word (codes "net") then sent_by Network (octets_behind behind) else None)
 
--- ---- Both.
+-- ---- Printing them.
 
--- the side and the octets it sent, if the line has this form
-abbrev pub sent_in : LineForm → List ℕ → Option (Side × List ℕ)
-sent_in Strict line = strict_words (words_of line)
-sent_in (Loose printer) line = loose_line printer line
+-- the octets of a line, and their sender, if it is a strict line
+abbrev pub sent_in : List ℕ → Option (Side × List ℕ)
+sent_in line = strict_words (words_of line)
 
--- how to read and print lines
+-- how to print lines
 pub record Decoding : Type 0 where
-  pub form : LineForm
   pub style : Style
 
--- strict lines, printed as trace lines
+-- as trace lines
 abbrev pub traces : Decoding
-traces = record { form = Strict; style = Plain }
+traces = record { style = Plain }
 
 -- the result of each line; the state never changes
 abbrev pub line_step : Decoding → List ℕ → LineOutcome Decoding
 line_step s line =
-    option_map (λ sent. (text_line (styled_text s.style sent.0 sent.1), s)) (sent_in s.form line)
+    option_map (λ sent. (text_line (styled_text s.style sent.0 sent.1), s)) (sent_in line)
 
 -- the result if bad lines are skipped: nothing is printed for them
 abbrev pub or_nothing : Decoding → LineOutcome Decoding → LineOutcome Decoding

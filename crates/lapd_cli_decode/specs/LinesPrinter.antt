@@ -6,5 +6,6 @@ abbrev pub printing_of : {E : Type 0} → PrintedLines E → PrintingLines
 printing_of lines = record {
   form = lines.form;
   keeps_going = lines.keeps_going;
+  shown = lines.shown;
   printing = lines.printer;
 }

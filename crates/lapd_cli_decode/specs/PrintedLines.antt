@@ -8,13 +8,20 @@ use Rattle.lapd_cli_script.specs.declared.script.ScriptFault.TheVariants.{BadLin
 use Rattle.lapd_cli_decode.specs.declared.printed_lines.LinesStyle.{LinesStyle}
 use Rattle.lapd_cli_decode.specs.declared.frame_printer.Origin.TheVariants.{Script}
 use Rattle.lapd_cli_decode.specs.declared.line_form.LineForm.{LineForm}
+use Rattle.lapd_cli_decode.specs.declared.line_form.LineForm.TheVariants.{Strict, Loose}
+use Rattle.lapd_cli_decode.specs.declared.line_sender.LineSender.{LineSender}
+use Rattle.lapd_cli_decode.specs.declared.line_sender.LineSender.TheVariants.{Named, Printer, Peer, Unnamed, Continued}
 use Rattle.lapd_cli_decode.specs.Frames.{Printing, after_frame, closing_text, frame_text, is_complete, is_violated_by, line_packet, new_printing}
 use Rattle.lapd_cli_decode.specs.Lines.{sent_in}
+use Rattle.lapd_cli_decode.specs.LogSenders.{line_sender, printer_after}
+use Rattle.lapd_cli_decode.specs.Loose.{loose_line}
 
--- how lines are read, whether bad ones are skipped, and what is known of the frames before the next
+-- how lines are read, whether bad ones are skipped, which side printed the loose ones, as far as
+-- those so far show it, and what is known of the frames before the next
 pub record PrintingLines : Type 0 where
   pub form : LineForm
   pub keeps_going : Bool
+  pub shown : Option Side
   pub printing : Printing
 
 -- before the first line
@@ -22,6 +29,7 @@ abbrev pub before_lines : LinesStyle → PrintingLines
 before_lines how = record {
   form = how.form;
   keeps_going = how.keeps_going;
+  shown = None;
   printing = new_printing Script how.frames how.follow;
 }
 
@@ -44,10 +52,48 @@ abbrev pub or_skipped : PrintingLines → LineOutcome PrintingLines → LineOutc
 or_skipped s None = if s.keeps_going then Some ([], s) else None
 or_skipped s (Some next) = Some next
 
+-- ---- Loose lines: one without a frame is skipped.
+
+-- the state after the octets of a loose line, sent as the line says
+abbrev pub after_loose : Option Side → PrintingLines → LineSender → List ℕ → PrintingLines
+after_loose chosen s sender octets = record s {
+  shown = printer_after s.shown sender octets;
+  printing = after_frame (line_packet s.printing) (line_sender chosen s.shown sender octets) octets
+      s.printing;
+}
+
+-- the result of a loose line with these octets
+abbrev pub loose_outcome : Option Side → PrintingLines → LineSender → List ℕ
+    → LineOutcome PrintingLines
+loose_outcome chosen s sender octets = Some (
+  frame_text (line_packet s.printing) (line_sender chosen s.shown sender octets) octets s.printing,
+  after_loose chosen s sender octets,
+)
+
+-- the result of a loose line; one that continues a dump of several lines is a bad one
+abbrev pub sender_outcome : Option Side → PrintingLines → LineSender → List ℕ
+    → LineOutcome PrintingLines
+sender_outcome chosen s Continued octets = or_skipped s None
+sender_outcome chosen s (Named side) octets = loose_outcome chosen s (Named side) octets
+sender_outcome chosen s Printer octets = loose_outcome chosen s Printer octets
+sender_outcome chosen s Peer octets = loose_outcome chosen s Peer octets
+sender_outcome chosen s Unnamed octets = loose_outcome chosen s Unnamed octets
+
+abbrev pub loose_step : Option Side → PrintingLines → Option (LineSender × List ℕ)
+    → LineOutcome PrintingLines
+loose_step chosen s None = Some ([], s)
+loose_step chosen s (Some sent) = sender_outcome chosen s sent.0 sent.1
+
+-- ---- All lines.
+
+-- the result of a line of this form
+abbrev pub step_by : LineForm → PrintingLines → List ℕ → LineOutcome PrintingLines
+step_by Strict s line = or_skipped s (sent_outcome s (sent_in line))
+step_by (Loose chosen) s line = loose_step chosen s (loose_line line)
+
 -- the result of each line; after the last requested frame all lines are skipped
 abbrev pub print_step : PrintingLines → List ℕ → LineOutcome PrintingLines
-print_step s line = if is_complete s.printing then Some ([], s)
-    else or_skipped s (sent_outcome s (sent_in s.form line))
+print_step s line = if is_complete s.printing then Some ([], s) else step_by s.form s line
 
 -- how printing the frames of these lines ends, and the writer's contents then: after the last line
 -- the tables of the links are printed, if these are followed

@@ -2,11 +2,11 @@
 //! from captures.
 //!
 //! [`decode`] executes a script of strict lines, and prints the trace line of each frame.
-//! [`decode_lines`] does the same with lines of any [`LineForm`], and in any [`Style`]. [`decode_good_lines`] reports and skips invalid lines. [`print_lines`] prints the
-//! frames that a [`FrameStyle`] requests, and [`decode_capture`] those of a capture of
-//! `lapd_capture`. If links are followed, which [`follow_capture`] does for a capture, the remarks
-//! of a listener of `lapd_follow` are printed behind each frame, and a table of each link at the
-//! end. With [`Layout::Drawn`] the frames are drawn as a ladder, or as a picture between
+//! [`decode_lines`] does the same in any [`Style`]. [`decode_good_lines`] reports and skips invalid
+//! lines. [`print_lines`] reads lines of any [`LineForm`] and prints the frames that a
+//! [`FrameStyle`] requests, and [`decode_capture`] those of a capture of `lapd_capture`. If links
+//! are followed, which [`follow_capture`] does for a capture, the remarks of a listener of
+//! `lapd_follow` are printed behind each frame, and a table of each link at the end. With [`Layout::Drawn`] the frames are drawn as a ladder, or as a picture between
 //! [`PICTURE_BEGIN`] and [`PICTURE_END`]. A [`FrameDrawer`] draws the same ladder of the frames of
 //! a line, when they are sent or received.
 #![tactic(auto)]
@@ -15,12 +15,15 @@ mod any_sapi;
 mod capture_lines;
 mod color;
 mod drawn;
+mod dump_line;
 mod frame_printer;
 mod frame_style;
 mod frame_time;
+mod joined_dumps;
 mod laws;
 mod line_decoder;
 mod line_form;
+mod line_sender;
 mod live_ladder;
 mod live_laws;
 mod loose;
@@ -37,6 +40,7 @@ pub use capture_lines::{CaptureStop, CaptureStyle, Seen, decode_capture, follow_
 pub use frame_printer::Follow;
 pub use frame_style::{Drawing, FrameStyle, Layout};
 pub use frame_time::FrameTime;
+pub use joined_dumps::JoinedDumps;
 pub use lapd_capture::{CaptureFault, CaptureReader, PacketFault, ReadFault};
 pub use lapd_cli_ladder::{PICTURE_BEGIN, PICTURE_END};
 pub use lapd_cli_values::Filter;

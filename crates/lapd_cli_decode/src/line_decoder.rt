@@ -1,11 +1,11 @@
-//! Decoding lines of octets, in each form and style.
+//! Decoding strict lines of octets, in each style.
 
 ghost use Rattle.std.specs.Prelude.{◌≡◌, IfSome};
 ghost use Rattle.lapd_cli_script.specs.Script.{EndsAs, lines_of};
 ghost use Rattle.lapd_cli_decode.specs.Lines.{decode_step_skipping, line_step, traces};
 ghost use Rattle.lapd_cli_decode.specs.Decoder.{decoding_of};
 
-use crate::line_form::LineForm;
+use crate::line_form::strict_line;
 use crate::style::Style;
 use lapd_cli_script::{Command, LineFault, ScriptFault, put_line, walk};
 use std::alloc::Global;
@@ -14,19 +14,18 @@ use std::io::{Read, Write};
 /// The most octets of a bad line that are shown.
 const MOST_SHOWN: usize = 32;
 
-/// Reads lines of a form and prints them in a style. It reuses its buffers for the octets and the
-/// text of a line.
+/// Reads strict lines and prints them in a style. It reuses its buffers for the octets and the text
+/// of a line.
 #[derive(Drop)]
 struct LineDecoder {
     alloc: Global,
-    form: LineForm,
     style: Style,
     octets: Vec<u8>,
     text: String,
 }
 
-/// Executes a script of strict lines ([`LineForm::Strict`]), and writes the trace line of each frame:
-/// [`decode_lines`] without options.
+/// Executes a script of strict lines, and writes the trace line of each frame: [`decode_lines`]
+/// without options.
 ///
 /// # Errors
 ///
@@ -39,32 +38,31 @@ pub fn decode<R: Read, W: Write>(
     ensures { IfSome (R.remaining script.old) (λ octets. EndsAs line_step traces result
         (lines_of octets) (W.contents out.old) (W.contents out.new)) }
 {
-    decode_lines(alloc, script, out, LineForm::Strict, Style::Plain)
+    decode_lines(alloc, script, out, Style::Plain)
 }
 
-/// Executes a script with lines of this form, and writes each frame in this style.
+/// Executes a script of strict lines, and writes each frame in this style.
 ///
 /// # Errors
 ///
-/// `BadLine` at the first line that does not have this form, `Device` if a read or a write fails,
+/// `BadLine` at the first line that is no strict line, `Device` if a read or a write fails,
 /// `Memory` if an allocation fails.
 pub fn decode_lines<R: Read, W: Write>(
     alloc: Global,
     script: &mut R,
     out: &mut W,
-    form: LineForm,
     style: Style,
 ) -> Result<(), ScriptFault>
     ensures { IfSome (R.remaining script.old) (λ octets. EndsAs line_step
-        (record { form = form; style = style }) result
+        (record { style = style }) result
         (lines_of octets) (W.contents out.old) (W.contents out.new)) }
 {
-    let mut decoder = LineDecoder::new(alloc, form, style);
+    let mut decoder = LineDecoder::new(alloc, style);
     walk(alloc, &mut decoder, script, out)
 }
 
-/// Like [`decode_lines`], but reports each line that does not have this form on the error writer,
-/// and skips it. Failures of the error writer are ignored.
+/// Like [`decode_lines`], but reports each line that is no strict line on the error writer, and
+/// skips it. Failures of the error writer are ignored.
 ///
 /// # Errors
 ///
@@ -73,15 +71,14 @@ pub fn decode_good_lines<R: Read, W: Write, E: Write + Drop>(
     alloc: Global,
     script: &mut R,
     out: &mut W,
-    form: LineForm,
     style: Style,
     errors: E,
 ) -> Result<(), ScriptFault>
     ensures { IfSome (R.remaining script.old) (λ octets. EndsAs decode_step_skipping
-        (record { form = form; style = style }) result (lines_of octets)
+        (record { style = style }) result (lines_of octets)
         (W.contents out.old) (W.contents out.new)) }
 {
-    let decoder = LineDecoder::new(alloc, form, style);
+    let decoder = LineDecoder::new(alloc, style);
     let mut decoder = GoodLines { decoder, errors };
     walk(alloc, &mut decoder, script, out)
 }
@@ -89,13 +86,12 @@ pub fn decode_good_lines<R: Read, W: Write, E: Write + Drop>(
 impl LineDecoder {
     ghost use Rattle.lapd_cli_script.specs.Script.{LineEndsAs};
 
-    /// Creates a decoder of lines of this form that prints each frame in this style.
-    fn new(alloc: Global, form: LineForm, style: Style) -> LineDecoder
-        ensures { decoding_of result ≡ record { form = form; style = style } }
+    /// Creates a decoder that prints each frame in this style.
+    fn new(alloc: Global, style: Style) -> LineDecoder
+        ensures { decoding_of result ≡ record { style = style } }
     {
         LineDecoder {
             alloc,
-            form,
             style,
             octets: Vec::new(alloc),
             text: String::new(alloc),
@@ -109,7 +105,7 @@ impl LineDecoder {
             (W.contents out.old) (W.contents out.new) }
         ensures preserved { decoding_of self.new ≡ decoding_of self.old }
     {
-        let from = self.form.read(self.alloc, line, &mut self.octets)?;
+        let from = strict_line(line, &mut self.octets)?;
         let octets = self.octets.as_slice();
         match self.style.write(self.alloc, from, octets, &mut self.text) {
             Ok(()) => put_line(self.text.as_bytes(), &[], out),

@@ -4,17 +4,19 @@ ghost use Rattle.std.specs.Prelude.{◌≡◌, ◌==◌, ◌∷◌, ◌<◌, ◌
 ghost use Rattle.std.specs.List.{list_all, position, position_or_len, slice_split};
 ghost use Rattle.lapd_cli_script.specs.Line.{Reads, octets_of};
 ghost use Rattle.lapd_cli_decode.specs.Sent.{sent_by};
-ghost use Rattle.lapd_cli_decode.specs.Loose.{before_gap, bracketed, bracketed_octets, digits_in, dumped_octets, ends, ends_hex, first_of, is_parted, is_separator, is_zero, logged_line, loose_behind, loose_line, loose_octets, named_line, octets_by_word, octets_or_none, printed_line, some_octets, unmarked_octets, without_0x, without_front};
+ghost use Rattle.lapd_cli_decode.specs.declared.line_sender.LineSender.TheVariants.{Unnamed};
+ghost use Rattle.lapd_cli_decode.specs.Loose.{before_gap, bracketed, bracketed_octets, digits_in, dump_sender, dumped_line, ends, ends_hex, first_of, is_digit, is_element, is_parted, is_separator, is_zero, line_by_word, logged_line, loose_behind, loose_line, loose_octets, marked_line, named_line, octets_or_none, printed_line, some_octets, unmarked_line, without_0x, without_front};
 
+use crate::line_sender::LineSender;
 use lapd_cli_script::LineFault;
 use lapd_frame::Side;
 use std::alloc::{AllocError, Global};
 
-/// The octets of a loose line, and their sender.
+/// The octets of a loose line, and what it says of their sender.
 #[derive(Drop)]
 pub(crate) struct Sent {
-    /// The sender of the octets.
-    pub(crate) from: Side,
+    /// What the line says of the sender.
+    pub(crate) from: LineSender,
     /// The octets.
     pub(crate) octets: Vec<u8>,
 }
@@ -56,28 +58,27 @@ impl End {
     }
 }
 
-/// Reads a loose line that side `printer` printed.
+/// Reads a loose line.
 ///
 /// # Errors
 ///
 /// `Bad` if the line has none of the forms, `Memory` if an allocation fails.
-pub(crate) fn loose_line(alloc: Global, printer: Side, line: &[u8]) -> Result<Sent, LineFault>
-    ensures { Reads (λ sent. (sent.from, sent.octets.items)) result (loose_line printer line.now) }
+pub(crate) fn loose_line(alloc: Global, line: &[u8]) -> Result<Sent, LineFault>
+    ensures { Reads (λ sent. (sent.from, sent.octets.items)) result (loose_line line.now) }
 {
-    match named_line(alloc, printer, line) {
-        Err(LineFault::Bad) => unnamed_line(alloc, printer, line),
+    match named_line(alloc, line) {
+        Err(LineFault::Bad) => unnamed_line(alloc, line),
         ended => ended,
     }
 }
 
 /// Reads a line that does not begin with its sender.
-fn unnamed_line(alloc: Global, printer: Side, line: &[u8]) -> Result<Sent, LineFault>
+fn unnamed_line(alloc: Global, line: &[u8]) -> Result<Sent, LineFault>
     ensures { Reads (λ sent. (sent.from, sent.octets.items)) result
-        (first_of (logged_line printer line.now)
-        (sent_by printer (unmarked_octets (without_front line.now)))) }
+        (first_of (logged_line line.now) (unmarked_line (without_front line.now))) }
 {
-    match logged_line(alloc, printer, line) {
-        Err(LineFault::Bad) => unmarked_line(alloc, printer, line),
+    match logged_line(alloc, line) {
+        Err(LineFault::Bad) => unmarked_line(alloc, without_front(line)),
         ended => ended,
     }
 }
@@ -85,32 +86,48 @@ fn unnamed_line(alloc: Global, printer: Side, line: &[u8]) -> Result<Sent, LineF
 // ---- 1. Lines that begin with their sender.
 
 /// Reads a line that begins with its sender.
-fn named_line(alloc: Global, printer: Side, line: &[u8]) -> Result<Sent, LineFault>
-    ensures { Reads (λ sent. (sent.from, sent.octets.items)) result (named_line printer line.now) }
+fn named_line(alloc: Global, line: &[u8]) -> Result<Sent, LineFault>
+    ensures { Reads (λ sent. (sent.from, sent.octets.items)) result (named_line line.now) }
 {
     if let Some(rest) = line.strip_prefix(b"user") {
-        return loose_behind(alloc, Side::User, rest);
+        return loose_behind(alloc, LineSender::Named(Side::User), rest);
     }
     if let Some(rest) = line.strip_prefix(b"net") {
-        return loose_behind(alloc, Side::Network, rest);
+        return loose_behind(alloc, LineSender::Named(Side::Network), rest);
     }
-    printed_line(alloc, printer, line)
+    printed_line(alloc, line)
 }
 
-/// Reads a line that libpri printed on side `printer`.
-fn printed_line(alloc: Global, printer: Side, line: &[u8]) -> Result<Sent, LineFault>
-    ensures { Reads (λ sent. (sent.from, sent.octets.items)) result
-        (printed_line printer line.now) }
+/// Reads a line of libpri.
+fn printed_line(alloc: Global, line: &[u8]) -> Result<Sent, LineFault>
+    ensures { Reads (λ sent. (sent.from, sent.octets.items)) result (printed_line line.now) }
 {
     match line {
-        [b'>', rest @ ..] => loose_behind(alloc, printer, rest),
-        [b'<', rest @ ..] => loose_behind(alloc, printer.other(), rest),
+        [b'>', rest @ ..] => marked_line(alloc, LineSender::Printer, rest),
+        [b'<', rest @ ..] => marked_line(alloc, LineSender::Peer, rest),
         _ => Err(LineFault::Bad),
     }
 }
 
-/// Reads what `from` sent from the rest of a line, after its first word.
-fn loose_behind(alloc: Global, from: Side, rest: &[u8]) -> Result<Sent, LineFault>
+/// Reads the rest of a line of libpri, after its mark.
+fn marked_line(alloc: Global, from: LineSender, rest: &[u8]) -> Result<Sent, LineFault>
+    ensures { Reads (λ sent. (sent.from, sent.octets.items)) result (marked_line from rest.now) }
+{
+    if is_element(rest) {
+        return Err(LineFault::Bad);
+    }
+    loose_behind(alloc, from, rest)
+}
+
+/// Whether this is an information element of Q.931, as libpri prints it after a mark.
+fn is_element(rest: &[u8]) -> bool
+    ensures { result ≡ is_element rest.now }
+{
+    rest.starts_with(b" [") && !rest.starts_with(b" [ ")
+}
+
+/// Reads octets of this sender from the rest of a line, after its first word.
+fn loose_behind(alloc: Global, from: LineSender, rest: &[u8]) -> Result<Sent, LineFault>
     ensures { Reads (λ sent. (sent.from, sent.octets.items)) result (loose_behind from rest.now) }
 {
     if !is_parted(rest) {
@@ -132,15 +149,14 @@ fn is_parted(rest: &[u8]) -> bool
 
 // ---- 2. Lines of a log.
 
-/// Reads the first `> [ HEX ]` or `< [ HEX ]` of a line that side `printer` printed.
+/// Reads the first `> [ HEX ]` or `< [ HEX ]` of a line.
 #[tactic(auto, using(crate::proofs::LooseLine::log_found, crate::proofs::LooseLine::log_passed))]
-fn logged_line(alloc: Global, printer: Side, line: &[u8]) -> Result<Sent, LineFault>
-    ensures { Reads (λ sent. (sent.from, sent.octets.items)) result
-        (logged_line printer line.now) }
+fn logged_line(alloc: Global, line: &[u8]) -> Result<Sent, LineFault>
+    ensures { Reads (λ sent. (sent.from, sent.octets.items)) result (logged_line line.now) }
 {
     let mut rest = line;
     while let [_, behind @ ..] = rest {
-        match bracketed(alloc, printer, rest) {
+        match bracketed(alloc, rest) {
             Ok(sent) => return Ok(sent),
             Err(LineFault::Bad) => rest = behind,
             Err(fault) => return Err(fault),
@@ -149,21 +165,21 @@ fn logged_line(alloc: Global, printer: Side, line: &[u8]) -> Result<Sent, LineFa
     Err(LineFault::Bad)
 }
 
-/// Reads `> [ HEX ]` or `< [ HEX ]` at the beginning of a text that side `printer` printed.
-fn bracketed(alloc: Global, printer: Side, text: &[u8]) -> Result<Sent, LineFault>
-    ensures { Reads (λ sent. (sent.from, sent.octets.items)) result (bracketed printer text.now) }
+/// Reads `> [ HEX ]` or `< [ HEX ]` at the beginning of a text.
+fn bracketed(alloc: Global, text: &[u8]) -> Result<Sent, LineFault>
+    ensures { Reads (λ sent. (sent.from, sent.octets.items)) result (bracketed text.now) }
 {
-    if let Some(rest) = text.strip_prefix(b"> [") {
-        return sent_in_brackets(alloc, printer, rest);
+    if let Some(rest) = text.strip_prefix(b"> [ ") {
+        return sent_in_brackets(alloc, LineSender::Printer, rest);
     }
-    if let Some(rest) = text.strip_prefix(b"< [") {
-        return sent_in_brackets(alloc, printer.other(), rest);
+    if let Some(rest) = text.strip_prefix(b"< [ ") {
+        return sent_in_brackets(alloc, LineSender::Peer, rest);
     }
     Err(LineFault::Bad)
 }
 
-/// Reads what `from` sent, after an opening bracket.
-fn sent_in_brackets(alloc: Global, from: Side, text: &[u8]) -> Result<Sent, LineFault>
+/// Reads octets of this sender, after an opening bracket.
+fn sent_in_brackets(alloc: Global, from: LineSender, text: &[u8]) -> Result<Sent, LineFault>
     ensures { Reads (λ sent. (sent.from, sent.octets.items)) result
         (sent_by from (bracketed_octets text.now)) }
 {
@@ -191,63 +207,82 @@ fn ends_hex(octet: u8) -> bool
 
 // ---- 3. and 4. Hex dumps, and lines of HEX alone.
 
-/// Reads what side `printer` sent from a line without a mark.
-fn unmarked_line(alloc: Global, printer: Side, line: &[u8]) -> Result<Sent, LineFault>
-    ensures { Reads (λ sent. (sent.from, sent.octets.items)) result
-        (sent_by printer (unmarked_octets (without_front line.now))) }
+/// Reads a line of a hex dump, or else of HEX.
+fn unmarked_line(alloc: Global, text: &[u8]) -> Result<Sent, LineFault>
+    ensures { Reads (λ sent. (sent.from, sent.octets.items)) result (unmarked_line text.now) }
 {
-    let octets = unmarked_octets(alloc, without_front(line))?;
+    let (word, behind) = text.split_at(End::Word.len_before(text));
+    line_by_word(alloc, text, word, behind)
+}
+
+/// Reads a line with this first word, and this behind it.
+fn line_by_word(alloc: Global, text: &[u8], word: &[u8], behind: &[u8]) -> Result<Sent, LineFault>
+    ensures { Reads (λ sent. (sent.from, sent.octets.items)) result
+        (line_by_word text.now word.now behind.now) }
+{
+    if let Some(dump) = behind.strip_prefix(b": ") {
+        return dumped_line(alloc, without_0x(word), b"  ", dump);
+    }
+    if word.len() != 4 {
+        return hex_line(alloc, text);
+    }
+    match behind.strip_prefix(b"  ") {
+        Some(dump) => dumped_line(alloc, word, b"   ", dump),
+        None => hex_line(alloc, text),
+    }
+}
+
+/// Reads a line of HEX alone.
+fn hex_line(alloc: Global, text: &[u8]) -> Result<Sent, LineFault>
+    ensures { Reads (λ sent. (sent.from, sent.octets.items)) result
+        (sent_by Unnamed (some_octets text.now)) }
+{
+    let octets = some_octets(alloc, text)?;
     Ok(Sent {
-        from: printer,
+        from: LineSender::Unnamed,
         octets,
     })
 }
 
-/// The octets of a hex dump of one line, or else of HEX.
-fn unmarked_octets(alloc: Global, text: &[u8]) -> Result<Vec<u8>, LineFault>
-    ensures { Reads (λ octets. octets.items) result (unmarked_octets text.now) }
+/// Reads a line of a dump behind its offset, before a gap of these spaces.
+fn dumped_line(alloc: Global, offset: &[u8], gap: &[u8], dump: &[u8]) -> Result<Sent, LineFault>
+    ensures { Reads (λ sent. (sent.from, sent.octets.items)) result (dumped_line offset.now gap.now dump.now) }
 {
-    let (word, behind) = text.split_at(End::Word.len_before(text));
-    octets_by_word(alloc, text, word, behind)
-}
-
-/// The octets of a text with this first word, and this behind it.
-fn octets_by_word(
-    alloc: Global,
-    text: &[u8],
-    word: &[u8],
-    behind: &[u8],
-) -> Result<Vec<u8>, LineFault>
-    ensures { Reads (λ octets. octets.items) result
-        (octets_by_word text.now word.now behind.now) }
-{
-    if let Some(dump) = behind.strip_prefix(b": ") {
-        return dumped_octets(alloc, without_0x(word), b"  ", dump);
-    }
-    if word.len() != 4 {
-        return some_octets(alloc, text);
-    }
-    match behind.strip_prefix(b"  ") {
-        Some(dump) => dumped_octets(alloc, word, b"   ", dump),
-        None => some_octets(alloc, text),
+    match dump_sender(offset) {
+        None => Err(LineFault::Bad),
+        Some(from) => {
+            let octets = some_octets(alloc, before_gap(gap, without_front(dump)))?;
+            Ok(Sent { from, octets })
+        }
     }
 }
 
-/// The octets of a dump behind its offset, before a gap of these spaces.
-fn dumped_octets(
-    alloc: Global,
-    offset: &[u8],
-    gap: &[u8],
-    dump: &[u8],
-) -> Result<Vec<u8>, LineFault>
-    ensures { Reads (λ octets. octets.items) result
-        (dumped_octets offset.now gap.now dump.now) }
+/// What a line of a dump with this offset says of the sender: nothing, or that it continues.
+fn dump_sender(offset: &[u8]) -> Option<LineSender>
+    ensures { result ≡ dump_sender offset.now }
 {
     if is_zero(offset) {
-        some_octets(alloc, before_gap(gap, without_front(dump)))
-    } else {
-        Err(LineFault::Bad)
+        return Some(LineSender::Unnamed);
     }
+    if !offset.is_empty() && has_only_digits(offset) {
+        Some(LineSender::Continued)
+    } else {
+        None
+    }
+}
+
+/// Whether each of these octets is a digit in hexadecimal.
+fn has_only_digits(text: &[u8]) -> bool
+    ensures { result ≡ list_all is_digit text.now }
+{
+    text.iter().all(|octet| is_digit(*octet))
+}
+
+/// Whether this octet is a digit in hexadecimal.
+fn is_digit(octet: u8) -> bool
+    ensures { result ≡ is_digit octet }
+{
+    matches!(octet, b'0'..=b'9' | b'A'..=b'F' | b'a'..=b'f')
 }
 
 /// Whether these digits spell 0.

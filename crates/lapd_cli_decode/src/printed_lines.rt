@@ -1,6 +1,6 @@
 //! Printing the requested frames of lines of octets, with remarks if their links are followed.
 
-ghost use Rattle.std.specs.Prelude.{◌≡◌, Some, IfSome};
+ghost use Rattle.std.specs.Prelude.{◌≡◌, None, Some, IfSome};
 ghost use Rattle.lapd_cli_script.specs.Script.{lines_of};
 ghost use Rattle.lapd_cli_decode.specs.PrintedLines.{LinesEnd, before_lines};
 ghost use Rattle.lapd_cli_decode.specs.LinesPrinter.{printing_of};
@@ -8,7 +8,9 @@ ghost use Rattle.lapd_cli_decode.specs.LinesPrinter.{printing_of};
 use crate::frame_printer::{Follow, FramePrinter, Origin};
 use crate::frame_style::FrameStyle;
 use crate::line_decoder::report;
-use crate::line_form::LineForm;
+use crate::line_form::{LineForm, strict_line};
+use crate::line_sender::LineSender;
+use crate::loose::{Sent, loose_line};
 use lapd_cli_script::{Command, LineFault, ScriptFault, walk};
 use lapd_frame::Side;
 use std::alloc::Global;
@@ -21,11 +23,17 @@ pub struct LinesStyle {
     pub form: LineForm,
     /// How frames are printed, and which.
     pub frames: FrameStyle,
-    /// Whether lines that do not have this form are skipped.
+    /// Whether lines that do not have this form are reported and skipped. Of loose lines, those
+    /// without octets are always skipped, and their number is reported at the end.
     pub keeps_going: bool,
     /// How the links are followed; `None` if they are not.
     pub follow: Option<Follow>,
 }
+
+/// The report that the lines do not name a sender.
+const UNNAMED: &str = "\
+the lines do not name each sender: it is taken from the kind and C/R bit of the frame, or printed \
+as ?; --sender names the side that printed the lines";
 
 /// Reads lines of a form, and prints their frames.
 #[derive(Drop)]
@@ -33,6 +41,10 @@ struct PrintedLines<E> {
     alloc: Global,
     form: LineForm,
     keeps_going: bool,
+    /// The side that printed the loose lines, as far as those so far show it.
+    shown: Option<Side>,
+    /// How many loose lines had no octets and were not reported.
+    skipped: u64,
     printer: FramePrinter,
     octets: Vec<u8>,
     errors: E,
@@ -41,12 +53,14 @@ struct PrintedLines<E> {
 /// Like [`crate::decode_lines`], but prints only the requested frames, and may follow the link of
 /// each frame, printed or not: the remarks on a frame are printed behind it, and after the last
 /// line a table of each link. Returns whether a remark was a violation. If `keeps_going` is set,
-/// each line that does not have this form is reported on the error writer and skipped; failures of
-/// the error writer are ignored. Lines after the last requested frame are skipped.
+/// each line that does not have this form is reported on the error writer and skipped. Else loose
+/// lines without octets are skipped too, and how many there were is reported at the end. Failures
+/// of the error writer are ignored. Lines after the last requested frame are skipped.
 ///
 /// # Errors
 ///
-/// `BadLine` at the first line that does not have this form, `Device` if a read or a write fails,
+/// `BadLine` at the first strict line that does not have this form, or at the first loose line that
+/// continues a hex dump, `Device` if a read or a write fails,
 /// `Memory` if an allocation fails.
 pub fn print_lines<R: Read, W: Write, E: Write + Drop>(
     alloc: Global,
@@ -64,11 +78,15 @@ pub fn print_lines<R: Read, W: Write, E: Write + Drop>(
                 alloc,
                 form: how.form,
                 keeps_going: how.keeps_going,
+                shown: None,
+                skipped: 0,
                 printer,
                 octets: Vec::new(alloc),
                 errors,
             };
-            print_to_end(alloc, &mut lines, script, out)
+            let ended = print_to_end(alloc, &mut lines, script, out);
+            lines.report_skipped();
+            ended
         }
         Err(_) => Err(ScriptFault::Memory),
     }
@@ -93,7 +111,8 @@ fn print_to_end<R: Read, W: Write, E: Write>(
 impl<E: Write> PrintedLines<E> {
     ghost use Rattle.lapd_cli_script.specs.Script.{LineEndsAs};
     ghost use Rattle.lapd_cli_decode.specs.Lines.{sent_in};
-    ghost use Rattle.lapd_cli_decode.specs.PrintedLines.{or_skipped, print_step, sent_outcome};
+    ghost use Rattle.lapd_cli_decode.specs.Loose.{loose_line};
+    ghost use Rattle.lapd_cli_decode.specs.PrintedLines.{loose_outcome, loose_step, or_skipped, print_step, sender_outcome, sent_outcome, step_by};
 
     /// Prints the frame of a line, or skips it.
     fn print_line<W: Write>(&mut self, line: &[u8], out: &mut W) -> Result<(), LineFault>
@@ -111,22 +130,43 @@ impl<E: Write> PrintedLines<E> {
     /// Prints the frame of a line before the last requested frame, or skips it.
     fn print_next<W: Write>(&mut self, line: &[u8], out: &mut W) -> Result<(), LineFault>
         ensures { LineEndsAs (λ lines state. state ≡ printing_of lines)
-            (or_skipped (printing_of self.old)
-            (sent_outcome (printing_of self.old) (sent_in self.old.form line.now))) result self.new
+            (step_by self.old.form (printing_of self.old) line.now) result self.new
             (W.contents out.old) (W.contents out.new) }
     {
-        match self.form.read(self.alloc, line, &mut self.octets) {
+        match self.form {
+            LineForm::Strict => self.print_strict(line, out),
+            LineForm::Loose(chosen) => self.print_loose(chosen, line, out),
+        }
+    }
+
+    // ---- Strict lines.
+
+    /// Prints the frame of a strict line, or skips it.
+    fn print_strict<W: Write>(&mut self, line: &[u8], out: &mut W) -> Result<(), LineFault>
+        ensures { LineEndsAs (λ lines state. state ≡ printing_of lines)
+            (or_skipped (printing_of self.old)
+            (sent_outcome (printing_of self.old) (sent_in line.now))) result self.new
+            (W.contents out.old) (W.contents out.new) }
+    {
+        match strict_line(line, &mut self.octets) {
             Ok(from) => self.print_octets(from, out),
-            Err(LineFault::Bad) => {
-                if !self.keeps_going {
-                    return Err(LineFault::Bad);
-                }
-                report(self.alloc, line, &mut self.errors);
-                Ok(())
-            }
+            Err(LineFault::Bad) => self.skip_or_refuse(line, out),
             Err(LineFault::Memory) => Err(LineFault::Memory),
             Err(LineFault::Device) => Err(LineFault::Device),
         }
+    }
+
+    /// Reports a bad line and skips it, if that is requested.
+    fn skip_or_refuse<W: Write>(&mut self, line: &[u8], out: &mut W) -> Result<(), LineFault>
+        ensures { LineEndsAs (λ lines state. state ≡ printing_of lines)
+            (or_skipped (printing_of self.old) None) result self.new
+            (W.contents out.old) (W.contents out.new) }
+    {
+        if !self.keeps_going {
+            return Err(LineFault::Bad);
+        }
+        report(self.alloc, line, &mut self.errors);
+        Ok(())
     }
 
     /// Prints the frame of the octets, which this side sent.
@@ -138,6 +178,100 @@ impl<E: Write> PrintedLines<E> {
         let packet = self.printer.line_packet();
         self.printer
             .print(packet, Some(from), self.octets.as_slice(), out)
+    }
+
+    // ---- Loose lines.
+
+    /// Prints the frame of a loose line, or skips it. `chosen` is the chosen printer of the lines.
+    fn print_loose<W: Write>(
+        &mut self,
+        chosen: Option<Side>,
+        line: &[u8],
+        out: &mut W,
+    ) -> Result<(), LineFault>
+        ensures { LineEndsAs (λ lines state. state ≡ printing_of lines)
+            (loose_step chosen (printing_of self.old) (loose_line line.now)) result self.new
+            (W.contents out.old) (W.contents out.new) }
+    {
+        match loose_line(self.alloc, line) {
+            Ok(sent) => self.print_sent(chosen, sent, line, out),
+            Err(LineFault::Bad) => {
+                self.skip(line);
+                Ok(())
+            }
+            Err(LineFault::Memory) => Err(LineFault::Memory),
+            Err(LineFault::Device) => Err(LineFault::Device),
+        }
+    }
+
+    /// Prints the frame of the octets of a loose line. A line that continues a hex dump is bad.
+    fn print_sent<W: Write>(
+        &mut self,
+        chosen: Option<Side>,
+        sent: Sent,
+        line: &[u8],
+        out: &mut W,
+    ) -> Result<(), LineFault>
+        ensures { LineEndsAs (λ lines state. state ≡ printing_of lines)
+            (sender_outcome chosen (printing_of self.old) sent.from sent.octets.items) result
+            self.new (W.contents out.old) (W.contents out.new) }
+    {
+        match sent.from {
+            LineSender::Continued => self.skip_or_refuse(line, out),
+            LineSender::Named(_) | LineSender::Printer | LineSender::Peer | LineSender::Unnamed => {
+                self.print_unsure(chosen, &sent.from, sent.octets.as_slice(), out)
+            }
+        }
+    }
+
+    /// Prints the frame of octets of which a loose line says this of the sender.
+    fn print_unsure<W: Write>(
+        &mut self,
+        chosen: Option<Side>,
+        sender: &LineSender,
+        octets: &[u8],
+        out: &mut W,
+    ) -> Result<(), LineFault>
+        ensures { LineEndsAs (λ lines state. state ≡ printing_of lines)
+            (loose_outcome chosen (printing_of self.old) sender.now octets.now) result
+            self.new (W.contents out.old) (W.contents out.new) }
+    {
+        let from = sender.side(chosen, self.shown, octets);
+        self.note_unnamed(chosen.is_none() && !matches!(sender, LineSender::Named(_)));
+        self.shown = sender.printer(self.shown, octets);
+        let packet = self.printer.line_packet();
+        self.printer.print(packet, from, octets, out)
+    }
+
+    /// Reports once that neither the lines nor an option names a sender. A failure of the error
+    /// writer is ignored.
+    fn note_unnamed(&mut self, is_unnamed: bool)
+        ensures { printing_of self.new ≡ printing_of self.old }
+    {
+        if is_unnamed && self.printer.is_first_note() {
+            let _ = writeln!(self.errors, "{UNNAMED}");
+        }
+    }
+
+    /// Skips a loose line without octets: it is reported or counted.
+    fn skip(&mut self, line: &[u8])
+        ensures { printing_of self.new ≡ printing_of self.old }
+    {
+        if self.keeps_going {
+            report(self.alloc, line, &mut self.errors);
+        } else {
+            self.skipped = self.skipped.saturating_add(1);
+        }
+    }
+
+    /// Reports how many lines were skipped without a report, if any.
+    fn report_skipped(&mut self) {
+        let _ = match (self.skipped, self.printer.any()) {
+            (0, _) => Ok(()),
+            (1, true) => writeln!(self.errors, "skipped 1 line without a frame"),
+            (skipped, true) => writeln!(self.errors, "skipped {skipped} lines without a frame"),
+            (skipped, false) => writeln!(self.errors, "0 of {skipped} lines have a frame"),
+        };
     }
 }
 

@@ -17,7 +17,7 @@ pub(crate) fn named_or_by_kind(named: Option<Side>, octets: &[u8]) -> Option<Sid
 }
 
 /// The only side that may have sent these octets, if their kind and C/R bit name it.
-fn sender_by_kind(octets: &[u8]) -> Option<Side>
+pub(crate) fn sender_by_kind(octets: &[u8]) -> Option<Side>
     ensures { result ≡ sender_by_kind octets.now }
 {
     match octets {

@@ -1,5 +1,5 @@
 -- The meaning of the command line's words.
-use Rattle.std.specs.Prelude.{◌≡◌, false, None}
+use Rattle.std.specs.Prelude.{◌≡◌, false, None, []}
 use Rattle.lapd_frame.specs.declared.Side.TheVariants.{Network}
 use Rattle.lapd_frame.specs.declared.Sapi.TheVariants.{Call}
 use Rattle.lapd_link_definition.specs.declared.recovery.Recovery.TheVariants.{Enquiry}
@@ -7,6 +7,11 @@ use Rattle.lapd_link_definition.specs.Parameters.{Parameters}
 use Rattle.lapd_cli_values.specs.declared.link_end.LinkEnd.{LinkEnd}
 use Rattle.lapd_cli_options.specs.declared.invocation.Invocation.{Invocation}
 use Rattle.lapd_cli_options.specs.declared.invocation.Clock.TheVariants.{Script}
+use Rattle.lapd_cli_options.specs.declared.invocation.DecodeOptions.{DecodeOptions}
+use Rattle.lapd_cli_options.specs.declared.invocation.PrintedLayout.{PrintedLayout}
+use Rattle.lapd_cli_options.specs.declared.invocation.PrintedLayout.TheVariants.{Lines, Ladder, Picture}
+use Rattle.lapd_cli_options.specs.declared.invocation.PrintedTime.{PrintedTime}
+use Rattle.lapd_cli_options.specs.declared.invocation.PrintedTime.TheVariants.{Hidden, Absolute, Relative, Delta}
 use Rattle.lapd_cli_options.specs.declared.invocation.Job.{Job}
 use Rattle.lapd_cli_options.specs.declared.invocation.Job.TheVariants.{Answer}
 
@@ -28,7 +33,24 @@ IsDefaultJob job = ⊥
 pub record IsDefault (chosen : Invocation) : Type 0 where
   pub job : IsDefaultJob chosen.job
   pub address : chosen.address ≡ None
+  pub files : chosen.files.items ≡ []
   pub pcap : chosen.pcap ≡ None
   pub clock : chosen.clock ≡ Script
   pub json : chosen.json ≡ false
   pub strict : chosen.strict ≡ false
+
+-- the time of each frame in a drawing of a capture, if this one is requested
+abbrev pub drawn_time : PrintedTime → PrintedTime
+drawn_time Hidden = Relative
+drawn_time Absolute = Absolute
+drawn_time Relative = Relative
+drawn_time Delta = Delta
+
+-- the time of each frame of a capture, in this layout
+abbrev pub time_by : PrintedLayout → PrintedTime → PrintedTime
+time_by Lines time = time
+time_by Ladder time = drawn_time time
+time_by Picture time = drawn_time time
+
+abbrev pub time_in_capture : DecodeOptions → PrintedTime
+time_in_capture options = time_by options.layout options.time

@@ -238,10 +238,10 @@ Output of a line: nothing, or a line in one of these forms for each output, in o
   recovered N        the same for `recover`
 Timers are not printed, nor what the moves of `settle` and `recover` do.
 
-With --ladder a frame is printed when it arrives or is lost, as an arrow between the user at the left
-and the network at the right; a lost one ends in an X. Beside it are both ends after that: the state,
-and S, A and R with V(S), V(A) and V(R). The other lines are notes between the ends, except refusals
-and the last two lines, which do not change.
+With --ladder a frame is printed when it arrives or is lost, as an arrow between the user at the
+left and the network at the right; a lost one ends in an X. Beside it are both ends after that: the
+state, and S, A and R with V(S), V(A) and V(R). The other lines are notes between the ends, except
+refusals and the last two lines, which do not change.
 
 Refusals:
   P1 NothingThere    no such frame is on its way to this side
@@ -611,25 +611,31 @@ side:
 pub const DECODE: &str = "\
 `lapd --help` describes scripts and HEX, and lists the faults F1 to F7 and the exit statuses.
 
-Lines of the script:
+FILE is a capture or a text, by its first octets; without FILE and --pcap the text is standard
+input. Several files are decoded one by one, each after a line ==> FILE <==. The exit status is
+that of the first file that can't be read.
+
+Lines of a text:
   SIDE HEX  this side, user or net, sent these octets
 With --loose also, by the first of these forms that a line has:
   user 00 81 7f, net 0x00:0x81  in HEX spaces, tabs, colons, brackets and 0x are ignored
-  > [ 00 81 7f ]                libpri's own line: the side that --sender names sent these octets
+  > [ 00 81 7f ]                libpri's own line: the side that printed it sent these octets
   < [ 00 81 73 ]                the same: the other side sent these octets
   TEXT > [ 00 81 7f ] TEXT      the same in a log, as of Asterisk or FreeSWITCH; also with <
-  00000000: 0081 7f    TEXT     a hex dump of one line (xxd, tcpdump), sent by the --sender
-  0000  00 81 7f    TEXT        the same of Wireshark
-  00 81 7f                      HEX alone, sent by the --sender
+  00000000: 0081 7f    TEXT     a hex dump (xxd, tcpdump), of one line or several with the offset of
+                                each
+  0000  00 81 7f    TEXT        the same of Wireshark, hexdump -C or od -tx1
+  00 81 7f                      HEX alone
+Lines of no form are skipped with --loose, and their number is printed on standard error at the end.
 
-With --pcap no script is read. A capture is pcap or pcapng of link type 177 (LINUX_LAPD) or 203
-(LAPD), or GSMTAP over UDP in Ethernet or IPv4. Packets without LAPD are skipped. A line is printed
-before the program waits for the next packet, so FILE may be a pipe. A fault is reported with the
-place of its packet or block in the file, in octets from 0, and the exit status is 1. The line of a
-packet that was not captured to its end ends with [cut].
+A capture is pcap or pcapng of link type 177 (LINUX_LAPD) or 203 (LAPD), or GSMTAP over UDP in
+Ethernet, in IPv4 or in link type 113 or 276 (tcpdump -i any). Packets without LAPD are skipped. A
+line is printed before the program waits for the next packet, so FILE may be a pipe. A fault is
+reported with the place of its packet or block in the file, in octets from 0, and the exit status
+is 1. The line of a packet that was not captured to its end ends with [cut].
 
-If the capture does not name the sender of a frame, and --sender is absent, it is taken from the
-kind of the frame and its C/R bit. Of RR, RNR, REJ and XID frames these do not say it: the line
+If a capture or a loose line does not name the sender of a frame, and --sender is absent, it is
+taken from the kind of the frame and its C/R bit, and after > and < also from the lines before. Of RR, RNR, REJ and XID frames these do not say it: the line
 begins with ?>?, its role is ? and its last bit P/F. An object lacks direction and role, and has pf.
 --follow leaves such a frame out.
 
@@ -650,7 +656,7 @@ HEX. With --names a message of TEI management or of Q.931 follows, in words:
   bearer=speech channel=B2 cause=16 calling=5551234 called=200
                                     then these information elements, in the order of the message
 
-With --time a trace line begins with the time of its packet, in seconds with six digits after a
+With --time a trace line of a capture begins with the time of its packet, in seconds with six digits after a
 point, or with - if the capture does not have it. --sapi, --tei, --kinds and --no-polls choose the
 frames that are printed, by their octets; octets that lack what is requested are left out. --count
 ends the output after so many printed frames: no more packets are read, and lines are skipped. With
@@ -680,9 +686,9 @@ With --json a line is an object with these members, in the order of their names:
   info             \"HEX\", if it has octets
   message          with --names, the words above
   fault, octets    instead of all members but direction: \"F1 TooShort\" and \"HEX\"
-  cut              with --pcap, true if the packet was not captured to its end
-  packet           with --pcap, the number of the packet, from 1
-  time             with --pcap, if known: \"SECONDS\" since 1970, with six digits after a point
+  cut              of a capture, true if the packet was not captured to its end
+  packet           of a capture, the number of the packet, from 1
+  time             of a capture, if known: \"SECONDS\" since 1970, with six digits after a point
   remarks          with --follow, the last one: a list of objects with class, clause and text
 For example: {\"direction\":\"U>N\",\"frame\":\"SABME\",\"p\":1,\"role\":\"command\",\"sapi\":0,\"tei\":64}
 

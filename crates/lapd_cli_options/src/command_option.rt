@@ -1,8 +1,12 @@
 //! The options of a command, as arguments of the parser.
 
+use crate::help;
 use clap::{Arg, ArgAction};
 use lapd_cli_values::{AddressOption, NumberOption};
 use std::alloc::Global;
+
+/// The name of the files in the parser.
+pub(crate) const FILES: &str = "files";
 
 /// An option of a command.
 #[derive(Clone, Copy)]
@@ -11,6 +15,8 @@ pub(crate) enum CommandOption {
     Flag(&'static str, &'static str),
     /// An option with a file: its name and its help text.
     File(&'static str, &'static str),
+    /// Files without an option's name, of any number.
+    Files,
     /// An option with one of a few words.
     Word(WordOption),
     /// An option with one of a few words and no default.
@@ -50,6 +56,7 @@ pub(crate) fn arg_of<'a>(alloc: Global, option: &CommandOption) -> Arg<'a> {
     match option {
         CommandOption::Flag(name, help) => flag(alloc, name, help),
         CommandOption::File(name, help) => value_arg(alloc, name, "FILE", help),
+        CommandOption::Files => files_arg(alloc),
         CommandOption::Word(option) => word_arg(alloc, option),
         CommandOption::BareWord(option) => bare_word_arg(alloc, option),
         CommandOption::Words(option) => words_arg(alloc, option),
@@ -59,6 +66,15 @@ pub(crate) fn arg_of<'a>(alloc: Global, option: &CommandOption) -> Arg<'a> {
         CommandOption::Address(option) => address_arg(alloc, option),
         CommandOption::RequiredAddress(option) => address_arg(alloc, option).required(true),
     }
+}
+
+// Files, each a word without an option.
+fn files_arg<'a>(alloc: Global) -> Arg<'a> {
+    Arg::new(alloc, FILES)
+        .value_name("FILE")
+        .help(help::FILES)
+        .action(ArgAction::Append)
+        .num_args(0..)
 }
 
 // An option with this name and no value.

@@ -1,14 +1,17 @@
 //! The options of `decode`.
 
+use crate::command_option::FILES;
 use crate::command_options::side_named;
 use crate::invocation::{Color, DecodeOptions, FollowOptions, PrintedLayout, PrintedTime};
 use crate::no_invocation::NoInvocation;
 use crate::option_tables::KINDS;
+use crate::script_command::ScriptCommand;
 use clap::ArgMatches;
 use lapd_cli_values::{
     COUNT, FOLLOWED_K, Filter, NumberOption, PRINTED_SAPI, PRINTED_TEI, Side, number_written,
     window_written,
 };
+use std::alloc::Global;
 
 /// The options of `decode` among these.
 pub(crate) fn decode_of<'a>(given: &ArgMatches<'a>) -> Result<DecodeOptions, NoInvocation<'a>> {
@@ -102,27 +105,49 @@ fn window_of<'a>(given: &ArgMatches<'a>) -> Result<Option<u8>, NoInvocation<'a>>
     }
 }
 
-// The time of each frame. Without a capture there is none, and the option is refused. In a drawing
-// of a capture it is relative, unless another is requested.
+// The requested time of each frame. A script on standard input has none.
 fn time_of<'a>(given: &ArgMatches<'a>) -> Result<PrintedTime, NoInvocation<'a>> {
     let time = match given.get_str("time") {
         Some("absolute") => PrintedTime::Absolute,
         Some("relative") => PrintedTime::Relative,
         Some("delta") => PrintedTime::Delta,
-        _ => return Ok(hidden_or_relative(given)),
+        _ => return Ok(PrintedTime::Hidden),
     };
-    match given.get_str("pcap") {
-        Some(_) => Ok(time),
-        None => Err(NoInvocation::NotCaptured("time")),
+    if given.get_str("pcap").is_some() || has_files(given) {
+        Ok(time)
+    } else {
+        Err(NoInvocation::NotCaptured("time"))
     }
 }
 
-// The time if none is requested.
-fn hidden_or_relative(given: &ArgMatches<'_>) -> PrintedTime {
-    if is_drawn(given) && given.get_str("pcap").is_some() {
-        PrintedTime::Relative
-    } else {
-        PrintedTime::Hidden
+// Whether there are files among these words.
+fn has_files(given: &ArgMatches<'_>) -> bool {
+    match given.get_strs(FILES) {
+        Some(files) => !files.is_empty(),
+        None => false,
+    }
+}
+
+/// The files of this command.
+pub(crate) fn files_of<'a>(
+    alloc: Global,
+    command: ScriptCommand,
+    given: &ArgMatches<'a>,
+) -> Result<Vec<&'a str>, NoInvocation<'a>> {
+    let mut files = Vec::new(alloc);
+    if command != ScriptCommand::Decode {
+        return Ok(files);
+    }
+    let named = given.get_strs(FILES).unwrap_or(&[]);
+    if !named.is_empty() && given.get_str("pcap").is_some() {
+        return Err(NoInvocation::PcapAndFile);
+    }
+    if named.len() > 1 && given.get_str("svg").is_some() {
+        return Err(NoInvocation::OneFile("svg"));
+    }
+    match files.extend_from_slice(named) {
+        Ok(()) => Ok(files),
+        Err(_) => Err(NoInvocation::Memory),
     }
 }
 

@@ -1,6 +1,8 @@
-ghost use Rattle.lapd_cli_options.specs.CommandLine.{IsDefault};
+ghost use Rattle.std.specs.Prelude.{◌≡◌};
+ghost use Rattle.lapd_cli_options.specs.CommandLine.{IsDefault, time_in_capture};
 
 use lapd_cli_values::{Filter, Interface, LinkEnd, Params, Sapi, Side, Tei};
+use std::alloc::Global;
 
 /// The meaning of the program's words.
 #[derive(Drop)]
@@ -9,6 +11,8 @@ pub struct Invocation<'a> {
     pub job: Job,
     /// The address and port of `net` or `user`, unchanged from the command line.
     pub address: Option<&'a str>,
+    /// The files of `decode`, unchanged from the command line. If there are any, `pcap` is `None`.
+    pub files: Vec<&'a str>,
     /// The file of `decode --pcap`, unchanged from the command line.
     pub pcap: Option<&'a str>,
     /// The file of `decode --svg`, unchanged from the command line.
@@ -103,7 +107,7 @@ pub struct DecodeOptions {
     pub keep_going: bool,
     /// How the links are followed; `None` if they are not.
     pub follow: Option<FollowOptions>,
-    /// The time before each trace line of a capture.
+    /// The requested time before each trace line of a capture.
     pub time: PrintedTime,
     /// After how many printed frames the output ends, at least 1; never if `None`.
     pub count: Option<u64>,
@@ -158,9 +162,22 @@ pub struct FollowOptions {
     pub k: Option<u8>,
 }
 
+impl DecodeOptions {
+    /// The time of each frame of a capture: in a drawing it is relative if none is requested.
+    pub fn time_in_capture(self) -> PrintedTime
+        ensures { result ≡ time_in_capture self }
+    {
+        match (self.layout, self.time) {
+            (PrintedLayout::Lines, time) => time,
+            (_, PrintedTime::Hidden) => PrintedTime::Relative,
+            (_, time) => time,
+        }
+    }
+}
+
 impl Invocation<'_> {
     /// The job of the program without words.
-    pub(crate) fn by_no_word() -> Invocation<'static>
+    pub(crate) fn by_no_word(alloc: Global) -> Invocation<'static>
         ensures { IsDefault result }
     {
         let end = LinkEnd {
@@ -172,6 +189,7 @@ impl Invocation<'_> {
         Invocation {
             job: Job::Answer(end),
             address: None,
+            files: Vec::new(alloc),
             pcap: None,
             svg: None,
             clock: Clock::Script,

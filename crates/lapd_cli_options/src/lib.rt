@@ -23,6 +23,7 @@ mod script_command;
 use clap::{ArgMatches, Command};
 use clock_options::clock_of;
 use command_options::{address_of, job_of, pcap_of, prints_json, svg_of};
+use decode_options::files_of;
 pub use invocation::{
     Clock, Color, DecodeOptions, FollowOptions, Invocation, Job, LiveOptions, PrintedLayout,
     PrintedTime,
@@ -45,8 +46,8 @@ use std::convert::AsStr;
 /// # Errors
 ///
 /// - `Shown` if the words request help or the version;
-/// - `Refused`, `OutOfRange`, `NotReal`, `NotFollowed`, `NotCaptured`, `NotBoth`, `NotKinds` or
-///   `OneTerminal` if they are not valid;
+/// - `Refused`, `OutOfRange`, `NotReal`, `NotFollowed`, `NotCaptured`, `PcapAndFile`, `OneFile`,
+///   `NotBoth`, `NotKinds` or `OneTerminal` if they are not valid;
 /// - `Memory` if an allocation fails.
 pub fn parse_words<'a, S: AsStr>(
     alloc: Global,
@@ -55,7 +56,7 @@ pub fn parse_words<'a, S: AsStr>(
     ensures { length words.now < 2 → IsOkAnd result (λ chosen. IsDefault chosen) }
 {
     if words.len() < 2 {
-        return Ok(Invocation::by_no_word());
+        return Ok(Invocation::by_no_word(alloc));
     }
     match program(alloc) {
         Ok(mut program) => invocation_of(alloc, &mut program, words),
@@ -83,7 +84,9 @@ fn invocation_by<'a>(
 ) -> Result<Invocation<'a>, NoInvocation<'a>> {
     match matches.subcommand() {
         Some((name, given)) => match ScriptCommand::named(name) {
-            Some(command) => invocation_with(job_of(alloc, command, given)?, command, given),
+            Some(command) => {
+                invocation_with(alloc, job_of(alloc, command, given)?, command, given)
+            },
             None => Err(unknown_command(alloc, program, name)),
         },
         None => Err(unknown_command(alloc, program, "")),
@@ -92,6 +95,7 @@ fn invocation_by<'a>(
 
 // The settings of this command, with its job.
 fn invocation_with<'a>(
+    alloc: Global,
     job: Job,
     command: ScriptCommand,
     given: &ArgMatches<'a>,
@@ -100,6 +104,7 @@ fn invocation_with<'a>(
     Ok(Invocation {
         job,
         address: address_of(command, given),
+        files: files_of(alloc, command, given)?,
         pcap: pcap_of(command, given),
         svg: svg_of(command, given),
         clock,

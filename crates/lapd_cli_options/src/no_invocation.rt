@@ -12,7 +12,7 @@ pub enum NoInvocation<'a> {
     Shown(String),
     /// The parser refuses them, for the reason in this text. The text is for standard error, and
     /// the exit status is 2, as for `OutOfRange`, `NotReal`, `NotFollowed`, `NotCaptured`,
-    /// `NotBoth`, `NotKinds` and `OneTerminal`.
+    /// `PcapAndFile`, `OneFile`, `NotBoth`, `NotKinds` and `OneTerminal`.
     Refused(String),
     /// A number that is not in the range of its option.
     OutOfRange(OutOfRange<'a>),
@@ -21,8 +21,12 @@ pub enum NoInvocation<'a> {
     NotReal(&'static str),
     /// The option with this name, without the hyphens, requires `--follow`, which is absent.
     NotFollowed(&'static str),
-    /// The option with this name, without the hyphens, requires `--pcap`, which is absent.
+    /// The option with this name, without the hyphens, requires a capture, and there is no file.
     NotCaptured(&'static str),
+    /// `--pcap` is present, and files besides.
+    PcapAndFile,
+    /// The option with this name, without the hyphens, is present, and more than one file.
+    OneFile(&'static str),
     /// The value of `--kinds` is not a list of `i`, `s` and `u`.
     NotKinds(&'a str),
     /// The options with these names, without the hyphens, exclude each other.
@@ -46,8 +50,17 @@ impl fmt::Display for NoInvocation<'_> {
                 writeln!(f, "error: --{option} requires --follow")
             }
             NoInvocation::NotCaptured(option) => {
-                writeln!(f, "error: --{option} requires --pcap")
+                writeln!(
+                    f,
+                    "error: --{option} requires a capture: --pcap FILE, or FILE"
+                )
             }
+            NoInvocation::PcapAndFile => {
+                f.write_str(
+                    "error: --pcap cannot be used with FILE; without --pcap, FILE may be a capture\n",
+                )
+            }
+            NoInvocation::OneFile(option) => { writeln!(f, "error: --{option} takes one FILE") }
             NoInvocation::NotKinds(kinds) => writeln!(
                 f,
                 "error: invalid value '{kinds}' for '--kinds <KINDS>': not a list of i, s and u"

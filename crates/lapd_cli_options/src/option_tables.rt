@@ -67,6 +67,7 @@ pub(crate) const USER: &[&[CommandOption]] = &[
 pub(crate) const DECODE: &[&[CommandOption]] = &[
     EACH,
     &[
+        CommandOption::Files,
         CommandOption::Flag("loose", help::LOOSE),
         CommandOption::BareWord(SENDER),
         CommandOption::Flag("names", help::NAMES),
@@ -140,10 +141,11 @@ const SIDE: WordOption = WordOption {
     default: "net",
 };
 
-/// The sender that `decode` assumes. For lines it is the default.
+/// The sender that `decode` assumes. There is no default.
 const SENDER: WordOption = WordOption {
     name: "sender",
     help: help::SENDER,
+    default: "",
     ..SIDE
 };
 

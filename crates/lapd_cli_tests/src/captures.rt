@@ -3,6 +3,7 @@
 
 mod chosen;
 mod colors;
+mod dumps;
 mod followed;
 mod kinds;
 mod lines;

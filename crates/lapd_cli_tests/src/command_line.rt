@@ -19,7 +19,8 @@ use std::test::Fail;
 /// - for an interface: the same for SAPI 0 and for SAPI 16, T200 to T203, whether SAPI 16 is
 ///   served, the seed (`-` without one), and the TEIs;
 /// - for `decode`: whether links are followed and their window, the time, the count, the sender,
-///   whether SAPIs are not checked, the colors, and the frames that are printed if not all are;
+///   whether SAPIs are not checked, the colors, the frames that are printed if not all are, and
+///   the files;
 /// - for the real clock: the number of terminals, the file, the address of GSMTAP and the other
 ///   flags.
 const ROWS: &str = "\
@@ -68,10 +69,14 @@ lapd decode --follow --strict => decode follow strict
 lapd decode --k 127 --follow => decode follow 127
 lapd decode --ladder => decode follow ladder
 lapd decode --ladder --follow --k 7 => decode follow 7 ladder
-lapd decode --ladder --pcap a --sender user => decode follow ladder relative from user
+lapd decode --ladder --pcap a --sender user => decode follow ladder from user
 lapd decode --ladder --pcap a --time absolute => decode follow ladder absolute
 lapd decode --svg b => decode follow picture
-lapd decode --pcap a --svg=b --count 2 => decode follow picture relative count 2
+lapd decode --pcap a --svg=b --count 2 => decode follow picture count 2
+lapd decode a => decode of a
+lapd decode a - --follow b => decode follow of a - b
+lapd decode --time delta a --svg b => decode follow picture delta of a
+lapd decode -- --follow => decode of --follow
 lapd decode --time none --kinds i,s,u => decode
 lapd decode --time absolute --pcap a => decode absolute
 lapd decode --time=relative --pcap=a => decode relative
@@ -144,7 +149,6 @@ lapd net --listen a:1 --clock other => refused
 lapd answer --clock real => refused
 lapd decode --side user => refused
 lapd decode --follow --follow => refused
-lapd decode more => refused
 lapd decode --time now => refused
 lapd decode --time => refused
 lapd decode --sender both => refused
@@ -203,7 +207,9 @@ lapd loop --n200 101 => error: invalid value '101' for '--n200 <TIMES>': not a n
 lapd bus --terminals 0 => error: invalid value '0' for '--terminals <TERMINALS>': not a number from 1 to 127 in decimal digits~
 lapd bus --terminals 128 => error: invalid value '128' for '--terminals <TERMINALS>': not a number from 1 to 127 in decimal digits~
 lapd decode --k 3 => error: --k requires --follow~
-lapd decode --time delta => error: --time requires --pcap~
+lapd decode --time delta => error: --time requires a capture: --pcap FILE, or FILE~
+lapd decode --pcap a b => error: --pcap cannot be used with FILE; without --pcap, FILE may be a capture~
+lapd decode a b --svg c => error: --svg takes one FILE~
 lapd decode --ladder --json => error: --ladder cannot be used with --json~
 lapd decode --svg a --json => error: --svg cannot be used with --json~
 lapd decode --ladder --any-sapi => error: --ladder cannot be used with --any-sapi~
@@ -292,6 +298,7 @@ fn show(text: &mut String, chosen: &Invocation<'_>) {
     if let Some(address) = chosen.address {
         let _ = write!(text, " at {address}");
     }
+    show_files(text, chosen.files.as_slice());
     if let Clock::Real(options) = &chosen.clock {
         let (pcap, gsmtap) = (options.pcap.unwrap_or("-"), options.gsmtap.unwrap_or("-"));
         let _ = write!(text, " real {} {pcap} {gsmtap}", options.terminals);
@@ -308,6 +315,15 @@ fn show(text: &mut String, chosen: &Invocation<'_>) {
     }
     let _ = text.push_str(if chosen.json { " json" } else { "" });
     let _ = text.push_str(if chosen.strict { " strict" } else { "" });
+}
+
+fn show_files(text: &mut String, files: &[&str]) {
+    if !files.is_empty() {
+        let _ = text.push_str(" of");
+    }
+    for file in files {
+        let _ = write!(text, " {file}");
+    }
 }
 
 fn show_job(text: &mut String, job: &Job) {

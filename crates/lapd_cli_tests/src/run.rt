@@ -70,7 +70,6 @@ fn do_decode<R: Read, W: Write>(
     out: &mut W,
     options: DecodeOptions,
 ) -> Result<(), ScriptFault> {
-    let form = LineForm::Strict;
     let style = match (options.json, options.names) {
         (true, _) => Style::Json,
         (false, true) => Style::Named,
@@ -83,11 +82,11 @@ fn do_decode<R: Read, W: Write>(
     {
         return match style {
             Style::Plain => decode(alloc, script, out),
-            style => decode_lines(alloc, script, out, form, style),
+            style => decode_lines(alloc, script, out, style),
         };
     }
     let how = LinesStyle {
-        form,
+        form: LineForm::Strict,
         frames: FrameStyle {
             layout: match options.layout {
                 PrintedLayout::Lines => Layout::Lines,

@@ -25,5 +25,7 @@ pub const CONNECT: AddressOption = AddressOption {
 /// The address to which frames are sent as GSMTAP.
 pub const GSMTAP: AddressOption = AddressOption {
     name: "gsmtap",
-    help: "With --clock real, sends each frame as GSMTAP over UDP to this address, such as 127.0.0.1:4729",
+    help: "\
+With --clock real, sends each frame as GSMTAP over UDP to this address, such as
+127.0.0.1:4729",
 };

@@ -66,7 +66,9 @@ pub const TERMINALS: NumberOption = NumberOption {
 pub const CONNECTED_TERMINALS: NumberOption = NumberOption {
     name: "terminals",
     value_name: "TERMINALS",
-    help: "With --clock real, the number of connections that are accepted, each of a terminal on the bus, 1 to 127 [default: 1]",
+    help: "\
+With --clock real, the number of connections that are accepted, each of a terminal
+on the bus, 1 to 127 [default: 1]",
     default: "",
     least: 1,
     most: 127,
@@ -77,7 +79,9 @@ pub const CONNECTED_TERMINALS: NumberOption = NumberOption {
 pub const IDLE_LIMIT: NumberOption = NumberOption {
     name: "idle-limit",
     value_name: "MS",
-    help: "With --terminals above 1, closes a connection that has sent no whole frame for this many milliseconds, 1 to 3600000",
+    help: "\
+With --terminals above 1, closes a connection that has sent no whole frame for this
+many milliseconds, 1 to 3600000",
     default: "",
     least: 1,
     most: 3_600_000,
@@ -119,7 +123,9 @@ pub const FIXED_TEI: NumberOption = NumberOption {
 pub const LINKS_K: NumberOption = NumberOption {
     name: "k",
     value_name: "FRAMES",
-    help: "The most outstanding I frames of a link, the window k, 1 to 127 [default: 1 for SAPI 0 and 3 for SAPI 16; with --pri 7]",
+    help: "\
+The most outstanding I frames of a link, the window k, 1 to 127 [default: 1 for SAPI
+0 and 3 for SAPI 16; with --pri 7]",
     default: "",
     least: 1,
     most: 127,
@@ -140,7 +146,9 @@ pub const FOLLOWED_K: NumberOption = NumberOption {
 pub const COUNT: NumberOption = NumberOption {
     name: "count",
     value_name: "FRAMES",
-    help: "Ends after this many frames were printed, 1 to 18446744073709551615; if absent, at the end of the input",
+    help: "\
+Ends after this many frames were printed, 1 to 18446744073709551615; if absent, at
+the end of the input",
     default: "",
     least: 1,
     most: 18_446_744_073_709_551_615,
@@ -180,7 +188,9 @@ pub const T200: NumberOption = NumberOption {
 pub const T201: NumberOption = NumberOption {
     name: "t201",
     value_name: "MS",
-    help: "How long T201 of the network side runs before a TEI is checked again, in milliseconds, 1 to 3600000",
+    help: "\
+How long T201 of the network side runs before a TEI is checked again, in
+milliseconds, 1 to 3600000",
     default: "1000",
     least: 1,
     most: 3_600_000,
@@ -190,7 +200,9 @@ pub const T201: NumberOption = NumberOption {
 pub const T202: NumberOption = NumberOption {
     name: "t202",
     value_name: "MS",
-    help: "How long T202 of the user side runs before a TEI is requested again, in milliseconds, 1 to 3600000",
+    help: "\
+How long T202 of the user side runs before a TEI is requested again, in
+milliseconds, 1 to 3600000",
     default: "2000",
     least: 1,
     most: 3_600_000,
@@ -200,7 +212,9 @@ pub const T202: NumberOption = NumberOption {
 pub const T203: NumberOption = NumberOption {
     name: "t203",
     value_name: "MS",
-    help: "How long T203 runs on an idle link before an enquiry is sent, in milliseconds, 1 to 3600000",
+    help: "\
+How long T203 runs on an idle link before an enquiry is sent, in milliseconds, 1 to
+3600000",
     default: "10000",
     least: 1,
     most: 3_600_000,
@@ -211,7 +225,9 @@ pub const T203: NumberOption = NumberOption {
 pub const SEED: NumberOption = NumberOption {
     name: "seed",
     value_name: "NUMBER",
-    help: "The seed of the user side's references of TEI management, 0 to 18446744073709551615 [default: 921; with --clock real drawn from the system]",
+    help: "\
+The seed of the user side's references of TEI management, 0 to 18446744073709551615
+[default: 921; with --clock real drawn from the system]",
     default: "",
     least: 0,
     most: 18_446_744_073_709_551_615,

@@ -224,7 +224,7 @@ fn follow_loose(
     reported: &mut Vec<u8>,
 ) -> Result<bool, ScriptFault> {
     let how = LinesStyle {
-        form: LineForm::Loose(Side::User),
+        form: LineForm::Loose(Some(Side::User)),
         frames: FrameStyle::PLAIN,
         keeps_going: true,
         follow: Some(Follow { k: None }),

@@ -1,7 +1,7 @@
 //! Messages in words, as `decode --names` prints them.
 
 use crate::captures::lines::rows_hold;
-use lapd_cli_decode::{LineForm, Style};
+use lapd_cli_decode::Style;
 use std::test::Fail;
 
 // A line, and its trace line. tshark 4.0.17 shows the same elements. In this order: SETUP with a
@@ -32,5 +32,5 @@ user 008100000801010504038090a39e70028131|U>N SAPI 0 TEI 64 C I N(S)=0 N(R)=0 P=
 
 #[test]
 fn messages_are_named(rt: HostRuntime) -> Result<(), Fail> {
-    rows_hold(rt.alloc(), MESSAGES, LineForm::Strict, Style::Named)
+    rows_hold(rt.alloc(), MESSAGES, Style::Named)
 }

@@ -1,7 +1,7 @@
 //! JSON objects for octets, as in docs/CLI.md.
 
 use crate::captures::lines::rows_hold;
-use lapd_cli_decode::{LineForm, Style};
+use lapd_cli_decode::Style;
 use std::test::Fail;
 
 // A line, and its object.
@@ -31,6 +31,6 @@ net 04817f|{"direction":"N>U","fault":"F3 SapiNotServed","octets":"04817f"}"#;
 
 #[test]
 fn objects_are_printed(rt: HostRuntime) -> Result<(), Fail> {
-    rows_hold(rt.alloc(), OBJECTS, LineForm::Strict, Style::Json)?;
-    rows_hold(rt.alloc(), NAMED, LineForm::Strict, Style::NamedJson)
+    rows_hold(rt.alloc(), OBJECTS, Style::Json)?;
+    rows_hold(rt.alloc(), NAMED, Style::NamedJson)
 }

@@ -112,7 +112,7 @@ const PICTURED_CAPTURE: &str =
     "d4c3b2a102000400000000000000000000000400cb00000001000000d0070000040000000400000000810102";
 
 const PICTURE: &str =
-    r##"<style>svg{height:1000px}</style><g transform="translate(0 0000)"><path d="M0 0H940V1000H0Z" class="page"/><text x="60" y="40" class="end">packet</text><text x="190" y="40" class="end">time</text><text x="310" y="40" class="middle">user</text><text x="810" y="40" class="middle">network</text><text x="470" y="990" class="middle">1</text></g>~<g transform="translate(0 0000)"><g transform="translate(0 80)"><path d="M310-20v36M810-20v36M326 0H794"/><text x="315" y="4">?</text><text x="798" y="4">?</text><text x="60" class="end">1</text><text x="190" class="end"></text><text x="300" class="end"></text><text x="820"></text><text x="560" y="-5" class="middle">0 64 RR N(R)=1 P/F=0</text><text x="560" y="12" class="middle note"></text></g></g>"##;
+    r##"<style>svg{height:1000px}</style><g transform="translate(0 0000)"><rect width="940" height="1000" class="page"/><text x="60" y="40" class="end">packet</text><text x="190" y="40" class="end">time</text><text x="310" y="40" class="middle">user</text><text x="810" y="40" class="middle">network</text><text x="470" y="990" class="middle">1</text></g>~<g transform="translate(0 0000)"><g transform="translate(0 80)"><path d="M310-20v36M810-20v36M326 0H794"/><text x="315" y="4">?</text><text x="798" y="4">?</text><text x="60" class="end">1</text><text x="190" class="end"></text><text x="300" class="end"></text><text x="820"></text><text x="560" y="-5" class="middle">0 64 RR N(R)=1 P/F=0</text><text x="560" y="12" class="middle note"></text></g></g>"##;
 
 #[test]
 fn frames_of_unknown_senders_are_lines_without_heads(rt: HostRuntime) -> Result<(), Fail> {
