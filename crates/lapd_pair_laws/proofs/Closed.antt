@@ -5,7 +5,7 @@ use Rattle.lapd_link_definition.specs.declared.state.State.{State}
 use Rattle.lapd_link_definition.specs.declared.state.State.TheVariants.{TeiAssigned, AwaitingEstablishment, AwaitingRelease, MultipleFrameEstablished, TimerRecovery}
 use Rattle.lapd_link_definition.specs.EndOfStep.{is_7_or_8}
 use Rattle.lapd_pair_laws.specs.Histories.{Receipt}
-use Rattle.lapd_pair_laws.specs.Kinds.{Message, Kind, Numbered, Status, Rejection, Enquiry, Final, Asks, Accepts, Refuses, Unnumbered, message_of, messages, number_of, numbers, rejection_of, rejections, tally, ask_of, answer_of, poll_of, final_of, foreign_of, is_acceptance}
+use Rattle.lapd_pair_laws.specs.Kinds.{Message, Kind, Asks, Accepts, Refuses, Unnumbered, message_of, messages, number_of, numbers, rejection_of, rejections, tally, ask_of, answer_of, poll_of, final_of, foreign_of, is_acceptance}
 use Rattle.lapd_pair_laws.specs.Parties.{Sender, Receiver, Party, Reception, behind, behind_acceptance, reception_now, next_reception, received_in, receives, OnReception, frames_received}
 use Rattle.lapd_pair_laws.specs.Conjuncts.{IsConsistentSender, is_holding, IsPlaced, IsStream, AreAcknowledging, AreAsked, AreRejected, IsReceivable, NoneBehindAsk, IsExchange, most_asks}
 use Rattle.lapd_pair_laws.specs.Invariant.{Both}
@@ -58,44 +58,22 @@ unnumbered_is_quiet = record { no_acceptance = refl; no_message = refl; no_numbe
 pub unsaid_polls : (ks : List Kind) → numbers ks ≡ [] → tally poll_of ks ≡ 0
 unsaid_polls [] none = refl
 unsaid_polls (Asks ∷ ks) none = let rest = unsaid_polls ks none in omega (arith, rest)
-unsaid_polls (Accepts ∷ ks) none = let rest = unsaid_polls ks none in omega (arith, rest)
-unsaid_polls (Numbered m nr ∷ ks) none = cc
-unsaid_polls (Status nr ∷ ks) none = cc
-unsaid_polls (Rejection nr ∷ ks) none = cc
-unsaid_polls (Enquiry nr ∷ ks) none = cc
-unsaid_polls (Final nr ∷ ks) none = cc
-unsaid_polls (k ∷ ks) none = let rest = unsaid_polls ks none in omega (arith, rest)
+unsaid_polls (k ∷ ks) none = first_of (cc, grind (arith, unsaid_polls ks))
 
 pub unsaid_finals : (ks : List Kind) → numbers ks ≡ [] → tally final_of ks ≡ 0
 unsaid_finals [] none = refl
 unsaid_finals (Asks ∷ ks) none = let rest = unsaid_finals ks none in omega (arith, rest)
-unsaid_finals (Accepts ∷ ks) none = let rest = unsaid_finals ks none in omega (arith, rest)
-unsaid_finals (Numbered m nr ∷ ks) none = cc
-unsaid_finals (Status nr ∷ ks) none = cc
-unsaid_finals (Rejection nr ∷ ks) none = cc
-unsaid_finals (Enquiry nr ∷ ks) none = cc
-unsaid_finals (Final nr ∷ ks) none = cc
-unsaid_finals (k ∷ ks) none = let rest = unsaid_finals ks none in omega (arith, rest)
+unsaid_finals (k ∷ ks) none = first_of (cc, grind (arith, unsaid_finals ks))
 
 pub unsaid_messages : (ks : List Kind) → numbers ks ≡ [] → messages ks ≡ []
 unsaid_messages [] none = refl
 unsaid_messages (Asks ∷ ks) none = unsaid_messages ks none
-unsaid_messages (Numbered m nr ∷ ks) none = cc
-unsaid_messages (Status nr ∷ ks) none = cc
-unsaid_messages (Rejection nr ∷ ks) none = cc
-unsaid_messages (Enquiry nr ∷ ks) none = cc
-unsaid_messages (Final nr ∷ ks) none = cc
-unsaid_messages (k ∷ ks) none = unsaid_messages ks none
+unsaid_messages (k ∷ ks) none = first_of (cc, search (unsaid_messages ks))
 
 pub unsaid_rejections : (ks : List Kind) → numbers ks ≡ [] → rejections ks ≡ []
 unsaid_rejections [] none = refl
 unsaid_rejections (Asks ∷ ks) none = unsaid_rejections ks none
-unsaid_rejections (Numbered m nr ∷ ks) none = cc
-unsaid_rejections (Status nr ∷ ks) none = cc
-unsaid_rejections (Rejection nr ∷ ks) none = cc
-unsaid_rejections (Enquiry nr ∷ ks) none = cc
-unsaid_rejections (Final nr ∷ ks) none = cc
-unsaid_rejections (k ∷ ks) none = unsaid_rejections ks none
+unsaid_rejections (k ∷ ks) none = first_of (cc, search (unsaid_rejections ks))
 
 -- if no N(R) is on the line, none is to be processed
 received_part_nothing : (state : State) (leaving : Bool) (now : Reception) (ks : List Kind) → numbers now.frames ≡ [] → numbers ks ≡ [] → numbers (frames_received (received_in state leaving now ks)) ≡ []

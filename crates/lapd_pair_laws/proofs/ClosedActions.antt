@@ -10,7 +10,7 @@ use Rattle.lapd_frame.specs.declared.Control.TheVariants.{Sabme}
 use Rattle.lapd_mod128.specs.Counting.{Whole}
 use Rattle.lapd_supervision.specs.StateVariables.{without_exceptions}
 use Rattle.lapd_link_definition.specs.declared.state.State.{State}
-use Rattle.lapd_link_definition.specs.declared.state.State.TheVariants.{TeiAssigned, AwaitingEstablishment, AwaitingRelease, MultipleFrameEstablished, TimerRecovery}
+use Rattle.lapd_link_definition.specs.declared.state.State.TheVariants.{AwaitingEstablishment, MultipleFrameEstablished}
 use Rattle.lapd_link_definition.specs.declared.out.Out.{Out}
 use Rattle.lapd_link_definition.specs.declared.out.Out.TheVariants.{Send, Start, Stop, Dropped}
 use Rattle.lapd_link_definition.specs.EndOfStep.{is_7_or_8, is_established, may_send_next, acknowledge_pending, end_step}
@@ -168,11 +168,8 @@ seems_reestablish c s p l w = seems_establish c (layer3_initiated_to false s) (r
 -- ---- The end of a step that leaves the side closed.
 
 pub not_established : (state : State) → is_7_or_8 state ≡ false → is_established state ≡ false
-not_established TeiAssigned closed = refl
-not_established AwaitingEstablishment closed = refl
-not_established AwaitingRelease closed = refl
 not_established MultipleFrameEstablished closed = cc
-not_established TimerRecovery closed = cc
+not_established state closed = refl
 
 none_sent : (s : StepState) → is_7_or_8 s.end.state ≡ false → may_send_next Whole s ≡ false
 none_sent s closed = rw (not_established s.end.state closed) refl

@@ -69,11 +69,9 @@ module _ (x y : Party) (out back back_was : List Kind) (state : State) (asked le
 -- ---- It answers the SABME or DISC in hand.
 
 asker_closed : (state : State) (n : ℕ) → 1 + n ≤ most_asks state → is_7_or_8 state ≡ false
-asker_closed TeiAssigned n one = refl
-asker_closed AwaitingEstablishment n one = refl
-asker_closed AwaitingRelease n one = refl
 asker_closed MultipleFrameEstablished n one = absurd (omega (arith, one))
 asker_closed TimerRecovery n one = absurd (omega (arith, one))
+asker_closed state n one = refl
 
 pub most_is_one : (state : State) → most_asks state ≤ 1
 most_is_one TeiAssigned = omega arith

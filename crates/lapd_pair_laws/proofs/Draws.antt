@@ -1,5 +1,5 @@
 -- The effects of the state table's actions on the remaining work, in mid-step.
-use Rattle.std.proofs.Common.{◌≡◌, ◌⊎◌, inl, inr, ℕ, ◌+◌, ◌-◌, ◌<◌, ◌≤◌, if◌then◌else◌, Bool, true, false, List, [], ◌∷◌, ◌++◌, length, length-append, Some, None, refl, sym, ap, subst, ◌∙◌, arith}
+use Rattle.std.proofs.Common.{◌≡◌, ◌⊎◌, inl, inr, ℕ, ◌+◌, ◌-◌, ◌<◌, ◌≤◌, if◌then◌else◌, Bool, true, false, List, [], ◌∷◌, ◌++◌, length-append, Some, None, refl, sym, ap, subst, ◌∙◌, arith}
 use Rattle.lapd_frame.specs.declared.Role.TheVariants.{Answer}
 use Rattle.lapd_frame.specs.declared.Control.{Control}
 use Rattle.lapd_frame.specs.declared.Control.TheVariants.{I, Rr, Rnr, Rej}
@@ -59,9 +59,6 @@ pub record Draws (c : Context) (peer : End) (ks : List Kind) (n : ℕ) (s : Step
   pub ready : AreReady frames
 
 -- ---- A Status in hand is the rest of a frame.
-
-less_one : (out ks : List Kind) (a b n : ℕ) → length out + (1 + length ks) + a + b ≤ n → length out + length ks + a + b ≤ n - 1
-less_one out ks a b n most = omega (arith, most)
 
 -- An answer is appended to the frames in transit, and the other stream is lighter by one.
 pub flow_replied : (x z y : End) (k u : Kind) (nr : ℕ) (ks out : List Kind) (n : ℕ) → source z ≡ source x

@@ -1,7 +1,7 @@
 -- Facts from the invariant about an open side and its open peer, while a frame is in hand.
 use Rattle.std.proofs.Common.{◌≡◌, inl, inr, ℕ, zero, suc, ◌+◌, ◌<◌, ◌≤◌, Bool, true, false, List, [], ◌∷◌, Some, refl, sym, subst, arith}
 use Rattle.lapd_link_definition.specs.declared.state.State.{State}
-use Rattle.lapd_link_definition.specs.declared.state.State.TheVariants.{TeiAssigned, AwaitingEstablishment, AwaitingRelease, MultipleFrameEstablished, TimerRecovery}
+use Rattle.lapd_link_definition.specs.declared.state.State.TheVariants.{MultipleFrameEstablished, TimerRecovery}
 use Rattle.lapd_link_definition.specs.EndOfStep.{is_7_or_8}
 use Rattle.lapd_pair_laws.specs.Histories.{Receipt}
 use Rattle.lapd_pair_laws.specs.Kinds.{Message, Kind, Numbered, Status, Rejection, Final, messages, numbers, rejections, tally, poll_of, final_of}
@@ -37,11 +37,9 @@ taken_below {x = x} {y = y} m nr ks is mid =
 -- ---- A poll in hand.
 
 polled_so : (state : State) (base : ℕ) (received : List Receipt) (k : Kind) (ks out : List Kind) → is_7_or_8 state ≡ true → poll_of k ≡ 1 → AreAsked state base received (k ∷ ks) out → (state ≡ TimerRecovery) × (tally final_of out ≡ 0)
-polled_so TeiAssigned base received k ks out opened poll a = cc
-polled_so AwaitingEstablishment base received k ks out opened poll a = cc
-polled_so AwaitingRelease base received k ks out opened poll a = cc
 polled_so MultipleFrameEstablished base received k ks out opened poll a = absurd (omega (arith, a.polls, poll))
 polled_so TimerRecovery base received k ks out opened poll a = (refl, omega (arith, a.one, poll))
+polled_so state base received k ks out opened poll a = cc
 
 pub polled_by_8 : {x y : Party} {out : List Kind} (k : Kind) (ks : List Kind) → poll_of k ≡ 1 → is_7_or_8 y.state ≡ true → Mid x y out (k ∷ ks) → (y.state ≡ TimerRecovery) × (tally final_of out ≡ 0)
 polled_by_8 {x = x} {y = y} {out = out} k ks poll opened m = polled_so y.state y.sends.base x.takes.received k ks out opened poll (received_open opened m).asked

@@ -62,16 +62,12 @@ open_consistent AwaitingRelease asked leaving s opened n = cc
 pub open_holds : (state : State) (asked leaving : Bool) → is_7_or_8 state ≡ true → is_holding state asked leaving ≡ true
 open_holds MultipleFrameEstablished asked leaving opened = refl
 open_holds TimerRecovery asked leaving opened = refl
-open_holds TeiAssigned asked leaving opened = cc
-open_holds AwaitingEstablishment asked leaving opened = cc
-open_holds AwaitingRelease asked leaving opened = cc
+open_holds state asked leaving opened = cc
 
 pub open_asks_none : (state : State) → is_7_or_8 state ≡ true → most_asks state ≡ 0
 open_asks_none MultipleFrameEstablished opened = refl
 open_asks_none TimerRecovery opened = refl
-open_asks_none TeiAssigned opened = cc
-open_asks_none AwaitingEstablishment opened = cc
-open_asks_none AwaitingRelease opened = cc
+open_asks_none state opened = cc
 
 -- if the peer will process frames, this side received all its messages up to V(R)
 pub got_where_received : {x y : Party} {out back : List Kind} → Mid x y out back → OnReception (λ h. IsGot y.sends.base x.takes.vr x.takes.received) (receives y out)

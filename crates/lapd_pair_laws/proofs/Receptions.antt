@@ -25,9 +25,7 @@ on_mapped P f (Some h) p = p
 open_in : (state : State) (leaving : Bool) (now : Reception) (ks : List Kind) → is_7_or_8 state ≡ true → received_in state leaving now ks ≡ Some now
 open_in MultipleFrameEstablished leaving now ks opened = refl
 open_in TimerRecovery leaving now ks opened = refl
-open_in TeiAssigned leaving now ks opened = cc
-open_in AwaitingEstablishment leaving now ks opened = cc
-open_in AwaitingRelease leaving now ks opened = cc
+open_in state leaving now ks opened = cc
 
 pub open_receives : (y : Party) (ks : List Kind) → is_7_or_8 y.state ≡ true → receives y ks ≡ Some (reception_now y ks)
 open_receives y ks opened = open_in y.state y.leaving (reception_now y ks) ks opened

@@ -251,9 +251,3 @@ left_on_tags w = refl
 
 pub new_world_on_tags : (user network : Parameters) → tag_world (new_world user network) ≡ new_world user network
 new_world_on_tags user network = rw (initial_variables_on_tags) refl
-
--- ---- From a new world on.
-
-invariant_after : (Inv : World → Type 0) → ((move : Move) (w : World) → Inv w → Inv (world_after w (happens Whole move w))) → (moves : List Move) (w : World) → Inv w → Inv (run Whole moves w)
-invariant_after Inv preserves [] w inv = inv
-invariant_after Inv preserves (move ∷ moves) w inv = invariant_after Inv preserves moves (world_after w (happens Whole move w)) (preserves move w inv)
