@@ -177,13 +177,8 @@ network_left w i settled = let all = left_settled w.network settled in let few =
 -- bounds of the weights
 attempt_few : (state : State) (tried leaving : Bool) → attempt_in state tried leaving ≤ 5
 attempt_few AwaitingEstablishment true true = omega arith
-attempt_few AwaitingEstablishment true false = omega arith
-attempt_few AwaitingEstablishment false leaving = omega arith
 attempt_few AwaitingRelease true leaving = omega arith
-attempt_few AwaitingRelease false leaving = omega arith
-attempt_few TeiAssigned tried leaving = omega arith
-attempt_few MultipleFrameEstablished tried leaving = omega arith
-attempt_few TimerRecovery tried leaving = omega arith
+attempt_few state tried leaving = omega arith
 
 -- an end at its last try has one attempt, else it leaves nobody alone
 last_few : (N : ℕ) (state : State) (tried leaving : Bool) → (gone_in N tried ≡ 0) ⊎ ((attempt_in state tried leaving ≤ 1) × (gone_in N tried ≡ 2 * N + 5))
@@ -205,14 +200,8 @@ finds_few N state left few = omega arith
 
 polls_few : (N : ℕ) (state : State) (t200 : Bool) (left : ℕ) → left ≤ N → polls_in N state t200 left ≤ 2 * N + 3
 polls_few N TimerRecovery t200 left few = omega (arith, few)
-polls_few N TeiAssigned true left few = omega arith
-polls_few N TeiAssigned false left few = omega arith
-polls_few N AwaitingEstablishment true left few = omega arith
-polls_few N AwaitingEstablishment false left few = omega arith
-polls_few N AwaitingRelease true left few = omega arith
-polls_few N AwaitingRelease false left few = omega arith
-polls_few N MultipleFrameEstablished true left few = omega arith
-polls_few N MultipleFrameEstablished false left few = omega arith
+polls_few N state true left few = omega arith
+polls_few N state t200 left few = omega arith
 
 -- p and q are at least as many messages as are unsent
 module _ (N : ℕ) (some : 1 ≤ N) (x y : Station) (p q : ℕ) (mine : unsent x.end ≤ p) (its : unsent y.end ≤ q) (few_x : x.end.parameters.n200 ≤ N) (few_y : y.end.parameters.n200 ≤ N) where

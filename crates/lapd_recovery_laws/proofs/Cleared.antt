@@ -1,6 +1,6 @@
 -- In state 5 the conditions that an establishment clears stay cleared: after each step, each move
 -- and each run.
-use Rattle.std.proofs.Common.{◌≡◌, ℕ, zero, suc, ◌==◌, ◌&&◌, nat_lt, Ok, Bool, true, false, List, subst, refl, sym, ap, ◌∙◌}
+use Rattle.std.proofs.Common.{◌≡◌, ℕ, zero, suc, ◌==◌, ◌&&◌, nat_lt, Ok, Bool, true, false, List, subst, refl, ap}
 use Rattle.lapd_timers.specs.declared.timer.Timer.TheVariants.{T200, T203}
 use Rattle.lapd_frame.specs.declared.Role.{Role}
 use Rattle.lapd_frame.specs.declared.Role.TheVariants.{Command, Answer}
@@ -57,10 +57,6 @@ again s = begins (layer3_initiated_to false s)
 wrong : (s : StepState) → After (nr_error_recovery s)
 unfolding nr_error_recovery
 wrong s = again (put (Report letter.J) s)
-
--- the state is another one
-other : (s : StepState) (state : State) → s.end.state ≡ state → (state ≡ AwaitingEstablishment → ⊥) → After s
-other s state is never = λ at. absurd (never (sym is ∙ at))
 
 clear_4 : (h : Input) (s : StepState) → s.end.state ≡ TeiAssigned → After (tei_assigned h s)
 unfolding tei_assigned put clear_exception_conditions zero_state_variables start state_to discard_i_queue layer3_initiated_to

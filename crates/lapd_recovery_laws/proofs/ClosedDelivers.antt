@@ -66,25 +66,14 @@ is_ua control role = false
 
 not_ua : (control : Control) (role : Role) (octets : List ℕ) (place : ℕ) → is_ua control role ≡ false → is_acceptance (kind_of role control octets place) ≡ false
 not_ua (Ua true) Answer octets place other = cc
-not_ua (Ua false) Answer octets place other = refl
 not_ua (Rr nr true) Command octets place other = refl
-not_ua (Rr nr false) Command octets place other = refl
-not_ua (Rr nr true) Answer octets place other = refl
-not_ua (Rr nr false) Answer octets place other = refl
 not_ua (Rnr nr true) Command octets place other = refl
-not_ua (Rnr nr false) Command octets place other = refl
-not_ua (Rnr nr true) Answer octets place other = refl
-not_ua (Rnr nr false) Answer octets place other = refl
 not_ua (Rej nr true) Answer octets place other = refl
-not_ua (Rej nr false) Answer octets place other = refl
 not_ua (Sabme true) Command octets place other = refl
-not_ua (Sabme false) Command octets place other = refl
 not_ua (Disc true) Command octets place other = refl
-not_ua (Disc false) Command octets place other = refl
 not_ua (Dm true) Answer octets place other = refl
-not_ua (Dm false) Answer octets place other = refl
 not_ua control Command octets place other = refl
-not_ua control Answer octets place other = refl
+not_ua control role octets place other = refl
 
 -- ---- Outputs that send no frame.
 

@@ -74,11 +74,9 @@ reset_arrives MultipleFrameEstablished leaving vs va vr end rejecting out fs clo
 reset_arrives TimerRecovery leaving vs va vr end rejecting out fs closed none w = cc
 
 pub asks_closed : (state : State) → 1 ≤ most_asks state → is_7_or_8 state ≡ false
-asks_closed TeiAssigned some = refl
-asks_closed AwaitingEstablishment some = refl
-asks_closed AwaitingRelease some = refl
 asks_closed MultipleFrameEstablished some = absurd (omega (arith, some))
 asks_closed TimerRecovery some = absurd (omega (arith, some))
+asks_closed state some = refl
 
 pub unit_kind : (control : Control) (role : Role) (octets : List ℕ) (place : ℕ) → is_unit_data control role ≡ true → kind_of role control octets place ≡ Unnumbered
 unit_kind (Ui p) Command octets place is = refl

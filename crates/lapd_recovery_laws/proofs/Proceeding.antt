@@ -5,7 +5,7 @@ use Rattle.lapd_link_definition.specs.declared.state.State.{State}
 use Rattle.lapd_link_definition.specs.declared.state.State.TheVariants.{TeiAssigned, AwaitingEstablishment, AwaitingRelease, MultipleFrameEstablished, TimerRecovery}
 use Rattle.lapd_link_definition.specs.EndOfStep.{is_7_or_8}
 use Rattle.lapd_link_definition.specs.End.{End, unsent, waiting}
-use Rattle.lapd_pair_laws.specs.Kinds.{Message, Kind, Numbered, Enquiry, Asks, Accepts, Refuses, Unnumbered, Foreign, message_of, messages, numbers, rejections, tally, answer_of, is_acceptance}
+use Rattle.lapd_pair_laws.specs.Kinds.{Message, Kind, Numbered, Enquiry, Asks, Accepts, message_of, messages, numbers, rejections, tally, answer_of, is_acceptance}
 use Rattle.lapd_pair_laws.specs.Parties.{Reception, behind, behind_acceptance, next_reception, received_in, OnReception}
 use Rattle.lapd_pair_laws.proofs.Flow.{IsWhole, IsJunkThenWhole, IsInTransit, fresh}
 use Rattle.lapd_pair_laws.proofs.Lists.{messages_append, rejections_append, tally_append}
@@ -65,11 +65,7 @@ no_message_plain k none = refl
 pub no_number_plain : (ks : List Kind) → numbers ks ≡ [] → tally plain_of ks ≡ 0
 no_number_plain [] none = refl
 no_number_plain (Asks ∷ ks) none = let rest = no_number_plain ks none in omega (arith, rest)
-no_number_plain (Accepts ∷ ks) none = let rest = no_number_plain ks none in omega (arith, rest)
-no_number_plain (Refuses ∷ ks) none = let rest = no_number_plain ks none in omega (arith, rest)
-no_number_plain (Unnumbered ∷ ks) none = let rest = no_number_plain ks none in omega (arith, rest)
-no_number_plain (Foreign ∷ ks) none = let rest = no_number_plain ks none in omega (arith, rest)
-no_number_plain (k ∷ ks) none = cc
+no_number_plain (k ∷ ks) none = first_of (cc, grind (arith, no_number_plain ks))
 
 -- ---- Lists.
 
@@ -189,22 +185,19 @@ pub extra_few : (y : End) (ks : List Kind) → extra y ks ≤ tally plain_of ks
 extra_few y ks = plain_few y.state y.release_pending y.window.vs y.window.va y.window.vr y.window.rejecting ks
 
 plain_open : (state : State) (leaving : Bool) (vs va vr : ℕ) (rejecting : Bool) (ks : List Kind) → is_7_or_8 state ≡ true → plain_in (received_in state leaving (hearing vs va vr rejecting ks) ks) ≡ tally plain_of ks
-plain_open TeiAssigned leaving vs va vr rejecting ks opened = cc
-plain_open AwaitingEstablishment leaving vs va vr rejecting ks opened = cc
-plain_open AwaitingRelease leaving vs va vr rejecting ks opened = cc
 plain_open MultipleFrameEstablished leaving vs va vr rejecting ks opened = refl
 plain_open TimerRecovery leaving vs va vr rejecting ks opened = refl
+plain_open state leaving vs va vr rejecting ks opened = cc
 
 pub extra_open : (y : End) (ks : List Kind) → is_7_or_8 y.state ≡ true → extra y ks ≡ tally plain_of ks
 extra_open y ks opened = plain_open y.state y.release_pending y.window.vs y.window.va y.window.vr y.window.rejecting ks opened
 
 -- in states 4 and 6
 plain_shut : (state : State) (leaving : Bool) (now : Reception) (ks : List Kind) → is_7_or_8 state ≡ false → (state ≡ AwaitingEstablishment → ⊥) → plain_in (received_in state leaving now ks) ≡ 0
-plain_shut TeiAssigned leaving now ks shut other = refl
 plain_shut AwaitingEstablishment leaving now ks shut other = absurd (other refl)
-plain_shut AwaitingRelease leaving now ks shut other = refl
 plain_shut MultipleFrameEstablished leaving now ks shut other = cc
 plain_shut TimerRecovery leaving now ks shut other = cc
+plain_shut state leaving now ks shut other = refl
 
 pub extra_shut : (y : End) (ks : List Kind) → is_7_or_8 y.state ≡ false → (y.state ≡ AwaitingEstablishment → ⊥) → extra y ks ≡ 0
 extra_shut y ks shut other = plain_shut y.state y.release_pending _ ks shut other
@@ -285,9 +278,7 @@ once_more state missing = 0
 pub load_open : (state : State) (leaving : Bool) (u m f e : ℕ) → is_7_or_8 state ≡ true → load_in state leaving u m f e ≡ 3 * u + 2 * m + f + once_more state m
 load_open MultipleFrameEstablished leaving u m f e opened = omega arith
 load_open TimerRecovery leaving u m f e opened = omega arith
-load_open TeiAssigned leaving u m f e opened = cc
-load_open AwaitingEstablishment leaving u m f e opened = cc
-load_open AwaitingRelease leaving u m f e opened = cc
+load_open state leaving u m f e opened = cc
 
 -- messages are sent in state 7 alone
 pub once_more_few : (state : State) (m n j : ℕ) → n ≤ m + j → (j ≡ 0) ⊎ (state ≡ MultipleFrameEstablished) → once_more state n ≤ once_more state m
@@ -308,21 +299,17 @@ load_less MultipleFrameEstablished leaving u m f e n g d r one opened closed = o
 load_less TimerRecovery leaving u m f e n g d r one opened closed = omega (arith, opened, one)
 
 pub load_closed : (state : State) (leaving : Bool) (u m f e n g d : ℕ) → is_7_or_8 state ≡ false → d ≤ e → load_in state leaving u n g d + 0 ≤ load_in state leaving u m f e
-load_closed TeiAssigned leaving u m f e n g d shut le = omega (arith, le)
 load_closed AwaitingEstablishment true u m f e n g d shut le = omega (arith, le)
-load_closed AwaitingEstablishment false u m f e n g d shut le = omega (arith, le)
-load_closed AwaitingRelease leaving u m f e n g d shut le = omega (arith, le)
 load_closed MultipleFrameEstablished leaving u m f e n g d shut le = cc
 load_closed TimerRecovery leaving u m f e n g d shut le = cc
+load_closed state leaving u m f e n g d shut le = omega (arith, le)
 
 -- a closed side accounts for its messages
 pub load_least : (state : State) (leaving : Bool) (u m f e : ℕ) → is_7_or_8 state ≡ false → e ≤ load_in state leaving u m f e
-load_least TeiAssigned leaving u m f e closed = omega arith
 load_least AwaitingEstablishment true u m f e closed = omega arith
-load_least AwaitingEstablishment false u m f e closed = omega arith
-load_least AwaitingRelease leaving u m f e closed = omega arith
 load_least MultipleFrameEstablished leaving u m f e closed = cc
 load_least TimerRecovery leaving u m f e closed = cc
+load_least state leaving u m f e closed = omega arith
 
 pub fresh_few : (rejecting : Bool) → fresh rejecting ≤ 1
 fresh_few true = omega arith

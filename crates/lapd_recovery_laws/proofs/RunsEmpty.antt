@@ -4,7 +4,7 @@ use Rattle.lapd_frame.specs.declared.Side.{Side}
 use Rattle.lapd_frame.specs.declared.Side.TheVariants as side
 use Rattle.lapd_mod128.specs.Counting.{Reading, Whole, Tagged}
 use Rattle.lapd_link_definition.specs.declared.state.State.{State}
-use Rattle.lapd_link_definition.specs.declared.state.State.TheVariants.{TeiAssigned, AwaitingEstablishment, AwaitingRelease, MultipleFrameEstablished, TimerRecovery}
+use Rattle.lapd_link_definition.specs.declared.state.State.TheVariants.{AwaitingEstablishment, MultipleFrameEstablished, TimerRecovery}
 use Rattle.lapd_link_definition.specs.EndOfStep.{is_7_or_8}
 use Rattle.lapd_link_definition.specs.End.{unsent, waiting}
 use Rattle.lapd_link_definition.specs.Table.{step}
@@ -130,12 +130,10 @@ delivery_flows N n s w f flow ok = by_side s w.user w.network w.to_user w.to_net
 -- ---- The beginning.
 
 load_few : (state : State) (leaving : Bool) (u w m f e : ℕ) → u ≤ w → f ≤ 1 → (is_7_or_8 state ≡ true → m ≤ w - u) → load_in state leaving u m f e ≤ 3 * w + 2 + e
-load_few TeiAssigned leaving u w m f e le one some = omega arith
-load_few AwaitingEstablishment true u w m f e le one some = omega arith
 load_few AwaitingEstablishment false u w m f e le one some = omega (arith, le)
-load_few AwaitingRelease leaving u w m f e le one some = omega arith
 load_few MultipleFrameEstablished leaving u w m f e le one some = let few = some refl in omega (arith, le, one, few)
 load_few TimerRecovery leaving u w m f e le one some = let few = some refl in omega (arith, le, one, few)
+load_few state leaving u w m f e le one some = omega arith
 
 -- the first unsent message is not before the first waiting one
 in_queue : (state : State) (asked leaving : Bool) (s : Sender) → IsConsistentSender state asked leaving s → s.first ≤ s.next

@@ -114,23 +114,17 @@ module _ (N : ℕ) (some_retries : 1 ≤ N) (up : Bool) where
   pub open_peer_5 : (state : State) (w a : ℕ) → is_7_or_8 state ≡ true → by_peer_5 N state w a ≡ 0
   open_peer_5 MultipleFrameEstablished w a o = refl
   open_peer_5 TimerRecovery w a o = refl
-  open_peer_5 TeiAssigned w a o = cc
-  open_peer_5 AwaitingEstablishment w a o = cc
-  open_peer_5 AwaitingRelease w a o = cc
+  open_peer_5 state w a o = cc
 
   pub open_peer_6 : (state : State) (w : ℕ) → is_7_or_8 state ≡ true → by_peer_6 N state w ≡ 0
   open_peer_6 MultipleFrameEstablished w o = refl
   open_peer_6 TimerRecovery w o = refl
-  open_peer_6 TeiAssigned w o = cc
-  open_peer_6 AwaitingEstablishment w o = cc
-  open_peer_6 AwaitingRelease w o = cc
+  open_peer_6 state w o = cc
 
   pub closed_peer_6 : (state : State) (w : ℕ) → is_7_or_8 state ≡ false → by_peer_6 N state w ≡ w
   closed_peer_6 MultipleFrameEstablished w o = cc
   closed_peer_6 TimerRecovery w o = cc
-  closed_peer_6 TeiAssigned w o = refl
-  closed_peer_6 AwaitingEstablishment w o = refl
-  closed_peer_6 AwaitingRelease w o = refl
+  closed_peer_6 state w o = refl
 
   finds_below : (e : End) → is_7_or_8 e.state ≡ true → finds N e ≤ polls N e + (2 * N + 5)
   finds_below e opened = by_state e.state refl opened
@@ -138,9 +132,7 @@ module _ (N : ℕ) (some_retries : 1 ≤ N) (up : Bool) where
       by_state : (state : State) → e.state ≡ state → is_7_or_8 state ≡ true → finds N e ≤ polls N e + (2 * N + 5)
       by_state MultipleFrameEstablished is o = let f = ap (λ st. finds_in N st (e.parameters.n200 - e.rc)) is in omega (arith, f)
       by_state TimerRecovery is o = let f = ap (λ st. finds_in N st (e.parameters.n200 - e.rc)) is in let p = ap (λ st. polls_in N st e.t200 (e.parameters.n200 - e.rc)) is in omega (arith, f, p)
-      by_state TeiAssigned is o = cc
-      by_state AwaitingEstablishment is o = cc
-      by_state AwaitingRelease is o = cc
+      by_state state is o = cc
 
   pub none_left : (e : End) → length e.given ≡ e.next → unsent e ≡ 0
   none_left e all = omega (arith, all)
