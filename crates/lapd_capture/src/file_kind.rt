@@ -1,4 +1,4 @@
-//! What a file is, by its first octets.
+//! The kind of a file, by its first octets.
 
 ghost use Rattle.std.specs.Prelude.{◌≡◌, ◌≤◌, ℕ, List, Some, IfOk, IfErr, take};
 ghost use Rattle.std.specs.Io.KnownBytes.{Consumes};
@@ -20,7 +20,7 @@ pub const KIND_OCTETS: usize = 8;
 pub enum FileKind {
     /// It begins as a pcap or pcapng file.
     Capture,
-    /// It is compressed by gzip.
+    /// The file is compressed by gzip.
     Gzip,
     /// It begins as a text, in ASCII or an extension of it.
     Text,

@@ -42,7 +42,7 @@ pub enum Stop {
 pub struct Ending<'a> {
     /// The file of the script; standard input if `None`.
     pub file: Option<&'a str>,
-    /// What the report of a fault needs.
+    /// The facts that the report of a fault needs.
     pub report: FaultReport<'a>,
     /// The clock of the command.
     pub clock: Clock<'a>,

@@ -1,10 +1,10 @@
--- The answers that a session has given, and those that it will give.
+-- The answers that a session has printed, and those that it will print.
 use Rattle.std.specs.Prelude.{◌≡◌, ℕ, if◌then◌else◌, List, [], ◌++◌, Option, Some, None, IfSome}
 use Rattle.lapd_cli_console.specs.declared.session.Session.{Session}
 use Rattle.lapd_cli_console.specs.Answers.{Answer, answers_to}
 use Rattle.lapd_cli_console.specs.Typed.{Typing, typing_of}
 
--- the answers that are given if these octets are typed next
+-- the answers that are printed if these octets are typed next
 abbrev pub answers_next : Typing → List ℕ → List Answer
 answers_next t octets = if t.is_ended then [] else answers_to t.script (t.typed ++ octets)
 

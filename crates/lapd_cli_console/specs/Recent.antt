@@ -42,7 +42,7 @@ feeds (octet ∷ octets) = if is_feed octet then suc (feeds octets) else feeds o
 abbrev pub lines_in : List ℕ → List (List ℕ)
 lines_in octets = slice_split is_feed octets
 
--- The line with this number, counted from 1, cut to 4,096 octets. It is not kept if it ended before
+-- The line with this number, counted from 1, cut to 4,096 octets. No line is kept if it ended before
 -- the last read.
 abbrev pub kept_line : ReadOctets → ℕ → Option (List ℕ)
 kept_line r number = if nat_lt (feeds r.before) number

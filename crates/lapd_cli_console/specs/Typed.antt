@@ -1,4 +1,4 @@
--- What a session passes on of the lines that are typed.
+-- The typed lines that a session passes on.
 use Rattle.std.specs.Prelude.{◌≡◌, ℕ, ◌||◌, if◌then◌else◌, Bool, true, false, List, [], ◌∷◌, ◌++◌, codes, map, Option, option_map}
 use Rattle.std.specs.List.{filter, flat_map}
 use Rattle.std.specs.Str.{bytes_eq}

@@ -5,7 +5,7 @@ use crate::script::Script;
 use lapd_cli_script::{KindReason, ScriptFault, port_reason};
 use std::io::ErrorKind;
 
-/// What is known about a script that has ended, and about its streams.
+/// The facts known about a script that has ended, and about its streams.
 #[derive(Clone, Copy)]
 pub struct FaultReport<'a> {
     /// The command that executed the script.

@@ -7,7 +7,7 @@ ghost use Rattle.lapd_cli_decode.specs.LogSenders.{line_sender, or_side, printer
 use crate::senders::{named_or_by_kind, sender_by_kind};
 use lapd_frame::Side;
 
-/// What a loose line says of the sender of its octets.
+/// The sender of a loose line's octets, as far as the line says.
 #[derive(Clone, Copy)]
 pub(crate) enum LineSender {
     /// This side sent them.

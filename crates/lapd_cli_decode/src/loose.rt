@@ -15,7 +15,7 @@ use std::alloc::{AllocError, Global};
 /// The octets of a loose line, and what it says of their sender.
 #[derive(Drop)]
 pub(crate) struct Sent {
-    /// What the line says of the sender.
+    /// The sender, as far as the line says.
     pub(crate) from: LineSender,
     /// The octets.
     pub(crate) octets: Vec<u8>,
@@ -257,7 +257,7 @@ fn dumped_line(alloc: Global, offset: &[u8], gap: &[u8], dump: &[u8]) -> Result<
     }
 }
 
-/// What a line of a dump with this offset says of the sender: nothing, or that it continues.
+/// The sender of a line of a dump with this offset: the line says none, or continues the one before.
 fn dump_sender(offset: &[u8]) -> Option<LineSender>
     ensures { result ≡ dump_sender offset.now }
 {

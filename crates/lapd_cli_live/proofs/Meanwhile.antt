@@ -1,4 +1,4 @@
--- What happens while a side runs.
+-- The events while a side runs.
 use Rattle.std.proofs.Common.{◌≡◌, ℕ, List, [], ◌∷◌, ◌++◌, Option, None, Some, sym, subst, ◌∙◌, inl, inr}
 use Rattle.std.specs.Prelude.{Bool, ◌⊎◌}
 use Rattle.lapd_cli_outside.specs.declared.outside.Lines.{Lines}

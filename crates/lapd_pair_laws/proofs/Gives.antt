@@ -1,8 +1,10 @@
 -- Layer 3 submits a message: it is refused, it waits for an establishment, or it is sent while the
 -- window is open.
-use Rattle.std.proofs.Common.{◌≡◌, ℕ, ◌+◌, ◌≤◌, ◌==◌, nat_lt, Bool, true, false, List, [], ◌∷◌, ◌++◌, length, Option, None, refl, sym, subst, length-append, arith}
+use Rattle.std.proofs.Common.{◌≡◌, ℕ, ◌+◌, ◌≤◌, ◌==◌, nat_lt, if◌then◌else◌, Bool, true, false, List, [], ◌∷◌, ◌++◌, length, Option, Some, None, refl, sym, subst, length-append, arith}
 use Rattle.lapd_frame.specs.Frame.{n201}
 use Rattle.lapd_mod128.specs.Counting.{Whole}
+use Rattle.lapd_link_definition.specs.declared.event.LinkFault.{LinkFault}
+use Rattle.lapd_link_definition.specs.declared.event.LinkFault.TheVariants.{TooLong}
 use Rattle.lapd_link_definition.specs.declared.state.State.{State}
 use Rattle.lapd_link_definition.specs.declared.state.State.TheVariants.{TeiAssigned, AwaitingEstablishment, AwaitingRelease, MultipleFrameEstablished, TimerRecovery}
 use Rattle.lapd_link_definition.specs.AwaitingEstablishment.{awaiting_establishment}
@@ -14,7 +16,6 @@ use Rattle.lapd_link_definition.specs.Procedures.{queue_up}
 use Rattle.lapd_link_definition.specs.Refusal.{give_refused, refused}
 use Rattle.lapd_link_definition.specs.Table.{by_state, row}
 use Rattle.lapd_link_definition.specs.TimerRecovery.{timer_recovery}
-use Rattle.lapd_link_definition.proofs.InputsThatCount.{not_too_long}
 use Rattle.lapd_pair_laws.specs.Histories.{Receipt}
 use Rattle.lapd_pair_laws.specs.Move.{Give, acts, takes, story_after}
 use Rattle.lapd_pair_laws.specs.Kinds.{Message, Kind, kinds, messages}
@@ -44,6 +45,10 @@ takes_where AwaitingEstablishment false false full none = in_5
 takes_where AwaitingRelease asked leaving full none = cc
 takes_where MultipleFrameEstablished asked leaving full none = in_7
 takes_where TimerRecovery asked leaving full none = in_8
+
+not_too_long : (long : Bool) (other : Option LinkFault) → (if long then Some TooLong else other) ≡ None → other ≡ None
+not_too_long true other none = cc
+not_too_long false other none = none
 
 -- ---- One more message is appended to those submitted.
 

@@ -164,7 +164,7 @@ the lines do not name each sender: it is taken from the kind and C/R bit of the 
 as ?; --sender names the side that printed the lines
 ";
 
-// What is reported of lines without a frame.
+// The reports of lines without a frame.
 fn reports(alloc: Global, lines: &str, chosen: Option<Side>, wanted: &[&str]) -> bool {
     let mut printed = Vec::new(alloc);
     let mut reported = Vec::new(alloc);
