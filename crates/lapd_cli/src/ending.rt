@@ -42,7 +42,9 @@ pub enum Stop {
 pub struct Ending<'a> {
     /// The file of the script; standard input if `None`.
     pub file: Option<&'a str>,
-    /// The facts that the report of a fault needs.
+    /// Whether lines of more forms were read (`decode --loose`). Then a bad line continues a dump.
+    pub is_loose: bool,
+    /// What the report of a fault needs.
     pub report: FaultReport<'a>,
     /// The clock of the command.
     pub clock: Clock<'a>,
@@ -92,7 +94,20 @@ fn print_script_fault(rt: &HostRuntime, ending: &Ending<'_>, fault: ScriptFault)
         }
         (Some(file), ScriptFault::BadLine(_), _) => {
             let _ = eprint!(rt; "{file}: ");
-            ending.report.print(rt, fault);
+            print_bad_line(rt, ending, fault);
+        }
+        _ => print_bad_line(rt, ending, fault),
+    }
+}
+
+// Reports the fault of a script, with its reason.
+fn print_bad_line(rt: &HostRuntime, ending: &Ending<'_>, fault: ScriptFault) {
+    match fault {
+        ScriptFault::BadLine(_) if ending.is_loose => {
+            let _ = eprintln!(rt; "{fault}");
+            let _ = eprintln!(rt;
+                "the line continues a hex dump, and the octets before it are missing"
+            );
         }
         _ => ending.report.print(rt, fault),
     }

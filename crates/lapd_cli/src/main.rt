@@ -148,6 +148,7 @@ pub fn do_script<R: Read + Drop, O: Write + Drop>(
     let refusals = watched.into_inner();
     let ending = Ending {
         file,
+        is_loose: is_loose(&chosen.job),
         report: FaultReport {
             script: script_of(&chosen.job, &chosen.clock),
             line: bad_line(&recent, &ended),
@@ -161,6 +162,14 @@ pub fn do_script<R: Read + Drop, O: Write + Drop>(
         refusal: refusals.first().unwrap_or(&[]),
     };
     print_ending(rt, &ending, &ended)
+}
+
+// Whether the job reads lines of more forms.
+fn is_loose(job: &Job) -> bool {
+    match job {
+        Job::Decode(options) => options.loose,
+        _ => false,
+    }
 }
 
 // Runs the chosen job, between the beginning and the end of a picture if it draws one.

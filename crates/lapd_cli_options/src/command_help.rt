@@ -635,9 +635,9 @@ reported with the place of its packet or block in the file, in octets from 0, an
 is 1. The line of a packet that was not captured to its end ends with [cut].
 
 If a capture or a loose line does not name the sender of a frame, and --sender is absent, it is
-taken from the kind of the frame and its C/R bit, and after > and < also from the lines before. Of RR, RNR, REJ and XID frames these do not say it: the line
-begins with ?>?, its role is ? and its last bit P/F. An object lacks direction and role, and has pf.
---follow leaves such a frame out.
+taken from the kind of the frame and its C/R bit, and after > and < also from the lines before. Of
+RR, RNR, REJ and XID frames the C/R bit does not say it: the line begins with ?>?, its role is ? and
+its last bit P/F. An object lacks direction and role, and has pf. --follow leaves such a frame out.
 
 Output for a frame, in one line:
   U>N or N>U    the user side, or the network side, sent it
@@ -656,11 +656,12 @@ HEX. With --names a message of TEI management or of Q.931 follows, in words:
   bearer=speech channel=B2 cause=16 calling=5551234 called=200
                                     then these information elements, in the order of the message
 
-With --time a trace line of a capture begins with the time of its packet, in seconds with six digits after a
-point, or with - if the capture does not have it. --sapi, --tei, --kinds and --no-polls choose the
-frames that are printed, by their octets; octets that lack what is requested are left out. --count
-ends the output after so many printed frames: no more packets are read, and lines are skipped. With
---any-sapi octets with a SAPI other than 0, 16 and 63 are read as if it were 0, and printed with it.
+With --time a trace line of a capture begins with the time of its packet, in seconds with six digits
+after a point, or with - if the capture does not have it. --sapi, --tei, --kinds and --no-polls
+choose the frames that are printed, by their octets; octets that lack what is requested are left
+out. --count ends the output after so many printed frames: no more packets are read, and lines are
+skipped. With --any-sapi octets with a SAPI other than 0, 16 and 63 are read as if it were 0, and
+printed with it.
 
 With --follow the remarks on a frame are last, each after `; `. Frames that are not printed are
 followed too, up to the last one that --count allows. A frame that is simply the next one

@@ -20,6 +20,7 @@ fn preserves(rt: &HostRuntime, job: Job, text: &str) -> Result<(), Fail> {
     let chosen = Invocation {
         job,
         address: None,
+        files: Vec::new(rt.alloc()),
         pcap: None,
         svg: None,
         clock: Clock::Script,
