@@ -44,7 +44,7 @@ pub struct Ending<'a> {
     pub file: Option<&'a str>,
     /// Whether lines of more forms were read (`decode --loose`). Then a bad line continues a dump.
     pub is_loose: bool,
-    /// What the report of a fault needs.
+    /// The facts that the report of a fault needs.
     pub report: FaultReport<'a>,
     /// The clock of the command.
     pub clock: Clock<'a>,

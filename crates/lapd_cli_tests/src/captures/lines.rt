@@ -1,6 +1,6 @@
 //! Lines of loose forms and their output, and lines that are skipped.
 
-use crate::captures::read::are_lines;
+use crate::captures::read::are_separated;
 use crate::wants::{all_hold, wants};
 use lapd_cli_decode::{
     FrameStyle, LineForm, LinesStyle, Side, Style, decode_good_lines, decode_lines, print_lines,
@@ -56,13 +56,13 @@ PRI Span: 1 < [18 03 a9 83 81]|
 PRI Span: 1 > Protocol Discriminator: Q.931 (8)  len=5|";
 
 // Lines of logs and dumps whose printer is not chosen, here separated by slashes, and their trace
-// lines: of both sides of libpri, and of lines without a mark.
+// lines, here separated by tildes: of both sides of libpri, and of lines without a mark.
 const INFERRED: &str = "\
-> [ 00 01 7f ]/< [ 00 01 73 ]/> [ 00 01 01 01 ]|U>N SAPI 0 TEI 0 C SABME P=1/N>U SAPI 0 TEI 0 R UA F=1/U>N SAPI 0 TEI 0 C RR N(R)=0 P=1
-< [ 00 01 7f ]/> [ 00 01 73 ]/< [ 00 01 01 01 ]|U>N SAPI 0 TEI 0 C SABME P=1/N>U SAPI 0 TEI 0 R UA F=1/U>N SAPI 0 TEI 0 C RR N(R)=0 P=1
-> [ 02 01 01 01 ]/> [ 00 01 00 00 08 ]/< [ 00 01 01 02 ]|?>? SAPI 0 TEI 0 ? RR N(R)=0 P/F=1/U>N SAPI 0 TEI 0 C I N(S)=0 N(R)=0 P=0 info=08/N>U SAPI 0 TEI 0 R RR N(R)=1 F=0
-00 81 7f/00 81 01 01/user 00 81 01 01|U>N SAPI 0 TEI 64 C SABME P=1/?>? SAPI 0 TEI 64 ? RR N(R)=0 P/F=1/U>N SAPI 0 TEI 64 C RR N(R)=0 P=1
-0000  00 81 73/00000000: 0281 7f|N>U SAPI 0 TEI 64 R UA F=1/N>U SAPI 0 TEI 64 C SABME P=1";
+> [ 00 01 7f ]/< [ 00 01 73 ]/> [ 00 01 01 01 ]|U>N SAPI 0 TEI 0 C SABME P=1~N>U SAPI 0 TEI 0 R UA F=1~U>N SAPI 0 TEI 0 C RR N(R)=0 P=1
+< [ 00 01 7f ]/> [ 00 01 73 ]/< [ 00 01 01 01 ]|U>N SAPI 0 TEI 0 C SABME P=1~N>U SAPI 0 TEI 0 R UA F=1~U>N SAPI 0 TEI 0 C RR N(R)=0 P=1
+> [ 02 01 01 01 ]/> [ 00 01 00 00 08 ]/< [ 00 01 01 02 ]|?>? SAPI 0 TEI 0 ? RR N(R)=0 P/F=1~U>N SAPI 0 TEI 0 C I N(S)=0 N(R)=0 P=0 info=08~N>U SAPI 0 TEI 0 R RR N(R)=1 F=0
+00 81 7f/00 81 01 01/user 00 81 01 01|U>N SAPI 0 TEI 64 C SABME P=1~?>? SAPI 0 TEI 64 ? RR N(R)=0 P/F=1~U>N SAPI 0 TEI 64 C RR N(R)=0 P=1
+0000  00 81 73/00000000: 0281 7f|N>U SAPI 0 TEI 64 R UA F=1~N>U SAPI 0 TEI 64 C SABME P=1";
 
 // Hex dumps of one line, as xxd, Wireshark and tcpdump print them, and octets alone.
 const DUMPS: &str = "\
@@ -128,7 +128,7 @@ fn loose_rows_hold(alloc: Global, rows: &str, chosen: Option<Side>) -> Result<()
     Ok(())
 }
 
-// Whether loose lines end so, and are printed as these lines, here separated by slashes.
+// Whether loose lines end so, and are printed as these lines, here separated by tildes.
 fn prints_loose(
     alloc: Global,
     lines: &str,
@@ -139,7 +139,7 @@ fn prints_loose(
     let mut printed = Vec::new(alloc);
     let mut reported = Vec::new(alloc);
     let ended = print_loose(alloc, lines, chosen, &mut printed, &mut reported);
-    ended == end && are_lines(printed.as_slice(), wanted)
+    ended == end && are_separated(printed.as_slice(), wanted, '~')
 }
 
 fn print_loose(
