@@ -67,11 +67,11 @@ const GOOD_COUNT: usize = 95;
 const OCTETS: &[u8] = b" 0g1#\t\r\xff";
 
 /// A command, and the invocation that chose it.
-type Command<'a> = (Script, &'a Invocation<'a>);
+type Command<'a, 'w> = (Script, &'a Invocation<'w>);
 
 /// Whether a line has a reason exactly if its command refuses it, and the reason is `wanted`. There
 /// `?` means any reason, and `*` means any or none.
-fn has_reason(alloc: Global, command: Command<'_>, line: &[u8], wanted: &str) -> bool {
+fn has_reason(alloc: Global, command: Command<'_, '_>, line: &[u8], wanted: &str) -> bool {
     let is_bad = is_bad(alloc, command, line);
     match reason(alloc, command.0, line) {
         Ok(Some(reason)) => {
@@ -92,7 +92,7 @@ fn name_of(script: Script) -> &'static str {
 }
 
 /// Whether a command refuses a line.
-fn is_bad(alloc: Global, (script, chosen): Command<'_>, line: &[u8]) -> bool {
+fn is_bad(alloc: Global, (script, chosen): Command<'_, '_>, line: &[u8]) -> bool {
     match script {
         Script::LiveNet => is_bad_live(alloc, Side::Network, line),
         Script::LiveUser => is_bad_live(alloc, Side::User, line),
@@ -116,7 +116,7 @@ fn is_bad_script(alloc: Global, chosen: &Invocation<'_>, mut line: &[u8]) -> boo
 }
 
 /// The first of the rows of a command that does not hold.
-fn wrong_row(alloc: Global, command: Command<'_>) -> Option<&'static str> {
+fn wrong_row(alloc: Global, command: Command<'_, '_>) -> Option<&'static str> {
     for row in lines::BAD.lines().chain(lines::GOOD.lines()) {
         let (name, row) = row.split_once(": ").unwrap_or((row, ""));
         let (line, wanted) = row.split_once(" => ").unwrap_or((row, ""));
@@ -128,7 +128,7 @@ fn wrong_row(alloc: Global, command: Command<'_>) -> Option<&'static str> {
 }
 
 /// The first row of invalid lines with a line that the command accepts, or that has no reason.
-fn good_line(alloc: Global, command: Command<'_>) -> Option<&'static str> {
+fn good_line(alloc: Global, command: Command<'_, '_>) -> Option<&'static str> {
     for row in lines::NONE.lines() {
         let (name, row) = row.split_once(": ").unwrap_or((row, ""));
         for line in row.split('|') {
@@ -143,7 +143,7 @@ fn good_line(alloc: Global, command: Command<'_>) -> Option<&'static str> {
 }
 
 /// The first line with invalid or invisible octets that has another reason.
-fn wrong_octets(alloc: Global, command: Command<'_>) -> Option<&'static str> {
+fn wrong_octets(alloc: Global, command: Command<'_, '_>) -> Option<&'static str> {
     for (line, wanted) in UNSEEN {
         if command.0 == Script::Decode && !has_reason(alloc, command, *line, *wanted) {
             return Some(*wanted);
@@ -197,7 +197,7 @@ fn draw_changed(random: &mut Pcg32, line: &mut Drawn) {
 
 /// Whether random lines have a reason exactly if a command refuses them. The last random line is
 /// kept.
-fn agrees(alloc: Global, command: Command<'_>, line: &mut Drawn) -> bool {
+fn agrees(alloc: Global, command: Command<'_, '_>, line: &mut Drawn) -> bool {
     let mut random = Pcg32::seed_from_u64(921);
     for _draw in 0..1000 {
         draw_words(&mut random, line);
@@ -213,7 +213,7 @@ fn agrees(alloc: Global, command: Command<'_>, line: &mut Drawn) -> bool {
 }
 
 /// Fails the test at the first line of a command that is not as the rows say.
-fn lines_hold(alloc: Global, command: Command<'_>) -> Result<(), Fail> {
+fn lines_hold(alloc: Global, command: Command<'_, '_>) -> Result<(), Fail> {
     let mut drawn = Drawn::new();
     let wrong = wrong_row(alloc, command)
         .or(good_line(alloc, command))
@@ -229,14 +229,19 @@ fn lines_hold(alloc: Global, command: Command<'_>) -> Result<(), Fail> {
     }
 }
 
+/// Fails the test at the first line of the command with these words that is not as the rows say.
+fn command_holds(alloc: Global, script: Script, words: &[&str]) -> Result<(), Fail> {
+    match parse_words(alloc, words) {
+        Ok(chosen) => lines_hold(alloc, (script, &chosen)),
+        Err(_) => Err(Fail::new("no such words")),
+    }
+}
+
 #[test]
 fn lines_have_reasons(rt: HostRuntime) -> Result<(), Fail> {
     for (script, words) in COMMANDS {
         let words = words_of(rt.alloc(), *words);
-        match parse_words(rt.alloc(), words.as_slice()) {
-            Ok(chosen) => lines_hold(rt.alloc(), (*script, &chosen))?,
-            Err(_) => return Err(Fail::new(format_args!("{script}: no such words"))),
-        }
+        command_holds(rt.alloc(), *script, words.as_slice())?;
     }
     Ok(())
 }
