@@ -142,20 +142,22 @@ net 64
 shows: network;discarded 0;next 1004;holds 64;
 exact: yes
 
-# header prediction: a poll, an RR and an I frame, but no RR command without P, longer RR or I response
+# header prediction: a poll, an RR response, an I frame, and an RR command without P, which is none
 net 64
 0 take 00817f: 008173;0 64 established;
 1 take 00810101: 00810101;
 2 take 02810100
 3 take 00810100
-4 take 0081010155: 
 5 take 00810000aa: 00810102;0 64 data aa;
 6 give 0 64 07: 0281000207;
 7 take 02810102: 0 64 acknowledged 1;
-8 take 02810103: 
-9 take 02810200aa: 
-shows: network;discarded 0;next 1009;holds 64;
+shows: network;discarded 0;next 10007;holds 64;
 exact: yes
+
+# an RR with information is no predicted frame: it has a wrong length (Q.921 5.8.5)
+net 64
+0 take 00817f: 008173;0 64 established;
+4 take 0081010155: 02817f;0 64 report N;
 
 # the predicted frames of state 7, and some that are not: a final, a frame out of sequence, a busy peer
 net 64 packets
