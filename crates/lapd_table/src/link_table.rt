@@ -141,28 +141,41 @@ impl LinkTable {
         ensures found { IfSome result (λ key. (key.id ≡ id.now) × IsKey self.now key) }
         ensures none { result ≡ None → link_at self.now id.now ≡ None }
     {
+        match self.slot(id) {
+            Some(place) => Some(LinkKey { id: *id, place }),
+            None => None,
+        }
+    }
+
+    /// The slot of the link with this SAPI and TEI.
+    // It returns a number, so that the key is made in registers.
+    #[inline(always)]
+    fn slot(&self, id: &LinkId) -> Option<usize>
+        ensures found { IfSome result (λ place. IsKey self.now (record {
+          id = id.now;
+          place = place;
+        })) }
+        ensures none { result ≡ None → link_at self.now id.now ≡ None }
+    {
         let place = self.places[usize::from(id.place())];
         if place > 0 {
-            Some(LinkKey {
-                id: *id,
-                place: usize::from(place) - 1,
-            })
+            Some(usize::from(place) - 1)
         } else {
             self.search(id)
         }
     }
 
-    /// As [`LinkTable::find`], by the map.
+    /// As [`LinkTable::slot`], by the map.
     #[inline(never)]
-    fn search(&self, id: &LinkId) -> Option<LinkKey>
-        ensures found { IfSome result (λ key. (key.id ≡ id.now) × IsKey self.now key) }
+    fn search(&self, id: &LinkId) -> Option<usize>
+        ensures found { IfSome result (λ place. IsKey self.now (record {
+          id = id.now;
+          place = place;
+        })) }
         ensures none { result ≡ None → link_at self.now id.now ≡ None }
     {
         match self.keys.get(id) {
-            Some(place) => Some(LinkKey {
-                id: *id,
-                place: *place,
-            }),
+            Some(place) => Some(*place),
             None => None,
         }
     }
