@@ -2,8 +2,10 @@
 
 use crate::bench_fault::BenchFault;
 use crate::wire::Wire;
-use lapd_frame::{Sapi, Side, Tei, read};
-use lapd_link::{Event, Link, Out, Outs, Params};
+use lapd_frame::{
+    Address, MessageField, PredictedFrame, Response, Role, Sapi, Side, Tei, read, read_predicted,
+};
+use lapd_link::{Event, Link, NrEffect, Out, Outs, Params, PredictedOuts};
 use std::alloc::Global;
 
 /// One end of the link, the outputs of its last step, and how many messages it has submitted,
@@ -46,12 +48,25 @@ impl End {
         self.carry_out(to)
     }
 
-    /// Queues a message, and sends it if the window is open.
+    /// Queues a message with these octets, and sends it if the window is open.
     ///
     /// # Errors
     ///
-    /// `Link` if the link refuses the message, or `LineFull`.
-    pub fn give(&mut self, message: Vec<u8>, to: &mut Wire) -> Result<(), BenchFault> {
+    /// `Link` if the link refuses the message, `Memory`, or `LineFull`.
+    pub fn give(&mut self, octets: &[u8], to: &mut Wire) -> Result<(), BenchFault> {
+        let message = self.link.new_message(octets)?;
+        match self.link.give_at_once(message) {
+            Ok(outs) => {
+                self.given = self.given.wrapping_add(1);
+                self.send_message(outs.place, outs.field, to)
+            }
+            Err(message) => self.give_any(message, to),
+        }
+    }
+
+    /// Queues any message.
+    #[inline(never)]
+    fn give_any(&mut self, message: Vec<u8>, to: &mut Wire) -> Result<(), BenchFault> {
         self.link.give_into(message, &mut self.outs)?;
         self.given = self.given.wrapping_add(1);
         self.carry_out(to)
@@ -65,15 +80,111 @@ impl End {
     /// refuses, or `LineFull`.
     pub fn receive(&mut self, from: &mut Wire, to: &mut Wire) -> Result<(), BenchFault> {
         for slot in from.under_way() {
-            let frame = read(slot.octets(), from.sender())?;
-            if !self.link.is_for(&frame.address()) {
-                return Err(BenchFault::NotForLink);
-            }
-            self.link.handle_into(Event::Heard(&frame), &mut self.outs)?;
-            self.carry_out(to)?;
+            self.receive_frame(slot.octets(), from.sender(), to)?;
         }
         from.clear();
         Ok(())
+    }
+
+    /// Receives a frame from this side, as a side does: by header prediction if the link predicts
+    /// it, else in general.
+    #[inline(always)]
+    fn receive_frame(
+        &mut self,
+        octets: &[u8],
+        sender: Side,
+        to: &mut Wire,
+    ) -> Result<(), BenchFault> {
+        match read_predicted(octets, sender) {
+            Some(frame) => match self.predicted_step(&frame) {
+                Some(outs) => self.carry_out_predicted(&outs, to),
+                None => self.receive_any(octets, sender, to),
+            },
+            None => self.receive_any(octets, sender, to),
+        }
+    }
+
+    /// The outputs of the link's step for a frame that it predicts.
+    #[inline(always)]
+    fn predicted_step(&mut self, frame: &PredictedFrame<'_>) -> Option<PredictedOuts> {
+        if frame.sapi == self.link.sapi() && frame.tei == self.link.tei() {
+            self.link.predicted_step(frame.kind, frame.nr)
+        } else {
+            None
+        }
+    }
+
+    /// Receives any frame.
+    #[inline(never)]
+    fn receive_any(
+        &mut self,
+        octets: &[u8],
+        sender: Side,
+        to: &mut Wire,
+    ) -> Result<(), BenchFault> {
+        let frame = read(octets, sender)?;
+        if !self.link.is_for(&frame.address()) {
+            return Err(BenchFault::NotForLink);
+        }
+        self.link.handle_into(Event::Heard(&frame), &mut self.outs)?;
+        self.carry_out(to)
+    }
+
+    /// Sends the responses of a predicted step, and counts the messages that it reports.
+    #[inline(always)]
+    fn carry_out_predicted(
+        &mut self,
+        outs: &PredictedOuts,
+        to: &mut Wire,
+    ) -> Result<(), BenchFault> {
+        self.respond(outs.response, to)?;
+        if outs.is_up {
+            self.received = self.received.wrapping_add(1);
+        }
+        match outs.nr {
+            NrEffect::All { count, .. } | NrEffect::Part { count } => {
+                self.acknowledged = self.acknowledged.wrapping_add(u64::from(count));
+            }
+            NrEffect::Nothing => {}
+        }
+        self.respond(outs.acknowledgement, to)
+    }
+
+    /// Sends a response, if there is one.
+    #[inline(always)]
+    fn respond(&mut self, response: Option<Response>, to: &mut Wire) -> Result<(), BenchFault> {
+        match response {
+            Some(response) => {
+                let header = response.octets(self.address(Role::Answer), self.link.side());
+                to.send_parts(header, &[])
+            }
+            None => Ok(()),
+        }
+    }
+
+    /// Sends the message at this place of the queue, with this control field.
+    #[inline(always)]
+    fn send_message(
+        &mut self,
+        place: u16,
+        field: MessageField,
+        to: &mut Wire,
+    ) -> Result<(), BenchFault> {
+        let header = field.octets(self.address(Role::Command), self.link.side());
+        match self.link.queue().get(place) {
+            Some(message) => to.send_parts(header, message),
+            None => Ok(()),
+        }
+    }
+
+    /// The address of the link's frames with this role.
+    #[inline(always)]
+    fn address(&self, role: Role) -> Address {
+        Address {
+            sapi: self.link.sapi(),
+            tei: self.link.tei(),
+            role,
+        }
     }
 
     /// Sends the frames of its last step, and counts the messages that the step reports.

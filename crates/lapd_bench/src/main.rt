@@ -178,9 +178,9 @@ impl Pair {
     fn run(&mut self, alloc: Global, messages: u32) -> Result<Done, BenchFault> {
         self.establish()?;
         for _ in 0..messages / WINDOW {
-            self.pass(alloc, WINDOW)?;
+            self.pass(WINDOW)?;
         }
-        self.pass(alloc, messages % WINDOW)?;
+        self.pass(messages % WINDOW)?;
         Ok(Done {
             given: self.user.given,
             received: self.network.received,
@@ -195,10 +195,10 @@ impl Pair {
     }
 
     /// The user submits this many messages, and receives their acknowledgements.
-    fn pass(&mut self, alloc: Global, messages: u32) -> Result<(), BenchFault> {
+    fn pass(&mut self, messages: u32) -> Result<(), BenchFault> {
         for number in 0..messages {
-            let message = [(number % 256) as u8; OCTETS].to_vec(alloc)?;
-            self.user.give(message, &mut self.to_network)?;
+            let octets = [(number % 256) as u8; OCTETS];
+            self.user.give(&octets, &mut self.to_network)?;
         }
         self.cross()
     }
