@@ -8,7 +8,7 @@ use Rattle.lapd_sides_links.specs.declared.side_fault.SideKind.{SideKind}
 use Rattle.lapd_sides_links.specs.declared.side_fault.SideKind.TheVariants.{NoLink, Memory, Link}
 use Rattle.lapd_sides.specs.declared.request.Request.TheVariants as request
 use Rattle.lapd_sides.specs.Either.{Answers}
-use Rattle.lapd_sides.specs.Requests.{Message}
+use Rattle.lapd_sides_links.specs.Messages.{Message}
 use Rattle.lapd_c.specs.declared.held_side.HeldSide.{HeldSide}
 use Rattle.lapd_c.specs.ThroughHandle.{AsksSide, AsksCheck, AsksTei, AsksLink, AsksLinkWith, Through}
 use Rattle.lapd_c.specs.Calls.{Asks, Call, Checks, ChecksUnless, Ticks, is_full}

@@ -77,8 +77,8 @@ in_turn octets old new given before between after own e f =
     ∙ in_parts (side_of new) octets given before
 
 -- one call
-pub one : (octets : List ℕ) (given : Effects) (old new : HeldSide) → side_of new.side ≡ side_of old.side
-    → new.counts ≡ option_map (call_counted (side_of new.side) octets given) old.counts → Adds (one_call octets given) old new
+pub one : (octets : List ℕ) (given : Effects) (old new : HeldSide) → side_of new.queued.side ≡ side_of old.queued.side
+    → new.counts ≡ option_map (call_counted (side_of new.queued.side) octets given) old.counts → Adds (one_call octets given) old new
 one octets given old new kind counts = record {
   kind = kind;
   counts = subst (λ (own : Side). new.counts ≡ option_map (call_counted own octets given) old.counts) kind counts;
@@ -89,8 +89,8 @@ same_counts : (own : Side) (counts : Option (List LinkCount)) → counts ≡ opt
 same_counts own None = refl
 same_counts own (Some counts) = refl
 
-pub none : (old new : HeldSide) → side_of new.side ≡ side_of old.side → new.counts ≡ old.counts → Adds [] old new
-none old new kind counts = record { kind = kind; counts = counts ∙ same_counts (side_of old.side) old.counts }
+pub none : (old new : HeldSide) → side_of new.queued.side ≡ side_of old.queued.side → new.counts ≡ old.counts → Adds [] old new
+none old new kind counts = record { kind = kind; counts = counts ∙ same_counts (side_of old.queued.side) old.counts }
 
 -- calls after others
 counted_on : (own : Side) (first second : List CountedCall) (before between after : Option (List LinkCount))
@@ -102,14 +102,14 @@ counted_on own first second (Some counts) between after e f =
 pub both : (first second : List CountedCall) (old mid new : HeldSide) → Adds first old mid → Adds second mid new → Adds (first ++ second) old new
 both first second old mid new g h = record {
   kind = h.kind ∙ g.kind;
-  counts = counted_on (side_of old.side) first second old.counts mid.counts new.counts g.counts
+  counts = counted_on (side_of old.queued.side) first second old.counts mid.counts new.counts g.counts
       (subst (λ (own : Side). new.counts ≡ option_map (with_calls own second) mid.counts) g.kind h.counts);
 }
 
 -- the calls that reach the side
-pub ticks : (now expired code : ℕ) (old new : HeldSide) (h : HasTicked now expired old new code) → side_of new.side ≡ side_of old.side
-ticks now zero code old new h = idles now old.side new.side (h.none refl).0
-ticks now (suc zero) code old new h = expires now old.side new.side h.given (h.due refl)
+pub ticks : (now expired code : ℕ) (old new : HeldSide) (h : HasTicked now expired old new code) → side_of new.queued.side ≡ side_of old.queued.side
+ticks now zero code old new h = idles now old.queued.side new.queued.side (h.none refl).0
+ticks now (suc zero) code old new h = expires now old.queued.side new.queued.side h.given (h.due refl)
 ticks now (suc (suc n)) code old new h = absurd (omega (arith, h.flag))
 
 -- the counters that are returned after these calls
@@ -118,8 +118,8 @@ returned_of : (id : LinkId) (delivered : LinkCounters) (code : ℕ) (counts : Op
 returned_of id delivered code counts all is h = subst (λ (c : Option (List LinkCount)). ReturnsCountersOf c id delivered code) is h
 
 pub returned : (id : LinkId) (delivered : LinkCounters) (begun code : ℕ) (calls : List CountedCall) (old first last after : HeldSide) → HasBegunCounting old first begun
-    → Adds calls first last → ReturnsCounters id delivered last after code → (code ≡ done) × (delivered ≡ counters_of id (with_calls (side_of old.side) calls nothing_counted))
+    → Adds calls first last → ReturnsCounters id delivered last after code → (code ≡ done) × (delivered ≡ counters_of id (with_calls (side_of old.queued.side) calls nothing_counted))
 returned id delivered begun code calls old first last after b h r =
-    returned_of id delivered code last.counts (with_calls (side_of old.side) calls nothing_counted)
-    (subst (λ (own : Side). last.counts ≡ Some (with_calls own calls nothing_counted)) (ap (λ (s : HeldSide). side_of s.side) b.begun)
-    (h.counts ∙ ap (λ (s : HeldSide). option_map (with_calls (side_of first.side) calls) s.counts) b.begun)) r.counters
+    returned_of id delivered code last.counts (with_calls (side_of old.queued.side) calls nothing_counted)
+    (subst (λ (own : Side). last.counts ≡ Some (with_calls own calls nothing_counted)) (ap (λ (s : HeldSide). side_of s.queued.side) b.begun)
+    (h.counts ∙ ap (λ (s : HeldSide). option_map (with_calls (side_of first.queued.side) calls) s.counts) b.begun)) r.counters

@@ -1,5 +1,5 @@
-pub mod Backlogs
 pub mod CodeOrder
 pub mod Counted
 pub mod CountedCalls
 pub mod HandleValues
+pub mod Asked

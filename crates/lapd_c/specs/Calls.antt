@@ -1,6 +1,6 @@
 -- The effect of a call on a held side: that of the side's own call, and the results that are
 -- fetched.
-use Rattle.std.specs.Prelude.{◌≡◌, ◌≤◌, ◌⊎◌, ℕ, ◌+◌, ◌-◌, ◌^◌, min, ◌++◌, ◌||◌, ◌&&◌, nat_eq, nat_lt, nat_le, Bool, true, false, List, [], length, drop, set, slice_get, Option, Some, None, option_map, Result, ⊤}
+use Rattle.std.specs.Prelude.{◌≡◌, ◌≤◌, ◌⊎◌, ℕ, ◌+◌, ◌-◌, ◌^◌, min, ◌++◌, ◌||◌, nat_lt, nat_le, Bool, true, false, List, [], length, drop, set, slice_get, Option, Some, None, option_map, Result, ⊤}
 use Rattle.lapd_timers.specs.Durations.{Lengths}
 use Rattle.lapd_link.specs.Link.{LinkRepresents}
 use Rattle.lapd_link.specs.declared.link.Link.{Link}
@@ -12,6 +12,9 @@ use Rattle.lapd_sides_links.specs.declared.primitive.Primitive.{Primitive}
 use Rattle.lapd_sides_links.specs.declared.side_fault.SideFault.{SideFault}
 use Rattle.lapd_sides_links.specs.Effects.{Effects, and_then, no_effects}
 use Rattle.lapd_sides.specs.declared.either_side.EitherSide.{EitherSide}
+use Rattle.lapd_sides.specs.declared.queued_side.QueuedSide.{QueuedSide}
+use Rattle.lapd_sides.specs.Queued as queued
+use Rattle.lapd_sides.specs.Queued.{Queues, gives_nothing, without_first_frame, without_first_primitive}
 use Rattle.lapd_sides.specs.declared.request.Request.TheVariants as request
 use Rattle.lapd_sides.specs.Either.{side_of, Answers, Expires, StaysIdle, SetsDurations, HasNextDeadline, HasDiscarded, HasTable}
 use Rattle.lapd_tei.specs.declared.phase.Phase.{Phase}
@@ -30,11 +33,7 @@ use Rattle.lapd_c.specs.SideQueries.{HasCheck, HasTerminal, link_meant, meant, s
 
 -- the results of calls that C has not fetched, the earlier before the later
 abbrev pub waiting : HeldSide → Effects
-waiting held = and_then held.backlog held.acts
-
--- neither a frame nor a primitive
-abbrev pub gives_nothing : Effects → Bool
-gives_nothing e = nat_eq (length e.frames) 0 && nat_eq (length e.primitives) 0
+waiting held = queued.waiting held.queued
 
 -- at least as many frames or primitives wait as the limit, so that no call may add more
 abbrev pub is_full : HeldSide → Bool
@@ -59,16 +58,27 @@ pub record HasCalled (call : Call) (octets : List ℕ) (old new : HeldSide) (cod
   pub result : Result ⊤ SideFault
   pub coded : code ≡ code_of result
   pub given : Effects
-  pub called : call result old.side new.side given
+  pub called : call result old.queued.side new.queued.side given
   pub waits : waiting new ≡ and_then (waiting old) given
   pub most : new.most_waiting ≡ old.most_waiting
-  pub counts : new.counts ≡ counts_after old octets given new.side
+  pub counts : new.counts ≡ counts_after old octets given new.queued.side
 
 -- the waiting results of the last call cannot be set aside, because an allocation fails
 pub record HasNoMemory (old new : HeldSide) (code : ℕ) : Type 0 where
   pub refused : code ≡ memory
   pub same : new ≡ old
-  pub gave : gives_nothing old.acts ≡ false
+  pub gave : gives_nothing old.queued.acts ≡ false
+
+-- If the side counts, the waiting results are set aside.
+abbrev pub IsReadyIf : Option (List LinkCount) → QueuedSide → QueuedSide → Type 0
+IsReadyIf None old new = new ≡ old
+IsReadyIf (Some counts) old new = new ≡ record old {
+  backlog = queued.waiting old;
+  acts = no_effects;
+}
+
+abbrev pub IsReady : HeldSide → HeldSide → Type 0
+IsReady old new = IsReadyIf old.counts old.queued new.queued
 
 -- The call is made, or an allocation fails; if too many results wait, the call is refused. In the
 -- last two cases nothing changes.
@@ -84,7 +94,7 @@ ChecksUnless (Some other) tei now old new code = (code ≡ check_runs) × (new �
 
 pub record HasRoomToCheck (tei now : ℕ) (old new : HeldSide) (code : ℕ) : Type 0 where
   pub check : Option ℕ
-  pub has_check : HasCheck old.side check
+  pub has_check : HasCheck old.queued.side check
   pub begins : ChecksUnless check tei now old new code
 
 -- if too many results wait, the check is refused, and nothing changes
@@ -97,11 +107,17 @@ pub record HasTicked (now expired : ℕ) (old new : HeldSide) (code : ℕ) : Typ
   pub done : code ≡ done
   pub flag : expired ≤ 1
   pub given : Effects
-  pub due : expired ≡ 1 → Expires now old.side new.side given
-  pub none : expired ≡ 0 → StaysIdle now old.side new.side × (given ≡ no_effects)
+  pub due : expired ≡ 1 → Expires now old.queued.side new.queued.side given
+  pub none : expired ≡ 0 → StaysIdle now old.queued.side new.queued.side × (given ≡ no_effects)
   pub waits : waiting new ≡ and_then (waiting old) given
   pub most : new.most_waiting ≡ old.most_waiting
-  pub counts : new.counts ≡ counts_after old [] given new.side
+  pub counts : new.counts ≡ counts_after old [] given new.queued.side
+
+-- the first due timer has expired after this, or none is due
+pub record TicksReady (now : ℕ) (is_due : Bool) (old new : HeldSide) : Type 0 where
+  pub ready : QueuedSide
+  pub is_ready : IsReadyIf old.counts old.queued ready
+  pub ticked : Queues (queued.Ticks now is_due) ready new.queued
 
 -- no timer has expired, and nothing changes
 pub record HasNotTicked (expired : ℕ) (old new : HeldSide) : Type 0 where
@@ -118,7 +134,7 @@ pub record Ticks (now expired : ℕ) (old new : HeldSide) (code : ℕ) : Type 0 
 -- the durations are set, and nothing is sent or reported
 pub record HasSetTimers (durations : Lengths) (old new : HeldSide) (code : ℕ) : Type 0 where
   pub done : code ≡ done
-  pub set : SetsDurations durations old.side new.side
+  pub set : SetsDurations durations old.queued.side new.queued.side
   pub waits : waiting new ≡ waiting old
   pub most : new.most_waiting ≡ old.most_waiting
   pub counts : new.counts ≡ old.counts
@@ -160,13 +176,13 @@ pub record ReturnsDeadline (moment : ℕ) (old new : HeldSide) (code : ℕ) : Ty
   pub done : code ≡ done
   pub same : new ≡ old
   pub deadline : Option ℕ
-  pub next : HasNextDeadline old.side deadline
+  pub next : HasNextDeadline old.queued.side deadline
   pub is : moment ≡ or_never deadline
 
 pub record ReturnsDiscarded (count : ℕ) (old new : HeldSide) (code : ℕ) : Type 0 where
   pub done : code ≡ done
   pub same : new ≡ old
-  pub discarded : HasDiscarded old.side count
+  pub discarded : HasDiscarded old.queued.side count
 
 -- the state of an existing link, whatever end it represents, and of one that does not exist
 abbrev pub ReturnsLink : LinkState → ℕ → Option Link → Type 0
@@ -178,9 +194,9 @@ pub record ReturnsState (id : LinkId) (delivered : LinkState) (old new : HeldSid
     Type 0 where
   pub same : new ≡ old
   pub terminal : Option Phase
-  pub has_terminal : HasTerminal old.side terminal
+  pub has_terminal : HasTerminal old.queued.side terminal
   pub table : LinkTable
-  pub has_table : HasTable old.side table
+  pub has_table : HasTable old.queued.side table
   pub link : ReturnsLink delivered code (link_meant table (meant terminal id))
 
 -- the state and the TEI of the terminal
@@ -188,7 +204,7 @@ pub record ReturnsTerminal (state tei : ℕ) (old new : HeldSide) (code : ℕ) :
   pub done : code ≡ done
   pub same : new ≡ old
   pub terminal : Option Phase
-  pub has_terminal : HasTerminal old.side terminal
+  pub has_terminal : HasTerminal old.queued.side terminal
   pub is_state : state ≡ state_of_terminal terminal
   pub is_tei : tei ≡ tei_of_terminal terminal
 
@@ -221,7 +237,7 @@ pub record HasFetched (octets : List ℕ) (left : Effects) (old new : HeldSide) 
   pub done : code ≡ done
   pub written : buffer.after ≡ overwritten octets buffer.before
   pub waits : waiting new ≡ left
-  pub side : new.side ≡ old.side
+  pub side : new.queued.side ≡ old.queued.side
   pub most : new.most_waiting ≡ old.most_waiting
   pub counts : new.counts ≡ old.counts
 
@@ -233,9 +249,6 @@ pub record Fetches (octets : List ℕ) (left : Effects) (old new : HeldSide) (co
   pub stays : nat_lt (length buffer.before) (length octets) ≡ true → Stays old new code buffer
 
 -- the first waiting frame, and its number of octets
-abbrev pub without_first_frame : Effects → Effects
-without_first_frame e = record e { frames = drop 1 e.frames }
-
 abbrev pub FetchesFrameOr : Option (List ℕ) → HeldSide → HeldSide → ℕ → ℕ → Buffer → Type 0
 FetchesFrameOr None old new code count buffer = (count ≡ 0) × HasNone old new code buffer
 FetchesFrameOr (Some frame) old new code count buffer = (count ≡ length frame)
@@ -246,9 +259,6 @@ FetchesFrame old new code count buffer =
     FetchesFrameOr (slice_get (waiting old).frames 0) old new code count buffer
 
 -- the first waiting primitive, and its octets
-abbrev pub without_first_primitive : Effects → Effects
-without_first_primitive e = record e { primitives = drop 1 e.primitives }
-
 abbrev pub FetchesPrimitiveOr : Option Primitive → HeldSide → HeldSide → ℕ → FlatPrimitive
     → Buffer → Type 0
 FetchesPrimitiveOr None old new code delivered buffer = (delivered ≡ nothing)

@@ -25,5 +25,5 @@ with_calls own calls counts = fold (with_call own) counts calls
 
 -- if the side counts, these calls are counted, and nothing else; its kind stays
 pub record Adds (calls : List CountedCall) (old new : HeldSide) : Type 0 where
-  pub kind : side_of new.side ≡ side_of old.side
-  pub counts : new.counts ≡ option_map (with_calls (side_of old.side) calls) old.counts
+  pub kind : side_of new.queued.side ≡ side_of old.queued.side
+  pub counts : new.counts ≡ option_map (with_calls (side_of old.queued.side) calls) old.counts

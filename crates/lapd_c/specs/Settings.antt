@@ -70,7 +70,7 @@ IsNewUser tei config (either.User side) =
 -- the side is new, without results, has this limit for waiting results, and does not count
 pub record IsNew (config : Config) (IsMade : Config → EitherSide → Type 0) (most : ℕ)
     (held : HeldSide) : Type 0 where
-  pub side : IsMade config held.side
+  pub side : IsMade config held.queued.side
   pub waits : waiting held ≡ no_effects
   pub limit : held.most_waiting ≡ most
   pub counts : held.counts ≡ None

@@ -4,7 +4,7 @@ use Rattle.lapd_timers.specs.Durations.{Lengths}
 use Rattle.lapd_table.specs.declared.link_id.LinkId.{LinkId}
 use Rattle.lapd_sides_links.specs.declared.config.Config.{Config}
 use Rattle.lapd_sides.specs.declared.either_side.EitherSide.{EitherSide}
-use Rattle.lapd_sides.specs.Requests.{Message, WithMessage}
+use Rattle.lapd_sides_links.specs.Messages.{Message, WithMessage}
 use Rattle.lapd_c.specs.declared.held_side.HeldSide.{HeldSide}
 use Rattle.lapd_c.specs.declared.link_counters.LinkCounters.{LinkCounters}
 use Rattle.lapd_c.specs.declared.link_state.LinkState.{LinkState}

@@ -1,12 +1,12 @@
 //! A side together with its results that wait to be fetched.
 
-ghost use Rattle.std.specs.Prelude.{◌≡◌, ◌<◌, ◌≤◌, [], length, slice_get, option_copied, None, IfOk, OnOk, OnErr, true, false};
+ghost use Rattle.std.specs.Prelude.{◌≡◌, ◌<◌, ◌≤◌, [], length, option_copied, None, IfOk, OnErr, OnOk};
 ghost use Rattle.lapd_sides_links.specs.Effects.{no_effects};
 ghost use Rattle.lapd_sides.specs.Either.{Takes, Answers, Gives};
-ghost use Rattle.lapd_c.specs.Calls.{or_never, waiting, items_waiting, gives_nothing, is_full, without_first_frame, without_first_primitive, Asks, BeginsCounting, Checks, HasSetTimers, Ticks, ReturnsCounters, ReturnsDeadline, ReturnsDiscarded, ReturnsState, ReturnsTerminal, FetchesFrame, FetchesItem, FetchesNext, FetchesPrimitive, overwritten};
+ghost use Rattle.lapd_sides.specs.Queued.{LacksRoom};
+ghost use Rattle.lapd_c.specs.Calls.{or_never, items_waiting, is_full, Asks, BeginsCounting, Checks, HasSetTimers, IsReady, Ticks, TicksReady, ReturnsCounters, ReturnsDeadline, ReturnsDiscarded, ReturnsState, ReturnsTerminal, FetchesFrame, FetchesItem, FetchesNext, FetchesPrimitive, overwritten};
 ghost use Rattle.lapd_c.specs.SideQueries.{HasCheck, HasTerminal, link_meant, meant, or_no_tei, state_of_terminal, tei_of_terminal, with_own_tei};
 
-use crate::backlog::Backlog;
 use crate::codes::{
     CHECK_RUNS, DONE, MEMORY, NO_LINK, NOT_COUNTING, OUT_OF_RANGE, PENDING, code_of,
 };
@@ -15,18 +15,13 @@ use crate::link_counters::LinkCounters;
 use crate::link_counts::{LinkCounts, count_received, count_results};
 use crate::link_state::LinkState;
 use lapd_link::Link;
-use lapd_sides::{
-    Acts, Durations, EitherSide, LinkId, LinkTable, Primitive, Request, Tei, Terminal,
-};
+use lapd_sides::{Durations, EitherSide, LinkId, LinkTable, QueuedSide, Request, Tei, Terminal};
 use std::alloc::{AllocError, Global};
 
-/// A side, and the results of its calls that C has not fetched: the last in `acts`, the earlier
-/// ones in `backlog`.
+/// A side with the results of its calls that C has not fetched.
 #[derive(Drop)]
 pub struct HeldSide {
-    side: EitherSide,
-    acts: Acts,
-    backlog: Backlog,
+    queued: QueuedSide,
     /// If this many frames or primitives wait, calls that could add more are refused.
     most_waiting: u16,
     /// The counters of the links, if the side counts.
@@ -45,17 +40,17 @@ impl HeldSide {
         most_waiting: u16,
     ) -> Result<HeldSide, AllocError>
         ensures { IfOk result (λ held. held ≡ record {
-          side = side;
-          acts = no_effects;
-          backlog = no_effects;
+          queued = record {
+            side = side;
+            acts = no_effects;
+            backlog = no_effects;
+          };
           most_waiting = most_waiting;
           counts = None;
         }) }
     {
         Ok(HeldSide {
-            side,
-            acts: Acts::new(alloc)?,
-            backlog: Backlog::new(alloc),
+            queued: QueuedSide::new(alloc, side)?,
             most_waiting,
             counts: None,
         })
@@ -66,28 +61,25 @@ impl HeldSide {
         ensures { result ≡ is_full self.now }
     {
         let most = usize::from(self.most_waiting);
-        most <= self.backlog.frames().len() + self.acts.frames().len()
-            || most <= self.backlog.primitives().len() + self.acts.primitives().len()
+        most <= self.queued.frames_waiting() || most <= self.queued.primitives_waiting()
     }
 
-    /// Appends the results of the last call to the waiting ones.
+    /// If the side counts, sets the waiting results aside, so that those of the next call are the
+    /// last ones.
     ///
     /// # Errors
     ///
     /// `AllocError` if an allocation failed. Nothing is changed.
     #[inline(always)]
-    fn set_aside(&mut self) -> Result<(), AllocError>
-        ensures ok { OnOk result (self.new ≡ record self.old {
-          backlog = waiting self.old;
-          acts = no_effects;
-        }) }
-        ensures err { OnErr result (self.new ≡ self.old) }
-        ensures gave { OnErr result (gives_nothing self.old.acts ≡ false) }
+    fn make_ready(&mut self) -> Result<(), AllocError>
+        ensures ready { OnOk result (IsReady self.old self.new) }
+        ensures lacks { OnErr result (LacksRoom self.old.queued self.new.queued) }
+        ensures rest { self.new ≡ record self.old { queued = self.new.queued } }
     {
-        if self.acts.frames().is_empty() && self.acts.primitives().is_empty() {
-            return Ok(());
+        match &self.counts {
+            Some(_) => self.queued.set_aside(),
+            None => Ok(()),
         }
-        self.backlog.append(&mut self.acts)
     }
 
     /// Processes octets received from the line at the time `now`.
@@ -97,11 +89,11 @@ impl HeldSide {
         if self.is_full() {
             return PENDING;
         }
-        match self.set_aside() {
+        match self.make_ready() {
             Ok(()) => {
-                count_received(&mut self.counts, &self.side, octets);
-                let result = self.side.take(octets, now, &mut self.acts);
-                count_results(&mut self.counts, &self.side, &self.acts);
+                count_received(&mut self.counts, &self.queued, octets);
+                let result = self.queued.take(octets, now);
+                count_results(&mut self.counts, &self.queued);
                 code_of(result)
             }
             Err(_) => MEMORY,
@@ -115,10 +107,10 @@ impl HeldSide {
         if self.is_full() {
             return PENDING;
         }
-        match self.set_aside() {
+        match self.make_ready() {
             Ok(()) => {
-                let result = self.side.request(request, now, &mut self.acts);
-                count_results(&mut self.counts, &self.side, &self.acts);
+                let result = self.queued.request(request, now);
+                count_results(&mut self.counts, &self.queued);
                 code_of(result)
             }
             Err(_) => MEMORY,
@@ -132,10 +124,10 @@ impl HeldSide {
         if self.is_full() {
             return PENDING;
         }
-        match self.set_aside() {
+        match self.make_ready() {
             Ok(()) => {
-                let result = self.side.give(*id, octets, now, &mut self.acts);
-                count_results(&mut self.counts, &self.side, &self.acts);
+                let result = self.queued.give(*id, octets, now);
+                count_results(&mut self.counts, &self.queued);
                 code_of(result)
             }
             Err(_) => MEMORY,
@@ -157,9 +149,9 @@ impl HeldSide {
 
     /// The TEI under check, if this is a network side that checks one.
     fn checked(&self) -> Option<Tei>
-        ensures { HasCheck self.now.side result }
+        ensures { HasCheck self.now.queued.side result }
     {
-        match &self.side {
+        match self.queued.side() {
             EitherSide::Network(side) => side.assigner().check(),
             EitherSide::User(_) => None,
         }
@@ -174,10 +166,9 @@ impl HeldSide {
         if self.is_full() {
             return PENDING;
         }
-        match self.set_aside() {
-            Ok(()) => {
-                let is_due = self.side.tick(now, &mut self.acts);
-                count_results(&mut self.counts, &self.side, &self.acts);
+        match self.tick_ready(now) {
+            Ok(is_due) => {
+                count_results(&mut self.counts, &self.queued);
                 if is_due {
                     *expired = 1;
                 }
@@ -187,11 +178,25 @@ impl HeldSide {
         }
     }
 
+    /// Expires the first timer that is due, after `make_ready`.
+    ///
+    /// # Errors
+    ///
+    /// `AllocError` if an allocation failed. Nothing is changed.
+    fn tick_ready(&mut self, now: u64) -> Result<bool, AllocError>
+        ensures ticked { IfOk result (λ is_due. TicksReady now is_due self.old self.new) }
+        ensures lacks { OnErr result (LacksRoom self.old.queued self.new.queued) }
+        ensures rest { self.new ≡ record self.old { queued = self.new.queued } }
+    {
+        self.make_ready()?;
+        self.queued.tick(now)
+    }
+
     /// Sets how long timers run when they are started from then on.
     pub(crate) fn set_timers(&mut self, durations: Durations) -> u32
         ensures { HasSetTimers durations self.old self.new result }
     {
-        self.side.set_durations(durations);
+        self.queued.set_durations(durations);
         DONE
     }
 
@@ -229,7 +234,7 @@ impl HeldSide {
     pub(crate) fn next_deadline(&self, moment: &mut u64) -> u32
         ensures { ReturnsDeadline moment.new self.now self.now result }
     {
-        *moment = moment_or_never(self.side.next_deadline());
+        *moment = moment_or_never(self.queued.side().next_deadline());
         DONE
     }
 
@@ -237,15 +242,15 @@ impl HeldSide {
     pub(crate) fn discarded(&self, count: &mut u64) -> u32
         ensures { ReturnsDiscarded count.new self.now self.now result }
     {
-        *count = self.side.discarded();
+        *count = self.queued.side().discarded();
         DONE
     }
 
     /// The terminal of a user side.
     fn terminal(&self) -> Option<&Terminal>
-        ensures { HasTerminal self.now.side (option_copied result) }
+        ensures { HasTerminal self.now.queued.side (option_copied result) }
     {
-        match &self.side {
+        match self.queued.side() {
             EitherSide::Network(_) => None,
             EitherSide::User(side) => Some(side.terminal()),
         }
@@ -265,7 +270,7 @@ impl HeldSide {
     pub(crate) fn state(&self, id: LinkId, state: &mut LinkState) -> u32
         ensures { ReturnsState id state.new self.now self.now result }
     {
-        match link_meant(self.side.table(), meant(self.terminal(), id)) {
+        match link_meant(self.queued.side().table(), meant(self.terminal(), id)) {
             Some(link) => {
                 *state = LinkState::of(link);
                 DONE
@@ -277,59 +282,6 @@ impl HeldSide {
         }
     }
 
-    /// The first waiting frame.
-    fn first_frame(&self) -> Option<&[u8]>
-        ensures { option_copied result ≡ slice_get (waiting self.now).frames 0 }
-    {
-        match self.backlog.frames().first() {
-            Some(frame) => Some(frame.as_slice()),
-            None => match self.acts.frames().first() {
-                Some(frame) => Some(frame.as_slice()),
-                None => None,
-            },
-        }
-    }
-
-    /// The first waiting primitive.
-    fn first_primitive(&self) -> Option<&Primitive>
-        ensures { option_copied result ≡ slice_get (waiting self.now).primitives 0 }
-    {
-        match self.backlog.primitives().first() {
-            Some(primitive) => Some(primitive),
-            None => self.acts.primitives().first(),
-        }
-    }
-
-    /// Removes the first waiting frame.
-    fn remove_frame(&mut self)
-        requires { 0 < length (waiting self.old).frames }
-        ensures waits { waiting self.new ≡ without_first_frame (waiting self.old) }
-        ensures side { self.new.side ≡ self.old.side }
-        ensures most { self.new.most_waiting ≡ self.old.most_waiting }
-        ensures counts { self.new.counts ≡ self.old.counts }
-    {
-        if self.backlog.frames().is_empty() {
-            self.acts.remove_frame();
-        } else {
-            self.backlog.remove_frame();
-        }
-    }
-
-    /// Removes the first waiting primitive.
-    fn remove_primitive(&mut self)
-        requires { 0 < length (waiting self.old).primitives }
-        ensures waits { waiting self.new ≡ without_first_primitive (waiting self.old) }
-        ensures side { self.new.side ≡ self.old.side }
-        ensures most { self.new.most_waiting ≡ self.old.most_waiting }
-        ensures counts { self.new.counts ≡ self.old.counts }
-    {
-        if self.backlog.primitives().is_empty() {
-            self.acts.remove_primitive();
-        } else {
-            self.backlog.remove_primitive();
-        }
-    }
-
     /// Moves the first waiting frame to the beginning of the buffer. `count` is its number of
     /// octets, or 0 if no frame is left. If the buffer is too small, only `count` is set, and the
     /// frame still waits.
@@ -337,7 +289,7 @@ impl HeldSide {
         ensures { FetchesFrame self.old self.new result count.new
             (record { before = buffer.old; after = buffer.new }) }
     {
-        let Some(frame) = self.first_frame() else {
+        let Some(frame) = self.queued.first_frame() else {
             *count = 0;
             return DONE;
         };
@@ -346,7 +298,7 @@ impl HeldSide {
             return OUT_OF_RANGE;
         }
         overwrite(buffer, frame);
-        self.remove_frame();
+        self.queued.remove_frame();
         DONE
     }
 
@@ -371,7 +323,7 @@ impl HeldSide {
         ensures { FetchesItem self.old self.new result item.new
             (record { before = buffer.old; after = buffer.new }) }
     {
-        let Some(frame) = self.first_frame() else {
+        let Some(frame) = self.queued.first_frame() else {
             return self.next_primitive(item, buffer);
         };
         *item = FlatPrimitive::of_frame(frame);
@@ -379,7 +331,7 @@ impl HeldSide {
             return OUT_OF_RANGE;
         }
         overwrite(buffer, frame);
-        self.remove_frame();
+        self.queued.remove_frame();
         DONE
     }
 
@@ -387,9 +339,8 @@ impl HeldSide {
     fn items_waiting(&self) -> usize
         ensures { result ≡ items_waiting self.now }
     {
-        let frames = self.backlog.frames().len() + self.acts.frames().len();
-        let primitives = self.backlog.primitives().len() + self.acts.primitives().len();
-        frames.saturating_add(primitives)
+        let frames = self.queued.frames_waiting();
+        frames.saturating_add(self.queued.primitives_waiting())
     }
 
     /// Fetches the first waiting primitive, and copies its octets to the beginning of the buffer.
@@ -398,7 +349,7 @@ impl HeldSide {
         ensures { FetchesPrimitive self.old self.new result delivered.new
             (record { before = buffer.old; after = buffer.new }) }
     {
-        let Some(primitive) = self.first_primitive() else {
+        let Some(primitive) = self.queued.first_primitive() else {
             *delivered = FlatPrimitive::nothing();
             return DONE;
         };
@@ -408,7 +359,7 @@ impl HeldSide {
             return OUT_OF_RANGE;
         }
         overwrite(buffer, octets);
-        self.remove_primitive();
+        self.queued.remove_primitive();
         DONE
     }
 }

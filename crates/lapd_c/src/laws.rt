@@ -4,7 +4,7 @@ ghost use Rattle.std.specs.Prelude.{◌≡◌, ℕ, List, [], ◌++◌, Option, 
 ghost use Rattle.lapd_table.specs.declared.link_id.LinkId.{LinkId};
 ghost use Rattle.lapd_sides.specs.declared.request.Request.{Request};
 ghost use Rattle.lapd_sides.specs.Either.{side_of, Takes, Answers, Gives};
-ghost use Rattle.lapd_sides.specs.Requests.{Message};
+ghost use Rattle.lapd_sides_links.specs.Messages.{Message};
 ghost use Rattle.lapd_c.specs.ThroughHandle.{AsksSide, AsksCheck, AsksTei, AsksLink, AsksLinkWith, Through};
 ghost use Rattle.lapd_timers.specs.Durations.{Lengths};
 ghost use Rattle.lapd_c.specs.declared.held_side.HeldSide.{HeldSide};
@@ -61,7 +61,7 @@ pub fn counters_are_sums()
         (h : HasTicked now expired old new code) → Adds (one_call [] h.given) old new }
     ensures set_timers { (durations : Lengths) (code : ℕ) (old new : HeldSide)
         → HasSetTimers durations old new code → Adds [] old new }
-    ensures other { (old new : HeldSide) → new.side ≡ old.side → new.counts ≡ old.counts
+    ensures other { (old new : HeldSide) → new.queued.side ≡ old.queued.side → new.counts ≡ old.counts
         → Adds [] old new }
     ensures together { (first second : List CountedCall) (old mid new : HeldSide)
         → Adds first old mid → Adds second mid new → Adds (first ++ second) old new }
@@ -70,5 +70,5 @@ pub fn counters_are_sums()
         → HasBegunCounting old first begun → Adds calls first last
         → ReturnsCounters id delivered last after code
         → (code ≡ done) × (delivered
-        ≡ counters_of id (with_calls (side_of old.side) calls nothing_counted)) }
+        ≡ counters_of id (with_calls (side_of old.queued.side) calls nothing_counted)) }
 {}

@@ -20,7 +20,6 @@ ghost use Rattle.lapd_c.specs.Names.{code_name, kind_name};
 ghost use Rattle.lapd_c.specs.Settings.{IsNewNetwork, IsNewUser, network_config, own_tei, user_config};
 ghost use Rattle.lapd_c.specs.SideQueries.{or_no_tei};
 
-mod backlog;
 mod box_parts;
 mod codes;
 mod flat_primitive;

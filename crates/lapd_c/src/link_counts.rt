@@ -6,7 +6,7 @@ ghost use Rattle.lapd_c.specs.Counters.{after_received, after_sent, call_counted
 
 use crate::link_counters::{LinkCount, LinkCounters};
 use lapd_frame::{Frame, FrameFault, Sapi, Side, Tei, read};
-use lapd_sides::{Acts, EitherSide, FrameOctets, LinkId, Primitive, What};
+use lapd_sides::{Acts, FrameOctets, LinkId, Primitive, QueuedSide, What};
 use std::alloc::{AllocError, Global};
 use std::marker::Model;
 
@@ -157,23 +157,24 @@ impl LinkCounts {
 /// Counts octets that a side receives, if it counts.
 // Without counting, a call costs only this test and that of `count_results`.
 #[inline(always)]
-pub(crate) fn count_received(counts: &mut Option<LinkCounts>, side: &EitherSide, octets: &[u8])
+pub(crate) fn count_received(counts: &mut Option<LinkCounts>, queued: &QueuedSide, octets: &[u8])
     ensures { counts.new
-        ≡ option_map (λ c. received_counted (side_of side.now) c octets.now) counts.old }
+        ≡ option_map (λ c. received_counted (side_of queued.now.side) c octets.now) counts.old }
 {
     match counts {
-        Some(counts) => counts.count_received(side.side(), octets),
+        Some(counts) => counts.count_received(queued.side().side(), octets),
         None => {}
     }
 }
 
-/// Counts the frames and primitives that follow from a call of a side, if it counts.
+/// Counts the last frames and primitives of a side, if it counts.
 #[inline(always)]
-pub(crate) fn count_results(counts: &mut Option<LinkCounts>, side: &EitherSide, acts: &Acts)
-    ensures { counts.new ≡ option_map (call_counted (side_of side.now) [] acts.now) counts.old }
+pub(crate) fn count_results(counts: &mut Option<LinkCounts>, queued: &QueuedSide)
+    ensures { counts.new
+        ≡ option_map (call_counted (side_of queued.now.side) [] queued.now.acts) counts.old }
 {
     match counts {
-        Some(counts) => counts.count_results(side.side(), acts),
+        Some(counts) => counts.count_results(queued.side().side(), queued.last()),
         None => {}
     }
 }

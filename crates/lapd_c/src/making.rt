@@ -50,9 +50,11 @@ pub(crate) fn make_user(
 /// Puts a side on the heap, without results.
 fn boxed(alloc: Global, side: EitherSide, most_waiting: u16) -> Result<Box<HeldSide>, AllocError>
     ensures { IfOk result (λ held. held.value ≡ record {
-      side = side;
-      acts = no_effects;
-      backlog = no_effects;
+      queued = record {
+        side = side;
+        acts = no_effects;
+        backlog = no_effects;
+      };
       most_waiting = most_waiting;
       counts = None;
     }) }

@@ -1,12 +1,15 @@
 -- Facts about the calls of any side, whatever it represents.
-use Rattle.std.proofs.Common.{◌≡◌, ℕ, Option, Some, Result, Ok, Err, sym, subst}
+use Rattle.std.proofs.Common.{◌≡◌, ℕ, List, Option, Some, Result, Ok, Err, sym, subst}
 use Rattle.std.specs.Prelude.{IsErr, OnErr}
 use Rattle.lapd_timers.specs.Due.{Timers}
 use Rattle.lapd_table.specs.declared.link_id.LinkId.{LinkId}
 use Rattle.lapd_sides_links.specs.declared.config.Config.{Config}
 use Rattle.lapd_sides_links.specs.declared.running_timer.RunningTimer.{RunningTimer}
 use Rattle.lapd_sides_links.specs.declared.side_fault.SideKind.{SideKind}
-use Rattle.lapd_sides_links.specs.Effects.{Effects}
+use Rattle.lapd_sides_links.specs.declared.at_once.AtOnce.{AtOnce}
+use Rattle.lapd_sides_links.specs.declared.at_once.AtOnce.TheVariants as at_once
+use Rattle.lapd_sides_links.specs.Effects.{Adds, Effects, and_then, no_effects}
+use Rattle.lapd_sides_links.specs.Messages.{Message, SendsAtOnce}
 use Rattle.lapd_sides_links.specs.Expiries.{IsDue, IsNextDeadline}
 use Rattle.lapd_sides_links.specs.Links.{Reaction, Served}
 use Rattle.lapd_sides.specs.Calls.{HasDone, HasGranted, HasExpired, Expiry, Receives, LacksMemory}
@@ -41,3 +44,38 @@ expired_so {Show = Show} {expires = expires} code config acts now s e of due is 
 pub on_err : {A E : Type 0} (result : Result A E) (P : Type 0) → P → OnErr result P
 on_err (Ok a) P p = tt
 on_err (Err e) P p = p
+
+-- ---- Effects that are appended.
+
+-- without earlier effects, those that are there are the call's own
+pub alone : (before after : Effects) (Does : Effects → Type 0) → before ≡ no_effects
+    → Adds before after Does → Does after
+alone before after Does empty h =
+    subst Does (sym (subst (λ (b : Effects). after ≡ and_then b h.given) empty h.appended)) h.does
+
+-- more follows from the call
+pub added_so : (before after : Effects) (Does Also : Effects → Type 0)
+    → ((given : Effects) → Does given → Also given) → Adds before after Does
+    → Adds before after Also
+added_so before after Does Also so h = record {
+  given = h.given;
+  appended = h.appended;
+  does = so h.given h.does;
+}
+
+-- a copy of a message is sent or not, and the same follows
+pub sends_so : (octets : List ℕ) (before after : Effects) (Does Also : Message → Effects → Type 0)
+    (Why Because Same Stays : Type 0) (result : AtOnce)
+    → ((message : Message) (given : Effects) → Does message given → Also message given)
+    → (Why → Because) → (Same → Stays)
+    → SendsAtOnce octets (λ message. Adds before after (Does message)) Why Same result
+    → SendsAtOnce octets (λ message. Adds before after (Also message)) Because Stays result
+sends_so octets before after Does Also Why Because Same Stays at_once.Sent so why stays h = record {
+  message = h.message;
+  items = h.items;
+  asks = added_so before after (Does h.message) (Also h.message) (so h.message) h.asks;
+}
+sends_so octets before after Does Also Why Because Same Stays (at_once.Unsent message) so why stays h =
+    (h.0, why h.1, stays h.2)
+sends_so octets before after Does Also Why Because Same Stays at_once.NoMemory so why stays h =
+    stays h

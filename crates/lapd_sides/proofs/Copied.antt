@@ -11,7 +11,8 @@ use Rattle.lapd_sides.specs.declared.request.Request.TheVariants.{Give}
 use Rattle.lapd_sides.specs.declared.user_side.UserSide.{UserSide}
 use Rattle.lapd_sides.specs.Either.{Gives}
 use Rattle.lapd_sides.specs.Network.{network_requested}
-use Rattle.lapd_sides.specs.Requests.{LacksMessage, WithMessage}
+use Rattle.lapd_sides_links.specs.Messages.{WithMessage}
+use Rattle.lapd_sides.specs.Requests.{LacksMessage}
 use Rattle.lapd_sides.specs.ShowsNetwork as network
 use Rattle.lapd_sides.specs.ShowsUser as user
 use Rattle.lapd_sides.specs.User.{user_requested}

@@ -7,3 +7,5 @@ pub mod ReadFrames
 pub mod Receiving
 pub mod Predicted
 pub mod Copied
+pub mod Backlogs
+pub mod Queueing

@@ -1,5 +1,5 @@
 -- The effects of the steps of a network side.
-use Rattle.std.proofs.Common.{◌≡◌, ℕ, List, length, Bool, false, Option, Some, None, Result, Ok, Err, refl, sym, ap, subst, ◌∙◌}
+use Rattle.std.proofs.Common.{◌≡◌, ℕ, List, length, Bool, false, Option, Some, None, Result, Ok, Err, sym, ap, subst, ◌∙◌}
 use Rattle.std.specs.declared.alloc.Global.{Global}
 use Rattle.std.specs.Prelude.{Vec, true, OnOk, OnErr, IfErr, ◌&&◌, ◌==◌, if◌then◌else◌}
 use Rattle.lapd_link_definition.specs.Input.{Heard, UnitData}

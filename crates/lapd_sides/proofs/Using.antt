@@ -3,7 +3,7 @@ use Rattle.std.proofs.Common.{◌≡◌, ℕ, List, [], Option, Some, None, Resu
 use Rattle.std.proofs.lemmas.List.{append-nil}
 use Rattle.std.proofs.Math.Seq.{drop-cons}
 use Rattle.std.specs.declared.alloc.Global.{Global}
-use Rattle.std.specs.Prelude.{Vec, ◌&&◌, Bool, true, false, nat_lt, if◌then◌else◌, OnOk, OnErr, IfErr}
+use Rattle.std.specs.Prelude.{Vec, Bool, true, false, nat_lt, if◌then◌else◌, OnOk, OnErr, IfErr}
 use Rattle.rand_pcg.specs.Pcg.{pcg32}
 use Rattle.lapd_frame.specs.declared.Sapi.{Sapi}
 use Rattle.lapd_frame.specs.declared.Sapi.TheVariants as sapi
@@ -38,7 +38,7 @@ use Rattle.lapd_sides_links.specs.declared.side_fault.SideKind.TheVariants.{NoLi
 use Rattle.lapd_sides_links.specs.Effects.{Effects, no_effects, and_then}
 use Rattle.lapd_sides_links.specs.Links.{Links, Reaction, Served, gives_at_once, is_served, in_links, link_acts, link_expires, of_sapi, no_links, with_tei}
 use Rattle.lapd_sides.specs.Management.{carries_message, links_with, manages, one_more}
-use Rattle.lapd_sides.specs.User.{User, PendingEstablishments, nothing_pending, among_links, or_discarded, or_unmoved, next, link_of_user, with_tei_or, establishes, establishes_pending, terminal_acts, assigned, pending_after, fault_received, for_layer_3, data_received, message_received, frame_received, got_for_message, got_for_frame, unit_from_group, user_requested, wants, has_tei, gives_up, with_pending, is_pending, forgets, sends_message, next_reference, advanced, drawn, links_of_fixed, user_expires}
+use Rattle.lapd_sides.specs.User.{User, PendingEstablishments, gives_at_once_by_user, nothing_pending, among_links, or_discarded, or_unmoved, next, link_of_user, with_tei_or, establishes, establishes_pending, terminal_acts, assigned, pending_after, fault_received, for_layer_3, data_received, message_received, frame_received, got_for_message, got_for_frame, unit_from_group, user_requested, wants, has_tei, gives_up, with_pending, is_pending, forgets, sends_message, next_reference, advanced, drawn, links_of_fixed, user_expires}
 use Rattle.lapd_sides.specs.Requests.{message_of}
 use Rattle.lapd_sides_links.specs.Shown.{ShowLinks, HaveActed}
 use Rattle.lapd_sides_links.proofs.Acting.{in_order}
@@ -200,6 +200,15 @@ pub is_none : (code : UserSide) (config : Config) (s : User) (found : Option ℕ
     → found ≡ tei_of code.terminal → found ≡ None → with_tei_or now s.terminal sapi input octets otherwise s ≡ otherwise
 is_none code config s found now sapi input octets otherwise shown of is =
     no_own_link s.terminal now sapi input octets otherwise s (ap tei_of (sym shown.terminal) ∙ sym of ∙ is)
+
+-- the terminal's own link does not send the message at once
+pub own_gives_none : (code : UserSide) (config : Config) (s : User) (found : Option ℕ) (tei : ℕ)
+    (sapi : Sapi) (id : LinkId) (octets : List ℕ) → ShowUser code config s
+    → IsOwn code found tei sapi id → gives_at_once octets (s.served.links id) ≡ false
+    → gives_at_once_by_user sapi octets s ≡ false
+own_gives_none code config s found tei sapi id octets shown own h =
+    rw (ap tei_of (sym shown.terminal) ∙ sym own.of ∙ own.is)
+    (subst (λ (i : LinkId). gives_at_once octets (s.served.links i) ≡ false) own.named h)
 
 -- the answer to a request with the same result
 pub answers_as : (result : Result (Unit {0}) SideFault) (old after : UserSide) (acts : Effects) (message : Option (Vec ℕ Global)) (a b : RequestOutcome User) → ((config : Config) (s : User) → ShowUser old config s → b config s ≡ a config s)

@@ -1,7 +1,7 @@
 -- How the calls of a side are specified, for the network side and the user side alike, whatever
 -- side of the definition the code represented before. `Show` relates a side in code to its
 -- configuration and its side of the definition.
-use Rattle.std.specs.Prelude.{◌≡◌, ℕ, List, Option, Some, None, Result, Ok, Err, IsSome, Vec, ⊤}
+use Rattle.std.specs.Prelude.{◌≡◌, ℕ, Option, Some, None, Result, Ok, Err, IsSome, Vec, ⊤}
 use Rattle.std.specs.declared.alloc.Global.{Global}
 use Rattle.lapd_timers.specs.declared.timer.Timer.{Timer}
 use Rattle.lapd_timers.specs.Durations.{Lengths}

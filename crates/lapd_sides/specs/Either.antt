@@ -1,7 +1,8 @@
 -- A side of either kind. Its calls do the same as those of a network side or a user side.
-use Rattle.std.specs.Prelude.{◌≡◌, ◌⊎◌, ℕ, List, Option, Result, ⊤}
+use Rattle.std.specs.Prelude.{◌≡◌, ◌⊎◌, ℕ, false, List, Option, Result, ⊤}
 use Rattle.lapd_timers.specs.Due.{Timers}
 use Rattle.lapd_timers.specs.Durations.{Lengths}
+use Rattle.lapd_frame.specs.Reading.{frame_at}
 use Rattle.lapd_frame.specs.declared.Side.{Side}
 use Rattle.lapd_frame.specs.declared.Side.TheVariants as side
 use Rattle.lapd_table.specs.declared.link_id.LinkId.{LinkId}
@@ -9,14 +10,16 @@ use Rattle.lapd_table.specs.declared.link_table.LinkTable.{LinkTable}
 use Rattle.lapd_sides_links.specs.declared.side_fault.SideFault.{SideFault}
 use Rattle.lapd_sides_links.specs.Effects.{Effects}
 use Rattle.lapd_sides_links.specs.Expiries.{IsNextDeadline, of_served}
+use Rattle.lapd_sides_links.specs.Links.{gives_at_once}
 use Rattle.lapd_sides.specs.declared.request.Request.{Request}
 use Rattle.lapd_sides.specs.declared.either_side.EitherSide.{EitherSide}
 use Rattle.lapd_sides.specs.declared.either_side.EitherSide.TheVariants as either
 use Rattle.lapd_sides.specs.Network.{network_takes, network_requested, given_for}
-use Rattle.lapd_sides.specs.User.{user_takes, user_requested, got_for}
+use Rattle.lapd_sides.specs.User.{user_takes, user_requested, got_for, gives_at_once_by_user}
 use Rattle.lapd_sides.specs.declared.request.Request.TheVariants as request
-use Rattle.lapd_sides.specs.Requests.{LacksMessage, WithMessage, message_of}
-use Rattle.lapd_sides.specs.Shows.{ShowEnds}
+use Rattle.lapd_sides_links.specs.Messages.{WithMessage}
+use Rattle.lapd_sides.specs.Requests.{LacksMessage, message_of}
+use Rattle.lapd_sides.specs.Shows.{ShowEnds, are_predicted}
 use Rattle.lapd_sides.specs.ShowsNetwork as network
 use Rattle.lapd_sides.specs.ShowsUser as user
 
@@ -49,6 +52,20 @@ abbrev pub Gives : LinkId → List ℕ → ℕ → Result ⊤ SideFault → Eith
     → Type 0
 Gives id octets now result old new acts = LacksMessage result old new acts
     ⊎ WithMessage octets (λ message. Answers (request.Give id message) now result old new acts)
+
+-- the link does not send a message with these octets at once
+abbrev pub SendsNone : LinkId → List ℕ → EitherSide → Type 0
+SendsNone id octets (either.Network code) =
+    network.EachShown code (λ s. gives_at_once octets (s.served.links id) ≡ false)
+SendsNone id octets (either.User code) =
+    user.EachShown code (λ s. gives_at_once_by_user id.sapi octets s ≡ false)
+
+-- the octets are not those of a frame that its link predicts
+abbrev pub PredictsNone : List ℕ → EitherSide → Type 0
+PredictsNone octets (either.Network code) =
+    network.EachShown code (λ s. are_predicted (frame_at side.User octets) s.served.links ≡ false)
+PredictsNone octets (either.User code) =
+    user.EachShown code (λ s. are_predicted (frame_at side.Network octets) s.served.links ≡ false)
 
 -- the first due timer has expired
 abbrev pub Expires : ℕ → EitherSide → EitherSide → Effects → Type 0

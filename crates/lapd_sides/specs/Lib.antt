@@ -8,3 +8,4 @@ pub mod Calls
 pub mod ShowsNetwork
 pub mod ShowsUser
 pub mod Either
+pub mod Queued

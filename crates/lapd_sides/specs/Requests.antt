@@ -1,16 +1,12 @@
 -- The octets of a request, and those that a refused request returns.
-use Rattle.std.specs.Prelude.{◌≡◌, ℕ, List, Option, Some, None, Result, Err, Vec, ⊤}
-use Rattle.std.specs.declared.alloc.Global.{Global}
+use Rattle.std.specs.Prelude.{◌≡◌, Option, Some, None, Result, Err, ⊤}
 use Rattle.lapd_sides_links.specs.declared.side_fault.SideFault.{SideFault}
 use Rattle.lapd_sides_links.specs.declared.side_fault.SideKind.{SideKind}
 use Rattle.lapd_sides_links.specs.declared.side_fault.SideKind.TheVariants.{Memory}
 use Rattle.lapd_sides_links.specs.Effects.{Effects, no_effects}
+use Rattle.lapd_sides_links.specs.Messages.{Message}
 use Rattle.lapd_sides.specs.declared.request.Request.{Request}
 use Rattle.lapd_sides.specs.declared.request.Request.TheVariants as request
-
--- the octets of a request, as code holds them
-abbrev pub Message : Type 0
-Message = Vec ℕ Global
 
 -- the message or unit data that a request contains
 abbrev pub message_of : Request → Option Message
@@ -23,12 +19,6 @@ abbrev pub without_message : SideKind → SideFault
 without_message kind = record { kind = kind; message = None }
 
 -- ---- A message that is copied.
-
--- some message with these octets has this property
-pub record WithMessage (octets : List ℕ) (Asks : Message → Type 0) : Type 0 where
-  pub message : Message
-  pub items : message.items ≡ octets
-  pub asks : Asks message
 
 -- the message cannot be allocated, and nothing is changed
 pub record LacksMessage {C : Type 0} (result : Result ⊤ SideFault) (old new : C) (acts : Effects) :

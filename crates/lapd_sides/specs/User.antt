@@ -38,7 +38,7 @@ use Rattle.lapd_sides.specs.declared.request.Request.TheVariants as request
 use Rattle.lapd_sides_links.specs.declared.side_fault.SideKind.{SideKind}
 use Rattle.lapd_sides_links.specs.declared.side_fault.SideKind.TheVariants.{NoLink, Link}
 use Rattle.lapd_sides_links.specs.Effects.{no_effects, and_then, stopped}
-use Rattle.lapd_sides_links.specs.Links.{Links, Reaction, of_sapi, is_served, in_links, link_acts, link_expires, no_links, with_tei}
+use Rattle.lapd_sides_links.specs.Links.{Links, Reaction, gives_at_once, of_sapi, is_served, in_links, link_acts, link_expires, no_links, with_tei}
 use Rattle.lapd_sides.specs.Management.{carries_message, is_unit_to_group, manages, one_more, busy_input}
 use Rattle.lapd_sides_links.specs.Links.{Served}
 
@@ -270,6 +270,15 @@ with_tei_or now (Assigned by own) sapi input octets otherwise s =
     link_of_user now (of_sapi sapi own) input octets s
 with_tei_or now Unassigned sapi input octets otherwise s = otherwise
 with_tei_or now (Awaiting purpose count ri) sapi input octets otherwise s = otherwise
+
+-- the link of the terminal's own TEI, if it has one, sends a message with these octets at once
+abbrev pub own_gives_at_once : Option ℕ → Sapi → List ℕ → Links → Bool
+own_gives_at_once None sapi octets links = false
+own_gives_at_once (Some own) sapi octets links = gives_at_once octets (links (of_sapi sapi own))
+
+abbrev pub gives_at_once_by_user : Sapi → List ℕ → User → Bool
+gives_at_once_by_user sapi octets s =
+    own_gives_at_once (tei_of s.terminal) sapi octets s.served.links
 
 abbrev pub is_pending : Sapi → PendingEstablishments → Bool
 is_pending sapi.Call pending = pending.call

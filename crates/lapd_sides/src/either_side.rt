@@ -1,11 +1,14 @@
 //! A side of either kind.
 
-ghost use Rattle.std.specs.Prelude.{◌≡◌, true, false, IfErr, option_copied};
-ghost use Rattle.lapd_sides_links.specs.Effects.{no_effects};
+ghost use Rattle.std.specs.Prelude.{◌≡◌, true, false, Ok, IfErr, option_copied};
+ghost use Rattle.lapd_sides_links.specs.Effects.{no_effects, Adds};
+ghost use Rattle.lapd_sides_links.specs.Messages.{SendsAtOnce};
+ghost use Rattle.lapd_sides_links.specs.Rooms.{HasRoomForPredicted, IsEmpty};
 ghost use Rattle.lapd_sides.specs.Requests.{without_message};
 
 use crate::{Acts, Durations, NetSide, Request, SideFault, SideKind, UserSide};
 use lapd_frame::Side;
+use lapd_sides_links::AtOnce;
 use lapd_table::{LinkId, LinkTable};
 use lapd_timers::TimerSet;
 
@@ -20,7 +23,7 @@ pub enum EitherSide {
 }
 
 impl EitherSide {
-    ghost use Rattle.lapd_sides.specs.Either.{side_of, Takes, Answers, Gives, Expires, StaysIdle, SetsDurations, HasNextDeadline, HasTable, HasTimers, HasDiscarded};
+    ghost use Rattle.lapd_sides.specs.Either.{side_of, Takes, Answers, Gives, PredictsNone, SendsNone, Expires, StaysIdle, SetsDurations, HasNextDeadline, HasTable, HasTimers, HasDiscarded};
 
     /// Whether this is the network side or the user side.
     pub fn side(&self) -> Side
@@ -101,6 +104,65 @@ impl EitherSide {
         match self {
             EitherSide::Network(side) => side.give(id, octets, now, acts),
             EitherSide::User(side) => side.give(id, octets, now, acts),
+        }
+    }
+
+    /// Processes octets, if they are a frame that its link predicts ([`NetSide::take`]). The results
+    /// are appended to `acts`. Otherwise it returns `false`, and nothing is changed.
+    #[inline(always)]
+    pub(crate) fn take_predicted(&mut self, bytes: &[u8], now: u64, acts: &mut Acts) -> bool
+        requires room { HasRoomForPredicted acts.old }
+        ensures taken { result ≡ true → Adds acts.old acts.new
+            (Takes bytes.now now (Ok tt) self.old self.new) }
+        ensures declined { result ≡ false → PredictsNone bytes.now self.old }
+        ensures unchanged { result ≡ false → self.new ≡ self.old }
+        ensures nothing { result ≡ false → acts.new ≡ acts.old }
+    {
+        match self {
+            EitherSide::Network(side) => side.take_predicted(bytes, now, acts),
+            EitherSide::User(side) => side.take_predicted(bytes, now, acts),
+        }
+    }
+
+    /// Processes any octets, predicted or not.
+    ///
+    /// # Errors
+    ///
+    /// B3 as `take`.
+    pub(crate) fn take_any(
+        &mut self,
+        bytes: &[u8],
+        now: u64,
+        acts: &mut Acts,
+    ) -> Result<(), SideFault>
+        requires empty { IsEmpty acts.old }
+        ensures { Takes bytes.now now result self.old self.new acts.new }
+    {
+        match self {
+            EitherSide::Network(side) => side.take_any(bytes, now, acts),
+            EitherSide::User(side) => side.take_any(bytes, now, acts),
+        }
+    }
+
+    /// Submits a copy of these octets, as `give` does, if the link sends it at once. The results are
+    /// appended to `acts`.
+    #[inline(always)]
+    pub(crate) fn send_at_once(
+        &mut self,
+        id: &LinkId,
+        octets: &[u8],
+        now: u64,
+        acts: &mut Acts,
+    ) -> AtOnce
+        requires room { HasRoomForPredicted acts.old }
+        ensures { SendsAtOnce octets.now (λ message. Adds acts.old acts.new
+            (Answers (Request.Give id.now message) now (Ok tt) self.old self.new))
+            (SendsNone id.now octets.now self.old)
+            ((self.new ≡ self.old) × (acts.new ≡ acts.old)) result }
+    {
+        match self {
+            EitherSide::Network(side) => side.send_at_once(id, octets, now, acts),
+            EitherSide::User(side) => side.send_at_once(id, octets, now, acts),
         }
     }
 

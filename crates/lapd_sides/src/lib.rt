@@ -22,6 +22,9 @@
 //! 6. Sleep until `next_deadline`, or until octets or a request arrive: before that moment `tick`
 //!    has nothing to do. If it is `None`, no timer runs.
 //!
+//! A program that calls again before it has processed the results holds a [`QueuedSide`] instead,
+//! which appends the results of each call to those that wait.
+//!
 //! ```text
 //! let mut side = EitherSide::User(UserSide::new(alloc, config, Some(tei))?);
 //! let mut acts = Acts::new(alloc)?;
@@ -53,11 +56,13 @@
 //! to know counts, for each link, the messages accepted less those acknowledged or dropped.
 #![tactic(auto)]
 
+mod backlog;
 mod either_side;
 mod laws;
 mod links_and_timer;
 mod net_side;
 mod pending_establishments;
+mod queued_side;
 mod references;
 mod request;
 mod user_side;
@@ -75,5 +80,6 @@ pub use laws::{
     vain_requests_are_released,
 };
 pub use net_side::NetSide;
+pub use queued_side::QueuedSide;
 pub use request::Request;
 pub use user_side::UserSide;

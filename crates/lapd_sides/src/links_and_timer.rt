@@ -9,9 +9,9 @@ ghost use Rattle.lapd_link_definition.specs.Input.{input_of};
 ghost use Rattle.lapd_table.specs.LinkTable.{IsFor};
 ghost use Rattle.lapd_tei.specs.Out.{IsInRange, tei_given, tei_freed};
 ghost use Rattle.lapd_sides_links.specs.declared.acts.TheConstants.{MOST_FRAMES, MOST_PRIMITIVES};
-ghost use Rattle.lapd_sides_links.specs.Effects.{managed, message_sent, outcome_of};
+ghost use Rattle.lapd_sides_links.specs.Effects.{managed, message_sent, outcome_of, Adds};
 ghost use Rattle.lapd_sides_links.specs.Links.{IsOfLink, in_links, link_acts, link_expires, no_links, served_with_durations};
-ghost use Rattle.lapd_sides_links.specs.Rooms.{IsEmpty};
+ghost use Rattle.lapd_sides_links.specs.Rooms.{HasRoomForPredicted, IsEmpty};
 ghost use Rattle.lapd_sides_links.specs.Shown.{LinksHaveNone};
 ghost use Rattle.lapd_sides.specs.Management.{carries_message, is_unit_to_group, one_more};
 ghost use Rattle.lapd_sides.specs.Requests.{without_message};
@@ -132,8 +132,8 @@ impl LinksAndTimer {
         self.act_or_discard(&id, Event::Heard(frame), frame.info(), now, acts);
     }
 
-    /// Passes a frame to the link that it is addressed to, if the link predicts it. Otherwise it
-    /// returns `false`, and nothing is changed.
+    /// Passes a frame to the link that it is addressed to, if the link predicts it. The results are
+    /// appended to `acts`. Otherwise it returns `false`, and nothing is changed.
     #[inline(always)]
     pub fn receive_predicted(
         &mut self,
@@ -141,10 +141,10 @@ impl LinksAndTimer {
         now: u64,
         acts: &mut Acts,
     ) -> bool
-        requires empty { IsEmpty acts.old }
+        requires room { HasRoomForPredicted acts.old }
         requires fits { length frame.now.info.now ≤ N201 }
-        ensures received { result ≡ true → Receive self.old self.new acts.new
-            (frame_on_links now (predicted_fields frame.now)) }
+        ensures received { result ≡ true → Adds acts.old acts.new (λ given.
+            Receive self.old self.new given (frame_on_links now (predicted_fields frame.now))) }
         ensures declined { result ≡ false → LinksHaveNone self.old.links
             (is_predicted_on_links (predicted_fields frame.now)) }
         ensures unchanged { result ≡ false → self.new ≡ self.old }

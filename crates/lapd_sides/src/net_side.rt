@@ -7,10 +7,12 @@ ghost use Rattle.lapd_link_definition.specs.Input.{input_of, Give};
 ghost use Rattle.lapd_tei.specs.Assigner.{AssignerState, assigner_step};
 ghost use Rattle.lapd_tei.specs.Out.{tei_given};
 ghost use Rattle.lapd_table.specs.LinkTable.{IsFor};
-ghost use Rattle.lapd_sides_links.specs.Effects.{no_effects};
-ghost use Rattle.lapd_sides_links.specs.Rooms.{IsEmpty};
+ghost use Rattle.lapd_sides_links.specs.Effects.{no_effects, Adds};
+ghost use Rattle.lapd_sides_links.specs.Messages.{SendsAtOnce, WithMessage};
+ghost use Rattle.lapd_sides_links.specs.Links.{gives_at_once};
+ghost use Rattle.lapd_sides_links.specs.Rooms.{HasRoomForPredicted, IsEmpty};
 ghost use Rattle.lapd_sides_links.specs.Expiries.{IsNextDeadline, of_served};
-ghost use Rattle.lapd_sides.specs.Requests.{LacksMessage, WithMessage, message_of, without_message};
+ghost use Rattle.lapd_sides.specs.Requests.{LacksMessage, message_of, without_message};
 ghost use Rattle.lapd_sides.specs.Shows.{are_predicted, ShowEnds};
 ghost use Rattle.lapd_sides.specs.Network.{Network, new_network, network_takes, network_requested, assigner_acts, link_of_network, frame_received, unit_requested, unit_to_group, given_for, given_for_frame, given_for_message};
 
@@ -18,7 +20,7 @@ use crate::links_and_timer::{Expired, LinksAndTimer, carries_message, without_me
 use crate::{Acts, Config, Durations, Request, SideFault, SideKind};
 use lapd_frame::{Address, Control, Frame, N201, Role, Sapi, Side, Tei, read, read_predicted};
 use lapd_link::{Event, LinkFault};
-use lapd_sides_links::{next_deadline, refused};
+use lapd_sides_links::{AtOnce, next_deadline, refused};
 use lapd_table::{LinkId, LinkTable};
 use lapd_tei::{Assigner, AssignerEvent, TeiMessage};
 use lapd_timers::TimerSet;
@@ -38,7 +40,7 @@ pub struct NetSide {
 }
 
 impl NetSide {
-    ghost use Rattle.lapd_sides.specs.ShowsNetwork.{ShowNetwork, EachShown, NetworkDoes, NetworkReceives, Answers, Expires, NetworkStaysIdle};
+    ghost use Rattle.lapd_sides.specs.ShowsNetwork.{ShowNetwork, EachShown, NetworkDoes, NetworkReceives, Answers, Expires, Grants, NetworkStaysIdle};
 
     /// Creates a network side that holds these TEIs, each 0 to 126. Their links exist, in state 4.
     ///
@@ -77,20 +79,17 @@ impl NetSide {
         if self.take_predicted(bytes, now, acts) {
             return Ok(());
         }
-        match self.take_any(bytes, now, acts) {
-            Ok(()) => Ok(()),
-            Err(AllocError) => Err(without_message(SideKind::Memory)),
-        }
+        self.take_any(bytes, now, acts)
     }
 
     /// Processes octets, if they are a frame that its link predicts: an I frame that is expected
-    /// next, an acknowledgement or a poll, in state 7 ([`lapd_link::Link::predicted_step`]). Otherwise
-    /// it returns `false`, and nothing is changed.
+    /// next, an acknowledgement or a poll, in state 7 ([`lapd_link::Link::predicted_step`]). The
+    /// results are appended to `acts`. Otherwise it returns `false`, and nothing is changed.
     #[inline(always)]
-    fn take_predicted(&mut self, bytes: &[u8], now: u64, acts: &mut Acts) -> bool
-        requires empty { IsEmpty acts.old }
-        ensures taken { result ≡ true → NetworkDoes self.old self.new acts.new
-            (λ config. network_takes config bytes.now now) }
+    pub(crate) fn take_predicted(&mut self, bytes: &[u8], now: u64, acts: &mut Acts) -> bool
+        requires room { HasRoomForPredicted acts.old }
+        ensures taken { result ≡ true → Adds acts.old acts.new (λ given.
+            NetworkDoes self.old self.new given (λ config. network_takes config bytes.now now)) }
         ensures declined { result ≡ false → EachShown self.old (λ s.
             are_predicted (frame_at Side.User bytes.now) s.served.links ≡ false) }
         ensures unchanged { result ≡ false → self.new ≡ self.old }
@@ -102,16 +101,29 @@ impl NetSide {
         }
     }
 
-    /// Processes any octets.
+    /// Processes any octets, predicted or not.
+    ///
+    /// # Errors
+    ///
+    /// B3 as `take`.
     // If inlined, it would cost a predicted frame stack and registers.
     #[inline(never)]
-    fn take_any(&mut self, bytes: &[u8], now: u64, acts: &mut Acts) -> Result<(), AllocError>
+    pub(crate) fn take_any(
+        &mut self,
+        bytes: &[u8],
+        now: u64,
+        acts: &mut Acts,
+    ) -> Result<(), SideFault>
         requires empty { IsEmpty acts.old }
-        ensures { NetworkReceives result self.old self.new acts.new
+        ensures received { NetworkReceives result self.old self.new acts.new
             (λ s. given_for s.assigner bytes.now) (λ config. network_takes config bytes.now now) }
+        ensures err { IfErr result (λ fault. fault ≡ without_message SideKind.Memory) }
     {
         match read(bytes, Side::User) {
-            Ok(frame) => self.receive(&frame, now, acts),
+            Ok(frame) => match self.receive(&frame, now, acts) {
+                Ok(()) => Ok(()),
+                Err(AllocError) => Err(without_message(SideKind::Memory)),
+            },
             Err(fault) => {
                 self.served.receive_fault(&fault, now, acts);
                 Ok(())
@@ -254,10 +266,33 @@ impl NetSide {
             (λ config. network_requested config (Request.Give id message) now)) }
     {
         acts.clear();
-        match self.served.links.new_message(self.alloc, &id, octets) {
-            Ok(message) => self.give_message(id, message, now, acts),
-            Err(AllocError) => Err(without_message(SideKind::Memory)),
+        match self.send_at_once(&id, octets, now, acts) {
+            AtOnce::Sent => Ok(()),
+            AtOnce::Unsent(message) => self.give_message(id, message, now, acts),
+            AtOnce::NoMemory => Err(without_message(SideKind::Memory)),
         }
+    }
+
+    /// Submits a copy of these octets, as `give` does, if the link sends it at once. The results are
+    /// appended to `acts`.
+    #[inline(always)]
+    pub(crate) fn send_at_once(
+        &mut self,
+        id: &LinkId,
+        octets: &[u8],
+        now: u64,
+        acts: &mut Acts,
+    ) -> AtOnce
+        requires room { HasRoomForPredicted acts.old }
+        ensures { SendsAtOnce octets.now (λ message. Adds acts.old acts.new
+            (λ given. Grants self.old self.new given
+            (λ config. network_requested config (Request.Give id.now message) now)))
+            (EachShown self.old (λ s. gives_at_once octets.now (s.served.links id.now) ≡ false))
+            ((self.new ≡ self.old) × (acts.new ≡ acts.old)) result }
+    {
+        self.served
+            .links
+            .send_at_once(self.alloc, id, octets, now, acts)
     }
 }
 

@@ -11,13 +11,14 @@ ghost use Rattle.lapd_tei.specs.declared.phase.Phase.{Phase};
 ghost use Rattle.lapd_table.specs.LinkTable.{IsFor};
 ghost use Rattle.lapd_sides_links.specs.declared.side_fault.SideKind.TheVariants.{NoLink, Link};
 ghost use Rattle.lapd_sides_links.specs.declared.acts.TheConstants.{MOST_PRIMITIVES};
-ghost use Rattle.lapd_sides_links.specs.Effects.{no_effects};
+ghost use Rattle.lapd_sides_links.specs.Effects.{no_effects, Adds};
+ghost use Rattle.lapd_sides_links.specs.Messages.{SendsAtOnce, WithMessage};
 ghost use Rattle.lapd_sides_links.specs.Expiries.{IsNextDeadline, of_served};
 ghost use Rattle.lapd_sides_links.specs.Links.{of_sapi};
-ghost use Rattle.lapd_sides_links.specs.Rooms.{HasRoomFor, AddsAtMost, IsEmpty};
-ghost use Rattle.lapd_sides.specs.Requests.{LacksMessage, WithMessage, message_of, without_message};
+ghost use Rattle.lapd_sides_links.specs.Rooms.{HasRoomFor, HasRoomForPredicted, AddsAtMost, IsEmpty};
+ghost use Rattle.lapd_sides.specs.Requests.{LacksMessage, message_of, without_message};
 ghost use Rattle.lapd_sides.specs.Shows.{are_predicted, ShowEnds};
-ghost use Rattle.lapd_sides.specs.User.{User, seeded, sends_message, new_user, user_takes, user_requested, terminal_acts, assigned, pending_after, establishes_pending, establishes, gives_up_pending, primitive_of_group, primitive_of_sapi, link_of_user, frame_received, data_received, for_layer_3, got_for, got_for_frame, got_for_message, wants, forgets, gives_up, has_tei, with_tei_or};
+ghost use Rattle.lapd_sides.specs.User.{User, seeded, sends_message, new_user, user_takes, user_requested, gives_at_once_by_user, terminal_acts, assigned, pending_after, establishes_pending, establishes, gives_up_pending, primitive_of_group, primitive_of_sapi, link_of_user, frame_received, data_received, for_layer_3, got_for, got_for_frame, got_for_message, wants, forgets, gives_up, has_tei, with_tei_or};
 
 use crate::links_and_timer::{
     Expired, LinksAndTimer, MOST_TEI_OUTPUTS, carries_message, is_unit_to_group, without_message,
@@ -27,7 +28,7 @@ use crate::references::References;
 use crate::{Acts, Config, Durations, Octets, Primitive, Request, SideFault, SideKind, What};
 use lapd_frame::{Frame, N201, Sapi, Side, Tei, read, read_predicted};
 use lapd_link::{Event, LinkFault};
-use lapd_sides_links::{next_deadline, refused};
+use lapd_sides_links::{AtOnce, next_deadline, refused};
 use lapd_table::{LinkId, LinkTable};
 use lapd_tei::{TeiMessage, TeiOut, Terminal, TerminalEvent};
 use lapd_timers::TimerSet;
@@ -49,7 +50,7 @@ pub struct UserSide {
 }
 
 impl UserSide {
-    ghost use Rattle.lapd_sides.specs.ShowsUser.{ShowUser, EachShown, SetsDurations, UserDoes, UserReceives, Answers, Expires, UserStaysIdle};
+    ghost use Rattle.lapd_sides.specs.ShowsUser.{ShowUser, EachShown, SetsDurations, UserDoes, UserReceives, Answers, Expires, Grants, UserStaysIdle};
 
     /// Creates a user side. With a fixed TEI, 0 to 126, its links exist, in state 4; without one it
     /// has no links yet.
@@ -94,20 +95,17 @@ impl UserSide {
         if self.take_predicted(bytes, now, acts) {
             return Ok(());
         }
-        match self.take_any(bytes, now, acts) {
-            Ok(()) => Ok(()),
-            Err(AllocError) => Err(without_message(SideKind::Memory)),
-        }
+        self.take_any(bytes, now, acts)
     }
 
     /// Processes octets, if they are a frame that its link predicts: an I frame that is expected
-    /// next, an acknowledgement or a poll, in state 7 ([`lapd_link::Link::predicted_step`]). Otherwise
-    /// it returns `false`, and nothing is changed.
+    /// next, an acknowledgement or a poll, in state 7 ([`lapd_link::Link::predicted_step`]). The
+    /// results are appended to `acts`. Otherwise it returns `false`, and nothing is changed.
     #[inline(always)]
-    fn take_predicted(&mut self, bytes: &[u8], now: u64, acts: &mut Acts) -> bool
-        requires empty { IsEmpty acts.old }
-        ensures taken { result ≡ true → UserDoes self.old self.new acts.new
-            (λ config. user_takes config bytes.now now) }
+    pub(crate) fn take_predicted(&mut self, bytes: &[u8], now: u64, acts: &mut Acts) -> bool
+        requires room { HasRoomForPredicted acts.old }
+        ensures taken { result ≡ true → Adds acts.old acts.new (λ given.
+            UserDoes self.old self.new given (λ config. user_takes config bytes.now now)) }
         ensures declined { result ≡ false → EachShown self.old (λ s.
             are_predicted (frame_at Side.Network bytes.now) s.served.links ≡ false) }
         ensures unchanged { result ≡ false → self.new ≡ self.old }
@@ -119,16 +117,29 @@ impl UserSide {
         }
     }
 
-    /// Processes any octets.
+    /// Processes any octets, predicted or not.
+    ///
+    /// # Errors
+    ///
+    /// B3 as `take`.
     // If inlined, it would cost a predicted frame stack and registers.
     #[inline(never)]
-    fn take_any(&mut self, bytes: &[u8], now: u64, acts: &mut Acts) -> Result<(), AllocError>
+    pub(crate) fn take_any(
+        &mut self,
+        bytes: &[u8],
+        now: u64,
+        acts: &mut Acts,
+    ) -> Result<(), SideFault>
         requires empty { IsEmpty acts.old }
-        ensures { UserReceives result self.old self.new acts.new
+        ensures received { UserReceives result self.old self.new acts.new
             (λ s. got_for s bytes.now) (λ config. user_takes config bytes.now now) }
+        ensures err { IfErr result (λ fault. fault ≡ without_message SideKind.Memory) }
     {
         match read(bytes, Side::Network) {
-            Ok(frame) => self.receive(&frame, now, acts),
+            Ok(frame) => match self.receive(&frame, now, acts) {
+                Ok(()) => Ok(()),
+                Err(AllocError) => Err(without_message(SideKind::Memory)),
+            },
             Err(fault) => {
                 self.served.receive_fault(&fault, now, acts);
                 Ok(())
@@ -275,24 +286,38 @@ impl UserSide {
             (λ config. user_requested config (Request.Give id message) now)) }
     {
         acts.clear();
-        match self.new_message(id.sapi, octets) {
-            Ok(message) => self.give_message(id.sapi, message, now, acts),
-            Err(AllocError) => Err(without_message(SideKind::Memory)),
+        match self.send_at_once(&id, octets, now, acts) {
+            AtOnce::Sent => Ok(()),
+            AtOnce::Unsent(message) => self.give_message(id.sapi, message, now, acts),
+            AtOnce::NoMemory => Err(without_message(SideKind::Memory)),
         }
     }
 
-    /// A message with these octets, in room that the terminal's link of this SAPI keeps if there is
-    /// any.
-    fn new_message(&mut self, sapi: Sapi, octets: &[u8]) -> Result<Vec<u8>, AllocError>
-        ensures octets { IfOk result (λ message. message.items ≡ octets.now) }
-        ensures unchanged { self.new ≡ self.old }
+    /// Submits a copy of these octets, as `give` does, if the link sends it at once. The results are
+    /// appended to `acts`.
+    #[inline(always)]
+    pub(crate) fn send_at_once(
+        &mut self,
+        id: &LinkId,
+        octets: &[u8],
+        now: u64,
+        acts: &mut Acts,
+    ) -> AtOnce
+        requires room { HasRoomForPredicted acts.old }
+        ensures { SendsAtOnce octets.now (λ message. Adds acts.old acts.new
+            (λ given. Grants self.old self.new given
+            (λ config. user_requested config (Request.Give id.now message) now)))
+            (EachShown self.old (λ s. gives_at_once_by_user id.now.sapi octets.now s ≡ false))
+            ((self.new ≡ self.old) × (acts.new ≡ acts.old)) result }
     {
         match self.terminal.tei() {
-            Some(tei) => self
-                .served
-                .links
-                .new_message(self.alloc, &name(sapi, tei), octets),
-            None => Vec::from_slice(self.alloc, octets),
+            Some(tei) => {
+                let own = name(id.sapi, tei);
+                self.served
+                    .links
+                    .send_at_once(self.alloc, &own, octets, now, acts)
+            }
+            None => AtOnce::unsent(self.alloc, octets),
         }
     }
 

@@ -1,6 +1,7 @@
 -- How a step of one link changes the links of a side.
 use Rattle.std.proofs.Common.{◌≡◌, ◌≢◌, ◌≤◌, ℕ, List, ◌∷◌, ◌++◌, [], drop, length, map, Bool, true, false, Option, Some, None, Result, Err, option_map, option_copied, Bor, append_assoc, refl, sym, ap, subst, ◌∙◌, arith}
 use Rattle.std.specs.Prelude.{IsSomeAnd, IfSome, if◌then◌else◌}
+use Rattle.std.proofs.lemmas.List.{append_cancel_left}
 use Rattle.std.proofs.lemmas.List.Elements.{All-head, All-tail}
 use Rattle.std.specs.List.{All, cons_option, filter_map}
 use Rattle.lapd_timers.specs.declared.timer.Timer.{Timer}
@@ -11,6 +12,7 @@ use Rattle.lapd_mod128.specs.Counting.{Tagged}
 use Rattle.lapd_frame.specs.Frame.{Fields, n201, spelling}
 use Rattle.lapd_link.specs.Link.{LinkRepresents, Setup, setup_of, Refuses}
 use Rattle.lapd_link.specs.SentFrame.{made_frame, sent_frame, HasFramesOf}
+use Rattle.lapd_link.proofs.BetweenSteps.{end_of, shows_end}
 use Rattle.lapd_link.proofs.Frames.{frames_of_link}
 use Rattle.lapd_link.specs.declared.link.Link.{Link}
 use Rattle.lapd_link_definition.specs.declared.event.LinkFault.{LinkFault}
@@ -28,14 +30,15 @@ use Rattle.lapd_sides_links.specs.declared.running_timer.RunningTimer.{RunningTi
 use Rattle.lapd_sides_links.specs.declared.link_set.LinkSet.{LinkSet}
 use Rattle.lapd_sides_links.specs.declared.primitive.Primitive.TheVariants.{Of}
 use Rattle.lapd_sides_links.specs.declared.primitive.Primitive.{Primitive}
+use Rattle.lapd_sides_links.specs.declared.side_fault.SideKind.{SideKind}
 use Rattle.lapd_sides_links.specs.declared.side_fault.SideKind.TheVariants as kind
-use Rattle.lapd_sides_links.specs.Effects.{Effects, and_then, effects_of_link, sent_by, what_of, timed, stopped}
+use Rattle.lapd_sides_links.specs.Effects.{Adds, Appends, Effects, and_then, no_effects, effects_of_link, sent_by, what_of, timed, stopped}
 use Rattle.lapd_sides_links.specs.Links.{Links, Linked, Reaction, acted, link_acts, link_expires, in_place, where_there, in_links, with_link, linked_with_durations, links_with_durations}
 use Rattle.lapd_sides_links.specs.Expiries.{IsFirst, IsPast, Runs, of_links}
 use Rattle.lapd_sides_links.specs.Places.{AreStopped}
 use Rattle.lapd_sides_links.specs.LinkTimers.{timers_of}
 use Rattle.lapd_sides_links.specs.TimersAtPlaces.{of_each_link}
-use Rattle.lapd_sides_links.specs.Shown.{timers_at, made_by, IsLinked, ShowLinks, HaveActed}
+use Rattle.lapd_sides_links.specs.Shown.{timers_at, made_by, IsLinked, LinksDo, ShowLinks, HaveActed}
 use Rattle.lapd_sides_links.proofs.Dues.{deadline_stays, same_past, same_runs}
 
 -- ---- The link does not exist.
@@ -118,6 +121,50 @@ in_order before e f = rw (
   append_assoc before.frames e.frames f.frames,
   append_assoc before.primitives e.primitives f.primitives,
 ) refl
+
+-- the effects before and after determine those that were appended
+same_appended : (before a b : Effects) → and_then before a ≡ and_then before b → a ≡ b
+same_appended before a b h = same_effects a b.frames b.primitives
+    (append_cancel_left before.frames a.frames b.frames (ap (λ (e : Effects). e.frames) h))
+    (append_cancel_left before.primitives a.primitives b.primitives
+    (ap (λ (e : Effects). e.primitives) h))
+
+-- a step whose effects were appended has these effects alone
+pub done_alone : (old new : LinkSet) (before after : Effects)
+    (step : Side → Links → Result (Reaction Links) SideKind) → Appends before after
+    → LinksDo old new before after step → Adds before after (λ e. LinksDo old new no_effects e step)
+done_alone old new before after step appends does = record {
+  given = appends.0;
+  appended = appends.1;
+  does = λ side links shown.
+      let h = does side links shown in
+      record {
+        acted = h.acted;
+        is = h.is;
+        shown = h.shown;
+        given = same_appended before appends.0 h.acted.effects (sym appends.1 ∙ h.given);
+      };
+}
+
+-- The outputs of a step of a link are appended: the link represents some end after it.
+pub appended : (old table : LinkTable) (id : LinkId) (input : Input) (octets : List ℕ)
+    (outs : List Out) (before after : Effects) → StepsAt old table id input outs
+    → ((link : Link) (e : End) → link_at table id ≡ Some link → LinkRepresents link e
+    → after.frames ≡ before.frames
+    ++ filter_map (made_by (setup_for (side_of table) id) e octets) outs)
+    → after.primitives ≡ before.primitives ++ map (Of id) (filter_map (what_of octets) outs)
+    → Appends before after
+appended old table id input octets outs before after steps frames primitives =
+    let link = steps.after in
+    let e = end_of link.machine in
+    let given : Effects = record {
+      frames = filter_map (made_by (setup_for (side_of table) id) e octets) outs;
+      primitives = map (Of id) (filter_map (what_of octets) outs);
+    } in (
+      given,
+      same_effects after (before.frames ++ given.frames) (before.primitives ++ given.primitives)
+          (frames link e steps.changes.there (shows_end link.machine link.between)) primitives,
+    )
 
 -- the octets that the code makes of the outputs are those that are sent
 same_octets : (setup : Setup) (e : End) (octets : List ℕ) (outs : List Out) → All (λ output. made_frame setup (drop e.first e.given) octets output ≡ sent_frame setup (drop e.first e.given) octets output) outs

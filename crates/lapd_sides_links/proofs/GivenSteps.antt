@@ -1,7 +1,5 @@
 -- The outputs of a message that is sent at once: its frame and its timers. It has no primitive.
 use Rattle.std.proofs.Common.{◌≡◌, ℕ, true, false, List, [], ◌∷◌, ◌++◌, map, Option, Some, None, option_map, Result, append-nil, refl, sym, ap, subst, ◌∙◌}
-use Rattle.std.specs.Prelude.{Vec}
-use Rattle.std.specs.Global.{Global}
 use Rattle.std.specs.List.{filter_map}
 use Rattle.std.proofs.lemmas.List.Elements.{filter_map-append}
 use Rattle.lapd_frame.specs.Control.{field_of_message}
@@ -24,6 +22,7 @@ use Rattle.lapd_sides_links.specs.declared.link_set.LinkSet.{LinkSet}
 use Rattle.lapd_sides_links.specs.declared.side_fault.SideKind.{SideKind}
 use Rattle.lapd_sides_links.specs.Effects.{Effects, timed, what_of}
 use Rattle.lapd_sides_links.specs.Links.{Links, Reaction, in_links, link_acts}
+use Rattle.lapd_sides_links.specs.Messages.{Message}
 use Rattle.lapd_sides_links.specs.Shown.{made_by, LinksDo, LinksRefuseAs}
 
 module _ (setup : Setup) (e : End) (octets : List ℕ) where
@@ -63,11 +62,8 @@ module _ (now : ℕ) where
 
 -- ---- A message that was not sent at once is returned, for the link that was found.
 
-abbrev Message : Type 0
-Message = Vec ℕ Global
-
 -- a message is submitted to the link with this id
-abbrev gives : ℕ → LinkId → Message → Side → Links → Result (Reaction Links) SideKind
+abbrev pub gives : ℕ → LinkId → Message → Side → Links → Result (Reaction Links) SideKind
 gives now id message side = in_links id (link_acts side id now (Give message.items) [])
 
 module _ (now : ℕ) (found id : LinkId) (same_id : found ≡ id) (back message : Message) (same : back ≡ message) where

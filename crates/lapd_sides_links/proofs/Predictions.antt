@@ -1,7 +1,8 @@
 -- The frames that a link predicts, and the room for the results of a predicted step.
-use Rattle.std.proofs.Common.{◌≡◌, ◌≤◌, ◌+◌, ℕ, Bool, true, false, List, length, Option, Some, None, Result, refl, subst, arith}
-use Rattle.std.specs.Prelude.{IsSomeAnd}
+use Rattle.std.proofs.Common.{◌≡◌, ◌≤◌, ◌+◌, ℕ, true, false, List, length, Option, Some, None, Result, refl, subst, arith}
+use Rattle.std.specs.Prelude.{nat_le, IsSomeAnd}
 use Rattle.std.proofs.Math.Bool.{and-false}
+use Rattle.std.proofs.lemmas.Bool.{and_parts, leb-true}
 use Rattle.lapd_frame.specs.declared.Control.{Control}
 use Rattle.lapd_frame.specs.declared.Control.TheVariants.{I, Rr, Rnr, Rej, Sabme, Dm, Ui, Disc, Ua, Frmr, Xid}
 use Rattle.lapd_frame.specs.declared.Role.{Role}
@@ -18,15 +19,23 @@ use Rattle.lapd_link_machine.specs.Given.{is_sent_at_once}
 use Rattle.lapd_link_machine.specs.Predicted.{is_idle, is_predicted, is_predicted_frame}
 use Rattle.lapd_table.specs.declared.link_id.LinkId.{LinkId}
 use Rattle.lapd_table.specs.LinkTable.{link_at, NotAtOnceAt, NotPredictedAt}
+use Rattle.lapd_sides_links.specs.declared.acts.TheConstants.{MOST_FRAMES, MOST_PRIMITIVES}
 use Rattle.lapd_sides_links.specs.declared.link_set.LinkSet.{LinkSet}
 use Rattle.lapd_sides_links.specs.declared.side_fault.SideKind.{SideKind}
 use Rattle.lapd_sides_links.specs.Effects.{Effects}
 use Rattle.lapd_sides_links.specs.Links.{Linked, Links, Reaction, gives_at_once, in_links, link_acts, predicts}
-use Rattle.lapd_sides_links.specs.Rooms.{HasRoomFor, HasRoomForPredicted}
+use Rattle.lapd_sides_links.specs.Rooms.{HasRoomFor, HasRoomForPredicted, has_room_for_predicted}
 use Rattle.lapd_sides_links.specs.Shown.{timers_at, IsLinked, LinksDo, LinksHaveNone, ShowLinks}
 use Rattle.lapd_sides_links.proofs.Acting.{nothing_linked}
 
 -- ---- Room.
+
+-- the room is tested before
+pub room_tested : (acts : Effects) → has_room_for_predicted acts ≡ true → HasRoomForPredicted acts
+room_tested acts h =
+    let both = and_parts (nat_le (length acts.frames + 2) MOST_FRAMES)
+    (nat_le (length acts.primitives + 2) MOST_PRIMITIVES) h in
+    record { frames = leb-true _ _ both.0; primitives = leb-true _ _ both.1 }
 
 two_outputs : (input : Input) → 2 ≤ most_outputs input
 two_outputs Establish = omega arith

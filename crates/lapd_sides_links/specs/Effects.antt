@@ -42,6 +42,16 @@ and_then first second = record {
   primitives = first.primitives ++ second.primitives;
 }
 
+-- effects are appended to the earlier ones
+abbrev pub Appends : Effects → Effects → Type 0
+Appends before after = (given : Effects) × (after ≡ and_then before given)
+
+-- the effects of a call are appended to the earlier ones, and this holds of the call with them
+pub record Adds (before after : Effects) (Does : Effects → Type 0) : Type 0 where
+  pub given : Effects
+  pub appended : after ≡ and_then before given
+  pub does : Does given
+
 -- ---- The timers.
 
 -- starts a timer, or restarts it, or stops it

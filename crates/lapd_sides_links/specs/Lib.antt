@@ -2,6 +2,7 @@ pub mod Effects
 pub mod WrittenOver
 pub mod ActsFit
 pub mod Rooms
+pub mod Messages
 pub mod Expiries
 pub mod Links
 pub mod Shown

@@ -15,7 +15,7 @@ use Rattle.lapd_link_definition.specs.declared.event.LinkFault.{LinkFault}
 use Rattle.lapd_link_definition.specs.declared.state.State.{State}
 use Rattle.lapd_link_definition.specs.declared.state.State.TheVariants as state
 use Rattle.lapd_link_definition.specs.End.{End, StepState, new_end}
-use Rattle.lapd_link_definition.specs.Input.{Input, Expiry, Heard}
+use Rattle.lapd_link_definition.specs.Input.{Input, Expiry}
 use Rattle.lapd_link_definition.specs.Parameters.{Parameters}
 use Rattle.lapd_link_definition.specs.Table.{step}
 use Rattle.lapd_link_machine.specs.Given.{is_sent_at_once}

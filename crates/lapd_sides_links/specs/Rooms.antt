@@ -1,5 +1,5 @@
 -- The maximum results of a step of a link, and the room that must be free for them before it.
-use Rattle.std.specs.Prelude.{◌≡◌, ◌≤◌, ◌+◌, length}
+use Rattle.std.specs.Prelude.{◌≡◌, ◌≤◌, ◌+◌, ◌&&◌, Bool, nat_le, length}
 use Rattle.lapd_link_definition.specs.Input.{Input}
 use Rattle.lapd_link_machine.specs.Bounds.{most_outputs}
 use Rattle.lapd_sides_links.specs.declared.acts.TheConstants.{MOST_PRIMITIVES_OF_STEP, MOST_FRAMES, MOST_PRIMITIVES}
@@ -25,3 +25,7 @@ pub record AddsAtMost (input : Input) (old new : Effects) : Type 0 where
 pub record HasRoomForPredicted (acts : Effects) : Type 0 where
   pub frames : length acts.frames + 2 ≤ MOST_FRAMES
   pub primitives : length acts.primitives + 2 ≤ MOST_PRIMITIVES
+
+abbrev pub has_room_for_predicted : Effects → Bool
+has_room_for_predicted acts = nat_le (length acts.frames + 2) MOST_FRAMES
+    && nat_le (length acts.primitives + 2) MOST_PRIMITIVES

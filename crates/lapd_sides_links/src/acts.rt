@@ -5,6 +5,7 @@ ghost use Rattle.lapd_frame.specs.Frame.{spelling};
 ghost use Rattle.lapd_sides_links.specs.declared.primitive.Primitive.TheVariants.{Of};
 ghost use Rattle.lapd_sides_links.specs.declared.primitive.What.TheVariants.{Acknowledged, Up};
 ghost use Rattle.lapd_sides_links.specs.Effects.{HasLeastOctets, no_effects};
+ghost use Rattle.lapd_sides_links.specs.Rooms.{has_room_for_predicted};
 ghost use Rattle.lapd_tei.specs.Message.{frame_of_message};
 
 use crate::written_over::{next_place, remove_first};
@@ -95,6 +96,16 @@ impl Acts {
         ensures { result.now ≡ self.now.primitives }
     {
         &self.primitives[self.first_primitive..self.primitives_end]
+    }
+
+    /// Whether there is room for two more frames and two more primitives, and so for the results of
+    /// any frame that a link predicts and of any message that it sends at once.
+    #[inline(always)]
+    pub fn has_room(&self) -> bool
+        ensures { result ≡ has_room_for_predicted self.now }
+    {
+        self.frames_end - self.first_frame + 2 <= MOST_FRAMES
+            && self.primitives_end - self.first_primitive + 2 <= MOST_PRIMITIVES
     }
 
     /// Removes all frames and primitives.

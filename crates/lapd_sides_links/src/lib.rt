@@ -6,6 +6,7 @@
 #![tactic(auto)]
 
 mod acts;
+mod at_once;
 mod config;
 mod deadlines;
 mod delivery;
@@ -24,6 +25,7 @@ mod tournament;
 mod written_over;
 
 pub use acts::Acts;
+pub use at_once::AtOnce;
 pub use config::Config;
 pub use deadlines::{due, next_deadline};
 pub use frame_octets::FrameOctets;

@@ -17,16 +17,17 @@ ghost use Rattle.lapd_table.specs.LinkTable.{link_at, side_of, IsFor, IsKey};
 ghost use Rattle.lapd_table.specs.LinkId.{setup_for};
 ghost use Rattle.lapd_sides_links.specs.declared.acts.TheConstants.{MOST_FRAMES, MOST_PRIMITIVES};
 ghost use Rattle.lapd_sides_links.specs.declared.primitive.Primitive.TheVariants.{Of};
-ghost use Rattle.lapd_sides_links.specs.Effects.{timed, what_of};
+ghost use Rattle.lapd_sides_links.specs.Effects.{timed, what_of, no_effects, Adds, Appends};
 ghost use Rattle.lapd_sides_links.specs.Expiries.{IsFirst, IsPast, IsTimerOf, Runs, of_links};
 ghost use Rattle.lapd_sides_links.specs.Links.{Links, IsOfLink, new_linked, no_links, of_sapi, with_link, with_new_link, with_tei, without_tei, release_at_removal, primitives_of, primitives_at_removal, primitive_of_tei, links_of_held, links_with_durations, in_links, link_acts, link_expires, gives_at_once, predicts};
+ghost use Rattle.lapd_sides_links.specs.Messages.{SendsAtOnce};
 ghost use Rattle.lapd_sides_links.specs.Rooms.{HasRoomFor, HasRoomForPredicted, AddsAtMost};
 
 use crate::delivery::{deliver_all, put_frames};
 use crate::link_timers::LinkTimers;
 use crate::predicted::{deliver_acknowledged, deliver_message, put_message_frame, put_response};
 use crate::side_fault::refused;
-use crate::{Acts, Config, Primitive, RunningTimer, SideFault, SideKind, What};
+use crate::{Acts, AtOnce, Config, Primitive, RunningTimer, SideFault, SideKind, What};
 use lapd_frame::{N201, PredictedFrame};
 use lapd_link::{
     Event, GivenOuts, Link, LinkFault, Outs, Params, PredictedOuts, Sapi, Side, State, Tei,
@@ -393,10 +394,11 @@ impl LinkSet {
     ) -> bool
         requires fits { length frame.now.info.now ≤ N201 }
         requires room { HasRoomForPredicted acts.old }
-        ensures ok { result ≡ true → LinksDo self.old self.new acts.old acts.new
+        ensures ok { result ≡ true → Adds acts.old acts.new (λ given.
+            LinksDo self.old self.new no_effects given
             (λ side. in_links id.now (link_acts side id.now now
             (Heard (predicted_control frame.now.kind frame.now.nr) (predicted_role frame.now.kind))
-            frame.now.info.now)) }
+            frame.now.info.now))) }
         ensures declined { result ≡ false → LinksHaveNone self.old (λ links. predicts
             (predicted_control frame.now.kind frame.now.nr) (predicted_role frame.now.kind)
             (links id.now)) }
@@ -425,6 +427,7 @@ impl LinkSet {
             (λ side. in_links key.now.id (link_acts side key.now.id now
             (Heard (predicted_control frame.now.kind frame.now.nr) (predicted_role frame.now.kind))
             frame.now.info.now)) }
+        ensures appended { result ≡ true → Appends acts.old acts.new }
         ensures declined { result ≡ false → LinksHaveNone self.old (λ links. predicts
             (predicted_control frame.now.kind frame.now.nr) (predicted_role frame.now.kind)
             (links key.now.id)) }
@@ -472,25 +475,34 @@ impl LinkSet {
         self.act_at(&key, Event::Unit(octets.len()), octets, now, acts)
     }
 
-    /// A message with these octets, to be submitted to the link with this id. It is in the room of
-    /// an acknowledged message of the link, if one is kept ([`Link::new_message`]).
-    ///
-    /// # Errors
-    ///
-    /// `AllocError` if an allocation failed.
+    /// Submits a copy of these octets to the link with this id as a layer 3 message, at the time
+    /// `now`, if the link sends it at once ([`Link::give_at_once`]). The copy is in the room of an
+    /// acknowledged message of the link, if one is kept. The results are appended to `acts`.
     #[inline(always)]
-    pub fn new_message(
+    pub fn send_at_once(
         &mut self,
         alloc: Global,
         id: &LinkId,
         octets: &[u8],
-    ) -> Result<Vec<u8>, AllocError>
-        ensures octets { IfOk result (λ message. message.items ≡ octets.now) }
-        ensures unchanged { self.new ≡ self.old }
+        now: u64,
+        acts: &mut Acts,
+    ) -> AtOnce
+        requires room { HasRoomForPredicted acts.old }
+        ensures { SendsAtOnce octets.now (λ message. Adds acts.old acts.new
+            (λ given. LinksDo self.old self.new no_effects given
+            (λ side. in_links id.now (link_acts side id.now now (Give message.items) []))))
+            (LinksHaveNone self.old (λ links. gives_at_once octets.now (links id.now)))
+            ((self.new ≡ self.old) × (acts.new ≡ acts.old)) result }
     {
-        match self.table.find(id) {
-            Some(key) => self.table.new_message_at(&key, octets),
-            None => Vec::from_slice(alloc, octets),
+        let Some(key) = self.table.find(id) else {
+            return AtOnce::unsent(alloc, octets);
+        };
+        match self.table.new_message_at(&key, octets) {
+            Ok(message) => match self.give_at_once(&key, message, now, acts) {
+                Ok(()) => AtOnce::Sent,
+                Err(message) => AtOnce::Unsent(message),
+            },
+            Err(AllocError) => AtOnce::NoMemory,
         }
     }
 
@@ -501,7 +513,6 @@ impl LinkSet {
     ///
     /// B1 if the link does not exist, and L1 to L5 if it refuses. The message is returned in the
     /// error, and nothing is changed.
-    #[inline(always)]
     pub fn give(
         &mut self,
         id: &LinkId,
@@ -542,6 +553,7 @@ impl LinkSet {
         requires room { HasRoomForPredicted acts.old }
         ensures ok { OnOk result (LinksDo self.old self.new acts.old acts.new
             (λ side. in_links key.now.id (link_acts side key.now.id now (Give message.items) []))) }
+        ensures appended { OnOk result (Appends acts.old acts.new) }
         ensures declined { OnErr result (LinksHaveNone self.old
             (λ links. gives_at_once message.items (links key.now.id))) }
         ensures returned { IfErr result (λ back. back ≡ message) }

@@ -5,6 +5,7 @@ use Rattle.lapd_c.specs.SideQueries.{HasCheck}
 use Rattle.lapd_c.proofs.held_side.HeldSide.checked.Goals as goal
 
 pub returns-in-Network : goal.returns-in-Network
-returns-in-Network c = subst (λ (x : EitherSide). HasCheck x c.check.result) (sym c.in-Network.is)
+returns-in-Network c = subst (λ (x : EitherSide). HasCheck x c.check.result)
+    (sym c.in-Network.is ∙ c.side.ensures)
     (λ config s shown. c.check.ensures
     ∙ ap (λ (a : AssignerState). checked a.check) (c.assigner.ensures config s shown))

@@ -12,16 +12,22 @@ use Rattle.lapd_sides.proofs.net_side.NetSide.take_predicted.Goals as goal
 
 pub returns-in-Some-clause-taken : goal.returns-in-Some-clause-taken
 unfolding network_takes
-returns-in-Some-clause-taken c = λ is config s shown.
+returns-in-Some-clause-taken c = λ is.
     let served = c.receive_predicted.new.self in
-    let acts = c.receive_predicted.new.acts in
+    let h = c.receive_predicted.ensures.received is in
     let frame = c.in-Some.frame in
-    subst (λ (r : Result Fields FrameFault). HasDone (record c.args.self.now { served = served })
-    config acts (received config c.args.now r s)) (sym c.in-Some.ensures.found)
-    (received_by_link _ config c.args.now (predicted_fields frame) s false acts
-    (sym (predicted_is_no_message frame)) refl
-    (received_so c.args.self.now served config s acts _ shown
-    (c.receive_predicted.ensures.received is side.Network s.served.links shown.served.links)))
+    record {
+      given = h.given;
+      appended = h.appended;
+      does = λ config s shown.
+          subst (λ (r : Result Fields FrameFault). HasDone
+          (record c.args.self.now { served = served }) config h.given
+          (received config c.args.now r s)) (sym c.in-Some.ensures.found)
+          (received_by_link _ config c.args.now (predicted_fields frame) s false h.given
+          (sym (predicted_is_no_message frame)) refl
+          (received_so c.args.self.now served config s h.given _ shown
+          (h.does side.Network s.served.links shown.served.links)));
+    }
 
 pub returns-in-Some-clause-declined : goal.returns-in-Some-clause-declined
 returns-in-Some-clause-declined c = λ is config s shown.

@@ -3,17 +3,28 @@ use Rattle.lapd_sides.specs.declared.request.Request.TheVariants.{Give}
 use Rattle.lapd_sides.specs.declared.user_side.UserSide.{UserSide}
 use Rattle.lapd_sides.specs.User.{user_requested}
 use Rattle.lapd_sides.specs.ShowsUser.{Answers}
+use Rattle.lapd_sides.proofs.Calling.{alone}
 use Rattle.lapd_sides.proofs.user_side.UserSide.give.Goals as goal
 
-pub returns-in-Ok : goal.returns-in-Ok
+pub returns-in-Sent : goal.returns-in-Sent
+returns-in-Sent c =
+    let sent = c.in-Sent.ensures in
+    inr (record {
+      message = sent.message;
+      items = sent.items;
+      asks = alone c.clear.new.self c.send_at_once.new.acts _ c.clear.ensures sent.asks;
+    })
+
+pub returns-in-Unsent : goal.returns-in-Unsent
 unfolding user_requested
-returns-in-Ok c =
-    let message = c.in-Ok.message in
+returns-in-Unsent c =
+    let message = c.in-Unsent.message in
+    let unsent = c.in-Unsent.ensures in
     inr (record {
       message = message;
-      items = c.in-Ok.ensures.octets;
-      asks = subst (λ (old : UserSide). Answers c.give_message.result old
-          c.give_message.new.self c.give_message.new.acts (Some message)
-          (λ config. user_requested config (Give c.args.id message) c.args.now))
-          c.in-Ok.ensures.unchanged c.give_message.ensures;
+      items = unsent.0;
+      asks = subst (λ (old : UserSide). Answers c.give_message.result old c.give_message.new.self
+          c.give_message.new.acts (Some message)
+          (λ config. user_requested config (Give c.args.id message) c.args.now)) unsent.2.0
+          c.give_message.ensures;
     })

@@ -1,9 +1,10 @@
-use Rattle.std.proofs.Common.{sym, subst, ◌∙◌, Result}
+use Rattle.std.proofs.Common.{sym, subst, ◌∙◌, Result, Ok}
 use Rattle.lapd_frame.specs.Frame.{Fields}
+use Rattle.lapd_sides_links.specs.declared.side_fault.SideFault.{SideFault}
 use Rattle.lapd_frame.specs.declared.Side.TheVariants as side
 use Rattle.lapd_frame.specs.declared.frame_fault.FrameFault.{FrameFault}
 use Rattle.lapd_sides.specs.User.{user_takes, received, got_for, got_for_frame}
-use Rattle.lapd_sides.specs.ShowsUser.{HasDone, UserReceives}
+use Rattle.lapd_sides.specs.ShowsUser.{HasDone, LacksMemory, UserReceives}
 use Rattle.lapd_sides.proofs.Using.{fault_so}
 use Rattle.lapd_sides.proofs.ReadFrames.{addressed_for_link, info_fits}
 use Rattle.lapd_sides.proofs.user_side.UserSide.take_any.Goals as goal
@@ -16,17 +17,24 @@ pub receive_fault-requires-clause-of_link : goal.receive_fault-requires-clause-o
 receive_fault-requires-clause-of_link c =
     addressed_for_link side.Network _ _ (c.args.bytes.now, c.read.ensures.exact) c.in-Err.is
 
-pub returns-in-Ok : goal.returns-in-Ok
+pub returns-in-Ok-receive-clause-received : goal.returns-in-Ok-receive-clause-received
 unfolding user_takes got_for
-returns-in-Ok c =
-    subst (λ (r : Result Fields FrameFault). UserReceives c.receive.result c.args.self.now
+returns-in-Ok-receive-clause-received c =
+    subst (λ (r : Result Fields FrameFault). UserReceives {E = SideFault} (Ok tt) c.args.self.now
     c.receive.new.self c.receive.new.acts (λ s. got_for_frame s r)
     (λ config. received config c.args.now r)) (sym c.in-Ok.is ∙ c.read.ensures.exact)
-    c.receive.ensures
+    c.in-Ok-receive.ensures
 
-pub returns-in-Err : goal.returns-in-Err
+pub returns-in-Err-receive-clause-received : goal.returns-in-Err-receive-clause-received
+unfolding got_for
+returns-in-Err-receive-clause-received c =
+    subst (λ (r : Result Fields FrameFault). LacksMemory c.args.self.now
+    c.receive.new.self c.receive.new.acts (λ s. got_for_frame s r))
+    (sym c.in-Ok.is ∙ c.read.ensures.exact) c.in-Err-receive.ensures
+
+pub returns-in-Err-clause-received : goal.returns-in-Err-clause-received
 unfolding user_takes
-returns-in-Err c = λ config s shown.
+returns-in-Err-clause-received c = λ config s shown.
     let served = c.receive_fault.new.self in
     let acts = c.receive_fault.new.acts in
     let fault = c.in-Err.fault in

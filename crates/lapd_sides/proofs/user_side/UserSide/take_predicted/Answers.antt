@@ -12,21 +12,28 @@ use Rattle.lapd_sides.proofs.user_side.UserSide.take_predicted.Goals as goal
 
 pub returns-in-Some-clause-taken : goal.returns-in-Some-clause-taken
 unfolding user_takes
-returns-in-Some-clause-taken c = λ is config s shown.
+returns-in-Some-clause-taken c = λ is.
     let served = c.receive_predicted.new.self in
-    let acts = c.receive_predicted.new.acts in
+    let h = c.receive_predicted.ensures.received is in
     let frame = c.in-Some.frame in
-    subst (λ (r : Result Fields FrameFault). HasDone (record c.args.self.now { served = served })
-    config acts (received config c.args.now r s)) (sym c.in-Some.ensures.found)
-    (received_as_data _ config c.args.now (predicted_fields frame) s false acts
-    (sym (predicted_is_no_message frame)) refl
-    (data_for_link c.args.self.now _ config c.args.now (predicted_fields frame) s false acts
-    (record {
-      is = sym (predicted_is_not_for_layer_3 c.args.self.now.config frame);
-      answered = refl;
-    }) shown
-    (received_so c.args.self.now served config s acts _ shown
-    (c.receive_predicted.ensures.received is side.User s.served.links shown.served.links))))
+    record {
+      given = h.given;
+      appended = h.appended;
+      does = λ config s shown.
+          subst (λ (r : Result Fields FrameFault). HasDone
+          (record c.args.self.now { served = served }) config h.given
+          (received config c.args.now r s)) (sym c.in-Some.ensures.found)
+          (received_as_data _ config c.args.now (predicted_fields frame) s false h.given
+          (sym (predicted_is_no_message frame)) refl
+          (data_for_link c.args.self.now _ config c.args.now (predicted_fields frame) s false
+          h.given
+          (record {
+            is = sym (predicted_is_not_for_layer_3 c.args.self.now.config frame);
+            answered = refl;
+          }) shown
+          (received_so c.args.self.now served config s h.given _ shown
+          (h.does side.User s.served.links shown.served.links))));
+    }
 
 pub returns-in-Some-clause-declined : goal.returns-in-Some-clause-declined
 returns-in-Some-clause-declined c = λ is config s shown.

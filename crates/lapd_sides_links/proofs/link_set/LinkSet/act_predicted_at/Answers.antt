@@ -1,7 +1,7 @@
 use Rattle.lapd_frame.specs.PredictedFrame.{predicted_control, predicted_role}
 use Rattle.lapd_link_definition.specs.Input.{Heard}
 use Rattle.lapd_link_machine.specs.Predicted.{predicted_outs}
-use Rattle.lapd_sides_links.proofs.Acting.{have_acted}
+use Rattle.lapd_sides_links.proofs.Acting.{appended, have_acted}
 use Rattle.lapd_sides_links.proofs.Predictions.{none_taken}
 use Rattle.lapd_sides_links.proofs.link_set.LinkSet.act_predicted_at.Goals as goal
 
@@ -15,6 +15,13 @@ returns-in-Some-clause-ok c = λ is side links shown.
     c.in-Some.ensures.ok c.carry_out_predicted.ensures.table c.carry_out_predicted.ensures.own
     c.carry_out_predicted.ensures.others c.carry_out_predicted.ensures.frames
     c.carry_out_predicted.ensures.primitives c.requires.fits shown
+
+pub returns-in-Some-clause-appended : goal.returns-in-Some-clause-appended
+returns-in-Some-clause-appended c = λ is.
+    appended c.args.self.now.table c.predicted_step_at.new.self c.args.key.now.id _
+    c.args.frame.now.info.now (predicted_outs c.in-Some.outs) c.args.acts.now
+    c.carry_out_predicted.new.acts c.in-Some.ensures.ok c.carry_out_predicted.ensures.frames
+    c.carry_out_predicted.ensures.primitives
 
 pub returns-in-None-clause-declined : goal.returns-in-None-clause-declined
 returns-in-None-clause-declined c = λ is.

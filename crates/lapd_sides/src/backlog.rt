@@ -1,7 +1,7 @@
 ghost use Rattle.std.specs.Prelude.{◌≡◌, ◌<◌, ◌≤◌, length, drop, map, OnOk, OnErr};
 ghost use Rattle.lapd_sides_links.specs.Effects.{and_then, no_effects};
 
-use lapd_sides::{Acts, FrameOctets, Primitive};
+use crate::{Acts, FrameOctets, Primitive};
 use std::alloc::{AllocError, Global};
 use std::marker::Model;
 
