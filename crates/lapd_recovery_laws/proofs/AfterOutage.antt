@@ -31,9 +31,9 @@ use Rattle.lapd_pair_laws.proofs.Settles.{IsStill}
 use Rattle.lapd_pair_laws.proofs.Stepping.{user_move, network_move}
 use Rattle.lapd_pair_laws.proofs.TaggedMoves.{left_on_tags}
 use Rattle.lapd_pair_laws.proofs.Whole.{each_move_preserves, each_run_preserves}
-use Rattle.lapd_pair_laws.proofs.Worlds.{new_holds, exchanged}
+use Rattle.lapd_pair_laws.proofs.Worlds.{new_holds}
 use Rattle.lapd_pair_laws.proofs.DrainsAfterRuns.{unmapped}
-use Rattle.lapd_recovery_laws.specs.AfterOutage.{IsAfterOutage, IsKept, IsHeldUp, StaysUp}
+use Rattle.lapd_recovery_laws.specs.AfterOutage.{IsAfterOutage, IsKept, IsWanting, AreWanting, IsHeldUp, StaysUp}
 use Rattle.lapd_recovery_laws.specs.Agreed.{AreLevel, AreAgreed, ComesBack}
 use Rattle.lapd_recovery_laws.specs.Own.{IsOwn, AreOwn, Rests, IsFree, most_own_moves}
 use Rattle.lapd_recovery_laws.specs.Timers.{HaveTimersOfStates}
@@ -42,11 +42,11 @@ use Rattle.lapd_recovery_laws.proofs.Cleared.{AreClearIn5, clear_after_move, cle
 use Rattle.lapd_recovery_laws.proofs.Lone.{expires_203_at, due_203, still_swapped, own_203_swapped}
 use Rattle.lapd_recovery_laws.proofs.Lost.{at, with_final, UserLost}
 use Rattle.lapd_recovery_laws.proofs.LostMoves.{moved_user, moved_network}
-use Rattle.lapd_recovery_laws.proofs.OpenLine.{draining_begins, up_so}
-use Rattle.lapd_recovery_laws.proofs.Outage.{Facts, coming_moves}
+use Rattle.lapd_recovery_laws.proofs.OpenLine.{tries_so, draining_begins, up_so}
+use Rattle.lapd_recovery_laws.proofs.Outage.{turned, Facts, coming_moves}
 use Rattle.lapd_recovery_laws.proofs.OwnOnTags.{are_own_by_tags, rests_by_tags, ran_on_tags, are_level_on_tags, agreed_on_tags}
 use Rattle.lapd_recovery_laws.proofs.Releases.{empty_in_4}
-use Rattle.lapd_recovery_laws.proofs.Situations.{tries, attempt_in, attempt, gone_in, gone, again_in, again, finds_in, finds, polls_in, polls, Closed, Half, alone_4, alone_5, alone_6, asks_5, asks_6, accepted, crossed, refused, parting, closed, not_both, false_if, Coming}
+use Rattle.lapd_recovery_laws.proofs.Situations.{tries, attempt_in, attempt, gone_in, gone, again_in, again, finds_in, finds, polls_in, polls, MayTry, Establishing, Closed, Half, alone_4, alone_5, alone_6, asks_5, asks_6, accepted, crossed, refused, parting, closed, not_both, false_if, Coming}
 use Rattle.lapd_recovery_laws.proofs.TimersOfRuns.{new_has_timers, timers_after_move, timers_after_run}
 use Rattle.lapd_recovery_laws.proofs.Transitions.{timers_in}
 
@@ -91,10 +91,10 @@ own_moves_reach up N some n w (move ∷ moves) c f own =
 
 -- ---- Where no own move is possible, the ends agree.
 
-half_rests : (up : Bool) (N n : ℕ) (w : World) → Half N up n w → HaveTimersOfStates w → IsStill w → (IsOwn Whole (user_move Expire203) w → ⊥) → Closed N n w × (up ≡ false)
+half_rests : (up : Bool) (N n : ℕ) (w : World) → Half N up n w → HaveTimersOfStates w → IsStill w → (IsOwn Whole (user_move Expire203) w → ⊥) → Closed N n w × (up ≡ true → Establishing w.user.end w.network.end)
 half_rests up N n w (alone_4 s) have still rests = by_state w.user.end.state refl s.open_state
   where
-    by_state : (state : State) → w.user.end.state ≡ state → is_7_or_8 state ≡ true → Closed N n w × (up ≡ false)
+    by_state : (state : State) → w.user.end.state ≡ state → is_7_or_8 state ≡ true → Closed N n w × (up ≡ true → Establishing w.user.end w.network.end)
     by_state MultipleFrameEstablished is o =
         let on : w.user.end.t203 ≡ true = (timers_in MultipleFrameEstablished w.user.end have.user is).0 ∙ ap not still.user in
         absurd (rests (record { due = due_203 w still is s.network; admitted = expires_203_at side.User w on }))
@@ -301,8 +301,8 @@ module _ (N : ℕ) (some : 1 ≤ N) (x y : Station) (p q : ℕ) (mine : unsent x
         | inr last ↦ inr (same ∙ last.1, let a = last.0 in omega (arith, a, attempt_x))
       ]
 
-  pub closed_begins : is_7_or_8 x.end.state ≡ false → is_7_or_8 y.end.state ≡ false → Half N false n w
-  closed_begins c d =
+  pub closed_begins : (up : Bool) → is_7_or_8 x.end.state ≡ false → is_7_or_8 y.end.state ≡ false → (up ≡ true → Establishing x.end y.end) → Half N up n w
+  closed_begins up c d k =
       let e = extra in
       closed (record {
         user = c;
@@ -313,7 +313,7 @@ module _ (N : ℕ) (some : 1 ≤ N) (x y : Station) (p q : ℕ) (mine : unsent x
         leaves = e.leaves;
         both = λ in_5 its_in_5. (e.sends_x, e.sends_y, e.leaves_x, e.leaves_y);
         most = by_both e.sends e.leaves e.either_sends e.either_leaves;
-      }) refl
+      }) k
     where
       by_both : (sends leaves : ℕ) → (sends ≡ 0) ⊎ ((sends ≡ 2 * N + 3) × (1 ≤ unsent x.end + unsent y.end)) → (leaves ≡ 0) ⊎ ((leaves ≡ 2 * N + 5) × (attempt x.end + attempt y.end ≤ 6))
           → attempt x.end + attempt y.end + 2 * unsent x.end + 2 * unsent y.end + sends + leaves ≤ n
@@ -356,28 +356,47 @@ weaker n m w less (inr (inr (inr l))) = inr (inr (inr (record {
   most = let le = l.most in omega (arith, le, less);
 })))
 
-both_begin : (N : ℕ) → 1 ≤ N → (x y : Station) → IsInvariant (at x y [] []) → IsConsistentWorld Whole (at x y [] []) → AreSettledEnds (at x y [] []) → IsFree x.end → IsFree y.end → x.end.parameters.n200 ≤ N → y.end.parameters.n200 ≤ N → Coming N false (most_own_moves N (at x y [] [])) (at x y [] [])
-both_begin N some x y i preserved settled x_free y_free few_x few_y = by_open (is_7_or_8 x.end.state) (is_7_or_8 y.end.state) refl refl
+-- both ends are closed, and one wants the link
+establishing : (x y : End) → is_7_or_8 x.state ≡ false → is_7_or_8 y.state ≡ false → AreWanting x y → Establishing x y
+establishing x y c d w = record { mine = w.mine; its = w.its; either = by_either w.either }
   where
-    w : World
-    w = at x y [] []
+    may_try : (e : End) → is_7_or_8 e.state ≡ false → IsWanting e → MayTry e
+    may_try e c (inl o) = absurd (not_both (is_7_or_8 e.state) c o)
+    may_try e c (inr tries) = (tries.0, tries_so e.rc e.parameters.n200 tries.1)
 
-    more : Draining true (most_moves w) w → Draining true (most_own_moves N w) w
-    more d = weaker (most_moves w) (most_own_moves N w) w (omega arith) d
+    by_either : IsWanting x ⊎ IsWanting y → MayTry x ⊎ MayTry y
+    by_either (inl w) = inl (may_try x c w)
+    by_either (inr w) = inr (may_try y d w)
 
-    swapped_bound : most_own_moves N (swapped w) ≡ most_own_moves N w
-    swapped_bound = omega arith
+pub wanting_swapped : (x y : End) → AreWanting x y → AreWanting y x
+wanting_swapped x y w = record { mine = w.its; its = w.mine; either = turned w.either }
 
-    by_open : (a b : Bool) → is_7_or_8 x.end.state ≡ a → is_7_or_8 y.end.state ≡ b → Coming N false (most_own_moves N (at x y [] [])) (at x y [] [])
-    by_open true true o p = inl (more (draining_begins x y i settled preserved.user.settled preserved.network.settled true o p (x_free o) (y_free p) (λ _. refl) (λ _. refl)))
-    by_open true false o c = inr (inl (alone_begins N some x y (left_of x) (left_of y) (user_left w i preserved.user.settled) (network_left w i preserved.network.settled) few_x few_y false o c (λ no_up. cc)))
-    by_open false true c o = inr (inr (subst (λ m. Half N false m (swapped w)) swapped_bound (alone_begins N some y x (left_of y) (left_of x) (user_left (swapped w) (exchanged w i) preserved.network.settled) (network_left (swapped w) (exchanged w i) preserved.user.settled) few_y few_x false o c (λ no_up. cc))))
-    by_open false false c d = inr (inl (closed_begins N some x y (left_of x) (left_of y) (user_left w i preserved.user.settled) (network_left w i preserved.network.settled) few_x few_y c d))
+-- n is at least three for each of p and q, which are at least as many messages as are unsent
+pub half_begins : (N : ℕ) (some : 1 ≤ N) (x y : Station) (p q : ℕ) (mine : unsent x.end ≤ p) (its : unsent y.end ≤ q) → x.end.parameters.n200 ≤ N → y.end.parameters.n200 ≤ N → (up : Bool) → (up ≡ true → AreWanting x.end y.end)
+    → (is_7_or_8 x.end.state ≡ true → is_7_or_8 y.end.state ≡ true → Coming N up (3 * (p + q) + 6 * N + 11) (at x y [] [])) → Coming N up (3 * (p + q) + 6 * N + 11) (at x y [] [])
+half_begins N some x y p q mine its few_x few_y up k both = by_open (is_7_or_8 x.end.state) (is_7_or_8 y.end.state) refl refl
+  where
+    turned : 3 * (q + p) + 6 * N + 11 ≡ 3 * (p + q) + 6 * N + 11
+    turned = omega arith
 
-begins : (N : ℕ) → 1 ≤ N → (x y : Station) (to_user to_network : List Flight) → IsInvariant (at x y to_user to_network) → IsConsistentWorld Whole (at x y to_user to_network) → AreSettledEnds (at x y to_user to_network) → IsAfterOutage N (at x y to_user to_network) → Coming N false (most_own_moves N (at x y to_user to_network)) (at x y to_user to_network)
-begins N some x y [] [] i preserved settled a = both_begin N some x y i preserved settled a.user_free a.network_free a.user_retries a.network_retries
-begins N some x y (f ∷ fs) to_network i preserved settled a = let none = a.to_user in cc
-begins N some x y [] (f ∷ fs) i preserved settled a = let none = a.to_network in cc
+    by_open : (a b : Bool) → is_7_or_8 x.end.state ≡ a → is_7_or_8 y.end.state ≡ b → Coming N up (3 * (p + q) + 6 * N + 11) (at x y [] [])
+    by_open true true o p = both o p
+    by_open true false o c = inr (inl (alone_begins N some x y p q mine its few_x few_y up o c (λ wanted. (k wanted).its)))
+    by_open false true c o = inr (inr (subst (λ m. Half N up m (swapped (at x y [] []))) turned (alone_begins N some y x q p its mine few_y few_x up o c (λ wanted. (k wanted).mine))))
+    by_open false false c d = inr (inl (closed_begins N some x y p q mine its few_x few_y up c d (λ wanted. establishing x.end y.end c d (k wanted))))
+
+both_begin : (N : ℕ) → 1 ≤ N → (x y : Station) → IsInvariant (at x y [] []) → IsConsistentWorld Whole (at x y [] []) → AreSettledEnds (at x y [] []) → IsFree x.end → IsFree y.end → x.end.parameters.n200 ≤ N → y.end.parameters.n200 ≤ N → (up : Bool) → (up ≡ true → AreWanting x.end y.end)
+    → Coming N up (most_own_moves N (at x y [] [])) (at x y [] [])
+both_begin N some x y i preserved settled x_free y_free few_x few_y up k =
+    let w = at x y [] [] in
+    half_begins N some x y (left_of x) (left_of y) (user_left w i preserved.user.settled) (network_left w i preserved.network.settled) few_x few_y up k
+    (λ o p. inl (weaker (most_moves w) (most_own_moves N w) w (omega arith) (draining_begins x y i settled preserved.user.settled preserved.network.settled true o p (x_free o) (y_free p) (λ _. refl) (λ _. refl))))
+
+begins : (N : ℕ) → 1 ≤ N → (x y : Station) (to_user to_network : List Flight) → IsInvariant (at x y to_user to_network) → IsConsistentWorld Whole (at x y to_user to_network) → AreSettledEnds (at x y to_user to_network) → IsAfterOutage N (at x y to_user to_network) → (up : Bool) → (up ≡ true → AreWanting x.end y.end)
+    → Coming N up (most_own_moves N (at x y to_user to_network)) (at x y to_user to_network)
+begins N some x y [] [] i preserved settled a up k = both_begin N some x y i preserved settled a.user_free a.network_free a.user_retries a.network_retries up k
+begins N some x y (f ∷ fs) to_network i preserved settled a up k = let none = a.to_user in cc
+begins N some x y [] (f ∷ fs) i preserved settled a up k = let none = a.to_network in cc
 
 -- own moves are at most the weight of the start, and lead to ends that agree
 pub record Returns (n : ℕ) (w : World) : Type 0 where
@@ -397,7 +416,7 @@ returns_from N some n w c f preserved = record {
 line_comes_back : (N : ℕ) → 1 ≤ N → (w : World) → IsInvariant w → IsConsistentWorld Whole w → AreSettledEnds w → HaveTimersOfStates w → AreClearIn5 w → IsAfterOutage N w → ComesBack Whole N w
 line_comes_back N some w i preserved settled have clear a =
     let n = most_own_moves N w in
-    let c = begins N some w.user w.network w.to_user w.to_network i preserved settled a in
+    let c = begins N some w.user w.network w.to_user w.to_network i preserved settled a false (λ no. cc) in
     let f : Facts N w = record { holds = i; settled = settled; have = have; clear = clear; few_user = a.user_retries; few_network = a.network_retries } in
     let back = returns_from N some n w c f preserved in
     record { few = λ moves own. back.few moves own; agreed = λ moves own rests. back.agreed moves own rests }
@@ -456,46 +475,30 @@ module _ (N : ℕ) (some : 1 ≤ N) (user network : Parameters) (user_small : us
 pub every_line_comes_back : (r : Reading) (n200 : ℕ) → 1 ≤ n200 → (user network : Parameters) → user.k ≤ 127 → network.k ≤ 127 → 1 ≤ user.k → 1 ≤ network.k → (moves : List Move) → IsAfterOutage n200 (run r moves (new_world user network)) → ComesBack r n200 (run r moves (new_world user network))
 every_line_comes_back r n200 some user network u n us ns moves a = comes_back_by n200 some user network u n us ns moves r a
 
--- ---- An open link that nobody releases stays up.
+-- ---- A link that one end wants and nobody releases comes up.
 
-held_begin : (N : ℕ) → 1 ≤ N → (x y : Station) → IsInvariant (at x y [] []) → IsConsistentWorld Whole (at x y [] []) → AreSettledEnds (at x y [] []) → IsFree x.end → IsFree y.end → x.end.parameters.n200 ≤ N → y.end.parameters.n200 ≤ N → IsHeldUp (at x y [] []) → Coming N true (most_own_moves N (at x y [] [])) (at x y [] [])
-held_begin N some x y i preserved settled x_free y_free few_x few_y held = by_open (is_7_or_8 x.end.state) (is_7_or_8 y.end.state) refl refl
+-- no own move is possible where an establishment is under way
+not_establishing : (w : World) → HaveTimersOfStates w → IsStill w → Establishing w.user.end w.network.end → ⊥
+not_establishing w have still k = by_either k.either
   where
-    w : World
-    w = at x y [] []
+    off_in_5 : (e : End) → HasTimersOfState e → e.t200 ≡ false → MayTry e → ⊥
+    off_in_5 e has off may = let on = (timers_in AwaitingEstablishment e has may.0).0 in cc
 
-    more : Draining true (most_moves w) w → Draining true (most_own_moves N w) w
-    more d = weaker (most_moves w) (most_own_moves N w) w (omega arith) d
+    by_either : MayTry w.user.end ⊎ MayTry w.network.end → ⊥
+    by_either (inl may) = off_in_5 w.user.end have.user still.user may
+    by_either (inr may) = off_in_5 w.network.end have.network still.network may
 
-    swapped_bound : most_own_moves N (swapped w) ≡ most_own_moves N w
-    swapped_bound = omega arith
-
-    one_open : is_7_or_8 x.end.state ≡ false → is_7_or_8 y.end.state ≡ false → (is_7_or_8 x.end.state ≡ true) ⊎ (is_7_or_8 y.end.state ≡ true) → ⊥
-    one_open c d (inl o) = not_both (is_7_or_8 x.end.state) c o
-    one_open c d (inr o) = not_both (is_7_or_8 y.end.state) d o
-
-    by_open : (a b : Bool) → is_7_or_8 x.end.state ≡ a → is_7_or_8 y.end.state ≡ b → Coming N true (most_own_moves N (at x y [] [])) (at x y [] [])
-    by_open true true o p = inl (more (draining_begins x y i settled preserved.user.settled preserved.network.settled true o p (x_free o) (y_free p) (λ _. refl) (λ _. refl)))
-    by_open true false o c = inr (inl (alone_begins N some x y (left_of x) (left_of y) (user_left w i preserved.user.settled) (network_left w i preserved.network.settled) few_x few_y true o c (λ _. held.network)))
-    by_open false true c o = inr (inr (subst (λ m. Half N true m (swapped w)) swapped_bound (alone_begins N some y x (left_of y) (left_of x) (user_left (swapped w) (exchanged w i) preserved.network.settled) (network_left (swapped w) (exchanged w i) preserved.user.settled) few_y few_x true o c (λ _. held.user))))
-    by_open false false c d = absurd (one_open c d held.open_state)
-
-held_begins : (N : ℕ) → 1 ≤ N → (x y : Station) (to_user to_network : List Flight) → IsInvariant (at x y to_user to_network) → IsConsistentWorld Whole (at x y to_user to_network) → AreSettledEnds (at x y to_user to_network) → IsAfterOutage N (at x y to_user to_network) → IsHeldUp (at x y to_user to_network) → Coming N true (most_own_moves N (at x y to_user to_network)) (at x y to_user to_network)
-held_begins N some x y [] [] i preserved settled a h = held_begin N some x y i preserved settled a.user_free a.network_free a.user_retries a.network_retries (record { user = h.user; network = h.network; open_state = h.open_state })
-held_begins N some x y (f ∷ fs) to_network i preserved settled a h = let none = a.to_user in cc
-held_begins N some x y [] (f ∷ fs) i preserved settled a h = let none = a.to_network in cc
-
-level_at_rest : (N n : ℕ) (w : World) → Coming N true n w → Facts N w → IsConsistentWorld Whole w → IsStill w → Rests Whole w → AreLevel w.user.end w.network.end
+pub level_at_rest : (N n : ℕ) (w : World) → Coming N true n w → Facts N w → IsConsistentWorld Whole w → IsStill w → Rests Whole w → AreLevel w.user.end w.network.end
 level_at_rest N n w (inl d) f preserved still rests = (up_so n w w.user w.network w.to_user w.to_network preserved (rests_drained true n w d f.have still) still (record { user = refl; network = refl })).level
-level_at_rest N n w (inr (inl l)) f preserved still rests = let s = half_rests true N n w l f.have still (λ own. rests (user_move Expire203) own) in absurd (not_both true s.1 refl)
+level_at_rest N n w (inr (inl l)) f _ still rests = let s = half_rests true N n w l f.have still (λ own. rests (user_move Expire203) own) in absurd (not_establishing w f.have still (s.1 refl))
 level_at_rest N n w (inr (inr l)) f preserved still rests =
     let s = half_rests true N n (swapped w) l (record { user = f.have.network; network = f.have.user }) (still_swapped w still) (λ own. rests (network_move Expire203) (own_203_swapped w own)) in
-    absurd (not_both true s.1 refl)
+    absurd (not_establishing (swapped w) (record { user = f.have.network; network = f.have.user }) (still_swapped w still) (s.1 refl))
 
-held_stays_up : (N : ℕ) → 1 ≤ N → (w : World) → IsInvariant w → IsConsistentWorld Whole w → AreSettledEnds w → HaveTimersOfStates w → AreClearIn5 w → IsAfterOutage N w → IsHeldUp w → StaysUp Whole w
-held_stays_up N some w i preserved settled have clear a h moves own rests =
+wanted_comes_up : (N : ℕ) → 1 ≤ N → (w : World) → IsInvariant w → IsConsistentWorld Whole w → AreSettledEnds w → HaveTimersOfStates w → AreClearIn5 w → IsAfterOutage N w → AreWanting w.user.end w.network.end → StaysUp Whole w
+wanted_comes_up N some w i preserved settled have clear a h moves own rests =
     let n = most_own_moves N w in
-    let c = held_begins N some w.user w.network w.to_user w.to_network i preserved settled a h in
+    let c = begins N some w.user w.network w.to_user w.to_network i preserved settled a true (λ _. h) in
     let f : Facts N w = record { holds = i; settled = settled; have = have; clear = clear; few_user = a.user_retries; few_network = a.network_retries } in
     let now = run Whole moves w in
     let reached = own_moves_reach true N some n w moves c f own in
@@ -512,27 +515,40 @@ stays_up_on_tags w i preserved up moves own rests =
 kept_by_tags : (e : End) → IsKept (tag_end e) → IsKept e
 kept_by_tags e k = record { not_releasing = k.not_releasing; none_pending = k.none_pending }
 
-held_by_tags : (w : World) → IsHeldUp (tag_world w) → IsHeldUp w
-held_by_tags w h = record { user = kept_by_tags w.user.end h.user; network = kept_by_tags w.network.end h.network; open_state = h.open_state }
+pub wanting_by_tags : (x y : End) → AreWanting (tag_end x) (tag_end y) → AreWanting x y
+wanting_by_tags x y w = record { mine = kept_by_tags x w.mine; its = kept_by_tags y w.its; either = w.either }
 
 module _ (N : ℕ) (some : 1 ≤ N) (user network : Parameters) (user_small : user.k ≤ 127) (network_small : network.k ≤ 127) (user_some : 1 ≤ user.k) (network_some : 1 ≤ network.k) (moves : List Move) where
-  abbrev held_world : World
-  held_world = run Whole moves (new_world user network)
+  abbrev wanted_world : World
+  wanted_world = run Whole moves (new_world user network)
 
-  held_holds : IsInvariant held_world
-  held_holds = each_run_preserves moves (new_world user network) (new_holds user network user_small network_small)
+  wanted_holds : IsInvariant wanted_world
+  wanted_holds = each_run_preserves moves (new_world user network) (new_holds user network user_small network_small)
 
-  held_consistent : IsConsistentWorld Whole held_world
-  held_consistent = run_consistent Whole moves (new_world user network) (new_world_consistent Whole user network user_small network_small)
+  wanted_consistent : IsConsistentWorld Whole wanted_world
+  wanted_consistent = run_consistent Whole moves (new_world user network) (new_world_consistent Whole user network user_small network_small)
 
-  stays_whole : IsAfterOutage N held_world → IsHeldUp held_world → StaysUp Whole held_world
-  stays_whole a h = let c = held_stays_up N some held_world held_holds held_consistent (run_settles moves (new_world user network) (new_settles user network user_some network_some)) (timers_after_run moves (new_world user network) (new_has_timers user network)) (clear_after_run moves (new_world user network) (new_is_clear user network)) a h in c
+  up_whole : IsAfterOutage N wanted_world → AreWanting wanted_world.user.end wanted_world.network.end → StaysUp Whole wanted_world
+  up_whole a k = let c = wanted_comes_up N some wanted_world wanted_holds wanted_consistent (run_settles moves (new_world user network) (new_settles user network user_some network_some)) (timers_after_run moves (new_world user network) (new_has_timers user network)) (clear_after_run moves (new_world user network) (new_is_clear user network)) a k in c
 
-  stays_up_by : (r : Reading) → IsAfterOutage N (run r moves (new_world user network)) → IsHeldUp (run r moves (new_world user network)) → StaysUp r (run r moves (new_world user network))
-  stays_up_by Whole a h = stays_whole a h
-  stays_up_by Tagged a h =
-      let same : run Tagged moves (new_world user network) ≡ tag_world held_world = reached_tags user network user_small network_small moves in
-      subst (λ w. StaysUp Tagged w) (sym same) (stays_up_on_tags held_world held_holds held_consistent (stays_whole (after_outage_by_tags N held_world (subst (λ w. IsAfterOutage N w) same a)) (held_by_tags held_world (subst IsHeldUp same h))))
+  comes_up_by : (r : Reading) → IsAfterOutage N (run r moves (new_world user network)) → AreWanting (run r moves (new_world user network)).user.end (run r moves (new_world user network)).network.end → StaysUp r (run r moves (new_world user network))
+  comes_up_by Whole a k = up_whole a k
+  comes_up_by Tagged a k =
+      let same : run Tagged moves (new_world user network) ≡ tag_world wanted_world = reached_tags user network user_small network_small moves in
+      subst (λ w. StaysUp Tagged w) (sym same) (stays_up_on_tags wanted_world wanted_holds wanted_consistent
+      (up_whole (after_outage_by_tags N wanted_world (subst (λ w. IsAfterOutage N w) same a)) (wanting_by_tags wanted_world.user.end wanted_world.network.end (subst (λ (w : World). AreWanting w.user.end w.network.end) same k))))
+
+pub every_wanted_line_comes_up : (r : Reading) (n200 : ℕ) → 1 ≤ n200 → (user network : Parameters) → user.k ≤ 127 → network.k ≤ 127 → 1 ≤ user.k → 1 ≤ network.k → (moves : List Move) → IsAfterOutage n200 (run r moves (new_world user network))
+    → AreWanting (run r moves (new_world user network)).user.end (run r moves (new_world user network)).network.end → StaysUp r (run r moves (new_world user network))
+every_wanted_line_comes_up r n200 some user network u n us ns moves a k = comes_up_by n200 some user network u n us ns moves r a k
+
+-- a link that one end holds up is wanted
+held_is_wanted : (w : World) → IsHeldUp w → AreWanting w.user.end w.network.end
+held_is_wanted w h = record { mine = h.user; its = h.network; either = by_either h.open_state }
+  where
+    by_either : (is_7_or_8 w.user.end.state ≡ true) ⊎ (is_7_or_8 w.network.end.state ≡ true) → IsWanting w.user.end ⊎ IsWanting w.network.end
+    by_either (inl o) = inl (inl o)
+    by_either (inr o) = inr (inl o)
 
 pub every_held_line_stays_up : (r : Reading) (n200 : ℕ) → 1 ≤ n200 → (user network : Parameters) → user.k ≤ 127 → network.k ≤ 127 → 1 ≤ user.k → 1 ≤ network.k → (moves : List Move) → IsAfterOutage n200 (run r moves (new_world user network)) → IsHeldUp (run r moves (new_world user network)) → StaysUp r (run r moves (new_world user network))
-every_held_line_stays_up r n200 some user network u n us ns moves a h = stays_up_by n200 some user network u n us ns moves r a h
+every_held_line_stays_up r n200 some user network u n us ns moves a h = every_wanted_line_comes_up r n200 some user network u n us ns moves a (held_is_wanted (run r moves (new_world user network)) h)

@@ -163,7 +163,7 @@ module _ (N : ℕ) (some : 1 ≤ N) where
         by_open true true o p = record { m = n + 8; coming = inl (both_open true o p (λ _. refl) (λ _. refl)); most = omega (arith, some) }
         by_open true false o c = let le = u in record { m = alone_weight; coming = inr (inl (alone_begins N some x y (unsent x.end) (unsent y.end) (omega arith) (omega arith) b.facts.few_user b.facts.few_network false o c (λ no_up. cc))); most = omega (arith, le) }
         by_open false true c o = let le = u in record { m = alone_weight_too; coming = inr (inr (alone_begins N some y x (unsent y.end) (unsent x.end) (omega arith) (omega arith) b.facts.few_network b.facts.few_user false o c (λ no_up. cc))); most = omega (arith, le) }
-        by_open false false c d = let le = u in record { m = alone_weight; coming = inr (inl (closed_begins N some x y (unsent x.end) (unsent y.end) (omega arith) (omega arith) b.facts.few_user b.facts.few_network c d)); most = omega (arith, le) }
+        by_open false false c d = let le = u in record { m = alone_weight; coming = inr (inl (closed_begins N some x y (unsent x.end) (unsent y.end) (omega arith) (omega arith) b.facts.few_user b.facts.few_network false c d (λ no. cc))); most = omega (arith, le) }
 
     ends : (moves : List Move) → AreOwn Whole moves w → Ends moves
     ends moves own =

@@ -24,7 +24,7 @@ use Rattle.lapd_recovery_laws.proofs.HalfSteps.{dm, disc, sabme_in_5, disc_in_5,
 use Rattle.lapd_recovery_laws.proofs.LoneSteps.{is_ignored, sabme, ua, established, sabme_in_4, IsNew, is_new}
 use Rattle.lapd_recovery_laws.proofs.Lost.{at}
 use Rattle.lapd_recovery_laws.proofs.SendsOn.{AreIgnored, IsUpWith, sabme_in_7_8, IsCleared, sendable_in, sendable, sendable_few, ua_opens}
-use Rattle.lapd_recovery_laws.proofs.Situations.{twice, attempt, gone, again_in, again, polls_in, polls, by_peer_5, Asks5, by_peer_6, Asks6, Accepted, Crossed, Refused, IsAnswer, EndInAnswer, Parting, alone_5, asks_6, accepted, crossed, refused, parting, closed, NoneReleases, false_if, ComesOn, up_drains}
+use Rattle.lapd_recovery_laws.proofs.Situations.{twice, attempt, gone, again_in, again, polls_in, polls, by_peer_5, Asks5, by_peer_6, Asks6, Accepted, Crossed, Refused, IsAnswer, EndInAnswer, Parting, alone_5, asks_6, accepted, crossed, refused, parting, closed, NoneReleases, not_both, false_if, ComesOn, up_drains}
 use Rattle.lapd_recovery_laws.proofs.Transitions.{timers_in, empty_4_too, state_of, by_user, by_network, open_peer_6, closed_peer_6, none_left}
 
 module _ (N : ℕ) (some_retries : 1 ≤ N) (up : Bool) where
@@ -200,7 +200,7 @@ module _ (N : ℕ) (some_retries : 1 ≤ N) (up : Bool) where
               leaves = 0;
               both = λ in_5 its_in_5. absurd (let is = ap state_of v.end in cc);
               most = omega (arith, le, over, same, none);
-            }) k));
+            }) (λ is. absurd (not_both up k is))));
           }
 
       by_answer : IsAnswer N frame → ComesOn N up n (by_user N some_retries up Deliver x y (frame ∷ []) [])
@@ -234,7 +234,7 @@ module _ (N : ℕ) (some_retries : 1 ≤ N) (up : Bool) where
           leaves = 0;
           both = λ in_5 its_in_5. absurd (let is = s.network in cc);
           most = omega (arith, le, over, dropped, none);
-        }) k));
+        }) (λ is. absurd (not_both up k is))));
       }
 
   -- ---- The UA is delivered to the user in state 5.

@@ -44,7 +44,7 @@ burden_begins x y low high = by_fresh y.rejecting
     by_fresh true = omega (arith, low, high)
     by_fresh false = omega (arith, low, high)
 
-tries_so : (a b : ℕ) → a < b → nat_lt a b ≡ true
+pub tries_so : (a b : ℕ) → a < b → nat_lt a b ≡ true
 tries_so a b less = grind (arith, nat_tests, less)
 
 module _ (x y : Station) (i : IsInvariant (at x y [] [])) (ends_settled : AreSettledEnds (at x y [] [])) (last : Bool) (x_opened : is_7_or_8 x.end.state ≡ true) (y_opened : is_7_or_8 y.end.state ≡ true) (x_free : x.end.window.own_busy ≡ false) (y_free : y.end.window.own_busy ≡ false) (x_tries : x.end.state ≡ TimerRecovery → (last || nat_lt x.end.rc x.end.parameters.n200) ≡ true) (y_tries : y.end.state ≡ TimerRecovery → (last || nat_lt y.end.rc y.end.parameters.n200) ≡ true) (a b n : ℕ) (stream_x : x.end.state ≡ MultipleFrameEstablished → Stream (source x.end) (sink y.end) [] [] a) (stream_y : y.end.state ≡ MultipleFrameEstablished → Stream (source y.end) (sink x.end) [] [] b) (burden_x : burden 3 (source x.end) (sink y.end) ≤ a) (burden_y : burden 3 (source y.end) (sink x.end) ≤ b) (all : a + b ≤ n) where

@@ -1,5 +1,5 @@
 -- The own moves of a line after an outage, in any order.
-use Rattle.std.proofs.Common.{◌≡◌, inl, inr, ℕ, ◌+◌, ◌*◌, ◌-◌, ◌≤◌, not, ◌&&◌, ◌||◌, Bool, true, false, List, [], ◌∷◌, length, is_ok, refl, sym, ap, subst, ◌∙◌, arith}
+use Rattle.std.proofs.Common.{◌≡◌, ◌⊎◌, inl, inr, ℕ, ◌+◌, ◌*◌, ◌-◌, ◌≤◌, not, ◌&&◌, ◌||◌, Bool, true, false, List, [], ◌∷◌, length, is_ok, refl, sym, ap, subst, ◌∙◌, arith}
 use Rattle.lapd_frame.specs.declared.Side.{Side}
 use Rattle.lapd_frame.specs.declared.Side.TheVariants as side
 use Rattle.lapd_mod128.specs.Counting.{Whole}
@@ -22,6 +22,7 @@ use Rattle.lapd_pair_laws.proofs.Stepping.{user_move, network_move}
 use Rattle.lapd_pair_laws.proofs.Swaps.{network_alike}
 use Rattle.lapd_pair_laws.proofs.Whole.{each_move_preserves}
 use Rattle.lapd_pair_laws.proofs.Worlds.{left_by, exchanged}
+use Rattle.lapd_recovery_laws.specs.AfterOutage.{IsKept}
 use Rattle.lapd_recovery_laws.specs.Own.{are_apart, is_empty, is_line_empty, is_due, IsOwn}
 use Rattle.lapd_recovery_laws.specs.Timers.{HaveTimersOfStates}
 use Rattle.lapd_recovery_laws.proofs.AnyOrder.{Draining, draining_swapped, MayRetry, own_moves_on, in_state_7, ok_in_world}
@@ -35,7 +36,7 @@ use Rattle.lapd_recovery_laws.proofs.Lost.{at}
 use Rattle.lapd_recovery_laws.proofs.LostExpires.{stream}
 use Rattle.lapd_recovery_laws.proofs.LostMoves.{moved_user, moved_network, weight_in_8}
 use Rattle.lapd_recovery_laws.proofs.SendsOn.{AreIgnored}
-use Rattle.lapd_recovery_laws.proofs.Situations.{tries, twice, attempt_in, attempt, gone, again, Alone4, Alone5, Alone6, by_peer_5, EndInAnswer, Closed, Half, alone_4, alone_5, alone_6, asks_5, asks_6, accepted, crossed, refused, parting, closed, not_both, Coming, ComesOn}
+use Rattle.lapd_recovery_laws.proofs.Situations.{tries, twice, attempt_in, attempt, gone, again, MayTry, Establishing, Alone4, Alone5, Alone6, by_peer_5, EndInAnswer, Closed, Half, alone_4, alone_5, alone_6, asks_5, asks_6, accepted, crossed, refused, parting, closed, not_both, false_if, Coming, ComesOn}
 use Rattle.lapd_recovery_laws.proofs.Transitions.{literally, timers_in, attempt_is, state_of, by_user, by_network, open_peer_5, closed_peer_6, none_left, alone4_t200, alone5_t200, alone6_t200, alone4_t203, alone5_peer, alone6_peer, alone4_ignores, alone5_ignores, alone6_ignores}
 use Rattle.lapd_recovery_laws.proofs.Exchanges.{asks5_delivered, asks6_delivered, asks6_ignores, parting_moves, refused_moves, accepted_moves, crossed_moves}
 
@@ -119,6 +120,16 @@ user_ok : (event : PairEvent) (w : World) → is_ok (happens Whole (user_move ev
 unfolding happens
 user_ok event w = ok_in_world side.User w (acts Whole side.User event (view_of side.User w))
 
+released_is_kept : (e : End) → e.state ≡ TeiAssigned → IsKept e
+released_is_kept e is = record { not_releasing = λ in_6. let never : TeiAssigned ≡ AwaitingRelease = sym is ∙ in_6 in cc; none_pending = λ in_5. let never : TeiAssigned ≡ AwaitingEstablishment = sym is ∙ in_5 in cc }
+
+pub turned : {A B : Type 0} → A ⊎ B → B ⊎ A
+turned (inl a) = inr a
+turned (inr b) = inl b
+
+establishing_swapped : (x y : End) → Establishing x y → Establishing y x
+establishing_swapped x y w = record { mine = w.its; its = w.mine; either = turned w.either }
+
 module _ (N : ℕ) (some_retries : 1 ≤ N) (up : Bool) where
   -- ---- Both ends are closed: T200 of the user expires.
 
@@ -132,15 +143,15 @@ module _ (N : ℕ) (some_retries : 1 ≤ N) (up : Bool) where
       by_state MultipleFrameEstablished its_is c = cc
       by_state TimerRecovery its_is c = cc
 
-  module _ (n : ℕ) (x y : Station) (s : Closed N n (at x y [] [])) (k : up ≡ false) (on : x.end.t200 ≡ true) where
+  module _ (n : ℕ) (x y : Station) (s : Closed N n (at x y [] [])) (k : up ≡ true → Establishing x.end y.end) (on : x.end.t200 ≡ true) where
     abbrev now : World
     now = by_user N some_retries up Expire200 x y [] []
 
     abbrev v : View
     v = left_by (seeing x [] []) (acts Whole side.User Expire200 (seeing x [] []))
 
-    gives_up : (e : End) → Sees v e [] [] → e.state ≡ TeiAssigned → unsent e ≤ unsent x.end → 1 ≤ attempt x.end → ComesOn N up n now
-    gives_up e seen is few some =
+    gives_up : (e : End) → Sees v e [] [] → e.state ≡ TeiAssigned → unsent e ≤ unsent x.end → 1 ≤ attempt x.end → (up ≡ true → MayTry y.end) → ComesOn N up n now
+    gives_up e seen is few some other =
         let le = s.most in
         let none : attempt now.user.end ≡ 0 = ap attempt seen.end ∙ ap (λ st. attempt_in st (tries e) e.release_pending) is in
         let same : unsent now.user.end ≡ unsent e = ap unsent seen.end in
@@ -156,12 +167,16 @@ module _ (N : ℕ) (some_retries : 1 ≤ N) (up : Bool) where
             leaves = 0;
             both = λ in_5 its_in_5. absurd (let never : TeiAssigned ≡ AwaitingEstablishment = sym in_4 ∙ in_5 in cc);
             most = omega (arith, le, some, none, same, few);
-          }) k));
+          }) (λ holds. record { mine = released_is_kept now.user.end in_4; its = (k holds).its; either = inr (other holds) })));
         }
 
     from_5 : x.end.state ≡ AwaitingEstablishment → ComesOn N up n now
     from_5 is = by_tries (tries x.end) refl
       where
+        other_tries : tries x.end ≡ false → MayTry x.end ⊎ MayTry y.end → MayTry y.end
+        other_tries last (inl may) = absurd (not_both (tries x.end) last may.1)
+        other_tries last (inr may) = may
+
         by_tries : (b : Bool) → tries x.end ≡ b → ComesOn N up n now
         by_tries true more =
             let seen = seen_after_t200 x (asked_again x.end is) (sabme ∷ []) on (retry_in_5 x.end is on more) in
@@ -175,9 +190,9 @@ module _ (N : ℕ) (some_retries : 1 ≤ N) (up : Bool) where
             = ap (λ a. by_peer_5 N y.end.state (attempt y.end + gone N y.end + a) (attempt y.end)) same_again in
             record {
               some = omega (arith, le, three);
-              arriving = inr (inl (asks_5 (record { user = ap state_of seen.end ∙ is; to_user = seen.incoming; to_network = seen.outgoing; most = omega (arith, le, three, bit, same, peer, bound) }) (λ is. absurd (not_both up k is))));
+              arriving = inr (inl (asks_5 (record { user = ap state_of seen.end ∙ is; to_user = seen.incoming; to_network = seen.outgoing; most = omega (arith, le, three, bit, same, peer, bound) }) (λ holds. let w = k holds in record { user = ap (λ (e : End). e.release_pending) seen.end ∙ w.mine.none_pending is; not_6 = w.its.not_releasing; network = w.its.none_pending })));
             }
-        by_tries false last = let one = attempt_is AwaitingEstablishment false x.end is last in gives_up (abandoned x.end is) (seen_after_t200 x (abandoned x.end is) [] on (give_up_in_5 x.end is on last)) refl (omega arith) (omega (arith, one))
+        by_tries false last = let one = attempt_is AwaitingEstablishment false x.end is last in gives_up (abandoned x.end is) (seen_after_t200 x (abandoned x.end is) [] on (give_up_in_5 x.end is on last)) refl (omega arith) (omega (arith, one)) (λ holds. other_tries last (k holds).either)
 
     from_6 : x.end.state ≡ AwaitingRelease → ComesOn N up n now
     from_6 is = by_tries (tries x.end) refl
@@ -191,9 +206,9 @@ module _ (N : ℕ) (some_retries : 1 ≤ N) (up : Bool) where
             let all = closed_peer_6 N some_retries up y.end.state (attempt y.end + 2 * unsent y.end) s.network in
             record {
               some = omega (arith, le, three);
-              arriving = inr (inl (asks_6 (record { user = ap state_of seen.end ∙ is; ignored = subst AreIgnored (sym seen.incoming) tt; to_network = seen.outgoing; most = omega (arith, le, three, len, all) }) k));
+              arriving = inr (inl (asks_6 (record { user = ap state_of seen.end ∙ is; ignored = subst AreIgnored (sym seen.incoming) tt; to_network = seen.outgoing; most = omega (arith, le, three, len, all) }) (false_if up (λ holds. (k holds).mine.not_releasing is))));
             }
-        by_tries false last = let one = attempt_is AwaitingRelease false x.end is last in gives_up (released x.end is) (seen_after_t200 x (released x.end is) [] on (give_up_in_6 x.end is on last)) refl (omega arith) (omega (arith, one))
+        by_tries false last = let one = attempt_is AwaitingRelease false x.end is last in gives_up (released x.end is) (seen_after_t200 x (released x.end is) [] on (give_up_in_6 x.end is on last)) refl (omega arith) (omega (arith, one)) (λ holds. absurd ((k holds).mine.not_releasing is))
 
     closed_t200 : HasTimersOfState x.end → ComesOn N up n now
     closed_t200 has = by_state x.end.state refl s.user
@@ -300,7 +315,7 @@ module _ (N : ℕ) (some_retries : 1 ≤ N) (up : Bool) where
       quiet_4 : Alone4 N n (at x y [] []) → to_user ≡ [] → to_network ≡ [] → Quiet to_user to_network
       quiet_5 : Alone5 N n (at x y [] []) → (up ≡ true → y.end.release_pending ≡ false) → to_user ≡ [] → to_network ≡ [] → Quiet to_user to_network
       quiet_6 : Alone6 N n (at x y [] []) → up ≡ false → to_user ≡ [] → to_network ≡ [] → Quiet to_user to_network
-      quiet_closed : Closed N n (at x y [] []) → up ≡ false → to_user ≡ [] → to_network ≡ [] → Quiet to_user to_network
+      quiet_closed : Closed N n (at x y [] []) → (up ≡ true → Establishing x.end y.end) → to_user ≡ [] → to_network ≡ [] → Quiet to_user to_network
 
     none_in : (to_user to_network : List Flight) → is_line_empty (at x y to_user to_network) ≡ true → (to_user ≡ []) × (to_network ≡ [])
     none_in [] [] empty = (refl, refl)
@@ -327,7 +342,7 @@ module _ (N : ℕ) (some_retries : 1 ≤ N) (up : Bool) where
     user_t200 to_user to_network (quiet_closed s k a b) f = literally (ByUser Expire200) to_user to_network [] [] a b (λ due ok. closed_t200 n x y s k (t200_runs (seeing x [] []) ok) f.have.user)
 
     -- T200 of the network, but for two closed ends
-    network_t200 : (to_user to_network : List Flight) → Quiet to_user to_network → Facts N (at x y to_user to_network) → (Closed N n (at x y [] []) → up ≡ false → ByNetwork Expire200 [] []) → ByNetwork Expire200 to_user to_network
+    network_t200 : (to_user to_network : List Flight) → Quiet to_user to_network → Facts N (at x y to_user to_network) → (Closed N n (at x y [] []) → (up ≡ true → Establishing x.end y.end) → ByNetwork Expire200 [] []) → ByNetwork Expire200 to_user to_network
     network_t200 to_user to_network (quiet_4 s a b) f other = literally (ByNetwork Expire200) to_user to_network [] [] a b (λ due ok. absurd (let off = (timers_in TeiAssigned y.end f.have.network s.network).0 in let on = t200_runs (seeing y [] []) ok in cc))
     network_t200 to_user to_network (quiet_5 s k a b) f other = literally (ByNetwork Expire200) to_user to_network [] [] a b (λ due ok. alone5_peer N some_retries up n x y s k (t200_runs (seeing y [] []) ok))
     network_t200 to_user to_network (quiet_6 s k a b) f other =
@@ -381,10 +396,10 @@ module _ (N : ℕ) (some_retries : 1 ≤ N) (up : Bool) where
   to_user_of n event w c = subst (λ v. ComesOn N up n v) (ap swapped (network_alike Whole event (swapped w))) (coming_swapped n (after side.Network event (swapped w)) c)
 
   -- T200 of the network, with both ends closed
-  closed_network_t200 : (n : ℕ) (x y : Station) → Closed N n (at x y [] []) → up ≡ false → HasTimersOfState y.end → is_ok (acts Whole side.User Expire200 (seeing y [] [])) ≡ true → ComesOn N up n (by_network N some_retries up Expire200 x y [] [])
+  closed_network_t200 : (n : ℕ) (x y : Station) → Closed N n (at x y [] []) → (up ≡ true → Establishing x.end y.end) → HasTimersOfState y.end → is_ok (acts Whole side.User Expire200 (seeing y [] [])) ≡ true → ComesOn N up n (by_network N some_retries up Expire200 x y [] [])
   closed_network_t200 n x y s k has ok =
       let w = at x y [] [] in
-      let here : ComesOn N up n (by_user N some_retries up Expire200 y x [] []) = closed_t200 n y x (closed_swapped n w s) k (t200_runs (seeing y [] []) ok) has in
+      let here : ComesOn N up n (by_user N some_retries up Expire200 y x [] []) = closed_t200 n y x (closed_swapped n w s) (λ holds. establishing_swapped x.end y.end (k holds)) (t200_runs (seeing y [] []) ok) has in
       coming_swapped n (by_user N some_retries up Expire200 y x [] []) here
 
   half_moves : (n : ℕ) (s : Side) (event : PairEvent) (w : World) → Half N up n w → Facts N w → is_due event w ≡ true → is_ok (acts Whole side.User event (view_of s w)) ≡ true → ComesOn N up n (after s event w)

@@ -18,6 +18,7 @@ use Rattle.lapd_pair_laws.specs.Kinds.{kinds, messages}
 use Rattle.lapd_pair_laws.proofs.Drains.{Drains}
 use Rattle.lapd_pair_laws.proofs.Flow.{source, sink, IsWhole, Clean, Stream}
 use Rattle.lapd_pair_laws.proofs.Worlds.{left_by}
+use Rattle.lapd_recovery_laws.specs.AfterOutage.{IsKept}
 use Rattle.lapd_recovery_laws.proofs.AnyOrder.{Draining}
 use Rattle.lapd_recovery_laws.proofs.Beside.{seeing}
 use Rattle.lapd_recovery_laws.proofs.ClosedSteps.{Sees, seen_after_t200}
@@ -46,6 +47,16 @@ attempt_in state tried leaving = 0
 
 abbrev pub attempt : End → ℕ
 attempt e = attempt_in e.state (tries e) e.release_pending
+
+-- in state 5, with a retransmission left
+abbrev pub MayTry : End → Type 0
+MayTry e = (e.state ≡ AwaitingEstablishment) × (tries e ≡ true)
+
+-- both ends are closed, neither releases, and one establishes
+pub record Establishing (x y : End) : Type 0 where
+  pub mine : IsKept x
+  pub its : IsKept y
+  pub either : MayTry x ⊎ MayTry y
 
 pub not_both : (b : Bool) → b ≡ false → b ≡ true → ⊥
 not_both true off on = cc
@@ -211,7 +222,7 @@ module _ (N : ℕ) where
     crossed : Crossed n w → (up ≡ true → (w.user.end.release_pending ≡ false) × (w.network.end.release_pending ≡ false)) → Half up n w
     refused : Refused n w → up ≡ false → Half up n w
     parting : Parting n w → up ≡ false → Half up n w
-    closed : Closed n w → up ≡ false → Half up n w
+    closed : Closed n w → (up ≡ true → Establishing w.user.end w.network.end) → Half up n w
 
   abbrev pub Coming : Bool → ℕ → World → Type 0
   Coming up n w = Draining true n w ⊎ (Half up n w ⊎ Half up n (swapped w))

@@ -83,6 +83,18 @@ abbrev pub all_lost : List Move
 all_lost = of_network (Lose 0) ∷ of_user Expire200 ∷ of_network (Lose 0) ∷ of_user Expire200
     ∷ of_network (Lose 0) ∷ of_user Expire200 ∷ of_network (Lose 0) ∷ []
 
+-- the user establishes, and its SABME is lost
+abbrev pub sabme_lost : List Move
+sabme_lost = of_user Establish ∷ of_network (Lose 0) ∷ []
+
+-- then layer 3 of the user releases the link
+abbrev pub release_waits : List Move
+release_waits = sabme_lost ++ of_user Release ∷ []
+
+-- each of its SABMEs is lost
+abbrev pub sabmes_lost : List Move
+sabmes_lost = of_user Establish ∷ all_lost
+
 -- the user releases, and each of its DISC is lost
 abbrev pub release_unheard : List Move
 release_unheard = establishing ++ of_user Release ∷ all_lost

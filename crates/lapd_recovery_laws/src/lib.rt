@@ -19,6 +19,6 @@ mod recovery;
 pub use recovery::{
     every_held_line_stays_up, every_line_comes_back, every_line_runs_empty,
     every_lone_line_comes_up, every_open_line_comes_up, every_released_line_comes_down,
-    every_world_comes_back, every_world_comes_back_despite_losses, few_losses_drop_nothing,
-    recovery_is_computed, timers_of_states_run,
+    every_wanted_line_comes_up, every_world_comes_back, every_world_comes_back_despite_losses,
+    few_losses_drop_nothing, recovery_is_computed, timers_of_states_run,
 };

@@ -8,7 +8,7 @@ ghost use Rattle.lapd_pair_laws.specs.Move.{Move};
 ghost use Rattle.lapd_pair_laws.specs.Settle.{next_move};
 ghost use Rattle.lapd_pair_laws.specs.Worked.{new_pair, busy};
 ghost use Rattle.lapd_pair_laws.specs.World.{new_world, run};
-ghost use Rattle.lapd_recovery_laws.specs.AfterOutage.{IsAfterOutage, IsHeldUp, StaysUp};
+ghost use Rattle.lapd_recovery_laws.specs.AfterOutage.{IsAfterOutage, AreWanting, IsHeldUp, StaysUp};
 ghost use Rattle.lapd_recovery_laws.specs.Agreed.{ComesBack};
 ghost use Rattle.lapd_recovery_laws.specs.EveryWorld.{IsFreeWorld, WorldComesBack};
 ghost use Rattle.lapd_recovery_laws.specs.Deliveries.{RunsEmpty};
@@ -16,7 +16,7 @@ ghost use Rattle.lapd_recovery_laws.specs.FewLosses.{OutlastLosses, KeepsAll};
 ghost use Rattle.lapd_recovery_laws.specs.LoneLine.{IsLoneLine, ComesUpAnew};
 ghost use Rattle.lapd_recovery_laws.specs.Losses.{ComesBackDespite, AreOwnOrLosses};
 ghost use Rattle.lapd_recovery_laws.specs.OpenLine.{IsOpenLine, ComesUp};
-ghost use Rattle.lapd_recovery_laws.specs.Recovered.{outcome_of, outcome_of_deliveries, outcome_from, first_of_three_lost, poll_meets_sabme, both_sabmes_lost, network_restarts, restarts_with_one_sent, release_unheard, disc_meets_sabme, longest, both_in_7, both_in_4, held_up, IsBusy, message_lost, three_polls_lost, two_polls_lost, outcome_despite, outcome_of_few};
+ghost use Rattle.lapd_recovery_laws.specs.Recovered.{outcome_of, outcome_of_deliveries, outcome_from, first_of_three_lost, poll_meets_sabme, both_sabmes_lost, network_restarts, restarts_with_one_sent, sabme_lost, release_waits, sabmes_lost, release_unheard, disc_meets_sabme, longest, both_in_7, both_in_4, held_up, IsBusy, message_lost, three_polls_lost, two_polls_lost, outcome_despite, outcome_of_few};
 ghost use Rattle.lapd_recovery_laws.specs.ReleasedLine.{IsReleasedLine, ComesDown};
 ghost use Rattle.lapd_recovery_laws.specs.Timers.{HaveTimersOfStates};
 
@@ -90,6 +90,16 @@ pub fn recovery_is_computed()
     ensures restart_is_held { (r : Reading)
         → IsAfterOutage 3 (run r network_restarts (new_pair 1 Enquiry))
         × IsHeldUp (run r network_restarts (new_pair 1 Enquiry)) }
+    ensures sabme_lost { (r : Reading) → outcome_of r (run r sabme_lost (new_pair 1 Enquiry))
+        ≡ both_in_7 3 0 0 }
+    ensures sabme_is_wanted { (r : Reading)
+        → IsAfterOutage 3 (run r sabme_lost (new_pair 1 Enquiry))
+        × AreWanting (run r sabme_lost (new_pair 1 Enquiry)).user.end
+        (run r sabme_lost (new_pair 1 Enquiry)).network.end }
+    ensures last_try_gone { (r : Reading)
+        → outcome_of r (run r sabmes_lost (new_pair 1 Enquiry)) ≡ both_in_4 1 }
+    ensures waiting_release_gone { (r : Reading)
+        → outcome_of r (run r release_waits (new_pair 1 Enquiry)) ≡ both_in_4 5 }
     ensures poll_met_is_free { (r : Reading)
         → IsFreeWorld 3 (run r poll_meets_sabme (new_pair 1 Enquiry)) }
 {}
@@ -149,6 +159,19 @@ pub fn every_line_comes_back()
         → user.k ≤ 127 → network.k ≤ 127 → 1 ≤ user.k → 1 ≤ network.k → (moves : List Move)
         → IsAfterOutage n200 (run r moves (new_world user network))
         → ComesBack r n200 (run r moves (new_world user network)) }
+{}
+
+/// After an outage a link that one end wants, and that neither end releases, comes up: when no own
+/// move is possible any more, both ends are in state 7 with equal numbers. An end wants the link in
+/// states 7 and 8, and in state 5 with a retransmission left. The premises are those of
+/// [`every_line_comes_back`].
+pub fn every_wanted_line_comes_up()
+    ensures { (r : Reading) (n200 : ℕ) → 1 ≤ n200 → (user network : Parameters)
+        → user.k ≤ 127 → network.k ≤ 127 → 1 ≤ user.k → 1 ≤ network.k → (moves : List Move)
+        → IsAfterOutage n200 (run r moves (new_world user network))
+        → AreWanting (run r moves (new_world user network)).user.end
+        (run r moves (new_world user network)).network.end
+        → StaysUp r (run r moves (new_world user network)) }
 {}
 
 /// After an outage a link that one end holds up, and that neither end releases, stays up: when no

@@ -1,0 +1,5 @@
+use Rattle.lapd_recovery_laws.proofs.AfterOutage.{every_wanted_line_comes_up}
+use Rattle.lapd_recovery_laws.proofs.recovery.every_wanted_line_comes_up.Goals as goal
+
+pub returns : goal.returns
+returns c = every_wanted_line_comes_up
