@@ -33,17 +33,18 @@ use Rattle.lapd_pair_laws.proofs.TaggedMoves.{left_on_tags}
 use Rattle.lapd_pair_laws.proofs.Whole.{each_move_preserves, each_run_preserves}
 use Rattle.lapd_pair_laws.proofs.Worlds.{new_holds}
 use Rattle.lapd_pair_laws.proofs.DrainsAfterRuns.{unmapped}
-use Rattle.lapd_recovery_laws.specs.AfterOutage.{IsAfterOutage, IsKept, IsWanting, AreWanting, IsHeldUp, StaysUp}
+use Rattle.lapd_recovery_laws.specs.AfterOutage.{IsAfterOutage, IsKept, StaysUp}
 use Rattle.lapd_recovery_laws.specs.Agreed.{AreLevel, AreAgreed, ComesBack}
 use Rattle.lapd_recovery_laws.specs.Own.{IsOwn, AreOwn, Rests, IsFree, most_own_moves}
 use Rattle.lapd_recovery_laws.specs.Timers.{HaveTimersOfStates}
+use Rattle.lapd_recovery_laws.specs.WantedLine.{IsWanting, AreWanting}
 use Rattle.lapd_recovery_laws.proofs.AnyOrder.{Draining, rests_still, rests_drained}
 use Rattle.lapd_recovery_laws.proofs.Cleared.{AreClearIn5, clear_after_move, clear_after_run, new_is_clear}
 use Rattle.lapd_recovery_laws.proofs.Lone.{expires_203_at, due_203, still_swapped, own_203_swapped}
 use Rattle.lapd_recovery_laws.proofs.Lost.{at, with_final, UserLost}
 use Rattle.lapd_recovery_laws.proofs.LostMoves.{moved_user, moved_network}
 use Rattle.lapd_recovery_laws.proofs.OpenLine.{tries_so, draining_begins, up_so}
-use Rattle.lapd_recovery_laws.proofs.Outage.{turned, Facts, coming_moves}
+use Rattle.lapd_recovery_laws.proofs.Outage.{Facts, coming_moves}
 use Rattle.lapd_recovery_laws.proofs.OwnOnTags.{are_own_by_tags, rests_by_tags, ran_on_tags, are_level_on_tags, agreed_on_tags}
 use Rattle.lapd_recovery_laws.proofs.Releases.{empty_in_4}
 use Rattle.lapd_recovery_laws.proofs.Situations.{tries, attempt_in, attempt, gone_in, gone, again_in, again, finds_in, finds, polls_in, polls, MayTry, Establishing, Closed, Half, alone_4, alone_5, alone_6, asks_5, asks_6, accepted, crossed, refused, parting, closed, not_both, false_if, Coming}
@@ -71,12 +72,12 @@ facts_after N move w f =
       few_network = subst (λ (p : Parameters). p.n200 ≤ N) (sym same.1) f.few_network;
     }
 
-record Reaches (up : Bool) (N n : ℕ) (moves : List Move) (now : World) : Type 0 where
-  few : length moves ≤ n
-  arriving : Coming N up (n - length moves) now
-  facts : Facts N now
+pub record Reaches (up : Bool) (N n : ℕ) (moves : List Move) (now : World) : Type 0 where
+  pub few : length moves ≤ n
+  pub arriving : Coming N up (n - length moves) now
+  pub facts : Facts N now
 
-own_moves_reach : (up : Bool) (N : ℕ) → 1 ≤ N → (n : ℕ) (w : World) (moves : List Move) → Coming N up n w → Facts N w → AreOwn Whole moves w → Reaches up N n moves (run Whole moves w)
+pub own_moves_reach : (up : Bool) (N : ℕ) → 1 ≤ N → (n : ℕ) (w : World) (moves : List Move) → Coming N up n w → Facts N w → AreOwn Whole moves w → Reaches up N n moves (run Whole moves w)
 own_moves_reach up N some n w [] c f own = let same : n ≡ n - 0 = omega arith in record { few = omega arith; arriving = subst (λ m. Coming N up m w) same c; facts = f }
 own_moves_reach up N some n w (move ∷ moves) c f own =
     let one = coming_moves N some up n move.side move.event w c f own.0 in
@@ -368,35 +369,31 @@ establishing x y c d w = record { mine = w.mine; its = w.its; either = by_either
     by_either (inl w) = inl (may_try x c w)
     by_either (inr w) = inr (may_try y d w)
 
-pub wanting_swapped : (x y : End) → AreWanting x y → AreWanting y x
-wanting_swapped x y w = record { mine = w.its; its = w.mine; either = turned w.either }
-
--- n is at least three for each of p and q, which are at least as many messages as are unsent
-pub half_begins : (N : ℕ) (some : 1 ≤ N) (x y : Station) (p q : ℕ) (mine : unsent x.end ≤ p) (its : unsent y.end ≤ q) → x.end.parameters.n200 ≤ N → y.end.parameters.n200 ≤ N → (up : Bool) → (up ≡ true → AreWanting x.end y.end)
-    → (is_7_or_8 x.end.state ≡ true → is_7_or_8 y.end.state ≡ true → Coming N up (3 * (p + q) + 6 * N + 11) (at x y [] [])) → Coming N up (3 * (p + q) + 6 * N + 11) (at x y [] [])
-half_begins N some x y p q mine its few_x few_y up k both = by_open (is_7_or_8 x.end.state) (is_7_or_8 y.end.state) refl refl
+-- both ends are open, or one is closed; p and q are at least as many messages as are unsent
+pub half_begins : {C : Type 0} (N : ℕ) → 1 ≤ N → (x y : Station) (p q : ℕ) → unsent x.end ≤ p → unsent y.end ≤ q → x.end.parameters.n200 ≤ N → y.end.parameters.n200 ≤ N → (up : Bool) → (up ≡ true → AreWanting x.end y.end)
+    → (is_7_or_8 x.end.state ≡ true → is_7_or_8 y.end.state ≡ true → C) → (Coming N up (3 * (p + q) + 6 * N + 11) (at x y [] []) → C) → C
+half_begins {C = C} N some x y p q mine its few_x few_y up k both half = by_open (is_7_or_8 x.end.state) (is_7_or_8 y.end.state) refl refl
   where
-    turned : 3 * (q + p) + 6 * N + 11 ≡ 3 * (p + q) + 6 * N + 11
-    turned = omega arith
+    turned_bound : 3 * (q + p) + 6 * N + 11 ≡ 3 * (p + q) + 6 * N + 11
+    turned_bound = omega arith
 
-    by_open : (a b : Bool) → is_7_or_8 x.end.state ≡ a → is_7_or_8 y.end.state ≡ b → Coming N up (3 * (p + q) + 6 * N + 11) (at x y [] [])
+    by_open : (a b : Bool) → is_7_or_8 x.end.state ≡ a → is_7_or_8 y.end.state ≡ b → C
     by_open true true o p = both o p
-    by_open true false o c = inr (inl (alone_begins N some x y p q mine its few_x few_y up o c (λ wanted. (k wanted).its)))
-    by_open false true c o = inr (inr (subst (λ m. Half N up m (swapped (at x y [] []))) turned (alone_begins N some y x q p its mine few_y few_x up o c (λ wanted. (k wanted).mine))))
-    by_open false false c d = inr (inl (closed_begins N some x y p q mine its few_x few_y up c d (λ wanted. establishing x.end y.end c d (k wanted))))
+    by_open true false o c = half (inr (inl (alone_begins N some x y p q mine its few_x few_y up o c (λ wanted. (k wanted).its))))
+    by_open false true c o = half (inr (inr (subst (λ m. Half N up m (swapped (at x y [] []))) turned_bound (alone_begins N some y x q p its mine few_y few_x up o c (λ wanted. (k wanted).mine)))))
+    by_open false false c d = half (inr (inl (closed_begins N some x y p q mine its few_x few_y up c d (λ wanted. establishing x.end y.end c d (k wanted)))))
 
-both_begin : (N : ℕ) → 1 ≤ N → (x y : Station) → IsInvariant (at x y [] []) → IsConsistentWorld Whole (at x y [] []) → AreSettledEnds (at x y [] []) → IsFree x.end → IsFree y.end → x.end.parameters.n200 ≤ N → y.end.parameters.n200 ≤ N → (up : Bool) → (up ≡ true → AreWanting x.end y.end)
-    → Coming N up (most_own_moves N (at x y [] [])) (at x y [] [])
-both_begin N some x y i preserved settled x_free y_free few_x few_y up k =
+both_begin : (N : ℕ) → 1 ≤ N → (x y : Station) → IsInvariant (at x y [] []) → IsConsistentWorld Whole (at x y [] []) → AreSettledEnds (at x y [] []) → IsFree x.end → IsFree y.end → x.end.parameters.n200 ≤ N → y.end.parameters.n200 ≤ N → Coming N false (most_own_moves N (at x y [] [])) (at x y [] [])
+both_begin N some x y i preserved settled x_free y_free few_x few_y =
     let w = at x y [] [] in
-    half_begins N some x y (left_of x) (left_of y) (user_left w i preserved.user.settled) (network_left w i preserved.network.settled) few_x few_y up k
+    half_begins N some x y (left_of x) (left_of y) (user_left w i preserved.user.settled) (network_left w i preserved.network.settled) few_x few_y false (λ no. cc)
     (λ o p. inl (weaker (most_moves w) (most_own_moves N w) w (omega arith) (draining_begins x y i settled preserved.user.settled preserved.network.settled true o p (x_free o) (y_free p) (λ _. refl) (λ _. refl))))
+    (λ c. c)
 
-begins : (N : ℕ) → 1 ≤ N → (x y : Station) (to_user to_network : List Flight) → IsInvariant (at x y to_user to_network) → IsConsistentWorld Whole (at x y to_user to_network) → AreSettledEnds (at x y to_user to_network) → IsAfterOutage N (at x y to_user to_network) → (up : Bool) → (up ≡ true → AreWanting x.end y.end)
-    → Coming N up (most_own_moves N (at x y to_user to_network)) (at x y to_user to_network)
-begins N some x y [] [] i preserved settled a up k = both_begin N some x y i preserved settled a.user_free a.network_free a.user_retries a.network_retries up k
-begins N some x y (f ∷ fs) to_network i preserved settled a up k = let none = a.to_user in cc
-begins N some x y [] (f ∷ fs) i preserved settled a up k = let none = a.to_network in cc
+begins : (N : ℕ) → 1 ≤ N → (x y : Station) (to_user to_network : List Flight) → IsInvariant (at x y to_user to_network) → IsConsistentWorld Whole (at x y to_user to_network) → AreSettledEnds (at x y to_user to_network) → IsAfterOutage N (at x y to_user to_network) → Coming N false (most_own_moves N (at x y to_user to_network)) (at x y to_user to_network)
+begins N some x y [] [] i preserved settled a = both_begin N some x y i preserved settled a.user_free a.network_free a.user_retries a.network_retries
+begins N some x y (f ∷ fs) to_network i preserved settled a = let none = a.to_user in cc
+begins N some x y [] (f ∷ fs) i preserved settled a = let none = a.to_network in cc
 
 -- own moves are at most the weight of the start, and lead to ends that agree
 pub record Returns (n : ℕ) (w : World) : Type 0 where
@@ -416,7 +413,7 @@ returns_from N some n w c f preserved = record {
 line_comes_back : (N : ℕ) → 1 ≤ N → (w : World) → IsInvariant w → IsConsistentWorld Whole w → AreSettledEnds w → HaveTimersOfStates w → AreClearIn5 w → IsAfterOutage N w → ComesBack Whole N w
 line_comes_back N some w i preserved settled have clear a =
     let n = most_own_moves N w in
-    let c = begins N some w.user w.network w.to_user w.to_network i preserved settled a false (λ no. cc) in
+    let c = begins N some w.user w.network w.to_user w.to_network i preserved settled a in
     let f : Facts N w = record { holds = i; settled = settled; have = have; clear = clear; few_user = a.user_retries; few_network = a.network_retries } in
     let back = returns_from N some n w c f preserved in
     record { few = λ moves own. back.few moves own; agreed = λ moves own rests. back.agreed moves own rests }
@@ -495,17 +492,7 @@ level_at_rest N n w (inr (inr l)) f preserved still rests =
     let s = half_rests true N n (swapped w) l (record { user = f.have.network; network = f.have.user }) (still_swapped w still) (λ own. rests (network_move Expire203) (own_203_swapped w own)) in
     absurd (not_establishing (swapped w) (record { user = f.have.network; network = f.have.user }) (still_swapped w still) (s.1 refl))
 
-wanted_comes_up : (N : ℕ) → 1 ≤ N → (w : World) → IsInvariant w → IsConsistentWorld Whole w → AreSettledEnds w → HaveTimersOfStates w → AreClearIn5 w → IsAfterOutage N w → AreWanting w.user.end w.network.end → StaysUp Whole w
-wanted_comes_up N some w i preserved settled have clear a h moves own rests =
-    let n = most_own_moves N w in
-    let c = begins N some w.user w.network w.to_user w.to_network i preserved settled a true (λ _. h) in
-    let f : Facts N w = record { holds = i; settled = settled; have = have; clear = clear; few_user = a.user_retries; few_network = a.network_retries } in
-    let now = run Whole moves w in
-    let reached = own_moves_reach true N some n w moves c f own in
-    let still = rests_still now.user now.network now.to_user now.to_network rests in
-    level_at_rest N (n - length moves) now reached.arriving reached.facts (run_consistent Whole moves w preserved) still rests
-
-stays_up_on_tags : (w : World) → IsInvariant w → IsConsistentWorld Whole w → StaysUp Whole w → StaysUp Tagged (tag_world w)
+pub stays_up_on_tags : (w : World) → IsInvariant w → IsConsistentWorld Whole w → StaysUp Whole w → StaysUp Tagged (tag_world w)
 stays_up_on_tags w i preserved up moves own rests =
     let now = run Whole moves w in
     let same : run Tagged moves (tag_world w) ≡ tag_world now = ran_on_tags moves w i preserved in
@@ -517,38 +504,3 @@ kept_by_tags e k = record { not_releasing = k.not_releasing; none_pending = k.no
 
 pub wanting_by_tags : (x y : End) → AreWanting (tag_end x) (tag_end y) → AreWanting x y
 wanting_by_tags x y w = record { mine = kept_by_tags x w.mine; its = kept_by_tags y w.its; either = w.either }
-
-module _ (N : ℕ) (some : 1 ≤ N) (user network : Parameters) (user_small : user.k ≤ 127) (network_small : network.k ≤ 127) (user_some : 1 ≤ user.k) (network_some : 1 ≤ network.k) (moves : List Move) where
-  abbrev wanted_world : World
-  wanted_world = run Whole moves (new_world user network)
-
-  wanted_holds : IsInvariant wanted_world
-  wanted_holds = each_run_preserves moves (new_world user network) (new_holds user network user_small network_small)
-
-  wanted_consistent : IsConsistentWorld Whole wanted_world
-  wanted_consistent = run_consistent Whole moves (new_world user network) (new_world_consistent Whole user network user_small network_small)
-
-  up_whole : IsAfterOutage N wanted_world → AreWanting wanted_world.user.end wanted_world.network.end → StaysUp Whole wanted_world
-  up_whole a k = let c = wanted_comes_up N some wanted_world wanted_holds wanted_consistent (run_settles moves (new_world user network) (new_settles user network user_some network_some)) (timers_after_run moves (new_world user network) (new_has_timers user network)) (clear_after_run moves (new_world user network) (new_is_clear user network)) a k in c
-
-  comes_up_by : (r : Reading) → IsAfterOutage N (run r moves (new_world user network)) → AreWanting (run r moves (new_world user network)).user.end (run r moves (new_world user network)).network.end → StaysUp r (run r moves (new_world user network))
-  comes_up_by Whole a k = up_whole a k
-  comes_up_by Tagged a k =
-      let same : run Tagged moves (new_world user network) ≡ tag_world wanted_world = reached_tags user network user_small network_small moves in
-      subst (λ w. StaysUp Tagged w) (sym same) (stays_up_on_tags wanted_world wanted_holds wanted_consistent
-      (up_whole (after_outage_by_tags N wanted_world (subst (λ w. IsAfterOutage N w) same a)) (wanting_by_tags wanted_world.user.end wanted_world.network.end (subst (λ (w : World). AreWanting w.user.end w.network.end) same k))))
-
-pub every_wanted_line_comes_up : (r : Reading) (n200 : ℕ) → 1 ≤ n200 → (user network : Parameters) → user.k ≤ 127 → network.k ≤ 127 → 1 ≤ user.k → 1 ≤ network.k → (moves : List Move) → IsAfterOutage n200 (run r moves (new_world user network))
-    → AreWanting (run r moves (new_world user network)).user.end (run r moves (new_world user network)).network.end → StaysUp r (run r moves (new_world user network))
-every_wanted_line_comes_up r n200 some user network u n us ns moves a k = comes_up_by n200 some user network u n us ns moves r a k
-
--- a link that one end holds up is wanted
-held_is_wanted : (w : World) → IsHeldUp w → AreWanting w.user.end w.network.end
-held_is_wanted w h = record { mine = h.user; its = h.network; either = by_either h.open_state }
-  where
-    by_either : (is_7_or_8 w.user.end.state ≡ true) ⊎ (is_7_or_8 w.network.end.state ≡ true) → IsWanting w.user.end ⊎ IsWanting w.network.end
-    by_either (inl o) = inl (inl o)
-    by_either (inr o) = inr (inl o)
-
-pub every_held_line_stays_up : (r : Reading) (n200 : ℕ) → 1 ≤ n200 → (user network : Parameters) → user.k ≤ 127 → network.k ≤ 127 → 1 ≤ user.k → 1 ≤ network.k → (moves : List Move) → IsAfterOutage n200 (run r moves (new_world user network)) → IsHeldUp (run r moves (new_world user network)) → StaysUp r (run r moves (new_world user network))
-every_held_line_stays_up r n200 some user network u n us ns moves a h = every_wanted_line_comes_up r n200 some user network u n us ns moves a (held_is_wanted (run r moves (new_world user network)) h)

@@ -81,7 +81,7 @@ confirmed_line : (b : Bool) (o : Occasion) (t : Story) → (after_outputs o (out
 confirmed_line true o t = refl
 confirmed_line false o t = refl
 
-opened_line : (b : Bool) (o : Occasion) (t : Story) → (after_outputs o ((Confirmed ∷ []) ++ out_where b (Stop T200) ++ Start T203 ∷ []) t).line ≡ t.line
+pub opened_line : (b : Bool) (o : Occasion) (t : Story) → (after_outputs o ((Confirmed ∷ []) ++ out_where b (Stop T200) ++ Start T203 ∷ []) t).line ≡ t.line
 opened_line true o t = refl
 opened_line false o t = refl
 

@@ -34,7 +34,7 @@ module _ (N : ℕ) (some : 1 ≤ N) (l : ℕ) where
     own_holds = λ b s event w k held own. tt;
     loss_holds = λ b i s w held ok. tt;
     begins = λ b n x y k held flow.
-        let e = emptied_at N some n x y (record { facts = k.facts; preserved = k.preserved; flow = flow; user_free = k.user_free; network_free = k.network_free }) in
+        let e = emptied_at N some false n x y (record { facts = k.facts; preserved = k.preserved; flow = flow; user_free = k.user_free; network_free = k.network_free }) (λ no. cc) in
         record { m = e.m; weight = e.coming; few = let most = e.most in omega (arith, most) };
     falls = λ n s event w weight k own. let c = coming_moves N some false n s event w weight k.facts own in record { some_left = c.some; weight = c.arriving };
   }

@@ -30,7 +30,8 @@ use Rattle.lapd_recovery_laws.specs.Agreed.{AreAgreed}
 use Rattle.lapd_recovery_laws.specs.EveryWorld.{IsFreeWorld, WorldComesBack}
 use Rattle.lapd_recovery_laws.specs.Deliveries.{most_deliveries}
 use Rattle.lapd_recovery_laws.specs.Own.{is_due, AreOwn, Rests, IsFree}
-use Rattle.lapd_recovery_laws.proofs.AfterOutage.{facts_after, Returns, returns_from, alone_begins, closed_begins, free_by_tags}
+use Rattle.lapd_recovery_laws.specs.WantedLine.{AreWanting}
+use Rattle.lapd_recovery_laws.proofs.AfterOutage.{facts_after, Returns, returns_from, half_begins, free_by_tags}
 use Rattle.lapd_recovery_laws.proofs.AnyOrder.{Draining, rests_still}
 use Rattle.lapd_recovery_laws.proofs.Lost.{at}
 use Rattle.lapd_recovery_laws.proofs.OpenDelivers.{hears_in}
@@ -103,9 +104,9 @@ module _ (N : ℕ) (some : 1 ≤ N) where
     pub network_free : IsFree w.network.end
 
   -- a world that recovers as after an outage; m bounds its own moves
-  pub record IsEmptied (n : ℕ) (w : World) : Type 0 where
+  pub record IsEmptied (up : Bool) (n : ℕ) (w : World) : Type 0 where
     pub m : ℕ
-    pub coming : Coming N false m w
+    pub coming : Coming N up m w
     pub most : m ≤ n + 6 * N + 11
 
   -- the ends of an empty line, with what each side accounts for
@@ -142,39 +143,26 @@ module _ (N : ℕ) (some : 1 ≤ N) where
         (λ is. stream_so (source y.end) (sink x.end) (f.b + 4) is between_its.0 between_its.1 (in_7 y.end is b.facts.settled.network.timed) burden_y)
         burden_x burden_y (omega (arith, most))
 
-    abbrev alone_weight : ℕ
-    alone_weight = 3 * (unsent x.end + unsent y.end) + 6 * N + 11
-
-    abbrev alone_weight_too : ℕ
-    alone_weight_too = 3 * (unsent y.end + unsent x.end) + 6 * N + 11
-
     -- the own moves from here
     record Ends (moves : List Move) : Type 0 where
       few : length moves ≤ n + 6 * N + 11
       agreed : Rests Whole (run Whole moves w) → AreAgreed (run Whole moves w)
 
-    emptied : IsEmptied n w
-    emptied = by_open (is_7_or_8 x.end.state) (is_7_or_8 y.end.state) refl refl
-      where
-        u : 3 * unsent x.end + 3 * unsent y.end ≤ n
-        u = let a = unsent_x in let c = unsent_y in let most = f.most in omega (arith, a, c, most)
-
-        by_open : (a c : Bool) → is_7_or_8 x.end.state ≡ a → is_7_or_8 y.end.state ≡ c → IsEmptied n w
-        by_open true true o p = record { m = n + 8; coming = inl (both_open true o p (λ _. refl) (λ _. refl)); most = omega (arith, some) }
-        by_open true false o c = let le = u in record { m = alone_weight; coming = inr (inl (alone_begins N some x y (unsent x.end) (unsent y.end) (omega arith) (omega arith) b.facts.few_user b.facts.few_network false o c (λ no_up. cc))); most = omega (arith, le) }
-        by_open false true c o = let le = u in record { m = alone_weight_too; coming = inr (inr (alone_begins N some y x (unsent y.end) (unsent x.end) (omega arith) (omega arith) b.facts.few_network b.facts.few_user false o c (λ no_up. cc))); most = omega (arith, le) }
-        by_open false false c d = let le = u in record { m = alone_weight; coming = inr (inl (closed_begins N some x y (unsent x.end) (unsent y.end) (omega arith) (omega arith) b.facts.few_user b.facts.few_network false c d (λ no. cc))); most = omega (arith, le) }
+    emptied : (up : Bool) → (up ≡ true → AreWanting x.end y.end) → IsEmptied up n w
+    emptied up k = half_begins N some x y (unsent x.end) (unsent y.end) (omega arith) (omega arith) b.facts.few_user b.facts.few_network up k
+        (λ o p. record { m = n + 8; coming = inl (both_open true o p (λ _. refl) (λ _. refl)); most = omega (arith, some) })
+        (λ c. record { m = 3 * (unsent x.end + unsent y.end) + 6 * N + 11; coming = c; most = let a = unsent_x in let c = unsent_y in let most = f.most in omega (arith, a, c, most) })
 
     ends : (moves : List Move) → AreOwn Whole moves w → Ends moves
     ends moves own =
-        let e = emptied in
+        let e = emptied false (λ no. cc) in
         let back = returns e.m e.coming in
         let few = back.few moves own in
         let most = e.most in
         record { few = omega (arith, few, most); agreed = λ rests. back.agreed moves own rests }
 
-  pub emptied_at : (n : ℕ) (x y : Station) → Begins n (at x y [] []) → IsEmptied n (at x y [] [])
-  emptied_at n x y b = emptied n x y b
+  pub emptied_at : (up : Bool) (n : ℕ) (x y : Station) → Begins n (at x y [] []) → (up ≡ true → AreWanting x.end y.end) → IsEmptied up n (at x y [] [])
+  emptied_at up n x y b k = emptied n x y b up k
 
   pub drains_at : (n : ℕ) (x y : Station) → Begins n (at x y [] []) → is_7_or_8 x.end.state ≡ true → is_7_or_8 y.end.state ≡ true → (x.end.state ≡ TimerRecovery → nat_lt x.end.rc x.end.parameters.n200 ≡ true) → (y.end.state ≡ TimerRecovery → nat_lt y.end.rc y.end.parameters.n200 ≡ true) → Draining false (n + 8) (at x y [] [])
   drains_at n x y b o p x_tries y_tries = both_open n x y b false o p x_tries y_tries
@@ -182,7 +170,7 @@ module _ (N : ℕ) (some : 1 ≤ N) where
   from_empty : (n : ℕ) (x y : Station) (moves : List Move) → Begins n (at x y [] []) → AreOwn Whole moves (at x y [] []) → Comes N n (at x y [] []) moves
   from_empty n x y moves b own = let e = ends n x y b moves own in record { few = e.few; agreed = e.agreed }
 
-  delivered : (n : ℕ) (s : Side) (w : World) → Begins n w → is_ok (happens Whole (record { side = s; event = Deliver }) w) ≡ true → Begins (n - 1) (world_after w (happens Whole (record { side = s; event = Deliver }) w))
+  pub delivered : (n : ℕ) (s : Side) (w : World) → Begins n w → is_ok (happens Whole (record { side = s; event = Deliver }) w) ≡ true → Begins (n - 1) (world_after w (happens Whole (record { side = s; event = Deliver }) w))
   delivered n s w b ok =
       let move : Move = record { side = s; event = Deliver } in
       let d = runs.delivery_flows N n s w b.facts b.flow ok in

@@ -101,7 +101,7 @@ module _ (b : ℕ) (x y : Station) (frame : Flight) (rest outgoing : List Flight
 
   stays_open : IsOpen (left_by v (acts Whole side.User Deliver v))
   unfolding acts delivers receives step view_after
-  stays_open = ((open_delivered x y frame rest outgoing i.user_base i.network_base settled l.user.open_state i.both).1 no_ask, refl)
+  stays_open = ((open_delivered x y frame rest outgoing i.user_base i.network_base settled l.user.open_state i.both).1.0 no_ask, refl)
 
   goes_on : (u : View) → u.station.end.parameters ≡ x.end.parameters → IsOpen u → Goes b (at x y (frame ∷ rest) outgoing) (with_view side.User u (at x y (frame ∷ rest) outgoing))
   goes_on u same o =

@@ -12,6 +12,7 @@ pub mod EveryWorld
 pub mod Exchanges
 pub mod FewLosses
 pub mod HalfSteps
+pub mod KeepsWanted
 pub mod Lone
 pub mod LoneAfterRuns
 pub mod LoneSteps
@@ -37,4 +38,5 @@ pub mod Situations
 pub mod TimersExpire
 pub mod TimersOfRuns
 pub mod Transitions
+pub mod Wanted
 pub mod WorkedWorlds

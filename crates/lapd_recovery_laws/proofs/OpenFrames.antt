@@ -1,5 +1,5 @@
 -- Any frame is delivered to an end in state 7 or 8.
-use Rattle.std.proofs.Common.{◌≡◌, inl, inr, ℕ, ◌+◌, ◌-◌, ◌*◌, ◌≤◌, ◌==◌, nat_lt, if◌then◌else◌, Bool, true, false, List, [], ◌∷◌, ◌++◌, length, option_map, append_assoc, refl, sym, ap, subst, ◌∙◌, arith}
+use Rattle.std.proofs.Common.{◌≡◌, inl, inr, ℕ, ◌+◌, ◌-◌, ◌*◌, ◌≤◌, ◌==◌, nat_lt, if◌then◌else◌, Bool, true, false, List, [], ◌∷◌, ◌++◌, length, option_map, append_assoc, append-nil, refl, sym, ap, subst, ◌∙◌, arith}
 use Rattle.std.proofs.lemmas.Bool.{eqb-true}
 use Rattle.lapd_timers.specs.declared.timer.Timer.TheVariants.{T200, T203}
 use Rattle.lapd_frame.specs.declared.Role.{Role}
@@ -82,6 +82,19 @@ pub unit_kind : (control : Control) (role : Role) (octets : List ℕ) (place : �
 unit_kind (Ui p) Command octets place is = refl
 unit_kind control role octets place is = cc
 
+-- DM frames
+abbrev pub refuse_of : Kind → ℕ
+refuse_of Refuses = 1
+refuse_of k = 0
+
+refused_one : (k : Kind) → refuse_of k ≤ answer_of k
+refused_one Refuses = omega arith
+refused_one k = omega arith
+
+pub refused_few : (ks : List Kind) → tally refuse_of ks ≤ tally answer_of ks
+refused_few [] = omega arith
+refused_few (k ∷ ks) = let one = refused_one k in let rest = refused_few ks in omega (arith, one, rest)
+
 -- An end in state 7 or 8 stays so, drops no message, keeps RC while it is in state 8, and answers a
 -- poll by a final.
 pub record Stays (before : End) (dropped_before : List ℕ) (k : Kind) (outgoing : List Flight) (x : End) (dropped : List ℕ) (line : List Flight) : Type 0 where
@@ -122,8 +135,12 @@ module _ (station peer : Station) (frame : Flight) (rest outgoing : List Flight)
   abbrev Open : Kind → StepState → Type 0
   Open k t = Stays e station.history.dropped k outgoing (end_step Whole t).end (story c (end_step Whole t)).history.dropped (story c (end_step Whole t)).line
 
+  -- no DM is sent
+  abbrev Unrefused : StepState → Type 0
+  Unrefused t = tally refuse_of (kinds (story c t).line) ≡ tally refuse_of out
+
   abbrev Done : Kind → StepState → Type 0
-  Done k t = Delivered e peer.end k ks outgoing (end_step Whole t).end (story c (end_step Whole t)).line × (ask_of k ≡ 0 → Open k t)
+  Done k t = Delivered e peer.end k ks outgoing (end_step Whole t).end (story c (end_step Whole t)).line × ((ask_of k ≡ 0 → Open k t) × Unrefused (end_step Whole t))
 
   abbrev Arriving : Kind → Type 0
   Arriving k = HoldsMid c (k ∷ ks) s
@@ -171,10 +188,27 @@ module _ (station peer : Station) (frame : Flight) (rest outgoing : List Flight)
         polls = omega (arith, p);
       }
 
+  unrefused : (t : StepState) (frames : List Flight) → (story c t).line ≡ outgoing ++ frames → tally refuse_of (kinds frames) ≡ 0 → Unrefused (end_step Whole t)
+  unrefused t frames sent none =
+      let cl = end_closes c t in
+      let line : (story c (end_step Whole t)).line ≡ outgoing ++ (frames ++ cl.frames) = cl.line ∙ ap (λ l. l ++ cl.frames) sent ∙ append_assoc outgoing frames cl.frames in
+      let all = tally_line refuse_of (story c (end_step Whole t)).line outgoing frames cl.frames line in
+      let few = refused_few (kinds cl.frames) in
+      let nothing = cl.no_answer in
+      omega (arith, all, none, few, nothing)
+
+  answer_unrefused : (k : Kind) (t : StepState) → Replies c k s t → Unrefused (end_step Whole t)
+  unfolding begin story_after
+  answer_unrefused k t r = unrefused t r.frames r.line (let few = refused_few (kinds r.frames) in let none = r.no_answer in omega (arith, few, none))
+
+  back_unrefused : (k : Kind) (t : StepState) → Backs c k ks s t → Unrefused (end_step Whole t)
+  unfolding begin story_after
+  back_unrefused k t b = unrefused t [] (b.line ∙ sym (append-nil outgoing)) refl
+
   by_turn : (k : Kind) (t : StepState) → Turns c k ks s t → Done k t
   unfolding begin story_after
-  by_turn k t (inl r) = (by_answer e (end_step Whole t).end peer.end k ks outgoing (story c (end_step Whole t)).line opened (answered_so c k s t outgoing refl r), λ _. open_answer k t r)
-  by_turn k t (inr b) = (by_back c peer.end k ks s t outgoing refl opened b b.arrives b.awaited (ap pending_in none_pending) (λ p. b.unwanted p.in_7 p.wanted), λ _. open_back k t b)
+  by_turn k t (inl r) = (by_answer e (end_step Whole t).end peer.end k ks outgoing (story c (end_step Whole t)).line opened (answered_so c k s t outgoing refl r), (λ _. open_answer k t r, answer_unrefused k t r))
+  by_turn k t (inr b) = (by_back c peer.end k ks s t outgoing refl opened b b.arrives b.awaited (ap pending_in none_pending) (λ p. b.unwanted p.in_7 p.wanted), (λ _. open_back k t b, back_unrefused k t b))
 
   queue : unsent e ≤ waiting e
   unfolding begin
@@ -263,7 +297,7 @@ module _ (station peer : Station) (frame : Flight) (rest outgoing : List Flight)
             fewer = omega (arith, given, first, all, few, q);
             free = λ was o. ap (λ (v : Unsending). v.own_busy) cl.same ∙ r.idle;
           },
-          λ asked. cc,
+          (λ asked. cc, unrefused t (without_info Answer (Ua true) ∷ []) r.sent refl),
         )
 
     abbrev reset : StepState → StepState
@@ -302,7 +336,7 @@ module _ (station peer : Station) (frame : Flight) (rest outgoing : List Flight)
             fewer = omega arith;
             free = λ was o. cc;
           }),
-          λ asked. cc,
+          (λ asked. cc, unrefused t (without_info Answer (Ua true) ∷ []) (released_line (nat_lt 0 (waiting e)) e.t200 e.t203 (waiting e) _ _) refl),
         )
 
   -- ---- Frames that do not arrive, and unit data.

@@ -19,11 +19,12 @@ use Rattle.lapd_supervision.specs.StateVariables.{last_i_frame}
 use Rattle.lapd_link_definition.specs.Procedures.{retransmit_last_i_frame}
 use Rattle.lapd_pair_laws.specs.Settle.{next_move}
 use Rattle.lapd_pair_laws.specs.Worked.{new_pair, busy}
-use Rattle.lapd_recovery_laws.specs.AfterOutage.{IsAfterOutage, AreWanting, IsHeldUp}
+use Rattle.lapd_recovery_laws.specs.AfterOutage.{IsAfterOutage, IsHeldUp}
 use Rattle.lapd_recovery_laws.specs.EveryWorld.{IsFreeWorld}
 use Rattle.lapd_recovery_laws.specs.FewLosses.{OutlastLosses}
 use Rattle.lapd_recovery_laws.specs.Losses.{AreOwnOrLosses}
-use Rattle.lapd_recovery_laws.specs.Recovered.{outcome_of, outcome_of_deliveries, outcome_from, first_of_three_lost, poll_meets_sabme, both_sabmes_lost, network_restarts, restarts_with_one_sent, sabme_lost, release_waits, sabmes_lost, release_unheard, disc_meets_sabme, longest, both_in_7, both_in_4, held_up, IsBusy, message_lost, three_polls_lost, two_polls_lost, outcome_despite, outcome_of_few}
+use Rattle.lapd_recovery_laws.specs.WantedLine.{AreWanting, IsWanted}
+use Rattle.lapd_recovery_laws.specs.Recovered.{outcome_of, outcome_of_deliveries, outcome_from, first_of_three_lost, poll_meets_sabme, both_sabmes_lost, network_restarts, restarts_with_one_sent, sabme_lost, release_waits, sabmes_lost, disc_lost, release_unheard, disc_meets_sabme, dm_sent, longest, both_in_7, both_in_4, held_up, IsBusy, message_lost, three_polls_lost, two_polls_lost, outcome_despite, outcome_of_few}
 
 pub restart_back : (r : Reading) → outcome_of r (run r network_restarts (new_pair 1 Enquiry)) ≡ both_in_7 11 0 0
 unfolding story_after view_after receives takes delivers loses expires_200 expires_203 restarts acts happens begin put state_to rc_to increment_rc layer3_initiated_to release_pending_to start stop expired clear_exception_conditions zero_state_variables set_peer_busy set_own_busy enquiry_response transmit_enquiry queue_up discard_i_queue acknowledge invoke_retransmission i_frame_ns discard_unacknowledged transmit_i_frame ensure_t200 transmit_rr establish_data_link reestablish_data_link end_establishment tei_assigned confirm_or_indicate ua_final awaiting_establishment_t200 awaiting_establishment confirm_release awaiting_release_t200 awaiting_release acknowledge_with_timers nr_error_recovery i_frame_nr i_frame_nr_in_recovery poll_or_final poll rr_nr rej_nr rnr_nr rr_nr_in_recovery rnr_nr_in_recovery timer_recovery_t200 busy_on busy_off in_7_and_8 established_t200 multiple_frame_established timer_recovery by_state report_fault row send_all acknowledge_pending end_step step initial_variables without_exceptions with_zero_counters status_frame acknowledgement without_ack_pending poll_response is_accepted is_rejected after_i_frame i_frame_response is_valid_nr with_va acknowledged_count acknowledges_all with_vs may_send next_i_frame after_sending with_own_busy with_peer_busy after steps lies_within retransmit_last_i_frame last_i_frame before
@@ -127,10 +128,10 @@ sabme_back Whole = refl
 sabme_back Tagged = refl
 
 pub sabme_is_wanted : (r : Reading) → IsAfterOutage 3 (run r sabme_lost (new_pair 1 Enquiry))
-    × AreWanting (run r sabme_lost (new_pair 1 Enquiry)).user.end (run r sabme_lost (new_pair 1 Enquiry)).network.end
+    × IsWanted (run r sabme_lost (new_pair 1 Enquiry))
 unfolding story_after view_after receives takes delivers loses expires_200 expires_203 restarts acts happens begin put state_to rc_to increment_rc layer3_initiated_to release_pending_to start stop expired clear_exception_conditions zero_state_variables set_peer_busy set_own_busy enquiry_response transmit_enquiry queue_up discard_i_queue acknowledge invoke_retransmission i_frame_ns discard_unacknowledged transmit_i_frame ensure_t200 transmit_rr establish_data_link reestablish_data_link end_establishment tei_assigned confirm_or_indicate ua_final awaiting_establishment_t200 awaiting_establishment confirm_release awaiting_release_t200 awaiting_release acknowledge_with_timers nr_error_recovery i_frame_nr i_frame_nr_in_recovery poll_or_final poll rr_nr rej_nr rnr_nr rr_nr_in_recovery rnr_nr_in_recovery timer_recovery_t200 busy_on busy_off in_7_and_8 established_t200 multiple_frame_established timer_recovery by_state report_fault row send_all acknowledge_pending end_step step initial_variables without_exceptions with_zero_counters status_frame acknowledgement without_ack_pending poll_response is_accepted is_rejected after_i_frame i_frame_response is_valid_nr with_va acknowledged_count acknowledges_all with_vs may_send next_i_frame after_sending with_own_busy with_peer_busy after steps lies_within retransmit_last_i_frame last_i_frame before
-sabme_is_wanted Whole = (record { to_user = refl; to_network = refl; user_free = λ o. cc; network_free = λ o. cc; user_retries = omega arith; network_retries = omega arith }, record { mine = record { not_releasing = λ is. cc; none_pending = λ is. refl }; its = record { not_releasing = λ is. cc; none_pending = λ is. cc }; either = inl (inr (refl, omega arith)) })
-sabme_is_wanted Tagged = (record { to_user = refl; to_network = refl; user_free = λ o. cc; network_free = λ o. cc; user_retries = omega arith; network_retries = omega arith }, record { mine = record { not_releasing = λ is. cc; none_pending = λ is. refl }; its = record { not_releasing = λ is. cc; none_pending = λ is. cc }; either = inl (inr (refl, omega arith)) })
+sabme_is_wanted Whole = (record { to_user = refl; to_network = refl; user_free = λ o. cc; network_free = λ o. cc; user_retries = omega arith; network_retries = omega arith }, record { ends = record { mine = record { not_releasing = λ is. cc; none_pending = λ is. refl }; its = record { not_releasing = λ is. cc; none_pending = λ is. cc }; either = inl (inr (refl, omega arith)) }; to_user = tt; to_network = tt })
+sabme_is_wanted Tagged = (record { to_user = refl; to_network = refl; user_free = λ o. cc; network_free = λ o. cc; user_retries = omega arith; network_retries = omega arith }, record { ends = record { mine = record { not_releasing = λ is. cc; none_pending = λ is. refl }; its = record { not_releasing = λ is. cc; none_pending = λ is. cc }; either = inl (inr (refl, omega arith)) }; to_user = tt; to_network = tt })
 
 pub last_try_gone : (r : Reading) → outcome_of r (run r sabmes_lost (new_pair 1 Enquiry)) ≡ both_in_4 1
 unfolding story_after view_after receives takes delivers loses expires_200 expires_203 restarts acts happens begin put state_to rc_to increment_rc layer3_initiated_to release_pending_to start stop expired clear_exception_conditions zero_state_variables set_peer_busy set_own_busy enquiry_response transmit_enquiry queue_up discard_i_queue acknowledge invoke_retransmission i_frame_ns discard_unacknowledged transmit_i_frame ensure_t200 transmit_rr establish_data_link reestablish_data_link end_establishment tei_assigned confirm_or_indicate ua_final awaiting_establishment_t200 awaiting_establishment confirm_release awaiting_release_t200 awaiting_release acknowledge_with_timers nr_error_recovery i_frame_nr i_frame_nr_in_recovery poll_or_final poll rr_nr rej_nr rnr_nr rr_nr_in_recovery rnr_nr_in_recovery timer_recovery_t200 busy_on busy_off in_7_and_8 established_t200 multiple_frame_established timer_recovery by_state report_fault row send_all acknowledge_pending end_step step initial_variables without_exceptions with_zero_counters status_frame acknowledgement without_ack_pending poll_response is_accepted is_rejected after_i_frame i_frame_response is_valid_nr with_va acknowledged_count acknowledges_all with_vs may_send next_i_frame after_sending with_own_busy with_peer_busy after steps lies_within retransmit_last_i_frame last_i_frame before
@@ -141,6 +142,21 @@ pub waiting_release_gone : (r : Reading) → outcome_of r (run r release_waits (
 unfolding story_after view_after receives takes delivers loses expires_200 expires_203 restarts acts happens begin put state_to rc_to increment_rc layer3_initiated_to release_pending_to start stop expired clear_exception_conditions zero_state_variables set_peer_busy set_own_busy enquiry_response transmit_enquiry queue_up discard_i_queue acknowledge invoke_retransmission i_frame_ns discard_unacknowledged transmit_i_frame ensure_t200 transmit_rr establish_data_link reestablish_data_link end_establishment tei_assigned confirm_or_indicate ua_final awaiting_establishment_t200 awaiting_establishment confirm_release awaiting_release_t200 awaiting_release acknowledge_with_timers nr_error_recovery i_frame_nr i_frame_nr_in_recovery poll_or_final poll rr_nr rej_nr rnr_nr rr_nr_in_recovery rnr_nr_in_recovery timer_recovery_t200 busy_on busy_off in_7_and_8 established_t200 multiple_frame_established timer_recovery by_state report_fault row send_all acknowledge_pending end_step step initial_variables without_exceptions with_zero_counters status_frame acknowledgement without_ack_pending poll_response is_accepted is_rejected after_i_frame i_frame_response is_valid_nr with_va acknowledged_count acknowledges_all with_vs may_send next_i_frame after_sending with_own_busy with_peer_busy after steps lies_within retransmit_last_i_frame last_i_frame before
 waiting_release_gone Whole = refl
 waiting_release_gone Tagged = refl
+
+pub poll_met_is_wanted : (r : Reading) → IsWanted (run r poll_meets_sabme (new_pair 1 Enquiry))
+unfolding story_after view_after receives takes delivers loses expires_200 expires_203 restarts acts happens begin put state_to rc_to increment_rc layer3_initiated_to release_pending_to start stop expired clear_exception_conditions zero_state_variables set_peer_busy set_own_busy enquiry_response transmit_enquiry queue_up discard_i_queue acknowledge invoke_retransmission i_frame_ns discard_unacknowledged transmit_i_frame ensure_t200 transmit_rr establish_data_link reestablish_data_link end_establishment tei_assigned confirm_or_indicate ua_final awaiting_establishment_t200 awaiting_establishment confirm_release awaiting_release_t200 awaiting_release acknowledge_with_timers nr_error_recovery i_frame_nr i_frame_nr_in_recovery poll_or_final poll rr_nr rej_nr rnr_nr rr_nr_in_recovery rnr_nr_in_recovery timer_recovery_t200 busy_on busy_off in_7_and_8 established_t200 multiple_frame_established timer_recovery by_state report_fault row send_all acknowledge_pending end_step step initial_variables without_exceptions with_zero_counters status_frame acknowledgement without_ack_pending poll_response is_accepted is_rejected after_i_frame i_frame_response is_valid_nr with_va acknowledged_count acknowledges_all with_vs may_send next_i_frame after_sending with_own_busy with_peer_busy after steps lies_within retransmit_last_i_frame last_i_frame before
+poll_met_is_wanted Whole = record { ends = record { mine = record { not_releasing = λ is. cc; none_pending = λ is. cc }; its = record { not_releasing = λ is. cc; none_pending = λ is. refl }; either = inl (inl refl) }; to_user = (refl, tt); to_network = (refl, tt) }
+poll_met_is_wanted Tagged = record { ends = record { mine = record { not_releasing = λ is. cc; none_pending = λ is. cc }; its = record { not_releasing = λ is. cc; none_pending = λ is. refl }; either = inl (inl refl) }; to_user = (refl, tt); to_network = (refl, tt) }
+
+pub release_goes_on : (r : Reading) → outcome_of r (run r disc_lost (new_pair 1 Enquiry)) ≡ both_in_4 3
+unfolding story_after view_after receives takes delivers loses expires_200 expires_203 restarts acts happens begin put state_to rc_to increment_rc layer3_initiated_to release_pending_to start stop expired clear_exception_conditions zero_state_variables set_peer_busy set_own_busy enquiry_response transmit_enquiry queue_up discard_i_queue acknowledge invoke_retransmission i_frame_ns discard_unacknowledged transmit_i_frame ensure_t200 transmit_rr establish_data_link reestablish_data_link end_establishment tei_assigned confirm_or_indicate ua_final awaiting_establishment_t200 awaiting_establishment confirm_release awaiting_release_t200 awaiting_release acknowledge_with_timers nr_error_recovery i_frame_nr i_frame_nr_in_recovery poll_or_final poll rr_nr rej_nr rnr_nr rr_nr_in_recovery rnr_nr_in_recovery timer_recovery_t200 busy_on busy_off in_7_and_8 established_t200 multiple_frame_established timer_recovery by_state report_fault row send_all acknowledge_pending end_step step initial_variables without_exceptions with_zero_counters status_frame acknowledgement without_ack_pending poll_response is_accepted is_rejected after_i_frame i_frame_response is_valid_nr with_va acknowledged_count acknowledges_all with_vs may_send next_i_frame after_sending with_own_busy with_peer_busy after steps lies_within retransmit_last_i_frame last_i_frame before
+release_goes_on Whole = refl
+release_goes_on Tagged = refl
+
+pub dm_gone : (r : Reading) → AreWanting (run r dm_sent (new_pair 1 Enquiry)).user.end (run r dm_sent (new_pair 1 Enquiry)).network.end × (outcome_from r (run r dm_sent (new_pair 1 Enquiry)) ≡ both_in_4 1)
+unfolding story_after view_after receives takes delivers loses expires_200 expires_203 restarts acts happens begin put state_to rc_to increment_rc layer3_initiated_to release_pending_to start stop expired clear_exception_conditions zero_state_variables set_peer_busy set_own_busy enquiry_response transmit_enquiry queue_up discard_i_queue acknowledge invoke_retransmission i_frame_ns discard_unacknowledged transmit_i_frame ensure_t200 transmit_rr establish_data_link reestablish_data_link end_establishment tei_assigned confirm_or_indicate ua_final awaiting_establishment_t200 awaiting_establishment confirm_release awaiting_release_t200 awaiting_release acknowledge_with_timers nr_error_recovery i_frame_nr i_frame_nr_in_recovery poll_or_final poll rr_nr rej_nr rnr_nr rr_nr_in_recovery rnr_nr_in_recovery timer_recovery_t200 busy_on busy_off in_7_and_8 established_t200 multiple_frame_established timer_recovery by_state report_fault row send_all acknowledge_pending end_step step initial_variables without_exceptions with_zero_counters status_frame acknowledgement without_ack_pending poll_response is_accepted is_rejected after_i_frame i_frame_response is_valid_nr with_va acknowledged_count acknowledges_all with_vs may_send next_i_frame after_sending with_own_busy with_peer_busy after steps lies_within retransmit_last_i_frame last_i_frame before
+dm_gone Whole = (record { mine = record { not_releasing = λ is. cc; none_pending = λ is. cc }; its = record { not_releasing = λ is. cc; none_pending = λ is. refl }; either = inr (inr (refl, omega arith)) }, refl)
+dm_gone Tagged = (record { mine = record { not_releasing = λ is. cc; none_pending = λ is. cc }; its = record { not_releasing = λ is. cc; none_pending = λ is. refl }; either = inr (inr (refl, omega arith)) }, refl)
 
 pub poll_met_is_free : (r : Reading) → IsFreeWorld 3 (run r poll_meets_sabme (new_pair 1 Enquiry))
 unfolding story_after view_after receives takes delivers loses expires_200 expires_203 restarts acts happens begin put state_to rc_to increment_rc layer3_initiated_to release_pending_to start stop expired clear_exception_conditions zero_state_variables set_peer_busy set_own_busy enquiry_response transmit_enquiry queue_up discard_i_queue acknowledge invoke_retransmission i_frame_ns discard_unacknowledged transmit_i_frame ensure_t200 transmit_rr establish_data_link reestablish_data_link end_establishment tei_assigned confirm_or_indicate ua_final awaiting_establishment_t200 awaiting_establishment confirm_release awaiting_release_t200 awaiting_release acknowledge_with_timers nr_error_recovery i_frame_nr i_frame_nr_in_recovery poll_or_final poll rr_nr rej_nr rnr_nr rr_nr_in_recovery rnr_nr_in_recovery timer_recovery_t200 busy_on busy_off in_7_and_8 established_t200 multiple_frame_established timer_recovery by_state report_fault row send_all acknowledge_pending end_step step initial_variables without_exceptions with_zero_counters status_frame acknowledgement without_ack_pending poll_response is_accepted is_rejected after_i_frame i_frame_response is_valid_nr with_va acknowledged_count acknowledges_all with_vs may_send next_i_frame after_sending with_own_busy with_peer_busy after steps lies_within retransmit_last_i_frame last_i_frame before

@@ -1,5 +1,5 @@
 -- A line after an outage: no frame is in transit.
-use Rattle.std.specs.Prelude.{◌≡◌, ◌⊎◌, ℕ, ◌<◌, ◌≤◌, true, false, List, []}
+use Rattle.std.specs.Prelude.{◌≡◌, ◌⊎◌, ℕ, ◌≤◌, true, false, List, []}
 use Rattle.lapd_mod128.specs.Counting.{Reading}
 use Rattle.lapd_link_definition.specs.declared.state.State.TheVariants.{AwaitingEstablishment, AwaitingRelease}
 use Rattle.lapd_link_definition.specs.EndOfStep.{is_7_or_8}
@@ -23,17 +23,6 @@ pub record IsAfterOutage (n200 : ℕ) (w : World) : Type 0 where
 pub record IsKept (e : End) : Type 0 where
   pub not_releasing : e.state ≡ AwaitingRelease → ⊥
   pub none_pending : e.state ≡ AwaitingEstablishment → e.release_pending ≡ false
-
--- in state 7 or 8, or in state 5 with a retransmission left
-abbrev pub IsWanting : End → Type 0
-IsWanting e = (is_7_or_8 e.state ≡ true)
-    ⊎ ((e.state ≡ AwaitingEstablishment) × (e.rc < e.parameters.n200))
-
--- one end holds the link up or establishes it, and neither releases
-pub record AreWanting (x y : End) : Type 0 where
-  pub mine : IsKept x
-  pub its : IsKept y
-  pub either : IsWanting x ⊎ IsWanting y
 
 -- one end is in state 7 or 8, and neither releases
 pub record IsHeldUp (w : World) : Type 0 where

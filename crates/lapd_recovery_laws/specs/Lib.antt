@@ -10,3 +10,4 @@ pub mod Own
 pub mod Recovered
 pub mod ReleasedLine
 pub mod Timers
+pub mod WantedLine

@@ -95,6 +95,10 @@ release_waits = sabme_lost ++ of_user Release ∷ []
 abbrev pub sabmes_lost : List Move
 sabmes_lost = of_user Establish ∷ all_lost
 
+-- the user releases, and its DISC is lost
+abbrev pub disc_lost : List Move
+disc_lost = establishing ++ of_user Release ∷ of_network (Lose 0) ∷ []
+
 -- the user releases, and each of its DISC is lost
 abbrev pub release_unheard : List Move
 release_unheard = establishing ++ of_user Release ∷ all_lost
@@ -102,6 +106,10 @@ release_unheard = establishing ++ of_user Release ∷ all_lost
 -- the DISC of the user and the SABME of the network cross
 abbrev pub disc_meets_sabme : List Move
 disc_meets_sabme = establishing ++ of_user Release ∷ of_network Establish ∷ []
+
+-- then each end refuses the other's request: the user is in state 4, and its DM is in transit
+abbrev pub dm_sent : List Move
+dm_sent = disc_meets_sabme ++ of_network Deliver ∷ of_user Deliver ∷ of_user Deliver ∷ []
 
 -- The user polls, the answer is lost, and a message waits. The network establishes, and each of its
 -- SABMEs is lost.

@@ -2,15 +2,15 @@
 //! `lapd_pair_laws`. Nothing here runs.
 //!
 //! Whatever happened before, the line's own moves lead to a world in which both ends agree. Begin
-//! with [`every_world_comes_back`], [`every_line_comes_back`] and [`every_held_line_stays_up`].
+//! with [`every_world_comes_back`], [`every_line_comes_back`] and [`every_wanted_line_comes_up`].
 //! Read specs/ in this order:
 //!
 //! - `Own`, the moves that the line makes by itself; `Agreed`, the world that they lead to;
 //!   `AfterOutage`, worlds with no frame in transit; `Deliveries`, by which the line runs empty;
 //!   `EveryWorld`, the worlds from which own moves lead to agreement; and `Losses`, own moves while
 //!   frames are still lost;
-//! - `OpenLine`, `LoneLine` and `ReleasedLine`, kinds of such worlds of which more is known; and
-//!   `FewLosses`, losses that drop no message;
+//! - `OpenLine`, `LoneLine`, `ReleasedLine` and `WantedLine`, kinds of such worlds of which more is
+//!   known; and `FewLosses`, losses that drop no message;
 //! - `Timers`, the timers between two moves; and `Recovered`, worlds that try the moves.
 #![tactic(auto)]
 

@@ -8,7 +8,7 @@ ghost use Rattle.lapd_pair_laws.specs.Move.{Move};
 ghost use Rattle.lapd_pair_laws.specs.Settle.{next_move};
 ghost use Rattle.lapd_pair_laws.specs.Worked.{new_pair, busy};
 ghost use Rattle.lapd_pair_laws.specs.World.{new_world, run};
-ghost use Rattle.lapd_recovery_laws.specs.AfterOutage.{IsAfterOutage, AreWanting, IsHeldUp, StaysUp};
+ghost use Rattle.lapd_recovery_laws.specs.AfterOutage.{IsAfterOutage, IsHeldUp, StaysUp};
 ghost use Rattle.lapd_recovery_laws.specs.Agreed.{ComesBack};
 ghost use Rattle.lapd_recovery_laws.specs.EveryWorld.{IsFreeWorld, WorldComesBack};
 ghost use Rattle.lapd_recovery_laws.specs.Deliveries.{RunsEmpty};
@@ -16,9 +16,10 @@ ghost use Rattle.lapd_recovery_laws.specs.FewLosses.{OutlastLosses, KeepsAll};
 ghost use Rattle.lapd_recovery_laws.specs.LoneLine.{IsLoneLine, ComesUpAnew};
 ghost use Rattle.lapd_recovery_laws.specs.Losses.{ComesBackDespite, AreOwnOrLosses};
 ghost use Rattle.lapd_recovery_laws.specs.OpenLine.{IsOpenLine, ComesUp};
-ghost use Rattle.lapd_recovery_laws.specs.Recovered.{outcome_of, outcome_of_deliveries, outcome_from, first_of_three_lost, poll_meets_sabme, both_sabmes_lost, network_restarts, restarts_with_one_sent, sabme_lost, release_waits, sabmes_lost, release_unheard, disc_meets_sabme, longest, both_in_7, both_in_4, held_up, IsBusy, message_lost, three_polls_lost, two_polls_lost, outcome_despite, outcome_of_few};
+ghost use Rattle.lapd_recovery_laws.specs.Recovered.{outcome_of, outcome_of_deliveries, outcome_from, first_of_three_lost, poll_meets_sabme, both_sabmes_lost, network_restarts, restarts_with_one_sent, sabme_lost, release_waits, sabmes_lost, disc_lost, release_unheard, disc_meets_sabme, dm_sent, longest, both_in_7, both_in_4, held_up, IsBusy, message_lost, three_polls_lost, two_polls_lost, outcome_despite, outcome_of_few};
 ghost use Rattle.lapd_recovery_laws.specs.ReleasedLine.{IsReleasedLine, ComesDown};
 ghost use Rattle.lapd_recovery_laws.specs.Timers.{HaveTimersOfStates};
+ghost use Rattle.lapd_recovery_laws.specs.WantedLine.{AreWanting, IsWanted};
 
 /// Worked worlds recover as expected, on whole numbers and on tags, with either `Recovery`: the
 /// network restarts, without and with a message in transit; both SABMEs are lost; each DISC of a
@@ -28,8 +29,10 @@ ghost use Rattle.lapd_recovery_laws.specs.Timers.{HaveTimersOfStates};
 /// lost: a message and the three polls for it, so that the link is established anew and the message
 /// dropped; and a message and only two polls, so that it is received. Without T203, a network that
 /// restarts leaves the ends apart. With a busy end the moves are not few. The premises of the laws
-/// below hold: after the network's restart the line is held up, and where the poll and the SABME
-/// cross, the world is free.
+/// below hold: after the network's restart the line is held up, where the poll and the SABME cross,
+/// the world is free and wanted, and so is a world in which the SABME of the user is lost. Without
+/// one of the premises of a wanted link both ends are in state 4 in the end: all SABMEs of the user
+/// are lost; its release is pending; its DISC is lost; or a DM is in transit.
 pub fn recovery_is_computed()
     ensures restart { (r : Reading) → outcome_of r (run r network_restarts (new_pair 1 Enquiry))
         ≡ both_in_7 11 0 0 }
@@ -94,12 +97,19 @@ pub fn recovery_is_computed()
         ≡ both_in_7 3 0 0 }
     ensures sabme_is_wanted { (r : Reading)
         → IsAfterOutage 3 (run r sabme_lost (new_pair 1 Enquiry))
-        × AreWanting (run r sabme_lost (new_pair 1 Enquiry)).user.end
-        (run r sabme_lost (new_pair 1 Enquiry)).network.end }
+        × IsWanted (run r sabme_lost (new_pair 1 Enquiry)) }
+    ensures poll_met_is_wanted { (r : Reading)
+        → IsWanted (run r poll_meets_sabme (new_pair 1 Enquiry)) }
     ensures last_try_gone { (r : Reading)
         → outcome_of r (run r sabmes_lost (new_pair 1 Enquiry)) ≡ both_in_4 1 }
     ensures waiting_release_gone { (r : Reading)
         → outcome_of r (run r release_waits (new_pair 1 Enquiry)) ≡ both_in_4 5 }
+    ensures release_goes_on { (r : Reading)
+        → outcome_of r (run r disc_lost (new_pair 1 Enquiry)) ≡ both_in_4 3 }
+    ensures dm_gone { (r : Reading)
+        → AreWanting (run r dm_sent (new_pair 1 Enquiry)).user.end
+        (run r dm_sent (new_pair 1 Enquiry)).network.end
+        × (outcome_from r (run r dm_sent (new_pair 1 Enquiry)) ≡ both_in_4 1) }
     ensures poll_met_is_free { (r : Reading)
         → IsFreeWorld 3 (run r poll_meets_sabme (new_pair 1 Enquiry)) }
 {}
@@ -161,19 +171,6 @@ pub fn every_line_comes_back()
         → ComesBack r n200 (run r moves (new_world user network)) }
 {}
 
-/// After an outage a link that one end wants, and that neither end releases, comes up: when no own
-/// move is possible any more, both ends are in state 7 with equal numbers. An end wants the link in
-/// states 7 and 8, and in state 5 with a retransmission left. The premises are those of
-/// [`every_line_comes_back`].
-pub fn every_wanted_line_comes_up()
-    ensures { (r : Reading) (n200 : ℕ) → 1 ≤ n200 → (user network : Parameters)
-        → user.k ≤ 127 → network.k ≤ 127 → 1 ≤ user.k → 1 ≤ network.k → (moves : List Move)
-        → IsAfterOutage n200 (run r moves (new_world user network))
-        → AreWanting (run r moves (new_world user network)).user.end
-        (run r moves (new_world user network)).network.end
-        → StaysUp r (run r moves (new_world user network)) }
-{}
-
 /// After an outage a link that one end holds up, and that neither end releases, stays up: when no
 /// own move is possible any more, both ends are in state 7 with equal numbers. The premises are
 /// those of [`every_line_comes_back`].
@@ -207,6 +204,19 @@ pub fn every_world_comes_back()
         → user.k ≤ 127 → network.k ≤ 127 → 1 ≤ user.k → 1 ≤ network.k → (moves : List Move)
         → IsFreeWorld n200 (run r moves (new_world user network))
         → WorldComesBack r n200 (run r moves (new_world user network)) }
+{}
+
+/// A link that one end wants and neither end releases comes up, with frames in transit or not: when
+/// no own move is possible any more, both ends are in state 7 with equal numbers. An end wants the
+/// link in states 7 and 8, and in state 5 with a retransmission left. No end is in state 6 or has a
+/// release pending, and no DISC or DM is in transit. The other premises are those of
+/// [`every_world_comes_back`], which bounds the moves.
+pub fn every_wanted_line_comes_up()
+    ensures { (r : Reading) (n200 : ℕ) → 1 ≤ n200 → (user network : Parameters)
+        → user.k ≤ 127 → network.k ≤ 127 → 1 ≤ user.k → 1 ≤ network.k → (moves : List Move)
+        → IsFreeWorld n200 (run r moves (new_world user network))
+        → IsWanted (run r moves (new_world user network))
+        → StaysUp r (run r moves (new_world user network)) }
 {}
 
 /// Every world recovers by itself although frames are lost meanwhile, if only so many are. The
