@@ -488,7 +488,7 @@ not_establishing w have still k = by_either k.either
 pub level_at_rest : (N n : ℕ) (w : World) → Coming N true n w → Facts N w → IsConsistentWorld Whole w → IsStill w → Rests Whole w → AreLevel w.user.end w.network.end
 level_at_rest N n w (inl d) f preserved still rests = (up_so n w w.user w.network w.to_user w.to_network preserved (rests_drained true n w d f.have still) still (record { user = refl; network = refl })).level
 level_at_rest N n w (inr (inl l)) f _ still rests = let s = half_rests true N n w l f.have still (λ own. rests (user_move Expire203) own) in absurd (not_establishing w f.have still (s.1 refl))
-level_at_rest N n w (inr (inr l)) f preserved still rests =
+level_at_rest N n w (inr (inr l)) f _ still rests =
     let s = half_rests true N n (swapped w) l (record { user = f.have.network; network = f.have.user }) (still_swapped w still) (λ own. rests (network_move Expire203) (own_203_swapped w own)) in
     absurd (not_establishing (swapped w) (record { user = f.have.network; network = f.have.user }) (still_swapped w still) (s.1 refl))
 

@@ -158,7 +158,7 @@ either_stops false b c d established free stop = cc
 window_full : (a b : ℕ) → nat_lt a b ≡ false → b ≤ a
 window_full a b stop = grind (arith, nat_tests, stop)
 
-stops_full : (s : StepState) → s.end.state ≡ MultipleFrameEstablished → s.end.window.peer_busy ≡ false → may_send_next Whole s ≡ false → Full s s
+pub stops_full : (s : StepState) → s.end.state ≡ MultipleFrameEstablished → s.end.window.peer_busy ≡ false → may_send_next Whole s ≡ false → Full s s
 unfolding may_send steps
 stops_full s is free stop = by_either (either_stops (is_established s.end.state) (not s.end.window.peer_busy) (nat_lt (s.end.window.vs - s.end.window.va) s.end.parameters.k) (nat_lt s.end.next (length s.end.given)) (ap is_established is) (ap not free) stop)
   where

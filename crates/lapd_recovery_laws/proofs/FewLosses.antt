@@ -86,24 +86,25 @@ fewer_lost b x out out_now back back_now le t = record { open_state = t.open_sta
 
 -- ---- A frame is delivered.
 
-module _ (b : ℕ) (x y : Station) (frame : Flight) (rest outgoing : List Flight) (i : IsInvariant (at x y (frame ∷ rest) outgoing)) (settled : IsSettledEnd x.end) (l : Lasts b (at x y (frame ∷ rest) outgoing)) where
+module _ (x y : Station) (frame : Flight) (rest outgoing : List Flight) (i : IsInvariant (at x y (frame ∷ rest) outgoing)) (settled : IsSettledEnd x.end) (x_opened : is_7_or_8 x.end.state ≡ true) (y_opened : is_7_or_8 y.end.state ≡ true) where
   abbrev v : View
   v = seeing x (frame ∷ rest) outgoing
 
   no_ask : ask_of (kind frame) ≡ 0
   no_ask =
       let one = i.both.its.exchange.one in
-      let none : most_asks y.end.state ≡ 0 = open_asks_none y.end.state l.network.open_state in
+      let none : most_asks y.end.state ≡ 0 = open_asks_none y.end.state y_opened in
       omega (arith, one, none)
 
-  abbrev IsOpen : View → Type 0
+  abbrev pub IsOpen : View → Type 0
   IsOpen u = Stays x.end x.history.dropped (kind frame) outgoing u.station.end u.station.history.dropped u.outgoing × (u.incoming ≡ rest)
 
-  stays_open : IsOpen (left_by v (acts Whole side.User Deliver v))
+  pub stays_open : IsOpen (left_by v (acts Whole side.User Deliver v))
   unfolding acts delivers receives step view_after
-  stays_open = ((open_delivered x y frame rest outgoing i.user_base i.network_base settled l.user.open_state i.both).1.0 no_ask, refl)
+  stays_open = ((open_delivered x y frame rest outgoing i.user_base i.network_base settled x_opened i.both).1.0 no_ask, refl)
 
-  goes_on : (u : View) → u.station.end.parameters ≡ x.end.parameters → IsOpen u → Goes b (at x y (frame ∷ rest) outgoing) (with_view side.User u (at x y (frame ∷ rest) outgoing))
+module _ (b : ℕ) (x y : Station) (frame : Flight) (rest outgoing : List Flight) (i : IsInvariant (at x y (frame ∷ rest) outgoing)) (settled : IsSettledEnd x.end) (l : Lasts b (at x y (frame ∷ rest) outgoing)) where
+  goes_on : (u : View) → u.station.end.parameters ≡ x.end.parameters → IsOpen x y frame rest outgoing i settled l.user.open_state l.network.open_state u → Goes b (at x y (frame ∷ rest) outgoing) (with_view side.User u (at x y (frame ∷ rest) outgoing))
   goes_on u same o =
       let s = o.0 in
       let arriving = ap kinds o.1 in
@@ -127,9 +128,9 @@ module _ (b : ℕ) (x y : Station) (frame : Flight) (rest outgoing : List Flight
   user_delivered : Goes b (at x y (frame ∷ rest) outgoing) (after side.User Deliver (at x y (frame ∷ rest) outgoing))
   user_delivered =
       let w = at x y (frame ∷ rest) outgoing in
-      let u = left_by v (acts Whole side.User Deliver v) in
+      let u = left_by (seeing x (frame ∷ rest) outgoing) (acts Whole side.User Deliver (seeing x (frame ∷ rest) outgoing)) in
       let same : u.station.end.parameters ≡ x.end.parameters = ap (λ (n : World). n.user.end.parameters) (sym (moved_user Deliver w)) ∙ (same_parameters (user_move Deliver) w i).0 in
-      subst (λ n. Goes b w n) (sym (moved_user Deliver w)) (goes_on u same stays_open)
+      subst (λ n. Goes b w n) (sym (moved_user Deliver w)) (goes_on u same (stays_open x y frame rest outgoing i settled l.user.open_state l.network.open_state))
 
 deliver : (N b : ℕ) (s : Side) (x y : Station) (to_user to_network : List Flight) → Facts N (at x y to_user to_network) → Lasts b (at x y to_user to_network) → is_ok (happens Whole (record { side = s; event = Deliver }) (at x y to_user to_network)) ≡ true → Goes b (at x y to_user to_network) (after s Deliver (at x y to_user to_network))
 deliver N b side.User x y [] to_network f l ok = let none = none_there x y to_network in cc

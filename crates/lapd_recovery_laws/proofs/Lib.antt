@@ -12,6 +12,7 @@ pub mod EveryWorld
 pub mod Exchanges
 pub mod FewLosses
 pub mod HalfSteps
+pub mod KeepsAgreement
 pub mod KeepsWanted
 pub mod Lone
 pub mod LoneAfterRuns

@@ -88,7 +88,7 @@ and_off true b off on = cc
 and_off false b off on = cc
 
 -- the end of a step in state 8 with no pending acknowledgement
-closes_in_8 : (s : StepState) → s.end.state ≡ TimerRecovery → s.end.window.ack_pending ≡ false → end_step Whole s ≡ s
+pub closes_in_8 : (s : StepState) → s.end.state ≡ TimerRecovery → s.end.window.ack_pending ≡ false → end_step Whole s ≡ s
 unfolding end_step acknowledge_pending
 closes_in_8 s is none =
     let nothing : may_send_next Whole s ≡ false = rw is refl in

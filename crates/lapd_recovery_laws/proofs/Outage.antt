@@ -106,7 +106,7 @@ stream_unsent x y out back n s = by_stage s.stage s.so s.most
     by_stage Polling w most = omega (arith, most)
     by_stage Answered w most = omega (arith, most)
 
-no_t203_if_closed : (e : End) → HasTimersOfState e → is_7_or_8 e.state ≡ false → e.t203 ≡ false
+pub no_t203_if_closed : (e : End) → HasTimersOfState e → is_7_or_8 e.state ≡ false → e.t203 ≡ false
 no_t203_if_closed e has c = by_state e.state refl c
   where
     by_state : (state : State) → e.state ≡ state → is_7_or_8 state ≡ false → e.t203 ≡ false

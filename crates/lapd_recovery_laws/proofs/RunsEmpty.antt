@@ -212,7 +212,7 @@ deliveries_few N n w (move ∷ moves) f flow are = one_more N n move.side move.e
 
 -- ---- Where nothing arrives.
 
-arrives_at_user : (r : Reading) (x y : Station) (frame : Flight) (rest to_network : List Flight) → is_ok (happens r (user_move Deliver) (at x y (frame ∷ rest) to_network)) ≡ true
+pub arrives_at_user : (r : Reading) (x y : Station) (frame : Flight) (rest to_network : List Flight) → is_ok (happens r (user_move Deliver) (at x y (frame ∷ rest) to_network)) ≡ true
 unfolding happens acts delivers receives step
 arrives_at_user r x y frame rest to_network = refl
 

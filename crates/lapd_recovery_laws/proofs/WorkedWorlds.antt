@@ -1,5 +1,5 @@
 -- Worked worlds recover as expected, computed in both readings.
-use Rattle.std.proofs.Common.{◌≡◌, refl, None, arith, inl, inr}
+use Rattle.std.proofs.Common.{◌≡◌, true, refl, None, arith, inl, inr}
 use Rattle.lapd_link_definition.specs.declared.recovery.Recovery.TheVariants.{Enquiry, LastMessage}
 use Rattle.lapd_mod128.specs.Counting.{Reading, Whole, Tagged, after, steps, lies_within}
 use Rattle.lapd_supervision.specs.StateVariables.{initial_variables, without_exceptions, with_zero_counters, status_frame, acknowledgement, without_ack_pending, poll_response, is_accepted, is_rejected, after_i_frame, i_frame_response, is_valid_nr, with_va, acknowledged_count, acknowledges_all, with_vs, may_send, next_i_frame, after_sending, with_own_busy, with_peer_busy}
@@ -17,14 +17,16 @@ use Rattle.lapd_pair_laws.specs.World.{happens, run}
 use Rattle.lapd_mod128.specs.Counting.{before}
 use Rattle.lapd_supervision.specs.StateVariables.{last_i_frame}
 use Rattle.lapd_link_definition.specs.Procedures.{retransmit_last_i_frame}
+use Rattle.lapd_pair_laws.specs.Schedule.{establishing}
 use Rattle.lapd_pair_laws.specs.Settle.{next_move}
-use Rattle.lapd_pair_laws.specs.Worked.{new_pair, busy}
+use Rattle.lapd_pair_laws.specs.Worked.{new_pair, sabme_lost, busy}
 use Rattle.lapd_recovery_laws.specs.AfterOutage.{IsAfterOutage, IsHeldUp}
 use Rattle.lapd_recovery_laws.specs.EveryWorld.{IsFreeWorld}
 use Rattle.lapd_recovery_laws.specs.FewLosses.{OutlastLosses}
+use Rattle.lapd_recovery_laws.specs.KeptAgreement.{AreOwnOr203}
 use Rattle.lapd_recovery_laws.specs.Losses.{AreOwnOrLosses}
 use Rattle.lapd_recovery_laws.specs.WantedLine.{AreWanting, IsWanted}
-use Rattle.lapd_recovery_laws.specs.Recovered.{outcome_of, outcome_of_deliveries, outcome_from, first_of_three_lost, poll_meets_sabme, both_sabmes_lost, network_restarts, restarts_with_one_sent, sabme_lost, release_waits, sabmes_lost, disc_lost, release_unheard, disc_meets_sabme, dm_sent, longest, both_in_7, both_in_4, held_up, IsBusy, message_lost, three_polls_lost, two_polls_lost, outcome_despite, outcome_of_few}
+use Rattle.lapd_recovery_laws.specs.Recovered.{outcome_of, outcome_of_deliveries, outcome_from, first_of_three_lost, poll_meets_sabme, both_sabmes_lost, network_restarts, restarts_with_one_sent, release_waits, sabmes_lost, disc_lost, release_unheard, disc_meets_sabme, dm_sent, longest, both_in_7, both_in_4, held_up, IsBusy, message_lost, three_polls_lost, two_polls_lost, outcome_despite, outcome_of_few, polls_cross, polled_on, all_due, agreed_after, least_pair, all_admitted, outcome_of_least, eight_wait, t200_beside_frames, too_many_t200, network_sabme_lost, t203_before_t200, too_many_t203}
 
 pub restart_back : (r : Reading) → outcome_of r (run r network_restarts (new_pair 1 Enquiry)) ≡ both_in_7 11 0 0
 unfolding story_after view_after receives takes delivers loses expires_200 expires_203 restarts acts happens begin put state_to rc_to increment_rc layer3_initiated_to release_pending_to start stop expired clear_exception_conditions zero_state_variables set_peer_busy set_own_busy enquiry_response transmit_enquiry queue_up discard_i_queue acknowledge invoke_retransmission i_frame_ns discard_unacknowledged transmit_i_frame ensure_t200 transmit_rr establish_data_link reestablish_data_link end_establishment tei_assigned confirm_or_indicate ua_final awaiting_establishment_t200 awaiting_establishment confirm_release awaiting_release_t200 awaiting_release acknowledge_with_timers nr_error_recovery i_frame_nr i_frame_nr_in_recovery poll_or_final poll rr_nr rej_nr rnr_nr rr_nr_in_recovery rnr_nr_in_recovery timer_recovery_t200 busy_on busy_off in_7_and_8 established_t200 multiple_frame_established timer_recovery by_state report_fault row send_all acknowledge_pending end_step step initial_variables without_exceptions with_zero_counters status_frame acknowledgement without_ack_pending poll_response is_accepted is_rejected after_i_frame i_frame_response is_valid_nr with_va acknowledged_count acknowledges_all with_vs may_send next_i_frame after_sending with_own_busy with_peer_busy after steps lies_within retransmit_last_i_frame last_i_frame before
@@ -157,6 +159,26 @@ pub dm_gone : (r : Reading) → AreWanting (run r dm_sent (new_pair 1 Enquiry)).
 unfolding story_after view_after receives takes delivers loses expires_200 expires_203 restarts acts happens begin put state_to rc_to increment_rc layer3_initiated_to release_pending_to start stop expired clear_exception_conditions zero_state_variables set_peer_busy set_own_busy enquiry_response transmit_enquiry queue_up discard_i_queue acknowledge invoke_retransmission i_frame_ns discard_unacknowledged transmit_i_frame ensure_t200 transmit_rr establish_data_link reestablish_data_link end_establishment tei_assigned confirm_or_indicate ua_final awaiting_establishment_t200 awaiting_establishment confirm_release awaiting_release_t200 awaiting_release acknowledge_with_timers nr_error_recovery i_frame_nr i_frame_nr_in_recovery poll_or_final poll rr_nr rej_nr rnr_nr rr_nr_in_recovery rnr_nr_in_recovery timer_recovery_t200 busy_on busy_off in_7_and_8 established_t200 multiple_frame_established timer_recovery by_state report_fault row send_all acknowledge_pending end_step step initial_variables without_exceptions with_zero_counters status_frame acknowledgement without_ack_pending poll_response is_accepted is_rejected after_i_frame i_frame_response is_valid_nr with_va acknowledged_count acknowledges_all with_vs may_send next_i_frame after_sending with_own_busy with_peer_busy after steps lies_within retransmit_last_i_frame last_i_frame before
 dm_gone Whole = (record { mine = record { not_releasing = λ is. cc; none_pending = λ is. cc }; its = record { not_releasing = λ is. cc; none_pending = λ is. refl }; either = inr (inr (refl, omega arith)) }, refl)
 dm_gone Tagged = (record { mine = record { not_releasing = λ is. cc; none_pending = λ is. cc }; its = record { not_releasing = λ is. cc; none_pending = λ is. refl }; either = inr (inr (refl, omega arith)) }, refl)
+
+pub crossing_polls : (r : Reading) → AreOwnOr203 r polls_cross (run r establishing (new_pair 1 Enquiry)) × (outcome_despite r polls_cross (run r establishing (new_pair 1 Enquiry)) ≡ both_in_7 6 0 0)
+unfolding story_after view_after receives takes delivers loses expires_200 expires_203 restarts acts happens begin put state_to rc_to increment_rc layer3_initiated_to release_pending_to start stop expired clear_exception_conditions zero_state_variables set_peer_busy set_own_busy enquiry_response transmit_enquiry queue_up discard_i_queue acknowledge invoke_retransmission i_frame_ns discard_unacknowledged transmit_i_frame ensure_t200 transmit_rr establish_data_link reestablish_data_link end_establishment tei_assigned confirm_or_indicate ua_final awaiting_establishment_t200 awaiting_establishment confirm_release awaiting_release_t200 awaiting_release acknowledge_with_timers nr_error_recovery i_frame_nr i_frame_nr_in_recovery poll_or_final poll rr_nr rej_nr rnr_nr rr_nr_in_recovery rnr_nr_in_recovery timer_recovery_t200 busy_on busy_off in_7_and_8 established_t200 multiple_frame_established timer_recovery by_state report_fault row send_all acknowledge_pending end_step step initial_variables without_exceptions with_zero_counters status_frame acknowledgement without_ack_pending poll_response is_accepted is_rejected after_i_frame i_frame_response is_valid_nr with_va acknowledged_count acknowledges_all with_vs may_send next_i_frame after_sending with_own_busy with_peer_busy after steps lies_within retransmit_last_i_frame last_i_frame before
+crossing_polls Whole = ((record { due = refl; admitted = refl }, (record { due = refl; admitted = refl }, (record { due = refl; admitted = refl }, (record { due = refl; admitted = refl }, (record { due = refl; admitted = refl }, (record { due = refl; admitted = refl }, tt)))))), refl)
+crossing_polls Tagged = ((record { due = refl; admitted = refl }, (record { due = refl; admitted = refl }, (record { due = refl; admitted = refl }, (record { due = refl; admitted = refl }, (record { due = refl; admitted = refl }, (record { due = refl; admitted = refl }, tt)))))), refl)
+
+pub polls_after_restart : (r : Reading) → (all_due r (polled_on r (run r network_restarts (new_pair 1 Enquiry))) (run r network_restarts (new_pair 1 Enquiry)) ≡ true) × (outcome_despite r (polled_on r (run r network_restarts (new_pair 1 Enquiry))) (run r network_restarts (new_pair 1 Enquiry)) ≡ agreed_after 35)
+unfolding story_after view_after receives takes delivers loses expires_200 expires_203 restarts acts happens begin put state_to rc_to increment_rc layer3_initiated_to release_pending_to start stop expired clear_exception_conditions zero_state_variables set_peer_busy set_own_busy enquiry_response transmit_enquiry queue_up discard_i_queue acknowledge invoke_retransmission i_frame_ns discard_unacknowledged transmit_i_frame ensure_t200 transmit_rr establish_data_link reestablish_data_link end_establishment tei_assigned confirm_or_indicate ua_final awaiting_establishment_t200 awaiting_establishment confirm_release awaiting_release_t200 awaiting_release acknowledge_with_timers nr_error_recovery i_frame_nr i_frame_nr_in_recovery poll_or_final poll rr_nr rej_nr rnr_nr rr_nr_in_recovery rnr_nr_in_recovery timer_recovery_t200 busy_on busy_off in_7_and_8 established_t200 multiple_frame_established timer_recovery by_state report_fault row send_all acknowledge_pending end_step step initial_variables without_exceptions with_zero_counters status_frame acknowledgement without_ack_pending poll_response is_accepted is_rejected after_i_frame i_frame_response is_valid_nr with_va acknowledged_count acknowledges_all with_vs may_send next_i_frame after_sending with_own_busy with_peer_busy after steps lies_within retransmit_last_i_frame last_i_frame before
+polls_after_restart Whole = (refl, refl)
+polls_after_restart Tagged = (refl, refl)
+
+pub t200_beside : (r : Reading) → (all_admitted r t200_beside_frames (run r eight_wait least_pair) ≡ true) × (outcome_of_least r t200_beside_frames (run r eight_wait least_pair) ≡ too_many_t200)
+unfolding story_after view_after receives takes delivers loses expires_200 expires_203 restarts acts happens begin put state_to rc_to increment_rc layer3_initiated_to release_pending_to start stop expired clear_exception_conditions zero_state_variables set_peer_busy set_own_busy enquiry_response transmit_enquiry queue_up discard_i_queue acknowledge invoke_retransmission i_frame_ns discard_unacknowledged transmit_i_frame ensure_t200 transmit_rr establish_data_link reestablish_data_link end_establishment tei_assigned confirm_or_indicate ua_final awaiting_establishment_t200 awaiting_establishment confirm_release awaiting_release_t200 awaiting_release acknowledge_with_timers nr_error_recovery i_frame_nr i_frame_nr_in_recovery poll_or_final poll rr_nr rej_nr rnr_nr rr_nr_in_recovery rnr_nr_in_recovery timer_recovery_t200 busy_on busy_off in_7_and_8 established_t200 multiple_frame_established timer_recovery by_state report_fault row send_all acknowledge_pending end_step step initial_variables without_exceptions with_zero_counters status_frame acknowledgement without_ack_pending poll_response is_accepted is_rejected after_i_frame i_frame_response is_valid_nr with_va acknowledged_count acknowledges_all with_vs may_send next_i_frame after_sending with_own_busy with_peer_busy after steps lies_within retransmit_last_i_frame last_i_frame before
+t200_beside Whole = (refl, refl)
+t200_beside Tagged = (refl, refl)
+
+pub t203_first : (r : Reading) → (all_admitted r t203_before_t200 (run r network_sabme_lost least_pair) ≡ true) × (outcome_of_least r t203_before_t200 (run r network_sabme_lost least_pair) ≡ too_many_t203)
+unfolding story_after view_after receives takes delivers loses expires_200 expires_203 restarts acts happens begin put state_to rc_to increment_rc layer3_initiated_to release_pending_to start stop expired clear_exception_conditions zero_state_variables set_peer_busy set_own_busy enquiry_response transmit_enquiry queue_up discard_i_queue acknowledge invoke_retransmission i_frame_ns discard_unacknowledged transmit_i_frame ensure_t200 transmit_rr establish_data_link reestablish_data_link end_establishment tei_assigned confirm_or_indicate ua_final awaiting_establishment_t200 awaiting_establishment confirm_release awaiting_release_t200 awaiting_release acknowledge_with_timers nr_error_recovery i_frame_nr i_frame_nr_in_recovery poll_or_final poll rr_nr rej_nr rnr_nr rr_nr_in_recovery rnr_nr_in_recovery timer_recovery_t200 busy_on busy_off in_7_and_8 established_t200 multiple_frame_established timer_recovery by_state report_fault row send_all acknowledge_pending end_step step initial_variables without_exceptions with_zero_counters status_frame acknowledgement without_ack_pending poll_response is_accepted is_rejected after_i_frame i_frame_response is_valid_nr with_va acknowledged_count acknowledges_all with_vs may_send next_i_frame after_sending with_own_busy with_peer_busy after steps lies_within retransmit_last_i_frame last_i_frame before
+t203_first Whole = (refl, refl)
+t203_first Tagged = (refl, refl)
 
 pub poll_met_is_free : (r : Reading) → IsFreeWorld 3 (run r poll_meets_sabme (new_pair 1 Enquiry))
 unfolding story_after view_after receives takes delivers loses expires_200 expires_203 restarts acts happens begin put state_to rc_to increment_rc layer3_initiated_to release_pending_to start stop expired clear_exception_conditions zero_state_variables set_peer_busy set_own_busy enquiry_response transmit_enquiry queue_up discard_i_queue acknowledge invoke_retransmission i_frame_ns discard_unacknowledged transmit_i_frame ensure_t200 transmit_rr establish_data_link reestablish_data_link end_establishment tei_assigned confirm_or_indicate ua_final awaiting_establishment_t200 awaiting_establishment confirm_release awaiting_release_t200 awaiting_release acknowledge_with_timers nr_error_recovery i_frame_nr i_frame_nr_in_recovery poll_or_final poll rr_nr rej_nr rnr_nr rr_nr_in_recovery rnr_nr_in_recovery timer_recovery_t200 busy_on busy_off in_7_and_8 established_t200 multiple_frame_established timer_recovery by_state report_fault row send_all acknowledge_pending end_step step initial_variables without_exceptions with_zero_counters status_frame acknowledgement without_ack_pending poll_response is_accepted is_rejected after_i_frame i_frame_response is_valid_nr with_va acknowledged_count acknowledges_all with_vs may_send next_i_frame after_sending with_own_busy with_peer_busy after steps lies_within retransmit_last_i_frame last_i_frame before

@@ -3,6 +3,7 @@ pub mod Agreed
 pub mod Deliveries
 pub mod EveryWorld
 pub mod FewLosses
+pub mod KeptAgreement
 pub mod LoneLine
 pub mod Losses
 pub mod OpenLine

@@ -1,14 +1,18 @@
 -- Worked worlds that try the line's own moves. N200 is three.
-use Rattle.std.specs.Prelude.{ℕ, zero, suc, nat_le, Bool, true, false, List, [], ◌∷◌, ◌++◌, length, is_none}
+use Rattle.std.specs.Prelude.{ℕ, zero, suc, nat_le, Bool, true, false, List, [], ◌∷◌, ◌++◌, ◌&&◌, length, is_none, is_ok}
 use Rattle.lapd_mod128.specs.Counting.{Reading}
 use Rattle.lapd_link_definition.specs.declared.state.State.{State}
-use Rattle.lapd_link_definition.specs.declared.state.State.TheVariants.{TeiAssigned, MultipleFrameEstablished, TimerRecovery}
+use Rattle.lapd_link_definition.specs.declared.state.State.TheVariants.{TeiAssigned, AwaitingEstablishment, MultipleFrameEstablished, TimerRecovery}
+use Rattle.lapd_link_definition.specs.declared.recovery.Recovery.TheVariants.{Enquiry}
+use Rattle.lapd_link_definition.specs.Parameters.{Parameters}
 use Rattle.lapd_pair_laws.specs.Move.{Move, Give, Establish, Release, Deliver, Lose, Restart, Expire200, Expire203}
 use Rattle.lapd_pair_laws.specs.Schedule.{of_user, of_network, establishing}
-use Rattle.lapd_pair_laws.specs.World.{World, world_after, happens, run, left}
+use Rattle.lapd_pair_laws.specs.Worked.{sabme_lost}
+use Rattle.lapd_pair_laws.specs.World.{World, new_world, world_after, happens, run, left}
 use Rattle.lapd_recovery_laws.specs.Deliveries.{most_deliveries}
 use Rattle.lapd_recovery_laws.specs.EveryWorld.{most_moves_from}
 use Rattle.lapd_recovery_laws.specs.FewLosses.{most_open_moves}
+use Rattle.lapd_recovery_laws.specs.KeptAgreement.{is_due_or_203}
 use Rattle.lapd_recovery_laws.specs.Losses.{losses, most_moves_despite}
 use Rattle.lapd_recovery_laws.specs.Own.{IsFree, first_own, most_own_moves, then_on, recovering, tried}
 
@@ -83,11 +87,7 @@ abbrev pub all_lost : List Move
 all_lost = of_network (Lose 0) ∷ of_user Expire200 ∷ of_network (Lose 0) ∷ of_user Expire200
     ∷ of_network (Lose 0) ∷ of_user Expire200 ∷ of_network (Lose 0) ∷ []
 
--- the user establishes, and its SABME is lost
-abbrev pub sabme_lost : List Move
-sabme_lost = of_user Establish ∷ of_network (Lose 0) ∷ []
-
--- then layer 3 of the user releases the link
+-- the SABME of the user is lost, and then its layer 3 releases the link
 abbrev pub release_waits : List Move
 release_waits = sabme_lost ++ of_user Release ∷ []
 
@@ -196,3 +196,81 @@ held_up = record {
 -- one end of the world is not free
 abbrev pub IsBusy : World → Type 0
 IsBusy w = IsFree w.user.end → IsFree w.network.end → ⊥
+
+-- ---- T203 in state 7 at both ends.
+
+-- these moves, n times
+abbrev pub repeated : ℕ → List Move → List Move
+repeated zero moves = []
+repeated (suc n) moves = moves ++ repeated n moves
+
+-- T203 expires at both ends, and the polls cross
+abbrev pub polls_cross : List Move
+polls_cross = of_user Expire203 ∷ of_network Expire203 ∷ of_network Deliver ∷ of_user Deliver
+    ∷ of_user Deliver ∷ of_network Deliver ∷ []
+
+-- the own moves, and then T203 of the user eight times, each poll answered
+abbrev pub polled_on : Reading → World → List Move
+polled_on r w = recovering r 40 w
+    ++ repeated 8 (of_user Expire203 ∷ of_network Deliver ∷ of_user Deliver ∷ [])
+
+-- whether each of these moves is an own move, or T203 while the ends are in step
+abbrev pub all_due : Reading → List Move → World → Bool
+all_due r [] w = true
+all_due r (move ∷ moves) w = is_due_or_203 move.event w && is_ok (happens r move w)
+    && all_due r moves (world_after w (happens r move w))
+
+-- more moves than the bound, and no own move is possible
+abbrev pub agreed_after : ℕ → RecoveryOutcome
+agreed_after moves = record (both_in_7 moves 0 0) { few = false }
+
+-- ---- Timers that do not wait, with N200 = 1 and a window of one.
+
+abbrev pub least_pair : World
+least_pair =
+    let p : Parameters = record { k = 1; n200 = 1; room = 8; recovery = Enquiry } in
+    new_world p p
+
+abbrev pub all_admitted : Reading → List Move → World → Bool
+all_admitted r [] w = true
+all_admitted r (move ∷ moves) w = is_ok (happens r move w)
+    && all_admitted r moves (world_after w (happens r move w))
+
+abbrev pub outcome_of_least : Reading → List Move → World → RecoveryOutcome
+outcome_of_least r moves w = looked_at r (length moves) (most_moves_from 1 w) (run r moves w)
+
+-- The UA of the user is lost while it polls. Eight messages wait, and no frame is in transit.
+abbrev pub eight_wait : List Move
+eight_wait = of_network Establish ∷ of_user Deliver ∷ of_user Expire203
+    ∷ repeated 8 (of_user (Give (1 ∷ [])) ∷ [])
+    ++ of_network (Lose 0) ∷ of_network Deliver ∷ []
+
+-- T200 of the user expires beside each message in transit.
+abbrev pub t200_beside_frames : List Move
+t200_beside_frames = of_user Expire200 ∷ of_network Deliver ∷ of_user Expire200
+    ∷ of_network Expire200 ∷ of_network Deliver ∷ of_user Deliver ∷ of_network Deliver
+    ∷ of_user Deliver
+    ∷ repeated 8 (of_network Deliver ∷ of_user Expire200 ∷ of_network Deliver
+    ∷ of_user Deliver ∷ of_user Deliver ∷ [])
+
+-- 48 moves, where the bound is 45
+abbrev pub too_many_t200 : RecoveryOutcome
+too_many_t200 = record (both_in_7 48 8 0) { few = false }
+
+-- the network establishes, and its SABME is lost
+abbrev pub network_sabme_lost : List Move
+network_sabme_lost = establishing ++ of_network Establish ∷ of_user (Lose 0) ∷ []
+
+-- T203 of the user always expires before T200 of the network. The user polls twice in vain and
+-- establishes anew, again and again.
+abbrev pub t203_before_t200 : List Move
+t203_before_t200 = repeated 4 (of_user Expire203 ∷ of_network Deliver ∷ of_user Expire200
+    ∷ of_network Deliver ∷ of_user Expire200 ∷ of_network Deliver ∷ of_user Deliver ∷ [])
+
+-- 28 moves, where the bound is 21, and the network is still in state 5
+abbrev pub too_many_t203 : RecoveryOutcome
+too_many_t203 = record (both_in_7 28 0 0) {
+  few = false;
+  rest = false;
+  network = AwaitingEstablishment;
+}

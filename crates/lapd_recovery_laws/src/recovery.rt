@@ -1,22 +1,24 @@
 //! Laws of a link that recovers by itself. They are proofs; their functions do nothing.
 
-ghost use Rattle.std.specs.Prelude.{◌≡◌, ℕ, ◌≤◌, List, None};
+ghost use Rattle.std.specs.Prelude.{◌≡◌, ℕ, ◌≤◌, true, List, None};
 ghost use Rattle.lapd_mod128.specs.Counting.{Reading};
 ghost use Rattle.lapd_link_definition.specs.declared.recovery.Recovery.TheVariants.{Enquiry, LastMessage};
 ghost use Rattle.lapd_link_definition.specs.Parameters.{Parameters};
 ghost use Rattle.lapd_pair_laws.specs.Move.{Move};
+ghost use Rattle.lapd_pair_laws.specs.Schedule.{establishing};
 ghost use Rattle.lapd_pair_laws.specs.Settle.{next_move};
-ghost use Rattle.lapd_pair_laws.specs.Worked.{new_pair, busy};
+ghost use Rattle.lapd_pair_laws.specs.Worked.{new_pair, sabme_lost, busy};
 ghost use Rattle.lapd_pair_laws.specs.World.{new_world, run};
 ghost use Rattle.lapd_recovery_laws.specs.AfterOutage.{IsAfterOutage, IsHeldUp, StaysUp};
 ghost use Rattle.lapd_recovery_laws.specs.Agreed.{ComesBack};
 ghost use Rattle.lapd_recovery_laws.specs.EveryWorld.{IsFreeWorld, WorldComesBack};
 ghost use Rattle.lapd_recovery_laws.specs.Deliveries.{RunsEmpty};
 ghost use Rattle.lapd_recovery_laws.specs.FewLosses.{OutlastLosses, KeepsAll};
+ghost use Rattle.lapd_recovery_laws.specs.KeptAgreement.{AreOwnOr203, KeepsAgreement};
 ghost use Rattle.lapd_recovery_laws.specs.LoneLine.{IsLoneLine, ComesUpAnew};
 ghost use Rattle.lapd_recovery_laws.specs.Losses.{ComesBackDespite, AreOwnOrLosses};
 ghost use Rattle.lapd_recovery_laws.specs.OpenLine.{IsOpenLine, ComesUp};
-ghost use Rattle.lapd_recovery_laws.specs.Recovered.{outcome_of, outcome_of_deliveries, outcome_from, first_of_three_lost, poll_meets_sabme, both_sabmes_lost, network_restarts, restarts_with_one_sent, sabme_lost, release_waits, sabmes_lost, disc_lost, release_unheard, disc_meets_sabme, dm_sent, longest, both_in_7, both_in_4, held_up, IsBusy, message_lost, three_polls_lost, two_polls_lost, outcome_despite, outcome_of_few};
+ghost use Rattle.lapd_recovery_laws.specs.Recovered.{outcome_of, outcome_of_deliveries, outcome_from, first_of_three_lost, poll_meets_sabme, both_sabmes_lost, network_restarts, restarts_with_one_sent, release_waits, sabmes_lost, disc_lost, release_unheard, disc_meets_sabme, dm_sent, longest, both_in_7, both_in_4, held_up, IsBusy, message_lost, three_polls_lost, two_polls_lost, outcome_despite, outcome_of_few, polls_cross, polled_on, all_due, agreed_after, least_pair, all_admitted, outcome_of_least, eight_wait, t200_beside_frames, too_many_t200, network_sabme_lost, t203_before_t200, too_many_t203};
 ghost use Rattle.lapd_recovery_laws.specs.ReleasedLine.{IsReleasedLine, ComesDown};
 ghost use Rattle.lapd_recovery_laws.specs.Timers.{HaveTimersOfStates};
 ghost use Rattle.lapd_recovery_laws.specs.WantedLine.{AreWanting, IsWanted};
@@ -110,6 +112,23 @@ pub fn recovery_is_computed()
         → AreWanting (run r dm_sent (new_pair 1 Enquiry)).user.end
         (run r dm_sent (new_pair 1 Enquiry)).network.end
         × (outcome_from r (run r dm_sent (new_pair 1 Enquiry)) ≡ both_in_4 1) }
+    ensures crossing_polls { (r : Reading)
+        → AreOwnOr203 r polls_cross (run r establishing (new_pair 1 Enquiry))
+        × (outcome_despite r polls_cross (run r establishing (new_pair 1 Enquiry))
+        ≡ both_in_7 6 0 0) }
+    ensures polls_after_restart { (r : Reading)
+        → (all_due r (polled_on r (run r network_restarts (new_pair 1 Enquiry)))
+        (run r network_restarts (new_pair 1 Enquiry)) ≡ true)
+        × (outcome_despite r (polled_on r (run r network_restarts (new_pair 1 Enquiry)))
+        (run r network_restarts (new_pair 1 Enquiry)) ≡ agreed_after 35) }
+    ensures t200_beside_frames { (r : Reading)
+        → (all_admitted r t200_beside_frames (run r eight_wait least_pair) ≡ true)
+        × (outcome_of_least r t200_beside_frames (run r eight_wait least_pair)
+        ≡ too_many_t200) }
+    ensures t203_before_t200 { (r : Reading)
+        → (all_admitted r t203_before_t200 (run r network_sabme_lost least_pair) ≡ true)
+        × (outcome_of_least r t203_before_t200 (run r network_sabme_lost least_pair)
+        ≡ too_many_t203) }
     ensures poll_met_is_free { (r : Reading)
         → IsFreeWorld 3 (run r poll_meets_sabme (new_pair 1 Enquiry)) }
 {}
@@ -204,6 +223,19 @@ pub fn every_world_comes_back()
         → user.k ≤ 127 → network.k ≤ 127 → 1 ≤ user.k → 1 ≤ network.k → (moves : List Move)
         → IsFreeWorld n200 (run r moves (new_world user network))
         → WorldComesBack r n200 (run r moves (new_world user network)) }
+{}
+
+/// T203 in state 7 at both ends disturbs nothing. Besides the own moves, it expires at any moment
+/// while the ends are in step: no message is left, and both ends are in state 7, or in state 8 with
+/// a poll or the response to it in transit. After as many moves as [`every_world_comes_back`]
+/// counts at most, or more, in any order, no message is left, and both ends are in state 4, or both
+/// in states 7 and 8 with equal numbers. The same holds after any such moves from ends that agree.
+/// The premises are those of that law.
+pub fn every_agreement_is_kept()
+    ensures { (r : Reading) (n200 : ℕ) → 1 ≤ n200 → (user network : Parameters)
+        → user.k ≤ 127 → network.k ≤ 127 → 1 ≤ user.k → 1 ≤ network.k → (moves : List Move)
+        → IsFreeWorld n200 (run r moves (new_world user network))
+        → KeepsAgreement r n200 (run r moves (new_world user network)) }
 {}
 
 /// A link that one end wants and neither end releases comes up, with frames in transit or not: when
