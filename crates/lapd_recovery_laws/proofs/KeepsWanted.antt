@@ -16,13 +16,11 @@ use Rattle.lapd_link_definition.specs.declared.out.Out.TheVariants.{Send, UnitUp
 use Rattle.lapd_link_definition.specs.AwaitingEstablishment.{awaiting_establishment, ua_final, confirm_or_indicate}
 use Rattle.lapd_link_definition.specs.EndOfStep.{is_7_or_8, end_step}
 use Rattle.lapd_link_definition.specs.End.{End, StepState, ◌▷◌, begin, waiting}
-use Rattle.lapd_link_definition.specs.Established.{in_7_and_8, multiple_frame_established}
 use Rattle.lapd_link_definition.specs.Input.{Heard}
 use Rattle.lapd_link_definition.specs.Procedures.{put, state_to, start, stop, zero_state_variables, clear_exception_conditions}
 use Rattle.lapd_link_definition.specs.Table.{by_state, row, step, is_unit_data}
 use Rattle.lapd_link_definition.specs.TeiAssigned.{tei_assigned}
-use Rattle.lapd_link_definition.specs.TimerRecovery.{timer_recovery}
-use Rattle.lapd_pair_laws.specs.Kinds.{kind, kind_of, kinds, tally, ask_of, foreign_of}
+use Rattle.lapd_pair_laws.specs.Kinds.{kind_of, kinds, tally, ask_of, foreign_of}
 use Rattle.lapd_pair_laws.specs.Conjuncts.{most_asks}
 use Rattle.lapd_pair_laws.specs.Invariant.{Both, IsInvariant}
 use Rattle.lapd_pair_laws.specs.Parties.{party}
@@ -40,19 +38,49 @@ use Rattle.lapd_pair_laws.proofs.Swaps.{network_alike}
 use Rattle.lapd_pair_laws.proofs.Whole.{each_move_preserves}
 use Rattle.lapd_pair_laws.proofs.Worlds.{left_by}
 use Rattle.lapd_recovery_laws.specs.AfterOutage.{IsKept}
-use Rattle.lapd_recovery_laws.specs.WantedLine.{IsWanting, is_release, NoneReleased, IsWanted}
+use Rattle.lapd_recovery_laws.specs.WantedLine.{IsWanting, AreWanting, is_dm, NoneRefused, IsWanted}
 use Rattle.lapd_recovery_laws.proofs.AnyOrder.{none_there, none_there_too}
 use Rattle.lapd_recovery_laws.proofs.Beside.{seeing}
 use Rattle.lapd_recovery_laws.proofs.ClosedDelivers.{opened_line}
+use Rattle.lapd_recovery_laws.proofs.DiscSent.{is_disc, NoDisc}
 use Rattle.lapd_recovery_laws.proofs.EndSends.{Unsending, kinds_append, end_closes}
 use Rattle.lapd_recovery_laws.proofs.Establishes.{discards_by}
 use Rattle.lapd_recovery_laws.proofs.Lost.{at}
 use Rattle.lapd_recovery_laws.proofs.LostMoves.{moved_user}
-use Rattle.lapd_recovery_laws.proofs.OpenFrames.{refuse_of, refused_few, open_delivered}
+use Rattle.lapd_recovery_laws.proofs.OpenFrames.{refuse_of, refused_few, IsSabme, IsDisc, requested, open_by_request, open_delivered}
 use Rattle.lapd_recovery_laws.proofs.Outage.{turned, Facts, facts_swapped}
 use Rattle.lapd_recovery_laws.proofs.SendsOn.{indicated_line, by_each}
 
 -- ---- Frames that release.
+
+-- DISC and DM
+abbrev pub is_release : Control → Bool
+is_release (Disc p) = true
+is_release (Dm f) = true
+is_release control = false
+
+-- none of these frames is a DISC or a DM
+abbrev pub NoneReleased : List Flight → Type 0
+NoneReleased [] = Unit {0}
+NoneReleased (frame ∷ frames) = (is_release frame.control ≡ false) × NoneReleased frames
+
+-- an end wants the link, neither releases it, and no DISC or DM is in transit
+pub record IsUndisturbed (w : World) : Type 0 where
+  pub ends : AreWanting w.user.end w.network.end
+  pub to_user : NoneReleased w.to_user
+  pub to_network : NoneReleased w.to_network
+
+neither : (control : Control) → is_dm control ≡ false → is_disc control ≡ false → is_release control ≡ false
+neither (Dm f) no_dm no_disc = cc
+neither (Disc p) no_dm no_disc = cc
+neither control no_dm no_disc = refl
+
+none_of_both : (fs : List Flight) → NoneRefused fs → NoDisc fs → NoneReleased fs
+none_of_both [] refused sent = tt
+none_of_both (f ∷ fs) refused sent = (neither f.control refused.0 sent.0, none_of_both fs refused.1 sent.1)
+
+pub undisturbed : (w : World) → IsWanted w → NoDisc w.to_network × NoDisc w.to_user → IsUndisturbed w
+undisturbed w k none = record { ends = k.ends; to_user = none_of_both w.to_user k.to_user none.1; to_network = none_of_both w.to_network k.to_network none.0 }
 
 -- without a DM, a DISC or a frame that no end sends
 calm_frame : (role : Role) (control : Control) (info : List ℕ) (place : ℕ) → ask_of (kind_of role control info place) ≡ 0 → refuse_of (kind_of role control info place) ≡ 0 → foreign_of (kind_of role control info place) ≡ 0 → is_release control ≡ false
@@ -95,21 +123,13 @@ released_append [] gs a b = b
 released_append (f ∷ fs) gs a b = (a.0, released_append fs gs a.1 b)
 
 -- a SABME, or no request
-sabme_or_none : (control : Control) (role : Role) (info : List ℕ) (place : ℕ) → is_release control ≡ false → ((control ≡ Sabme true) × (role ≡ Command)) ⊎ (ask_of (kind_of role control info place) ≡ 0)
-sabme_or_none (Sabme true) Command info place calm = inl (refl, refl)
-sabme_or_none (Disc p) role info place calm = cc
-sabme_or_none (Rr nr true) Command info place calm = inr refl
-sabme_or_none (Rnr nr true) Command info place calm = inr refl
-sabme_or_none (Rr nr true) Answer info place calm = inr refl
-sabme_or_none (Rnr nr true) Answer info place calm = inr refl
-sabme_or_none (Rej nr true) Answer info place calm = inr refl
-sabme_or_none (Rr nr false) Answer info place calm = inr refl
-sabme_or_none (Rnr nr false) Answer info place calm = inr refl
-sabme_or_none (Rej nr false) Answer info place calm = inr refl
-sabme_or_none (Ua true) Answer info place calm = inr refl
-sabme_or_none (Dm true) Answer info place calm = cc
-sabme_or_none control Command info place calm = inr refl
-sabme_or_none control Answer info place calm = inr refl
+calm_request : (control : Control) (role : Role) (info : List ℕ) (place : ℕ) → is_release control ≡ false → IsSabme control role ⊎ (ask_of (kind_of role control info place) ≡ 0)
+calm_request control role info place calm = by_request (requested control role info place)
+  where
+    by_request : IsSabme control role ⊎ (IsDisc control role ⊎ (ask_of (kind_of role control info place) ≡ 0)) → IsSabme control role ⊎ (ask_of (kind_of role control info place) ≡ 0)
+    by_request (inl sabme) = inl sabme
+    by_request (inr (inl is)) = absurd (let never : is_release control ≡ true = ap is_release is.0 in cc)
+    by_request (inr (inr none)) = inr none
 
 open_is_kept : (e : End) → is_7_or_8 e.state ≡ true → IsKept e
 open_is_kept e opened = record {
@@ -230,16 +250,6 @@ module _ (station peer : Station) (frame : Flight) (rest outgoing : List Flight)
 
   -- ---- States 7 and 8.
 
-  in_7_by_sabme : (in_7_and_8 (Heard (Sabme true) Command) s).end.state ≡ MultipleFrameEstablished
-  unfolding in_7_and_8 state_to
-  in_7_by_sabme = refl
-
-  sabme_opens : (state : State) → is_7_or_8 state ≡ true → is_7_or_8 (end_step Whole (row Whole state (Heard (Sabme true) Command) s)).end.state ≡ true
-  unfolding row by_state multiple_frame_established timer_recovery
-  sabme_opens MultipleFrameEstablished opened = ap is_7_or_8 (ap (λ (v : Unsending). v.state) (end_closes c (in_7_and_8 (Heard (Sabme true) Command) s)).same ∙ in_7_by_sabme)
-  sabme_opens TimerRecovery opened = ap is_7_or_8 (ap (λ (v : Unsending). v.state) (end_closes c (in_7_and_8 (Heard (Sabme true) Command) s)).same ∙ in_7_by_sabme)
-  sabme_opens state opened = cc
-
   by_open : IsSettledEnd e → Both (party base station) (party its_base peer) (kinds outgoing) (kinds (frame ∷ rest)) → is_7_or_8 e.state ≡ true → Done (row Whole e.state (Heard frame.control frame.role) s)
   by_open settled both opened =
       let d = open_delivered station peer frame rest outgoing base its_base settled opened both in
@@ -247,13 +257,7 @@ module _ (station peer : Station) (frame : Flight) (rest outgoing : List Flight)
       let u = end_step Whole t in
       let same = d.1.1 in
       let was = none_before in
-      open_keeps u.end (story c u).line (still_open (sabme_or_none frame.control frame.role frame.info frame.place calm)) (omega (arith, same, was))
-    where
-      still_open : ((frame.control ≡ Sabme true) × (frame.role ≡ Command)) ⊎ (ask_of (kind frame) ≡ 0) → is_7_or_8 (end_step Whole (row Whole e.state (Heard frame.control frame.role) s)).end.state ≡ true
-      still_open (inl is) =
-          subst (λ control. is_7_or_8 (end_step Whole (row Whole e.state (Heard control frame.role) s)).end.state ≡ true) (sym is.0)
-          (subst (λ role. is_7_or_8 (end_step Whole (row Whole e.state (Heard (Sabme true) role) s)).end.state ≡ true) (sym is.1) (sabme_opens e.state opened))
-      still_open (inr none) = ((open_delivered station peer frame rest outgoing base its_base settled opened both).1.0 none).open_state
+      open_keeps u.end (story c u).line (open_by_request station peer frame rest outgoing base its_base settled opened both (calm_request frame.control frame.role frame.info frame.place calm)) (omega (arith, same, was))
 
   -- ---- All states.
 
@@ -278,7 +282,7 @@ module _ (station peer : Station) (frame : Flight) (rest outgoing : List Flight)
 
 -- ---- The world.
 
-module _ (N : ℕ) (x y : Station) (frame : Flight) (rest to_network : List Flight) (f : Facts N (at x y (frame ∷ rest) to_network)) (wanted : IsWanted (at x y (frame ∷ rest) to_network)) where
+module _ (N : ℕ) (x y : Station) (frame : Flight) (rest to_network : List Flight) (f : Facts N (at x y (frame ∷ rest) to_network)) (wanted : IsUndisturbed (at x y (frame ∷ rest) to_network)) where
   abbrev w : World
   w = at x y (frame ∷ rest) to_network
 
@@ -302,7 +306,7 @@ module _ (N : ℕ) (x y : Station) (frame : Flight) (rest to_network : List Flig
           let none : most_asks u.station.end.state ≡ 0 = open_asks_none u.station.end.state open_one.0 in
           none_released u.outgoing (omega (arith, one, none)) open_one.1 i.both.mine.exchange.clean
 
-  goes_on : (u : View) → IsInvariant (with_view side.User u w) → Kept u → IsWanted (with_view side.User u w)
+  goes_on : (u : View) → IsInvariant (with_view side.User u w) → Kept u → IsUndisturbed (with_view side.User u w)
   goes_on u i k = record {
     ends = record { mine = k.0.kept_on; its = wanted.ends.its; either = by_either wanted.ends.either };
     to_user = subst NoneReleased (sym k.1) wanted.to_user.1;
@@ -313,23 +317,23 @@ module _ (N : ℕ) (x y : Station) (frame : Flight) (rest to_network : List Flig
       by_either (inl mine) = inl (k.0.wanting mine)
       by_either (inr its) = inr its
 
-  user_keeps : IsWanted (world_after w (happens Whole (user_move Deliver) w))
+  user_keeps : IsUndisturbed (world_after w (happens Whole (user_move Deliver) w))
   user_keeps =
       let moved = moved_user Deliver w in
-      subst IsWanted (sym moved) (goes_on (left_by viewed (acts Whole side.User Deliver viewed)) (subst IsInvariant moved (each_move_preserves (user_move Deliver) w f.holds)) view_keeps)
+      subst IsUndisturbed (sym moved) (goes_on (left_by viewed (acts Whole side.User Deliver viewed)) (subst IsInvariant moved (each_move_preserves (user_move Deliver) w f.holds)) view_keeps)
 
-wanted_swapped : (w : World) → IsWanted w → IsWanted (swapped w)
-wanted_swapped w k = record { ends = record { mine = k.ends.its; its = k.ends.mine; either = turned k.ends.either }; to_user = k.to_network; to_network = k.to_user }
+undisturbed_swapped : (w : World) → IsUndisturbed w → IsUndisturbed (swapped w)
+undisturbed_swapped w k = record { ends = record { mine = k.ends.its; its = k.ends.mine; either = turned k.ends.either }; to_user = k.to_network; to_network = k.to_user }
 
-pub delivery_keeps : (N : ℕ) (s : Side) (w : World) → Facts N w → IsWanted w → is_ok (happens Whole (record { side = s; event = Deliver }) w) ≡ true → IsWanted (world_after w (happens Whole (record { side = s; event = Deliver }) w))
+pub delivery_keeps : (N : ℕ) (s : Side) (w : World) → Facts N w → IsUndisturbed w → is_ok (happens Whole (record { side = s; event = Deliver }) w) ≡ true → IsUndisturbed (world_after w (happens Whole (record { side = s; event = Deliver }) w))
 delivery_keeps N s w f k ok = by_side s w.user w.network w.to_user w.to_network f k ok
   where
-    by_side : (s : Side) (x y : Station) (to_user to_network : List Flight) → Facts N (at x y to_user to_network) → IsWanted (at x y to_user to_network) → is_ok (happens Whole (record { side = s; event = Deliver }) (at x y to_user to_network)) ≡ true
-        → IsWanted (world_after (at x y to_user to_network) (happens Whole (record { side = s; event = Deliver }) (at x y to_user to_network)))
+    by_side : (s : Side) (x y : Station) (to_user to_network : List Flight) → Facts N (at x y to_user to_network) → IsUndisturbed (at x y to_user to_network) → is_ok (happens Whole (record { side = s; event = Deliver }) (at x y to_user to_network)) ≡ true
+        → IsUndisturbed (world_after (at x y to_user to_network) (happens Whole (record { side = s; event = Deliver }) (at x y to_user to_network)))
     by_side side.User x y [] to_network f k ok = let none = none_there x y to_network in cc
     by_side side.User x y (frame ∷ rest) to_network f k ok = user_keeps N x y frame rest to_network f k
     by_side side.Network x y to_user [] f k ok = let none = none_there_too x y to_user in cc
     by_side side.Network x y to_user (frame ∷ rest) f k ok =
         let w = at x y to_user (frame ∷ rest) in
         let now = world_after (swapped w) (happens Whole (user_move Deliver) (swapped w)) in
-        subst IsWanted (sym (network_alike Whole Deliver w)) (wanted_swapped now (user_keeps N y x frame rest to_user (facts_swapped N w f) (wanted_swapped w k)))
+        subst IsUndisturbed (sym (network_alike Whole Deliver w)) (undisturbed_swapped now (user_keeps N y x frame rest to_user (facts_swapped N w f) (undisturbed_swapped w k)))

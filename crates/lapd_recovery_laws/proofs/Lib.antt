@@ -6,6 +6,7 @@ pub mod ClosedDelivers
 pub mod ClosedSteps
 pub mod CountedMoves
 pub mod DespiteLosses
+pub mod DiscSent
 pub mod EndSends
 pub mod Establishes
 pub mod EveryWorld

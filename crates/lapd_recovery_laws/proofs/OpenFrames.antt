@@ -1,5 +1,5 @@
 -- Any frame is delivered to an end in state 7 or 8.
-use Rattle.std.proofs.Common.{◌≡◌, inl, inr, ℕ, ◌+◌, ◌-◌, ◌*◌, ◌≤◌, ◌==◌, nat_lt, if◌then◌else◌, Bool, true, false, List, [], ◌∷◌, ◌++◌, length, option_map, append_assoc, append-nil, refl, sym, ap, subst, ◌∙◌, arith}
+use Rattle.std.proofs.Common.{◌≡◌, ◌⊎◌, inl, inr, ℕ, ◌+◌, ◌-◌, ◌*◌, ◌≤◌, ◌==◌, nat_lt, if◌then◌else◌, Bool, true, false, List, [], ◌∷◌, ◌++◌, length, option_map, append_assoc, append-nil, refl, sym, ap, subst, ◌∙◌, arith}
 use Rattle.std.proofs.lemmas.Bool.{eqb-true}
 use Rattle.lapd_timers.specs.declared.timer.Timer.TheVariants.{T200, T203}
 use Rattle.lapd_frame.specs.declared.Role.{Role}
@@ -81,6 +81,29 @@ asks_closed state some = refl
 pub unit_kind : (control : Control) (role : Role) (octets : List ℕ) (place : ℕ) → is_unit_data control role ≡ true → kind_of role control octets place ≡ Unnumbered
 unit_kind (Ui p) Command octets place is = refl
 unit_kind control role octets place is = cc
+
+-- a SABME, a DISC, or no request
+abbrev pub IsSabme : Control → Role → Type 0
+IsSabme control role = (control ≡ Sabme true) × (role ≡ Command)
+
+abbrev pub IsDisc : Control → Role → Type 0
+IsDisc control role = (control ≡ Disc true) × (role ≡ Command)
+
+pub requested : (control : Control) (role : Role) (info : List ℕ) (place : ℕ) → IsSabme control role ⊎ (IsDisc control role ⊎ (ask_of (kind_of role control info place) ≡ 0))
+requested (Sabme true) Command info place = inl (refl, refl)
+requested (Disc true) Command info place = inr (inl (refl, refl))
+requested (Rr nr true) Command info place = inr (inr refl)
+requested (Rnr nr true) Command info place = inr (inr refl)
+requested (Rr nr true) Answer info place = inr (inr refl)
+requested (Rnr nr true) Answer info place = inr (inr refl)
+requested (Rej nr true) Answer info place = inr (inr refl)
+requested (Rr nr false) Answer info place = inr (inr refl)
+requested (Rnr nr false) Answer info place = inr (inr refl)
+requested (Rej nr false) Answer info place = inr (inr refl)
+requested (Ua true) Answer info place = inr (inr refl)
+requested (Dm true) Answer info place = inr (inr refl)
+requested control Command info place = inr (inr refl)
+requested control Answer info place = inr (inr refl)
 
 -- DM frames
 abbrev pub refuse_of : Kind → ℕ
@@ -417,3 +440,49 @@ module _ (station peer : Station) (frame : Flight) (rest outgoing : List Flight)
   open_delivered = by_test (λ (t : StepState). Done (kind frame) t) (is_unit_data frame.control frame.role) _ _
       (λ unit. subst (λ k. Done k (put UnitUp s)) (sym (unit_kind frame.control frame.role frame.info frame.place unit)) by_unit)
       (λ no_unit. by_open_state e.state frame.control frame.role refl opened no_unit arrived)
+
+  -- ---- The state after any frame.
+
+  in_7_by_sabme : (in_7_and_8 (Heard (Sabme true) Command) s).end.state ≡ MultipleFrameEstablished
+  unfolding in_7_and_8 state_to
+  in_7_by_sabme = refl
+
+  in_4_by_disc : (in_7_and_8 (Heard (Disc true) Command) s).end.state ≡ TeiAssigned
+  unfolding in_7_and_8 state_to
+  in_4_by_disc = refl
+
+  abbrev state_after : State → Control → Role → State
+  state_after state control role = (end_step Whole (row Whole state (Heard control role) s)).end.state
+
+  by_sabme_7 : (state : State) → is_7_or_8 state ≡ true → state_after state (Sabme true) Command ≡ MultipleFrameEstablished
+  unfolding row by_state multiple_frame_established timer_recovery
+  by_sabme_7 MultipleFrameEstablished o = ap (λ (v : Unsending). v.state) (end_closes c (in_7_and_8 (Heard (Sabme true) Command) s)).same ∙ in_7_by_sabme
+  by_sabme_7 TimerRecovery o = ap (λ (v : Unsending). v.state) (end_closes c (in_7_and_8 (Heard (Sabme true) Command) s)).same ∙ in_7_by_sabme
+  by_sabme_7 state o = cc
+
+  by_disc_4 : (state : State) → is_7_or_8 state ≡ true → state_after state (Disc true) Command ≡ TeiAssigned
+  unfolding row by_state multiple_frame_established timer_recovery
+  by_disc_4 MultipleFrameEstablished o = ap (λ (v : Unsending). v.state) (end_closes c (in_7_and_8 (Heard (Disc true) Command) s)).same ∙ in_4_by_disc
+  by_disc_4 TimerRecovery o = ap (λ (v : Unsending). v.state) (end_closes c (in_7_and_8 (Heard (Disc true) Command) s)).same ∙ in_4_by_disc
+  by_disc_4 state o = cc
+
+  pub open_by_request : IsSabme frame.control frame.role ⊎ (ask_of (kind frame) ≡ 0) → is_7_or_8 (state_after e.state frame.control frame.role) ≡ true
+  open_by_request (inl is) =
+      subst (λ control. is_7_or_8 (state_after e.state control frame.role) ≡ true) (sym is.0)
+      (subst (λ role. is_7_or_8 (state_after e.state (Sabme true) role) ≡ true) (sym is.1) (ap is_7_or_8 (by_sabme_7 e.state opened)))
+  open_by_request (inr none) = (open_delivered.1.0 none).open_state
+
+  -- it does not enter state 5
+  pub never_5 : state_after e.state frame.control frame.role ≡ AwaitingEstablishment → ⊥
+  never_5 in_5 = by_request (requested frame.control frame.role frame.info frame.place)
+    where
+      not_open : is_7_or_8 (state_after e.state frame.control frame.role) ≡ true → ⊥
+      not_open o = let never : is_7_or_8 (state_after e.state frame.control frame.role) ≡ false = ap is_7_or_8 in_5 in cc
+
+      by_request : IsSabme frame.control frame.role ⊎ (IsDisc frame.control frame.role ⊎ (ask_of (kind frame) ≡ 0)) → ⊥
+      by_request (inl sabme) = not_open (open_by_request (inl sabme))
+      by_request (inr (inl is)) =
+          let in_4 : state_after e.state frame.control frame.role ≡ TeiAssigned = subst (λ control. state_after e.state control frame.role ≡ TeiAssigned) (sym is.0) (subst (λ role. state_after e.state (Disc true) role ≡ TeiAssigned) (sym is.1) (by_disc_4 e.state opened)) in
+          let never : TeiAssigned ≡ AwaitingEstablishment = sym in_4 ∙ in_5 in
+          cc
+      by_request (inr (inr none)) = not_open (open_by_request (inr none))

@@ -20,11 +20,12 @@ use Rattle.lapd_recovery_laws.specs.Agreed.{AreLevel}
 use Rattle.lapd_recovery_laws.specs.Deliveries.{most_deliveries}
 use Rattle.lapd_recovery_laws.specs.EveryWorld.{IsFreeWorld}
 use Rattle.lapd_recovery_laws.specs.Own.{is_due, AreOwn, Rests}
-use Rattle.lapd_recovery_laws.specs.WantedLine.{IsWanting, is_release, NoneReleased, IsWanted}
+use Rattle.lapd_recovery_laws.specs.WantedLine.{IsWanting, is_dm, NoneRefused, IsWanted}
 use Rattle.lapd_recovery_laws.proofs.AfterOutage.{own_moves_reach, level_at_rest, stays_up_on_tags, wanting_by_tags}
 use Rattle.lapd_recovery_laws.proofs.AnyOrder.{rests_still}
+use Rattle.lapd_recovery_laws.proofs.DiscSent.{no_disc_after_run}
 use Rattle.lapd_recovery_laws.proofs.EveryWorld.{Begins, emptied_at, delivered, free_world_by_tags}
-use Rattle.lapd_recovery_laws.proofs.KeepsWanted.{delivery_keeps}
+use Rattle.lapd_recovery_laws.proofs.KeepsWanted.{IsUndisturbed, undisturbed, delivery_keeps}
 use Rattle.lapd_recovery_laws.proofs.Lost.{at}
 use Rattle.lapd_recovery_laws.proofs.RunsEmpty as runs
 
@@ -33,7 +34,7 @@ module _ (N : ℕ) (some : 1 ≤ N) where
   Rises moves w = AreOwn Whole moves w → Rests Whole (run Whole moves w) → AreLevel (run Whole moves w).user.end (run Whole moves w).network.end
 
   -- the line is empty
-  from_empty : (n : ℕ) (x y : Station) (moves : List Move) → Begins N some n (at x y [] []) → IsWanted (at x y [] []) → Rises moves (at x y [] [])
+  from_empty : (n : ℕ) (x y : Station) (moves : List Move) → Begins N some n (at x y [] []) → IsUndisturbed (at x y [] []) → Rises moves (at x y [] [])
   from_empty n x y moves b k own rests =
       let w = at x y [] [] in
       let e = emptied_at N some true n x y b (λ _. k.ends) in
@@ -43,25 +44,25 @@ module _ (N : ℕ) (some : 1 ≤ N) where
 
   -- the other moves
   abbrev Rest : List Move → Type 0
-  Rest moves = (n : ℕ) (w : World) → Begins N some n w → IsWanted w → Rises moves w
+  Rest moves = (n : ℕ) (w : World) → Begins N some n w → IsUndisturbed w → Rises moves w
 
   -- while a frame is in transit, only deliveries are due
-  first_delivered : (n : ℕ) (s : Side) (w : World) (moves : List Move) → Begins N some n w → IsWanted w → Rest moves → is_ok (happens Whole (record { side = s; event = Deliver }) w) ≡ true → Rises moves (world_after w (happens Whole (record { side = s; event = Deliver }) w))
+  first_delivered : (n : ℕ) (s : Side) (w : World) (moves : List Move) → Begins N some n w → IsUndisturbed w → Rest moves → is_ok (happens Whole (record { side = s; event = Deliver }) w) ≡ true → Rises moves (world_after w (happens Whole (record { side = s; event = Deliver }) w))
   first_delivered n s w moves b k rest ok = rest (n - 1) (world_after w (happens Whole (record { side = s; event = Deliver }) w)) (delivered N some n s w b ok) (delivery_keeps N s w b.facts k ok)
 
-  first_to_user : (n : ℕ) (s : Side) (event : PairEvent) (x y : Station) (frame : Flight) (arriving to_network : List Flight) (moves : List Move) → Begins N some n (at x y (frame ∷ arriving) to_network) → IsWanted (at x y (frame ∷ arriving) to_network) → Rest moves
+  first_to_user : (n : ℕ) (s : Side) (event : PairEvent) (x y : Station) (frame : Flight) (arriving to_network : List Flight) (moves : List Move) → Begins N some n (at x y (frame ∷ arriving) to_network) → IsUndisturbed (at x y (frame ∷ arriving) to_network) → Rest moves
       → is_due event (at x y (frame ∷ arriving) to_network) ≡ true → is_ok (happens Whole (record { side = s; event = event }) (at x y (frame ∷ arriving) to_network)) ≡ true
       → Rises moves (world_after (at x y (frame ∷ arriving) to_network) (happens Whole (record { side = s; event = event }) (at x y (frame ∷ arriving) to_network)))
   first_to_user n s Deliver x y frame arriving to_network moves b k rest due ok = first_delivered n s (at x y (frame ∷ arriving) to_network) moves b k rest ok
   first_to_user n s event x y frame arriving to_network moves b k rest due ok = cc
 
-  first_to_network : (n : ℕ) (s : Side) (event : PairEvent) (x y : Station) (frame : Flight) (arriving : List Flight) (moves : List Move) → Begins N some n (at x y [] (frame ∷ arriving)) → IsWanted (at x y [] (frame ∷ arriving)) → Rest moves
+  first_to_network : (n : ℕ) (s : Side) (event : PairEvent) (x y : Station) (frame : Flight) (arriving : List Flight) (moves : List Move) → Begins N some n (at x y [] (frame ∷ arriving)) → IsUndisturbed (at x y [] (frame ∷ arriving)) → Rest moves
       → is_due event (at x y [] (frame ∷ arriving)) ≡ true → is_ok (happens Whole (record { side = s; event = event }) (at x y [] (frame ∷ arriving))) ≡ true
       → Rises moves (world_after (at x y [] (frame ∷ arriving)) (happens Whole (record { side = s; event = event }) (at x y [] (frame ∷ arriving))))
   first_to_network n s Deliver x y frame arriving moves b k rest due ok = first_delivered n s (at x y [] (frame ∷ arriving)) moves b k rest ok
   first_to_network n s event x y frame arriving moves b k rest due ok = cc
 
-  rises : (moves : List Move) (n : ℕ) (x y : Station) (to_user to_network : List Flight) → Begins N some n (at x y to_user to_network) → IsWanted (at x y to_user to_network) → Rises moves (at x y to_user to_network)
+  rises : (moves : List Move) (n : ℕ) (x y : Station) (to_user to_network : List Flight) → Begins N some n (at x y to_user to_network) → IsUndisturbed (at x y to_user to_network) → Rises moves (at x y to_user to_network)
   rises moves n x y [] [] b k own rests = from_empty n x y moves b k own rests
   rises [] n x y (frame ∷ arriving) to_network b k own rests = let still = rests_still x y (frame ∷ arriving) to_network rests in let none = still.to_user in cc
   rises [] n x y [] (frame ∷ arriving) b k own rests = let still = rests_still x y [] (frame ∷ arriving) rests in let none = still.to_network in cc
@@ -70,20 +71,20 @@ module _ (N : ℕ) (some : 1 ≤ N) where
 
 -- ---- After every run, on whole numbers and on tags.
 
-release_by_tags : (control : Control) → is_release (tag_control control) ≡ is_release control
+dm_by_tags : (control : Control) → is_dm (tag_control control) ≡ is_dm control
 unfolding tag_control
-release_by_tags (I ns nr p) = refl
-release_by_tags (Rr nr pf) = refl
-release_by_tags (Rnr nr pf) = refl
-release_by_tags (Rej nr pf) = refl
-release_by_tags control = refl
+dm_by_tags (I ns nr p) = refl
+dm_by_tags (Rr nr pf) = refl
+dm_by_tags (Rnr nr pf) = refl
+dm_by_tags (Rej nr pf) = refl
+dm_by_tags control = refl
 
-released_by_tags : (fs : List Flight) → NoneReleased (map tag_flight fs) → NoneReleased fs
-released_by_tags [] calm = tt
-released_by_tags (f ∷ fs) calm = (sym (release_by_tags f.control) ∙ calm.0, released_by_tags fs calm.1)
+refused_by_tags : (fs : List Flight) → NoneRefused (map tag_flight fs) → NoneRefused fs
+refused_by_tags [] calm = tt
+refused_by_tags (f ∷ fs) calm = (sym (dm_by_tags f.control) ∙ calm.0, refused_by_tags fs calm.1)
 
 wanted_by_tags : (w : World) → IsWanted (tag_world w) → IsWanted w
-wanted_by_tags w k = record { ends = wanting_by_tags w.user.end w.network.end k.ends; to_user = released_by_tags w.to_user k.to_user; to_network = released_by_tags w.to_network k.to_network }
+wanted_by_tags w k = record { ends = wanting_by_tags w.user.end w.network.end k.ends; to_user = refused_by_tags w.to_user k.to_user; to_network = refused_by_tags w.to_network k.to_network }
 
 module _ (N : ℕ) (some : 1 ≤ N) (user network : Parameters) (user_small : user.k ≤ 127) (network_small : network.k ≤ 127) (user_some : 1 ≤ user.k) (network_some : 1 ≤ network.k) (moves : List Move) where
   abbrev reached : World
@@ -104,7 +105,8 @@ module _ (N : ℕ) (some : 1 ≤ N) (user network : Parameters) (user_small : us
         user_free = a.user_free;
         network_free = a.network_free;
       } in
-      rises N some own_moves (most_deliveries reached) reached.user reached.network reached.to_user reached.to_network b k own rests
+      rises N some own_moves (most_deliveries reached) reached.user reached.network reached.to_user reached.to_network b
+      (undisturbed reached k (no_disc_after_run user network user_small network_small user_some network_some moves k.ends.mine.not_releasing k.ends.its.not_releasing)) own rests
 
   comes_up_by : (r : Reading) → IsFreeWorld N (run r moves (new_world user network)) → IsWanted (run r moves (new_world user network)) → StaysUp r (run r moves (new_world user network))
   comes_up_by Whole a k = up_whole a k
@@ -120,8 +122,8 @@ every_wanted_line_comes_up r n200 some user network u n us ns moves a k = comes_
 held_is_wanted : (N : ℕ) (w : World) → IsAfterOutage N w → IsHeldUp w → IsWanted w
 held_is_wanted N w a h = record {
   ends = record { mine = h.user; its = h.network; either = by_either h.open_state };
-  to_user = subst NoneReleased (sym a.to_user) tt;
-  to_network = subst NoneReleased (sym a.to_network) tt;
+  to_user = subst NoneRefused (sym a.to_user) tt;
+  to_network = subst NoneRefused (sym a.to_network) tt;
 }
   where
     by_either : (is_7_or_8 w.user.end.state ≡ true) ⊎ (is_7_or_8 w.network.end.state ≡ true) → IsWanting w.user.end ⊎ IsWanting w.network.end

@@ -1,7 +1,7 @@
 -- A line that one end wants and neither releases, with frames in transit or not.
 use Rattle.std.specs.Prelude.{◌≡◌, ◌⊎◌, ◌<◌, Bool, true, false, List, [], ◌∷◌}
 use Rattle.lapd_frame.specs.declared.Control.{Control}
-use Rattle.lapd_frame.specs.declared.Control.TheVariants.{Disc, Dm}
+use Rattle.lapd_frame.specs.declared.Control.TheVariants.{Dm}
 use Rattle.lapd_link_definition.specs.declared.state.State.TheVariants.{AwaitingEstablishment}
 use Rattle.lapd_link_definition.specs.EndOfStep.{is_7_or_8}
 use Rattle.lapd_link_definition.specs.End.{End}
@@ -20,19 +20,17 @@ pub record AreWanting (x y : End) : Type 0 where
   pub its : IsKept y
   pub either : IsWanting x ⊎ IsWanting y
 
--- DISC and DM
-abbrev pub is_release : Control → Bool
-is_release (Disc p) = true
-is_release (Dm f) = true
-is_release control = false
+abbrev pub is_dm : Control → Bool
+is_dm (Dm f) = true
+is_dm control = false
 
--- none of these frames is a DISC or a DM
-abbrev pub NoneReleased : List Flight → Type 0
-NoneReleased [] = Unit {0}
-NoneReleased (frame ∷ frames) = (is_release frame.control ≡ false) × NoneReleased frames
+-- none of these frames is a DM
+abbrev pub NoneRefused : List Flight → Type 0
+NoneRefused [] = Unit {0}
+NoneRefused (frame ∷ frames) = (is_dm frame.control ≡ false) × NoneRefused frames
 
--- An end wants the link, neither end releases it, and no DISC or DM is in transit.
+-- An end wants the link, neither end releases it, and no DM is in transit.
 pub record IsWanted (w : World) : Type 0 where
   pub ends : AreWanting w.user.end w.network.end
-  pub to_user : NoneReleased w.to_user
-  pub to_network : NoneReleased w.to_network
+  pub to_user : NoneRefused w.to_user
+  pub to_network : NoneRefused w.to_network

@@ -241,7 +241,7 @@ pub fn every_agreement_is_kept()
 /// A link that one end wants and neither end releases comes up, with frames in transit or not: when
 /// no own move is possible any more, both ends are in state 7 with equal numbers. An end wants the
 /// link in states 7 and 8, and in state 5 with a retransmission left. No end is in state 6 or has a
-/// release pending, and no DISC or DM is in transit. The other premises are those of
+/// release pending, and no DM is in transit. The other premises are those of
 /// [`every_world_comes_back`], which bounds the moves.
 pub fn every_wanted_line_comes_up()
     ensures { (r : Reading) (n200 : ℕ) → 1 ≤ n200 → (user network : Parameters)
