@@ -174,6 +174,12 @@ def why_build(made, sources, now):
         return "was built from unknown sources"
 
 
+def need_rt():
+    """Fails if the kit's rt is not on the PATH."""
+    if not shutil.which("rt"):
+        raise Failed("rt, of the kit, is not on the PATH")
+
+
 def rt(crate, *words, **how):
     """Starts rt in the crate's folder, without input. Its output and its errors are one text."""
     how |= {"stdin": subprocess.DEVNULL, "stdout": subprocess.PIPE, "stderr": subprocess.STDOUT}
@@ -200,6 +206,7 @@ def compiled(crate, flags, words, to, top=TOP):
     """Compiles a crate from source, without a proof. `rt try` compiles it and runs it, with these
     words or, if they are `None`, each of its tests, and while it runs, its program is copied to
     this file. Returns the end of what rt printed if it ended before, else `None`."""
+    need_rt()
     with tempfile.TemporaryDirectory(prefix="lapd-try-") as room:
         line = ["rt", "try", *flags, "--seconds", "900", *(["--", *words] if words else [])]
         how = {"stdin": subprocess.DEVNULL, "stdout": subprocess.PIPE, "stderr": subprocess.STDOUT}
