@@ -24,16 +24,17 @@
  * A program must keep these rules:
  *   - A lapd_side is initialized with LAPD_SIDE_INIT. After that only these functions access it,
  *     and it is never copied.
- *   - Each pointer points to objects of its type, as many as the size beside it says, and is not
- *     null, even if that size is 0. Memory that a call writes does not overlap any other argument.
- *   - Only one call at a time uses a side. Calls may be made by several threads if locks, or the
- *     start or join of a thread, put them in order. Sides share nothing. No call is made from a
- *     signal handler.
+ *   - Each pointer points to objects of its type, as many as the size beside it says. It may be
+ *     NULL if that size is 0. Memory that a call writes does not overlap any other argument.
+ *   - Only one call at a time uses a side. This holds for calls with a `const lapd_side *` too, which
+ *     leave the side unchanged. Calls may be made by several threads if locks, or the start or join
+ *     of a thread, put them in order. Sides share nothing. No call is made from a signal handler.
  * If it does, every call is safe for all numbers, octets and moments: it returns, does not block or
- * call back, and writes nothing outside the buffers. Three things are trusted for this, not proved:
- * the stack suffices; the C compiler and the library agree on the calling convention; and malloc,
- * realloc and free, or the heap of your own in their place, do what they promise. For a handle that
- * owns no side, new or freed, a call returns LAPD_NO_SIDE, unless a number is out of range.
+ * call back, and writes nothing outside the buffers. Four things are trusted for this, not proved:
+ * the stack suffices; the C compiler and the library agree on the calling convention; a call
+ * accesses nothing at NULL if the size beside it is 0, which is tested; and malloc, realloc and
+ * free, or the heap of your own in their place, do what they promise. For a handle that owns no
+ * side, new or freed, a call returns LAPD_NO_SIDE, unless a number is out of range.
  *
  * A side owns its memory, and lapd_side_free frees all of it. A side keeps no pointer that is
  * passed in, so buffers and settings need to exist only during the call. No result has to be
@@ -272,15 +273,15 @@ uint32_t lapd_side_tick(lapd_side *side, uint64_t now, uint8_t *expired);
 /* The next moment at which lapd_side_tick has something to do. LAPD_NEVER if no timer runs or the
  * handle owns no side. Only calls that pass something in change it. Wait until then, or until a
  * frame arrives; then take every frame that has arrived, and only then call lapd_side_tick. */
-uint32_t lapd_side_deadline(lapd_side *side, uint64_t *moment);
+uint32_t lapd_side_deadline(const lapd_side *side, uint64_t *moment);
 
 /* The number of frames that lapd_side_take has discarded since the side was created. It stops at
  * UINT64_MAX, and is 0 if the handle owns no side. */
-uint32_t lapd_side_discarded(lapd_side *side, uint64_t *count);
+uint32_t lapd_side_discarded(const lapd_side *side, uint64_t *count);
 
 /* The state of the link with a SAPI, 0, 16 or 63, and a TEI, 0 to 127. A user side uses only the
  * SAPI, as for requests. LAPD_OUT_OF_RANGE, LAPD_NO_SIDE, LAPD_NO_LINK: all of *state is 0. */
-uint32_t lapd_side_state(lapd_side *side, uint8_t sapi, uint8_t tei, lapd_link_state *state);
+uint32_t lapd_side_state(const lapd_side *side, uint8_t sapi, uint8_t tei, lapd_link_state *state);
 
 /* Begins to count the I frames, REJ, RNR and reports of each link, from 0; if the side counts
  * already, it counts from 0 again. It allocates about 28000 octets, until the side is freed. A new
@@ -291,12 +292,12 @@ uint32_t lapd_side_count(lapd_side *side);
  * too: after it lost its TEI, the counters can still be read. A call counts its frames and reports
  * when it is made, even if they are not fetched yet. LAPD_OUT_OF_RANGE, LAPD_NO_SIDE,
  * LAPD_NOT_COUNTING: all of *counters is 0. */
-uint32_t lapd_side_counters(lapd_side *side, uint8_t sapi, uint8_t tei, lapd_link_counters *counters);
+uint32_t lapd_side_counters(const lapd_side *side, uint8_t sapi, uint8_t tei, lapd_link_counters *counters);
 
 /* The state of a user side's terminal (Q.921 Annex B): 1 TEI unassigned, 2 assign awaiting TEI,
  * 3 establish awaiting TEI, 4 TEI assigned; and its TEI in state 4, else LAPD_NO_TEI. For a network
  * side, and if the handle owns no side, they are 0 and LAPD_NO_TEI. */
-uint32_t lapd_side_tei(lapd_side *side, uint8_t *state, uint8_t *tei);
+uint32_t lapd_side_tei(const lapd_side *side, uint8_t *state, uint8_t *tei);
 
 /* Fetches the next frame to send or, if none is left, the next primitive, and its octets into the
  * beginning of the buffer. The kind of a frame is LAPD_FRAME, and LAPD_NOTHING if neither is left.

@@ -2,7 +2,7 @@
 """check_header.py CRATE LAPD.h ARCHIVE: checks that the header agrees with the crate's exports.
 
 The header declares each export with the C types and names that correspond to its Rattle parameters,
-in order. Each struct has the fields of its Rattle struct, in order, and each code and kind has its
+in order. A handle is const exactly if the contract says that the side is unchanged. Each struct has the fields of its Rattle struct, in order, and each code and kind has its
 number and its name in the crate's definitions. The version is one. The archive exports only these
 functions, and requires only memcpy, similar functions and the heap. Exit status 0 or 1."""
 
@@ -23,6 +23,8 @@ FILES = {
 }
 # Parameters with another name in C, because the crate's name would be less clear.
 NAMES = {"handle": "side", "known": "teis", "fixed": "tei", "delivered": "primitive"}
+# The clauses of the crate by which a call leaves the side unchanged.
+QUERIES = r"Returns(?:Deadline|Discarded|Terminal|StateOf|CountersThrough)\b"
 # The symbols that the archive may require of the program that it is linked into.
 ASKED = {"memcpy", "memmove", "memset", "memcmp", "bcmp", "malloc", "realloc", "free"}
 HEAP = {"rattle_alloc", "rattle_realloc", "rattle_dealloc"}
@@ -32,8 +34,9 @@ def c_type(rattle):
     return {**NUMBERS, **STRUCTS}[rattle]
 
 
-def crossed(name, rattle):
-    """The C parameters for a parameter, each as (type, name); the name is None if any is accepted."""
+def crossed(name, rattle, is_query):
+    """The C parameters for a parameter of a query, or of another call, each as (type, name); the name
+    is None if any is accepted."""
     if rattle == "Global":
         return []  # zero-sized: not passed
     name = NAMES.get(name, name)
@@ -42,17 +45,19 @@ def crossed(name, rattle):
         return [(("" if found[1] else "const ") + c_type(found[2]) + " *", None), ("size_t", None)]
     found = re.fullmatch(r"&(mut )?(\w+)", rattle)
     if found:
-        return [(("" if found[1] else "const ") + c_type(found[2]) + " *", None if found[2] in NUMBERS else name)]
+        is_const = not found[1] or found[2] == "Handle" and is_query
+        return [(("const " if is_const else "") + c_type(found[2]) + " *", None if found[2] in NUMBERS else name)]
     return [(c_type(rattle), name)]
 
 
 def exports_of(source):
     exports = {}
-    for name, parameters, result in re.findall(
-        r'pub extern "C" fn (\w+)\((.*?)\)(?:\s*->\s*(\w+))?\s*\n\s*(?:ensures|requires|where|\{)', source, re.S
+    for name, parameters, result, clauses in re.findall(
+        r'pub extern "C" fn (\w+)\((.*?)\)(?:\s*->\s*(\w+))?(\s*\n\s*(?:ensures|requires|where|\{).*?)\n\{', source, re.S
     ):
+        is_query = re.search(QUERIES, clauses) is not None
         found = re.findall(r"(\w+):\s*(&(?:mut )?\[\w+\]|&?(?:mut )?\w+)", parameters)
-        exports[name] = (c_type(result) if result else "void", [p for n, t in found for p in crossed(n, t)])
+        exports[name] = (c_type(result) if result else "void", [p for n, t in found for p in crossed(n, t, is_query)])
     return exports
 
 

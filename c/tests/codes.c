@@ -181,6 +181,38 @@ static void a_link(lapd_side *side)
 	WANT(link.own_busy == 1 && link.peer_busy == 0 && link.rejecting == 0);
 }
 
+/* A pointer beside the size 0 may be NULL. */
+static void nothing_at_null(lapd_side *side)
+{
+	const lapd_settings basic = LAPD_BASIC;
+	const uint8_t tei = 64;
+	lapd_primitive item;
+	size_t length = 1, left = 1;
+	uint64_t count = 0;
+
+	DONE(lapd_side_network(side, &basic, NULL, 0));
+	DONE(lapd_side_take(side, NULL, 0, 0));
+	DONE(lapd_side_discarded(side, &count));
+	WANT(count == 1);
+	DONE(lapd_side_unit(side, 0, LAPD_GROUP_TEI, NULL, 0, 0));
+	WANT_CODE(lapd_side_frame(side, NULL, 0, &length), LAPD_OUT_OF_RANGE);
+	WANT(length == 3);
+	WANT_CODE(lapd_side_next(side, &item, NULL, 0, &left), LAPD_OUT_OF_RANGE);
+	DONE(lapd_side_next(side, &item, buffer, sizeof buffer, &left));
+	DONE(lapd_side_next(side, &item, NULL, 0, &left));
+	WANT(item.kind == LAPD_NOTHING && left == 0);
+	DONE(lapd_side_primitive(side, &item, NULL, 0));
+	DONE(lapd_side_network(side, &basic, &tei, 1));
+	DONE(lapd_side_take(side, (const uint8_t *)"\x00\x81\x7f", 3, 0));
+	a_frame(side, "\x00\x81\x73", 3, 7, 0, 0, 0, 0);
+	DONE(lapd_side_give(side, 0, 64, NULL, 0, 0));
+	a_frame(side, "\x02\x81\x00\x00", 4, 7, 1, 0, 0, 1);
+	WANT_CODE(lapd_frame_text(NULL, 0, 0, NULL, 0, &length), LAPD_OUT_OF_RANGE);
+	WANT(length == strlen("U>N F1 TooShort"));
+	WANT_CODE(lapd_code_name(0, NULL, 0, &length), LAPD_OUT_OF_RANGE);
+	WANT_CODE(lapd_kind_name(0, NULL, 0, &length), LAPD_OUT_OF_RANGE);
+}
+
 /* Sends unit data to all terminals, with a number as its octets: one frame. */
 static void a_unit(lapd_side *side, unsigned number)
 {
@@ -511,6 +543,7 @@ int main(void)
 	no_side(&side);
 	ranges(&side);
 	no_side(&side);
+	nothing_at_null(&side);
 	a_link(&side);
 	a_pile(&side, 1024);
 	a_pile(&side, 1);
@@ -527,6 +560,6 @@ int main(void)
 	a_text("\x02\x81\x01\x01", 4, 1, "N>U SAPI 0 TEI 64 C RR N(R)=0 P=1");
 	a_text("\x00\x81\x02\x04\x08\x02", 6, 0, "U>N SAPI 0 TEI 64 C I N(S)=1 N(R)=2 P=0 info=0802");
 	a_text("\x04\x81\x7f", 3, 0, "U>N F3 SapiNotServed 04817f");
-	printf("codes: of handles, buffers, settings, links, checks, durations, terminals, counters, names and text\n");
+	printf("codes: of handles, buffers, NULL, settings, links, checks, durations, terminals, counters, names and text\n");
 	return 0;
 }
