@@ -62,8 +62,9 @@ def stopped(number, _frame):
 def end_children():
     """Ends the programs that this tool runs."""
     for path in glob.glob("/proc/self/task/*/children"):
-        with open(path, encoding="utf-8") as file:
-            for process in file.read().split():
+        # The task, or the program, may have ended meanwhile.
+        with contextlib.suppress(FileNotFoundError, ProcessLookupError):
+            for process in text_at(path).split():
                 with contextlib.suppress(ProcessLookupError):
                     os.kill(int(process), signal.SIGTERM)
 
@@ -115,10 +116,15 @@ def clock(seconds):
     return f"{int(seconds) // 60}:{int(seconds) % 60:02}"
 
 
+def text_at(path):
+    """The text of a file."""
+    with open(path, encoding="utf-8") as file:
+        return file.read()
+
+
 def text_of(path):
     """The text of a file of the repository."""
-    with open(f"{TOP}/{path}", encoding="utf-8") as file:
-        return file.read()
+    return text_at(f"{TOP}/{path}")
 
 
 def printed(*words, **how):
