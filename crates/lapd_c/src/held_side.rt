@@ -4,7 +4,7 @@ ghost use Rattle.std.specs.Prelude.{◌≡◌, ◌<◌, ◌≤◌, [], length, o
 ghost use Rattle.lapd_sides_links.specs.Effects.{no_effects};
 ghost use Rattle.lapd_sides.specs.Either.{Takes, Answers, Gives};
 ghost use Rattle.lapd_sides.specs.Queued.{LacksRoom};
-ghost use Rattle.lapd_c.specs.Calls.{or_never, items_waiting, is_full, Asks, BeginsCounting, Checks, HasSetTimers, IsReady, Ticks, TicksReady, ReturnsCounters, ReturnsDeadline, ReturnsDiscarded, ReturnsState, ReturnsTerminal, FetchesFrame, FetchesItem, FetchesNext, FetchesPrimitive, overwritten};
+ghost use Rattle.lapd_c.specs.Calls.{or_never, waiting, items_waiting, is_full, Asks, BeginsCounting, Checks, HasSetTimers, IsReady, Ticks, TicksReady, ReturnsCounters, ReturnsDeadline, ReturnsDiscarded, ReturnsState, ReturnsTerminal, FetchesFrame, FetchesItem, FetchesNext, FetchesPrimitive, overwritten};
 ghost use Rattle.lapd_c.specs.SideQueries.{HasCheck, HasTerminal, link_meant, meant, or_no_tei, state_of_terminal, tei_of_terminal, with_own_tei};
 
 use crate::codes::{
@@ -345,13 +345,28 @@ impl HeldSide {
 
     /// Fetches the first waiting primitive, and copies its octets to the beginning of the buffer.
     /// If the buffer is too small for them, the primitive still waits.
+    // Inlined, so that a program that asks until none is left saves no registers the last time.
+    #[inline(always)]
     pub(crate) fn next_primitive(&mut self, delivered: &mut FlatPrimitive, buffer: &mut [u8]) -> u32
         ensures { FetchesPrimitive self.old self.new result delivered.new
             (record { before = buffer.old; after = buffer.new }) }
     {
-        let Some(primitive) = self.queued.first_primitive() else {
+        if self.queued.first_primitive().is_none() {
             *delivered = FlatPrimitive::nothing();
             return DONE;
+        }
+        self.fetch_primitive(delivered, buffer)
+    }
+
+    /// Like `next_primitive`, if there is one.
+    #[inline(never)]
+    fn fetch_primitive(&mut self, delivered: &mut FlatPrimitive, buffer: &mut [u8]) -> u32
+        requires waits { 0 < length (waiting self.old).primitives }
+        ensures { FetchesPrimitive self.old self.new result delivered.new
+            (record { before = buffer.old; after = buffer.new }) }
+    {
+        let Some(primitive) = self.queued.first_primitive() else {
+            unreachable!();
         };
         let (form, octets) = flatten(primitive);
         *delivered = form;
