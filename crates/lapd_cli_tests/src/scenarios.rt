@@ -20,6 +20,7 @@ use lapd_cli_options::{Invocation, Job, parse_words};
 use lapd_cli_script::{PortFault, ScriptFault};
 use lapd_cli_side_commands::{FromRead, FromWrite, Port, Sink, Source};
 use std::alloc::{AllocError, Global};
+use std::io;
 use std::net::TcpStream;
 use std::test::Fail;
 
@@ -51,13 +52,61 @@ const TABLES: &[&str] = &[
 fn scenarios_print_what_they_state(rt: HostRuntime) -> Result<(), Fail> {
     for table in TABLES {
         if let Some(row) = wrong_row(rt.alloc(), *table) {
-            return Err(Fail::new(format_args!("{row}\nit goes otherwise")));
+            let printed = printed_by(rt.alloc(), row);
+            let printed = str::from_utf8(printed.as_slice()).unwrap_or("");
+            let (line, wanted) = first_difference(printed, row);
+            return Err(Fail::new(format_args!(
+                "with nothing on the port it prints '{line}' instead of '{wanted}':\n{row}"
+            )));
         }
     }
     match wrong_example(rt.alloc()) {
         Some(words) => Err(Fail::new(format_args!("the example of {words} goes otherwise"))),
         None => Ok(()),
     }
+}
+
+/// What the script of a scenario prints if nothing is on the port.
+fn printed_by(alloc: Global, row: &str) -> Vec<u8> {
+    let (words, scenario) = row.split_once('\n').unwrap_or((row, ""));
+    let words = words_of(alloc, words);
+    let mut printed = Vec::new(alloc);
+    if let (Ok(chosen), Ok(script)) = (
+        parse_words(alloc, words.as_slice()),
+        script_of(alloc, scenario),
+    ) {
+        let port = Port::new(FromRead::new(b"".as_slice()), FromWrite::new(io::sink()));
+        let _ = run(alloc, &chosen, &mut script.as_bytes(), &mut printed, port);
+    }
+    printed
+}
+
+/// The first printed line that differs from the scenario's, and that one; both are empty if none
+/// differs.
+fn first_difference<'a>(printed: &'a str, scenario: &'a str) -> (&'a str, &'a str) {
+    let mut lines = printed.lines();
+    for line in scenario.lines() {
+        if mark_of(line.as_bytes()) == b"    ".as_slice() {
+            let wanted = line.get(4..).unwrap_or("");
+            let printed = lines.next().unwrap_or("");
+            if printed != wanted {
+                return (printed, wanted);
+            }
+        }
+    }
+    (lines.next().unwrap_or(""), "")
+}
+
+/// The lines of the script in a scenario.
+fn script_of(alloc: Global, scenario: &str) -> Result<String, AllocError> {
+    let mut script = String::new(alloc);
+    for line in scenario.lines() {
+        if mark_of(line.as_bytes()).is_empty() {
+            script.push_str(line)?;
+            script.push_str("\n")?;
+        }
+    }
+    Ok(script)
 }
 
 /// The first scenario of a table that does not run as written. Of the first two, the prefixes are

@@ -74,21 +74,21 @@ struct Place {
 }
 
 impl Subject for Place {
-    fn preserves(&mut self, row: &'static str) -> bool {
+    fn preserves(&mut self, row: &'static str, made: &mut Text) -> bool {
         match row.strip_prefix("at ") {
             Some(place) => {
                 self.place = place;
                 true
             }
-            None => preserves(self.alloc, self.place, row),
+            None => preserves(self.alloc, self.place, row, made),
         }
     }
 }
 
 /// Whether a row holds at a place.
-fn preserves(alloc: Global, place: &str, row: &str) -> bool {
+fn preserves(alloc: Global, place: &str, row: &str, made: &mut Text) -> bool {
     match with_octets(alloc, row, "+260*aa", 260) {
-        Some(row) => holds(alloc, parts_of(place, row.as_str())),
+        Some(row) => holds(alloc, parts_of(place, row.as_str()), made),
         None => false,
     }
 }
@@ -106,22 +106,31 @@ fn parts_of<'a>(place: &'a str, row: &'a str) -> [&'a str; 5] {
 
 /// Whether a row holds over a new network link, with a window of two frames, N200 of 2 and room for
 /// three messages.
-fn holds(alloc: Global, parts: [&str; 5]) -> bool {
+fn holds(alloc: Global, parts: [&str; 5], made: &mut Text) -> bool {
     match Driven::new(alloc, "network 2 2 3") {
-        Some(mut link) => link.keeps_to(parts),
+        Some(mut link) => {
+            let so = link.keeps_to(parts);
+            link.show_unless(so, made);
+            so
+        }
         None => false,
     }
 }
 
 /// The first wrong row of a table.
-fn wrong_in(alloc: Global, table: &'static str) -> Option<&'static str> {
-    wrong_row(&mut Place { alloc, place: "" }, table)
+fn wrong_in(alloc: Global, table: &'static str, made: &mut Text) -> Option<&'static str> {
+    wrong_row(&mut Place { alloc, place: "" }, table, made)
 }
 
 /// The first row that is wrong at one of these places.
-fn wrong_at(alloc: Global, places: &'static str, rows: &'static str) -> Option<&'static str> {
+fn wrong_at(
+    alloc: Global,
+    places: &'static str,
+    rows: &'static str,
+    made: &mut Text,
+) -> Option<&'static str> {
     for place in places.lines() {
-        let wrong = wrong_row(&mut Place { alloc, place }, rows);
+        let wrong = wrong_row(&mut Place { alloc, place }, rows, made);
         if wrong.is_some() {
             return wrong;
         }
@@ -132,16 +141,18 @@ fn wrong_at(alloc: Global, places: &'static str, rows: &'static str) -> Option<&
 #[test]
 fn rows_of_the_state_table(rt: HostRuntime) -> Result<(), Fail> {
     let alloc = rt.alloc();
-    none_is_wrong(&[
-        wrong_in(alloc, tei_assigned::rows()),
-        wrong_in(alloc, awaiting::rows()),
-        wrong_in(alloc, established::rows()),
-        wrong_in(alloc, transfer::rows()),
-        wrong_in(alloc, timer_recovery::rows()),
-        wrong_at(alloc, NOT_ESTABLISHED, IN_EVERY_STATE),
-        wrong_at(alloc, ESTABLISHED, IN_EVERY_STATE),
-        wrong_at(alloc, NOT_ESTABLISHED, FRAMES_WITHOUT_ROW),
-        wrong_at(alloc, NOT_ESTABLISHED, FAULTS_REPORTED),
-        scripts::wrong(alloc),
-    ])
+    let made = &mut Text::new();
+    let looked = [
+        wrong_in(alloc, tei_assigned::rows(), made),
+        wrong_in(alloc, awaiting::rows(), made),
+        wrong_in(alloc, established::rows(), made),
+        wrong_in(alloc, transfer::rows(), made),
+        wrong_in(alloc, timer_recovery::rows(), made),
+        wrong_at(alloc, NOT_ESTABLISHED, IN_EVERY_STATE, made),
+        wrong_at(alloc, ESTABLISHED, IN_EVERY_STATE, made),
+        wrong_at(alloc, NOT_ESTABLISHED, FRAMES_WITHOUT_ROW, made),
+        wrong_at(alloc, NOT_ESTABLISHED, FAULTS_REPORTED, made),
+        scripts::wrong(alloc, made),
+    ];
+    none_is_wrong(&looked, made)
 }

@@ -51,42 +51,48 @@ impl Bench {
 
 impl Subject for Bench {
     /// A row is the name of a subject, an operation on it, ` |`, and the result.
-    fn preserves(&mut self, row: &'static str) -> bool {
+    fn preserves(&mut self, row: &'static str, made: &mut Text) -> bool {
         let (words, wanted) = split(row, " |");
         let (subject, action) = split(words, " ");
         let mut text = Text::new();
         self.put(&mut text, subject, action);
-        text.is(wanted)
+        let so = text.is(wanted);
+        if !so {
+            made.put_first(text.as_str());
+        }
+        so
     }
 }
 
 /// The first wrong row of operations.
-fn wrong_value_row(alloc: Global) -> Option<&'static str> {
+fn wrong_value_row(alloc: Global, made: &mut Text) -> Option<&'static str> {
     match Bench::new(alloc) {
-        Some(mut bench) => wrong_of(&mut bench),
+        Some(mut bench) => wrong_of(&mut bench, made),
         None => Some("no queue and no link is made"),
     }
 }
 
 /// The first wrong row of operations on these subjects.
-fn wrong_of(bench: &mut Bench) -> Option<&'static str> {
+fn wrong_of(bench: &mut Bench, made: &mut Text) -> Option<&'static str> {
     first_of(&[
-        wrong_row(bench, counters::ROWS),
-        wrong_row(bench, windows::ROWS),
-        wrong_row(bench, queues::ROWS),
-        wrong_row(bench, links::ROWS),
-        wrong_row(bench, links::PARAMETERS),
-        wrong_row(bench, reports::NAMES),
+        wrong_row(bench, counters::ROWS, made),
+        wrong_row(bench, windows::ROWS, made),
+        wrong_row(bench, queues::ROWS, made),
+        wrong_row(bench, links::ROWS, made),
+        wrong_row(bench, links::PARAMETERS, made),
+        wrong_row(bench, reports::NAMES, made),
     ])
 }
 
 #[test]
 fn values(rt: HostRuntime) -> Result<(), Fail> {
-    none_is_wrong(&[
+    let mut made = Text::new();
+    let looked = [
         fields::wrong(),
-        frames::wrong(rt.alloc()),
+        frames::wrong(rt.alloc(), &mut made),
         traces::wrong(rt.alloc()),
         reports::wrong(),
-        wrong_value_row(rt.alloc()),
-    ])
+        wrong_value_row(rt.alloc(), &mut made),
+    ];
+    none_is_wrong(&looked, &made)
 }

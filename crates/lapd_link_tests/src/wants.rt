@@ -1,9 +1,14 @@
+use lapd_testing::Text;
 use std::test::Fail;
 
-/// Fails the test at the first wrong row, which each check returns, if there is one.
-pub(crate) fn none_is_wrong(looked: &[Option<&'static str>]) -> Result<(), Fail> {
+/// Fails the test at the first wrong row, which each check returns, if there is one. `made` is its
+/// result, if that is known.
+pub(crate) fn none_is_wrong(looked: &[Option<&'static str>], made: &Text) -> Result<(), Fail> {
     match first_of(looked) {
-        Some(row) => Err(Fail::new(row)),
+        Some(row) => {
+            let made = made.as_str();
+            Err(Fail::new(format_args!("{row}\n  comes to: {made}")))
+        }
         None => Ok(()),
     }
 }

@@ -49,6 +49,13 @@ impl Text {
         self.put_octets(word.as_bytes());
     }
 
+    /// Puts a text unless there is one: the first one counts.
+    pub fn put_first(&mut self, text: &str) {
+        if self.octets.is_empty() {
+            self.put(text);
+        }
+    }
+
     /// Appends a word if this holds.
     pub fn mark(&mut self, word: &str, holds: bool) {
         if holds {

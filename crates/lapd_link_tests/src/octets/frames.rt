@@ -238,46 +238,57 @@ struct Octets {
 }
 
 impl Subject for Octets {
-    fn preserves(&mut self, row: &'static str) -> bool {
+    fn preserves(&mut self, row: &'static str, made: &mut Text) -> bool {
         let (mark, count) = if row.contains("+100000*aa") {
             ("+100000*aa", 100_000)
         } else {
             ("+260*aa", 260)
         };
         match with_octets(self.alloc, row, mark, count) {
-            Some(row) => is_so(self.alloc, row.as_str()),
+            Some(row) => is_so(self.alloc, row.as_str(), made),
             None => false,
         }
     }
 }
 
 /// Whether the line of octets is the text of a row after ` | `.
-fn is_so(alloc: Global, row: &str) -> bool {
+fn is_so(alloc: Global, row: &str, made: &mut Text) -> bool {
     let (digits, reported) = split(row, " | ");
     match hex::decode(alloc, digits) {
-        Ok(octets) => are_so(alloc, octets.as_slice(), reported),
+        Ok(octets) => are_so(alloc, octets.as_slice(), reported, made),
         Err(_) => false,
     }
 }
 
 /// Whether the line of these octets is this text, and they are read as a frame, or as a fault with
 /// the address after ` | `.
-fn are_so(alloc: Global, octets: &[u8], reported: &str) -> bool {
+fn are_so(alloc: Global, octets: &[u8], reported: &str, made: &mut Text) -> bool {
     let (text, address) = split(reported, " | ");
     let from = if text.starts_with("U") {
         Side::User
     } else {
         Side::Network
     };
-    prints(alloc, from, octets, text) && is_read(octets, from, address)
+    if !prints(alloc, from, octets, text, made) {
+        return false;
+    }
+    let so = is_read(octets, from, address);
+    if !so {
+        made.put_first("other fields, or another address");
+    }
+    so
 }
 
 /// Whether the line of these octets is this text, and is allocated once.
-fn prints(alloc: Global, from: Side, octets: &[u8], text: &str) -> bool {
+fn prints(alloc: Global, from: Side, octets: &[u8], text: &str, made: &mut Text) -> bool {
     match line(alloc, from, octets) {
         Ok(printed) => {
             let room = octets.len().wrapping_mul(2).wrapping_add(43);
-            printed.as_str() == text && printed.capacity() == room
+            let so = printed.as_str() == text && printed.capacity() == room;
+            if !so {
+                made.put_first(printed.as_str());
+            }
+            so
         }
         Err(_) => false,
     }
@@ -340,12 +351,12 @@ fn has_address(fault: &FrameFault, wanted: &str) -> bool {
 }
 
 /// The first wrong row of frames.
-pub(crate) fn wrong(alloc: Global) -> Option<&'static str> {
+pub(crate) fn wrong(alloc: Global, made: &mut Text) -> Option<&'static str> {
     read_as_spelled();
     one_spelling();
     one_frame();
     if N201 != 260 || MOST_OCTETS != 264 {
         return Some("N201: its value");
     }
-    wrong_row(&mut Octets { alloc }, LINES)
+    wrong_row(&mut Octets { alloc }, LINES, made)
 }

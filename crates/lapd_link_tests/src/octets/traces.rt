@@ -172,5 +172,5 @@ fn lines_without_memory(rt: HostRuntime) -> Result<(), Fail> {
     if lines > 0 || histories > 0 {
         println!(rt; "refused: {lines} to lines, {histories} to histories")?;
     }
-    none_is_wrong(&[wrong])
+    none_is_wrong(&[wrong], &Text::new())
 }

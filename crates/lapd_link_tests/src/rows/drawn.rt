@@ -10,7 +10,7 @@ use crate::rows::drawn::events::EventDraws;
 use crate::rows::drawn::plain::Plain;
 use crate::rows::drawn::table::{TABLE, Table};
 use crate::wants::none_is_wrong;
-use lapd_testing::wrong_row;
+use lapd_testing::{Text, wrong_row};
 use std::alloc::Global;
 use std::test::Fail;
 
@@ -80,7 +80,7 @@ fn wrong_of(alloc: Global, table: &mut Table) -> Option<&'static str> {
 
 /// Reads the table, and compares links with it.
 fn wrong(alloc: Global, table: &mut Table) -> Option<&'static str> {
-    match wrong_row(table, TABLE) {
+    match wrong_row(table, TABLE, &mut Text::new()) {
         None => wrong_of(alloc, table),
         wrong => wrong,
     }
@@ -89,5 +89,5 @@ fn wrong(alloc: Global, table: &mut Table) -> Option<&'static str> {
 #[test]
 fn links_follow_the_table(rt: HostRuntime) -> Result<(), Fail> {
     let mut table = Table::new(rt.alloc());
-    none_is_wrong(&[wrong(rt.alloc(), &mut table)])
+    none_is_wrong(&[wrong(rt.alloc(), &mut table)], &Text::new())
 }

@@ -181,10 +181,25 @@ impl Driven {
     pub(super) fn keeps_to(&mut self, [script, before, event, outs, after]: [&str; 5]) -> bool {
         self.lead(script) && self.is_in(before) && self.gives(event, outs) && self.is_in(after)
     }
+
+    /// Unless this holds, puts the last outputs and the condition into `made`.
+    pub(super) fn show_unless(&self, so: bool, made: &mut Text) {
+        if !so {
+            let mut text = printed_text(self.printed.as_bytes());
+            text.put(" | ");
+            text.put(condition_of(self.link()).as_str());
+            made.put_first(text.as_str());
+        }
+    }
 }
 
-/// Whether printed lines are these outputs, `; ` between them, or `-` for none.
+/// Whether printed lines are these outputs.
 fn is_printed(printed: &[u8], outs: &str) -> bool {
+    printed_text(printed).is(outs)
+}
+
+/// Printed lines as outputs, `; ` between them, or `-` for none.
+fn printed_text(printed: &[u8]) -> Text {
     let mut text = Text::new();
     match printed {
         [lines @ .., _] => {
@@ -198,7 +213,7 @@ fn is_printed(printed: &[u8], outs: &str) -> bool {
         }
         _ => text.put("-"),
     }
-    text.is(outs)
+    text
 }
 
 /// Puts the outputs of a step, a line for each.

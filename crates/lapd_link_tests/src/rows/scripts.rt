@@ -179,15 +179,17 @@ t200 | send 00810101; start T200
 ";
 
 impl Subject for Driven {
-    fn preserves(&mut self, row: &'static str) -> bool {
+    fn preserves(&mut self, row: &'static str, made: &mut Text) -> bool {
         let (word, rest) = split(row, " ");
-        match word {
+        let so = match word {
             "link" => self.begins(rest),
             "=" => self.is_in(rest),
             "254" => self.takes("give ", 254),
             "126" => self.takes("frame 0081", 126),
             _ => self.passes(row),
-        }
+        };
+        self.show_unless(so, made);
+        so
     }
 }
 
@@ -237,9 +239,9 @@ fn message_line(front: &str, number: u8) -> Text {
 }
 
 /// The first wrong line of all scripts.
-pub(super) fn wrong(alloc: Global) -> Option<&'static str> {
+pub(super) fn wrong(alloc: Global, made: &mut Text) -> Option<&'static str> {
     match Driven::new(alloc, "user 1 1 1") {
-        Some(mut link) => wrong_row(&mut link, SCRIPTS),
+        Some(mut link) => wrong_row(&mut link, SCRIPTS, made),
         None => Some("no link is made"),
     }
 }

@@ -6,7 +6,7 @@
 //! repeats while a row of it matches.
 
 use crate::rows::drawn::plain::Plain;
-use lapd_testing::{Subject, split};
+use lapd_testing::{Subject, Text, split};
 use std::alloc::Global;
 
 /// The actions of each procedure.
@@ -215,7 +215,7 @@ impl Row {
 
 impl Subject for Table {
     /// Adds a line as the next row, if it is a row.
-    fn preserves(&mut self, row: &'static str) -> bool {
+    fn preserves(&mut self, row: &'static str, _made: &mut Text) -> bool {
         let row = row_of(row);
         !row.next.is_empty() && self.rows.push(row).is_ok()
     }
