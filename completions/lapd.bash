@@ -13,7 +13,7 @@ _lapd() {
         --clock) offered="script real" ;;
         --kinds) offered="i s u" ;;
         --color) offered="auto always never" ;;
-        --time) [[ ${COMP_WORDS[1]} == decode ]] && offered="none absolute relative delta" ;;
+        --time) [[ ${COMP_WORDS[1]} == decode ]] && offered="none absolute relative delta day" ;;
         --ladder)
             if [[ ${COMP_WORDS[1]} == net || ${COMP_WORDS[1]} == user ]]; then
                 mapfile -t COMPREPLY < <(compgen -f -- "$word")
@@ -45,7 +45,7 @@ _lapd() {
                     offered+=" --json --clock --time --quiet --serve --keep --pcap --ladder --gsmtap"
                     ;;
                 decode)
-                    offered+=" --loose --sender --names --json --keep-going --pcap --follow --ladder --svg --k"
+                    offered+=" --loose --sender --names --no-octets --json --keep-going --pcap --follow --ladder --svg --k"
                     offered+=" --time --count --sapi --tei --kinds --no-polls --any-sapi --color"
                     ;;
                 help) offered=$commands ;;

@@ -223,6 +223,6 @@ fn show(rt: &HostRuntime, text: &str) -> ExitCode {
         return ExitCode::SUCCESS;
     };
     let _ = eprintln!(rt; "{}", ScriptFault::Device);
-    let _ = eprintln!(rt; "standard output: {}", Reason(&error));
+    let _ = eprintln!(rt; "standard output: {}", KindReason(error.kind()));
     ExitCode::from(ScriptFault::Device.status())
 }

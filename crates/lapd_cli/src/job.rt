@@ -17,6 +17,7 @@ use lapd_cli_options::{
 use lapd_cli_script::ScriptFault;
 use lapd_cli_side_commands::{Config, FromRead, FromWrite, Port, SideRun, net, user};
 use lapd_cli_side_lines::LineStyle;
+use std::alloc::{AllocError, Global};
 use std::env;
 use std::io::{IsTerminal, Read, Write};
 
@@ -95,9 +96,12 @@ fn do_side<R: Read, W: Write>(
     script: &mut R,
     out: &mut W,
 ) -> Result<(), Stop> {
+    let Ok(address) = with_host(rt.alloc(), side, chosen.address.unwrap_or("")) else {
+        return Err(Stop::Script(ScriptFault::Memory));
+    };
     let setup = SideSetup {
         interface,
-        address: chosen.address.unwrap_or(""),
+        address: address.as_str(),
         lines: style_of_lines(chosen.json),
     };
     match (&chosen.clock, side) {
@@ -105,6 +109,17 @@ fn do_side<R: Read, W: Write>(
         (Clock::Script, Side::Network) => do_net(rt, script, out, &setup),
         (Clock::Script, Side::User) => do_user(rt, script, out, &setup),
     }
+}
+
+// An address with a host. Without one, `net` listens on all addresses of this host, and `user`
+// connects to this host.
+fn with_host(alloc: Global, side: Side, address: &str) -> Result<String, AllocError> {
+    let host = match (address.starts_with(":"), side) {
+        (false, _) => "",
+        (true, Side::Network) => "0.0.0.0",
+        (true, Side::User) => "127.0.0.1",
+    };
+    format!(in alloc; "{host}{address}")
 }
 
 // The style of the lines of `net` and `user`.
@@ -255,6 +270,7 @@ fn layout_of(options: DecodeOptions) -> Layout {
 // The style in which `decode` prints a frame.
 fn style_of(options: DecodeOptions) -> Style {
     match (options.json, options.names) {
+        (false, _) if options.no_octets => Style::Brief,
         (false, false) => Style::Plain,
         (false, true) => Style::Named,
         (true, false) => Style::Json,
@@ -269,6 +285,7 @@ fn time_of(time: PrintedTime) -> FrameTime {
         PrintedTime::Absolute => FrameTime::Absolute,
         PrintedTime::Relative => FrameTime::Relative,
         PrintedTime::Delta => FrameTime::Delta,
+        PrintedTime::Day => FrameTime::Day,
     }
 }
 

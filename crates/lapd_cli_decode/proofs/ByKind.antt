@@ -23,7 +23,7 @@ use Rattle.lapd_follow.specs.Listening.{Listening}
 use Rattle.lapd_cli_render.specs.declared.Packet.{Packet as JsonPacket}
 use Rattle.lapd_cli_ladder.specs.Words.{frame_words, known_words}
 use Rattle.lapd_cli_decode.specs.declared.style.Style.{Style}
-use Rattle.lapd_cli_decode.specs.declared.style.Style.TheVariants.{Plain, Named, Json, NamedJson}
+use Rattle.lapd_cli_decode.specs.declared.style.Style.TheVariants.{Plain, Named, Brief, Json, NamedJson}
 use Rattle.lapd_cli_decode.specs.Senders.{role_by_kind, sender_by_kind, sender_of_control, sender_of_role}
 use Rattle.lapd_cli_decode.specs.ShownText.{shown_text}
 
@@ -91,6 +91,8 @@ shown_as_command Plain is_cut packet octets (Ok f) = refl
 shown_as_command Plain is_cut packet octets (Err fault) = refl
 shown_as_command Named is_cut packet octets (Ok f) = refl
 shown_as_command Named is_cut packet octets (Err fault) = refl
+shown_as_command Brief is_cut packet octets (Ok f) = refl
+shown_as_command Brief is_cut packet octets (Err fault) = refl
 shown_as_command Json is_cut packet octets (Ok f) = refl
 shown_as_command Json is_cut packet octets (Err fault) = refl
 shown_as_command NamedJson is_cut packet octets (Ok f) = refl

@@ -5,7 +5,7 @@ use Rattle.lapd_frame.specs.declared.Side.TheVariants.{Network, User}
 use Rattle.lapd_follow.specs.declared.remarks.Remarks.{Remarks}
 use Rattle.lapd_follow.specs.Remarks.{has_violation}
 use Rattle.lapd_cli_decode.specs.declared.style.Style.{Style}
-use Rattle.lapd_cli_decode.specs.declared.style.Style.TheVariants.{Plain, Named, Json, NamedJson}
+use Rattle.lapd_cli_decode.specs.declared.style.Style.TheVariants.{Plain, Named, Brief, Json, NamedJson}
 
 -- cyan for the user side, green for the network side, yellow for a sender that is not known
 abbrev pub color_of_sender : Option Side → List ℕ
@@ -31,5 +31,6 @@ abbrev pub colored : Bool → Style → List ℕ → List ℕ → List ℕ
 colored false style color line = line
 colored true Plain color line = color ++ (line ++ color_end)
 colored true Named color line = color ++ (line ++ color_end)
+colored true Brief color line = color ++ (line ++ color_end)
 colored true Json color line = line
 colored true NamedJson color line = line

@@ -31,7 +31,7 @@ ladder_style = record {
   count = None;
 }
 
--- before the first frame: links are followed, and no window is checked
+-- before the first frame: links are followed, and the window is not known
 abbrev pub new_ladder : Printing
 new_ladder = new_printing Capture ladder_style (Some (record { k = None }))
 

@@ -8,7 +8,7 @@ use Rattle.lapd_follow.specs.Texts.{class_name, clause_of, remark_text, remarks_
 use Rattle.lapd_cli_script.specs.declared.script.LineFault.{LineFault}
 use Rattle.lapd_cli_script.specs.declared.script.LineFault.TheVariants.{Bad, Device, Memory}
 use Rattle.lapd_cli_decode.specs.declared.style.Style.{Style}
-use Rattle.lapd_cli_decode.specs.declared.style.Style.TheVariants.{Plain, Named, Json, NamedJson}
+use Rattle.lapd_cli_decode.specs.declared.style.Style.TheVariants.{Plain, Named, Brief, Json, NamedJson}
 
 -- a remark as a JSON object, after a comma
 abbrev pub remark_object : Remark → List ℕ
@@ -24,8 +24,8 @@ object_or_none (Some r) = remark_object r
 abbrev pub remark_objects : Remarks → List ℕ
 remark_objects r = object_or_none r.establishment ++ (object_or_none r.ns
     ++ (object_or_none r.window ++ (object_or_none r.busy ++ (object_or_none r.nr
-    ++ (object_or_none r.answer ++ (object_or_none r.identity
-    ++ object_or_none r.conflict))))))
+    ++ (object_or_none r.bit ++ (object_or_none r.answer ++ (object_or_none r.identity
+    ++ object_or_none r.conflict)))))))
 
 -- the same without the first comma
 abbrev pub listed : List ℕ → List ℕ
@@ -40,6 +40,7 @@ remarks_member said = codes ",\"remarks\":[" ++ (listed (remark_objects said) ++
 abbrev pub front_of : Style → List ℕ → List ℕ
 front_of Plain text = text
 front_of Named text = text
+front_of Brief text = text
 front_of Json text = take (length text - 1) text
 front_of NamedJson text = take (length text - 1) text
 
@@ -47,6 +48,7 @@ front_of NamedJson text = take (length text - 1) text
 abbrev pub said_behind : Style → Remarks → List ℕ
 said_behind Plain said = remarks_text said
 said_behind Named said = remarks_text said
+said_behind Brief said = remarks_text said
 said_behind Json said = remarks_member said
 said_behind NamedJson said = remarks_member said
 

@@ -35,6 +35,17 @@ reading_words from octets (Ok f) =
     frame_words (sapi_of octets) (known_role from f.address.role) f
 reading_words from octets (Err fault) = fault_name fault.kind ++ octets_text (codes " ") octets
 
+-- the same without the information
+abbrev pub brief_words : Option Side → List ℕ → Result Fields FrameFault → List ℕ
+brief_words from octets (Ok f) =
+    address_words (sapi_of octets) f.address.tei (known_role from f.address.role)
+    ++ control_words (known_role from f.address.role) f.control
+brief_words from octets (Err fault) = reading_words from octets (Err fault)
+
 -- the line of these octets, which were read as this
 abbrev pub shown_line : Option Side → List ℕ → Result Fields FrameFault → List ℕ
 shown_line from octets reading = direction_words from ++ reading_words from octets reading
+
+-- the same without the information of a frame
+abbrev pub brief_line : Option Side → List ℕ → Result Fields FrameFault → List ℕ
+brief_line from octets reading = direction_words from ++ brief_words from octets reading

@@ -6,8 +6,8 @@ use Rattle.lapd_frame.specs.declared.FrameFault.{FrameFault}
 use Rattle.lapd_frame.specs.Frame.{Fields}
 use Rattle.lapd_cli_render.specs.declared.Packet.{Packet}
 use Rattle.lapd_cli_decode.specs.declared.style.Style.{Style}
-use Rattle.lapd_cli_decode.specs.declared.style.Style.TheVariants.{Plain, Named, Json, NamedJson}
-use Rattle.lapd_cli_decode.specs.Shown.{shown_line}
+use Rattle.lapd_cli_decode.specs.declared.style.Style.TheVariants.{Plain, Named, Brief, Json, NamedJson}
+use Rattle.lapd_cli_decode.specs.Shown.{brief_line, shown_line}
 use Rattle.lapd_cli_decode.specs.ShownObject.{shown_object}
 use Rattle.lapd_cli_decode.specs.Style.{marked}
 
@@ -15,6 +15,7 @@ abbrev pub shown_text : Style → Bool → Option Packet → Option Side → Lis
     → Result Fields FrameFault → List ℕ
 shown_text Plain is_cut packet from octets reading = marked is_cut (shown_line from octets reading)
 shown_text Named is_cut packet from octets reading = marked is_cut (shown_line from octets reading)
+shown_text Brief is_cut packet from octets reading = marked is_cut (brief_line from octets reading)
 shown_text Json is_cut packet from octets reading =
     shown_object is_cut packet from octets reading
 shown_text NamedJson is_cut packet from octets reading =

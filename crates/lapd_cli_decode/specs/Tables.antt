@@ -13,7 +13,7 @@ use Rattle.lapd_follow.specs.Tallies.{middle_of}
 use Rattle.lapd_cli_script.specs.declared.script.ScriptFault.{ScriptFault}
 use Rattle.lapd_cli_script.specs.declared.script.ScriptFault.TheVariants.{BadLine, Device, Memory, Port}
 use Rattle.lapd_cli_decode.specs.declared.style.Style.{Style}
-use Rattle.lapd_cli_decode.specs.declared.style.Style.TheVariants.{Plain, Named, Json, NamedJson}
+use Rattle.lapd_cli_decode.specs.declared.style.Style.TheVariants.{Plain, Named, Brief, Json, NamedJson}
 
 -- the I frames that were not repetitions
 abbrev pub messages_of : Tally → ℕ
@@ -145,6 +145,7 @@ link_object t = object_front t ++ object_rest t
 abbrev pub link_text : Style → LinkTally → List ℕ
 link_text Plain t = link_lines t
 link_text Named t = link_lines t
+link_text Brief t = link_lines t
 link_text Json t = link_object t
 link_text NamedJson t = link_object t
 

@@ -44,7 +44,7 @@ pub(crate) fn put_colored<W: Write>(
         return put_frame(alloc, style, text, is_followed, said, out);
     }
     match style {
-        Style::Plain | Style::Named => {
+        Style::Plain | Style::Named | Style::Brief => {
             put_in_color(alloc, from, text.as_str(), is_followed, said, out)
         }
         Style::Json | Style::NamedJson => put_frame(alloc, style, text, is_followed, said, out),

@@ -2,7 +2,7 @@
 
 ghost use Rattle.std.specs.Prelude.{◌≡◌, ◌++◌, Some, IfOk, OnOk};
 ghost use Rattle.std.specs.String.{string_bytes};
-ghost use Rattle.lapd_cli_decode.specs.Time.{either, front_text, known_text, seconds_digits, since, time_of, time_text, time_width};
+ghost use Rattle.lapd_cli_decode.specs.Time.{day_digits, day_text, either, front_text, known_text, seconds_digits, since, time_of, time_text, time_width, two_digits};
 
 use crate::style::Style;
 use std::alloc::{AllocError, Global};
@@ -19,6 +19,8 @@ pub enum FrameTime {
     Relative,
     /// The seconds since the printed frame before.
     Delta,
+    /// The time of day, of the time zone UTC.
+    Day,
 }
 
 impl FrameTime {
@@ -34,7 +36,7 @@ impl FrameTime {
     {
         match self {
             FrameTime::Hidden => None,
-            FrameTime::Absolute => moment,
+            FrameTime::Absolute | FrameTime::Day => moment,
             FrameTime::Relative => since(first, moment),
             FrameTime::Delta => since(last, moment),
         }
@@ -56,7 +58,9 @@ impl FrameTime {
             ≡ front_text style self time ++ string_bytes line.old) }
     {
         match style {
-            Style::Plain | Style::Named => self.put_before_trace(alloc, time, line),
+            Style::Plain | Style::Named | Style::Brief => {
+                self.put_before_trace(alloc, time, line)
+            }
             Style::Json | Style::NamedJson => Ok(()),
         }
     }
@@ -69,6 +73,7 @@ impl FrameTime {
             FrameTime::Hidden => 0,
             FrameTime::Absolute => 18,
             FrameTime::Relative | FrameTime::Delta => 13,
+            FrameTime::Day => 16,
         }
     }
 
@@ -85,6 +90,7 @@ impl FrameTime {
             FrameTime::Absolute | FrameTime::Relative | FrameTime::Delta => {
                 known_text(alloc, time)
             }
+            FrameTime::Day => day_text(alloc, time),
         }
     }
 
@@ -100,8 +106,8 @@ impl FrameTime {
     {
         match self {
             FrameTime::Hidden => Ok(()),
-            FrameTime::Absolute | FrameTime::Relative | FrameTime::Delta => {
-                let mut text = known_text(alloc, time)?;
+            FrameTime::Absolute | FrameTime::Relative | FrameTime::Delta | FrameTime::Day => {
+                let mut text = self.words(alloc, time)?;
                 text.push_str(line.as_str())?;
                 *line = text;
                 Ok(())
@@ -145,6 +151,63 @@ fn known_text(alloc: Global, time: Option<u64>) -> Result<String, AllocError>
             let seconds = Seconds { time };
             format!(in alloc; "{seconds} ")
         }
+    }
+}
+
+/// A time of day and a space; `-` if it is not known.
+fn day_text(alloc: Global, time: Option<u64>) -> Result<String, AllocError>
+    ensures { IfOk result (λ text. string_bytes text ≡ day_text time) }
+{
+    match time {
+        None => {
+            let mut text = String::new(alloc);
+            text.push_str("- ")?;
+            Ok(text)
+        }
+        Some(time) => {
+            let day = TimeOfDay { time };
+            format!(in alloc; "{day} ")
+        }
+    }
+}
+
+/// Microseconds since 1970, shown as the time of day (UTC), such as `09:05:07.000000`.
+#[derive(Clone, Copy)]
+struct TimeOfDay {
+    time: u64,
+}
+
+impl fmt::Display for TimeOfDay {
+    ghost output = { λ shown. Some (day_digits shown.time) };
+
+    fn fmt<W: fmt::Write>(&self, f: &mut fmt::Formatter<W>) -> fmt::Result {
+        let hour = TwoDigits {
+            number: self.time / 3_600_000_000 % 24,
+        };
+        let minute = TwoDigits {
+            number: self.time / 60_000_000 % 60,
+        };
+        let ten_seconds = self.time / 10_000_000 % 6;
+        let seconds = Seconds {
+            time: self.time % 10_000_000,
+        };
+        write!(f, "{hour}:{minute}:{ten_seconds}{seconds}")
+    }
+}
+
+/// A number below 100, shown with two digits.
+#[derive(Clone, Copy)]
+struct TwoDigits {
+    number: u64,
+}
+
+impl fmt::Display for TwoDigits {
+    ghost output = { λ shown. Some (two_digits shown.number) };
+
+    fn fmt<W: fmt::Write>(&self, f: &mut fmt::Formatter<W>) -> fmt::Result {
+        let tens = self.number / 10;
+        let ones = self.number % 10;
+        write!(f, "{tens}{ones}")
     }
 }
 

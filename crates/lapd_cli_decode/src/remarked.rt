@@ -75,7 +75,7 @@ fn put_remarked<W: Write>(
         (W.contents out.old) (W.contents out.new) }
 {
     match style {
-        Style::Plain | Style::Named => put_trace(text, said, out),
+        Style::Plain | Style::Named | Style::Brief => put_trace(text, said, out),
         Style::Json | Style::NamedJson => put_object(alloc, text.as_bytes(), said, out),
     }
 }
@@ -126,10 +126,11 @@ fn remark_objects(alloc: Global, said: &Remarks) -> Result<String, AllocError>
     let window = object_of(said.window);
     let busy = object_of(said.busy);
     let nr = object_of(said.nr);
+    let bit = object_of(said.bit);
     let answer = object_of(said.answer);
     let identity = object_of(said.identity);
     let conflict = object_of(said.conflict);
-    format!(in alloc; "{establishment}{ns}{window}{busy}{nr}{answer}{identity}{conflict}")
+    format!(in alloc; "{establishment}{ns}{window}{busy}{nr}{bit}{answer}{identity}{conflict}")
 }
 
 /// A remark as an object.

@@ -2,7 +2,8 @@
 
 ghost use Rattle.std.specs.Prelude.{◌≡◌, ◌++◌, OnOk};
 ghost use Rattle.std.specs.String.{string_bytes};
-ghost use Rattle.lapd_cli_decode.specs.Shown.{address_words, direction_words, frame_words, reading_words, role_words, shown_line};
+ghost use Rattle.lapd_cli_ladder.specs.Words.{control_words, known_role};
+ghost use Rattle.lapd_cli_decode.specs.Shown.{address_words, brief_line, brief_words, direction_words, frame_words, reading_words, role_words, shown_line};
 
 use crate::any_sapi::sapi_of;
 use lapd_cli_ladder::{known_role, push_control};
@@ -32,6 +33,48 @@ pub(crate) fn push_shown(
 {
     text.push_str(direction_words(from))?;
     push_reading(alloc, text, from, octets, reading)
+}
+
+/// Appends the line of these octets, as [`push_shown`] does, but without the information of a frame.
+///
+/// ```text
+/// U>N SAPI 0 TEI 64 C I N(S)=0 N(R)=0 P=0
+/// ```
+///
+/// # Errors
+///
+/// `AllocError` if an allocation fails. A part of the line may have been appended.
+pub(crate) fn push_brief(
+    alloc: Global,
+    text: &mut String,
+    from: Option<Side>,
+    octets: &[u8],
+    reading: &Result<Frame<'_>, FrameFault>,
+) -> Result<(), AllocError>
+    ensures { OnOk result (string_bytes text.new
+        ≡ string_bytes text.old ++ brief_line from octets.now reading.now) }
+{
+    text.push_str(direction_words(from))?;
+    match reading {
+        Ok(frame) => push_brief_frame(text, from, sapi_of(octets), frame),
+        Err(_) => push_reading(alloc, text, from, octets, reading),
+    }
+}
+
+/// Appends a frame of this SAPI without its information.
+fn push_brief_frame(
+    text: &mut String,
+    from: Option<Side>,
+    sapi: u8,
+    frame: &Frame<'_>,
+) -> Result<(), AllocError>
+    ensures { OnOk result (string_bytes text.new ≡ string_bytes text.old
+        ++ (address_words sapi frame.now.address.tei (known_role from frame.now.address.role)
+        ++ control_words (known_role from frame.now.address.role) frame.now.control)) }
+{
+    let role = known_role(from, frame.address().role);
+    push_address(text, sapi, frame.address().tei.value(), role)?;
+    push_control(text, role, frame.control())
 }
 
 /// Appends the frame in these octets, or their first fault.

@@ -8,7 +8,7 @@ ghost use Rattle.lapd_cli_decode.specs.AnySapi.{with_sapi_0};
 ghost use Rattle.lapd_cli_decode.specs.ShownText.{shown_text};
 
 use crate::any_sapi::with_sapi_0;
-use crate::shown::push_shown;
+use crate::shown::{push_brief, push_shown};
 use crate::shown_object::push_object;
 use crate::style::{Style, mark_cut};
 use lapd_cli_render::Packet;
@@ -77,6 +77,10 @@ fn write_reading(
     match style {
         Style::Plain | Style::Named => {
             push_shown(alloc, line, from, octets, reading)?;
+            mark_cut(line, is_cut)
+        }
+        Style::Brief => {
+            push_brief(alloc, line, from, octets, reading)?;
             mark_cut(line, is_cut)
         }
         Style::Json | Style::NamedJson => {

@@ -2,6 +2,7 @@ ghost use Rattle.std.specs.Prelude.{◌≡◌, ◌++◌, IfOk, OnOk};
 ghost use Rattle.std.specs.String.{string_bytes};
 ghost use Rattle.lapd_cli_decode.specs.Style.{has_names, marked, styled_packet, styled_text};
 
+use crate::shown::push_brief;
 use lapd_cli_render::Packet;
 use lapd_frame::Side;
 use std::alloc::{AllocError, Global};
@@ -13,6 +14,8 @@ pub enum Style {
     Plain,
     /// As its trace line, followed by the name of its message.
     Named,
+    /// The same without the octets of its information.
+    Brief,
     /// As a JSON object.
     Json,
     /// As a JSON object with the name of its message.
@@ -26,7 +29,7 @@ impl Style {
     {
         match self {
             Style::Plain | Style::Json => false,
-            Style::Named | Style::NamedJson => true,
+            Style::Named | Style::Brief | Style::NamedJson => true,
         }
     }
 
@@ -41,6 +44,7 @@ impl Style {
         match self {
             Style::Plain => lapd_trace::line(alloc, from, octets),
             Style::Named => named_line(alloc, from, octets),
+            Style::Brief => brief_line(alloc, from, octets),
             Style::Json => lapd_cli_render::line(alloc, from, octets),
             Style::NamedJson => lapd_cli_render::named_line(alloc, from, octets),
         }
@@ -66,7 +70,7 @@ impl Style {
                 line.clear();
                 lapd_trace::push_line(alloc, line, from, octets)
             }
-            Style::Named | Style::Json | Style::NamedJson => {
+            Style::Named | Style::Brief | Style::Json | Style::NamedJson => {
                 *line = self.text(alloc, from, octets)?;
                 Ok(())
             }
@@ -91,7 +95,7 @@ impl Style {
             ≡ styled_packet self packet from octets.now) }
     {
         match self {
-            Style::Plain | Style::Named => {
+            Style::Plain | Style::Named | Style::Brief => {
                 self.write(alloc, from, octets, line)?;
                 mark_cut(line, packet.is_cut)
             }
@@ -127,6 +131,18 @@ fn named_line(alloc: Global, from: Side, octets: &[u8]) -> Result<String, AllocE
     ensures { IfOk result (λ text. string_bytes text ≡ styled_text Style.Named from octets.now) }
 {
     let mut text = lapd_trace::line(alloc, from, octets)?;
+    lapd_cli_render::push_names(&mut text, from, octets)?;
+    Ok(text)
+}
+
+/// The trace line for octets that `from` sent, without the octets of their information, followed by
+/// the name of their message.
+fn brief_line(alloc: Global, from: Side, octets: &[u8]) -> Result<String, AllocError>
+    ensures { IfOk result (λ text. string_bytes text ≡ styled_text Style.Brief from octets.now) }
+{
+    let mut text = String::new(alloc);
+    let reading = lapd_frame::read(octets, from);
+    push_brief(alloc, &mut text, Some(from), octets, &reading)?;
     lapd_cli_render::push_names(&mut text, from, octets)?;
     Ok(text)
 }

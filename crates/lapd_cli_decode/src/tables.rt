@@ -70,7 +70,7 @@ fn push_link(text: &mut String, style: Style, link: &LinkTally) -> Result<(), Al
         ≡ string_bytes text.old ++ link_text style link.now) }
 {
     match style {
-        Style::Plain | Style::Named => push_link_lines(text, link),
+        Style::Plain | Style::Named | Style::Brief => push_link_lines(text, link),
         Style::Json | Style::NamedJson => push_link_object(text, link),
     }
 }

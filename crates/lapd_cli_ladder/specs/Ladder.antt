@@ -1,7 +1,7 @@
 -- A ladder: two upright lines, the user at the left and the network at the right. A frame is an
 -- arrow between them. Left of it are its packet, its time and the user's end, right of it the
 -- network's end; the notes on it are below.
-use Rattle.std.specs.Prelude.{ℕ, ◌==◌, if◌then◌else◌, Bool, true, false, List, [], ◌∷◌, ◌++◌, codes, drop, flat_map, Option, Some, None}
+use Rattle.std.specs.Prelude.{ℕ, ◌-◌, ◌==◌, if◌then◌else◌, Bool, true, false, List, [], ◌∷◌, ◌++◌, codes, drop, flat_map, Option, Some, None}
 use Rattle.std.specs.Fmt.{decimal}
 use Rattle.lapd_frame.specs.declared.Side.{Side}
 use Rattle.lapd_frame.specs.declared.Side.TheVariants.{Network, User}
@@ -23,7 +23,7 @@ beside (octet ∷ words) = 32 ∷ octet ∷ words
 -- end
 abbrev pub line_front : ℕ → List ℕ → List ℕ → List ℕ → List ℕ
 line_front width packet time user = at_right 6 packet ++ (codes " " ++ (at_right width time
-    ++ (at_right 14 user ++ codes " |")))
+    ++ (at_right 10 user ++ codes " |")))
 
 abbrev pub line_back : List ℕ → List ℕ → List ℕ
 line_back between network = between ++ (codes "|" ++ (beside network ++ codes "\n"))
@@ -36,21 +36,29 @@ ladder_line width packet time user between network =
 abbrev pub time_heading : ℕ → List ℕ
 time_heading width = if width == 0 then [] else codes "time "
 
+-- the columns between the upright lines: fewer beside times, so that 80 columns suffice
+abbrev pub between_width : ℕ → ℕ
+between_width width = if width == 0 then 48 else 36
+
+abbrev pub blanks : ℕ → List ℕ
+blanks width = if width == 0 then codes "                                                "
+    else codes "                                    "
+
 abbrev pub head_line : ℕ → List ℕ
 head_line width = ladder_line width (codes "packet") (time_heading width) (codes "user")
-    (codes "                                                ") (codes "network")
+    (blanks width) (codes "network")
 
 -- ---- A frame.
 
--- its words in the arrow: 42 columns at most, and dashes up to the head or the tail
-abbrev pub labelled : List ℕ → List ℕ
-labelled words = filled 45 44 (shortened 42 words ++ codes " ")
+-- its words in an arrow of this width, and dashes up to the head or the tail
+abbrev pub labelled : ℕ → List ℕ → List ℕ
+labelled between words = filled 45 (between - 4) (shortened (between - 6) words ++ codes " ")
 
 -- the arrow from its sender to the other end; a line without a head if the sender is not known
-abbrev pub arrow : Option Side → List ℕ → List ℕ
-arrow (Some User) words = codes "-- " ++ (labelled words ++ codes ">")
-arrow (Some Network) words = codes "<-- " ++ labelled words
-arrow None words = codes "?- " ++ (labelled words ++ codes "?")
+abbrev pub arrow : ℕ → Option Side → List ℕ → List ℕ
+arrow between (Some User) words = codes "-- " ++ (labelled between words ++ codes ">")
+arrow between (Some Network) words = codes "<-- " ++ labelled between words
+arrow between None words = codes "?- " ++ (labelled between words ++ codes "?")
 
 -- the arrow of a frame that is lost: it ends before the other end
 abbrev pub lost_label : List ℕ → List ℕ
@@ -61,7 +69,7 @@ lost_arrow User words = codes "-- " ++ (lost_label words ++ codes "X          ")
 lost_arrow Network words = codes "          X-- " ++ lost_label words
 
 abbrev pub arrow_or_lost : Bool → Side → List ℕ → List ℕ
-arrow_or_lost false from words = arrow (Some from) words
+arrow_or_lost false from words = arrow 48 (Some from) words
 arrow_or_lost true from words = lost_arrow from words
 
 -- the line of the octets that this side sent, and that arrive or are lost; beside it these words of
@@ -77,14 +85,15 @@ abbrev pub rung_line : LadderStyle → Packet → List ℕ → Option Side → L
     → List ℕ
 rung_line style packet time from octets listening = ladder_line style.time_width
     (decimal packet.number) time (known_words User (reading_of from octets) listening)
-    (arrow from (frame_words from octets (reading_of from octets)))
+    (arrow (between_width style.time_width) from
+    (frame_words from octets (reading_of from octets)))
     (known_words Network (reading_of from octets) listening)
 
 -- ---- The notes on a frame, each in a line of its own.
 
 abbrev pub note_line : ℕ → List ℕ → List ℕ
 note_line width words = ladder_line width [] [] []
-    (codes "  " ++ (at_left 45 words ++ codes " ")) []
+    (codes "  " ++ (at_left (between_width width - 3) words ++ codes " ")) []
 
 -- a line unless there are no words
 abbrev pub line_of_words : ℕ → List ℕ → List ℕ
@@ -109,8 +118,8 @@ remark_line width (Some r) = note_line width (remark_words r)
 
 -- the remarks, in the order of their kinds
 abbrev pub each_remark : Remarks → List (Option Remark)
-each_remark r = r.establishment ∷ r.ns ∷ r.window ∷ r.busy ∷ r.nr ∷ r.answer ∷ r.identity
-    ∷ r.conflict ∷ []
+each_remark r = r.establishment ∷ r.ns ∷ r.window ∷ r.busy ∷ r.nr ∷ r.bit ∷ r.answer
+    ∷ r.identity ∷ r.conflict ∷ []
 
 abbrev pub remark_lines : ℕ → Option Remarks → List ℕ
 remark_lines width None = []

@@ -3,7 +3,7 @@
 ghost use Rattle.std.specs.Prelude.{◌≡◌, ◌++◌, IfOk, OnOk};
 ghost use Rattle.std.specs.Fmt.{decimal};
 ghost use Rattle.std.specs.String.{string_bytes};
-ghost use Rattle.lapd_cli_ladder.specs.Ladder.{arrival_line, arrow, arrow_or_lost, beside, head_line, labelled, ladder_line, line_back, line_front, lost_arrow, lost_label, rung_line, time_heading};
+ghost use Rattle.lapd_cli_ladder.specs.Ladder.{arrival_line, arrow, arrow_or_lost, beside, between_width, blanks, head_line, labelled, ladder_line, line_back, line_front, lost_arrow, lost_label, rung_line, time_heading};
 
 use crate::columns::{push_filled, push_right, push_shortened};
 use crate::ends::known_words;
@@ -17,16 +17,10 @@ use std::alloc::{AllocError, Global};
 const NUMBER_WIDTH: usize = 6;
 
 /// The width of the words of the user's end.
-const END_WIDTH: usize = 14;
+const END_WIDTH: usize = 10;
 
-/// The columns between the upright lines if there is no arrow.
-const BLANKS: &[u8] = b"                                                ";
-
-/// The most columns of the words in an arrow.
-const MOST_WORDS: usize = 42;
-
-/// The columns of the words in an arrow, with the dashes behind them.
-const LABEL_WIDTH: usize = 44;
+/// The columns between the upright lines without times.
+const BETWEEN: usize = 48;
 
 /// The most columns of the words in the arrow of a lost frame.
 const MOST_LOST_WORDS: usize = 32;
@@ -57,9 +51,28 @@ pub fn push_head(text: &mut Vec<u8>, style: LadderStyle) -> Result<(), AllocErro
         b"packet",
         time_heading(style.time_width),
         b"user",
-        BLANKS,
+        blanks(style.time_width),
         b"network",
     )
+}
+
+/// The columns between the upright lines beside times of this width: fewer if there are times, so
+/// that 80 columns suffice.
+pub(crate) fn between_width(width: usize) -> usize
+    ensures { result ≡ between_width width }
+{
+    if width == 0 { BETWEEN } else { 36 }
+}
+
+/// What is between the upright lines if there is no arrow.
+fn blanks(width: usize) -> &'static [u8]
+    ensures { result.now ≡ blanks width }
+{
+    if width == 0 {
+        b"                                                "
+    } else {
+        b"                                    "
+    }
 }
 
 /// The heading of the times.
@@ -94,7 +107,8 @@ pub fn push_rung(
     let network = known_words(alloc, Side::Network, &frame, listener)?;
     let number = number_words(alloc, packet.number)?;
     let mut between = Vec::new(alloc);
-    push_arrow(alloc, &mut between, from, words.as_bytes())?;
+    let width = between_width(style.time_width);
+    push_arrow(alloc, &mut between, width, from, words.as_bytes())?;
     push_line(
         text,
         style.time_width,
@@ -145,7 +159,7 @@ fn push_arrow_or_lost(
     if is_lost {
         push_lost_arrow(alloc, text, from, words)
     } else {
-        push_arrow(alloc, text, Some(from), words)
+        push_arrow(alloc, text, BETWEEN, Some(from), words)
     }
 }
 
@@ -188,41 +202,48 @@ pub(crate) fn number_words(alloc: Global, number: u64) -> Result<String, AllocEr
     format!(in alloc; "{number}")
 }
 
-/// Appends the arrow of a frame with these words. It has no head if the sender is not known.
+/// Appends the arrow of this width of a frame with these words. It has no head if the sender is not
+/// known.
 fn push_arrow(
     alloc: Global,
     text: &mut Vec<u8>,
+    between: usize,
     from: Option<Side>,
     words: &[u8],
 ) -> Result<(), AllocError>
-    ensures { OnOk result (text.new.items ≡ text.old.items ++ arrow from words.now) }
+    ensures { OnOk result (text.new.items ≡ text.old.items ++ arrow between from words.now) }
 {
     match from {
         Some(Side::User) => {
             text.extend_from_slice(b"-- ")?;
-            push_labelled(alloc, text, words)?;
+            push_labelled(alloc, text, between, words)?;
             text.extend_from_slice(b">")
         }
         Some(Side::Network) => {
             text.extend_from_slice(b"<-- ")?;
-            push_labelled(alloc, text, words)
+            push_labelled(alloc, text, between, words)
         }
         None => {
             text.extend_from_slice(b"?- ")?;
-            push_labelled(alloc, text, words)?;
+            push_labelled(alloc, text, between, words)?;
             text.extend_from_slice(b"?")
         }
     }
 }
 
-/// Appends the words in an arrow, with the dashes behind them.
-fn push_labelled(alloc: Global, text: &mut Vec<u8>, words: &[u8]) -> Result<(), AllocError>
-    ensures { OnOk result (text.new.items ≡ text.old.items ++ labelled words.now) }
+/// Appends the words in an arrow of this width, with the dashes behind them.
+fn push_labelled(
+    alloc: Global,
+    text: &mut Vec<u8>,
+    between: usize,
+    words: &[u8],
+) -> Result<(), AllocError>
+    ensures { OnOk result (text.new.items ≡ text.old.items ++ labelled between words.now) }
 {
     let mut label = Vec::new(alloc);
-    push_shortened(&mut label, MOST_WORDS, words)?;
+    push_shortened(&mut label, between.saturating_sub(6), words)?;
     label.extend_from_slice(b" ")?;
-    push_filled(text, b'-', LABEL_WIDTH, label.as_slice())
+    push_filled(text, b'-', between.saturating_sub(4), label.as_slice())
 }
 
 /// Appends a line with these words in its columns.

@@ -8,14 +8,11 @@ ghost use Rattle.lapd_cli_ladder.specs.Words.{class_mark, remark_words};
 
 use crate::LadderStyle;
 use crate::columns::push_left;
-use crate::ladder::push_line;
+use crate::ladder::{between_width, push_line};
 use lapd_cli_render::{Packet, push_names};
 use lapd_follow::{Class, Remark, Remarks};
 use lapd_frame::Side;
 use std::alloc::{AllocError, Global};
-
-/// The columns of the words of a note.
-const NOTE_WIDTH: usize = 45;
 
 /// Appends the lines below that of octets in this packet, of this sender if it is known: a mark if
 /// the packet was cut, the name of the message if that is requested, and the remarks.
@@ -133,7 +130,7 @@ fn push_remarks(
 }
 
 /// The remarks, in the order of their kinds.
-fn each_remark(said: &Remarks) -> [Option<Remark>; 8]
+fn each_remark(said: &Remarks) -> [Option<Remark>; 9]
     ensures { result ≡ each_remark said.now }
 {
     [
@@ -142,6 +139,7 @@ fn each_remark(said: &Remarks) -> [Option<Remark>; 8]
         said.window,
         said.busy,
         said.nr,
+        said.bit,
         said.answer,
         said.identity,
         said.conflict,
@@ -215,7 +213,8 @@ pub fn push_note(
 {
     let mut between = Vec::new(alloc);
     between.extend_from_slice(b"  ")?;
-    push_left(&mut between, NOTE_WIDTH, words)?;
+    let columns = between_width(width).saturating_sub(3);
+    push_left(&mut between, columns, words)?;
     between.extend_from_slice(b" ")?;
     push_line(text, width, b"", b"", b"", between.as_slice(), b"")
 }

@@ -106,7 +106,7 @@ drawn_step w line = option_map (drawn w line) (pair_step w line)
 -- the names of both ends
 abbrev pub ends_head : List ℕ
 ends_head = text_line
-    (codes "                 user |                                                | network")
+    (codes "             user |                                                | network")
 
 -- how the command ends: the head is printed first, and the closing lines of `pair` last
 abbrev pub LadderEndsAs : World → Result ⊤ ScriptFault → List (List ℕ) → Option (List ℕ)

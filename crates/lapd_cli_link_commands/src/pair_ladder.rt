@@ -25,8 +25,7 @@ use std::alloc::{AllocError, Global};
 use std::io::{Read, Write};
 
 /// The line above the ladder.
-const HEAD: &[u8] =
-    b"                 user |                                                | network";
+const HEAD: &[u8] = b"             user |                                                | network";
 
 /// The beginning of a line that reports why a move is refused.
 const REFUSED: &[u8] = b"refused";

@@ -656,8 +656,11 @@ HEX. With --names a message of TEI management or of Q.931 follows, in words:
   bearer=speech channel=B2 cause=16 calling=5551234 called=200
                                     then these information elements, in the order of the message
 
+With --no-octets the line has no info=HEX, but only these words.
+
 With --time a trace line of a capture begins with the time of its packet, in seconds with six digits
-after a point, or with - if the capture does not have it. --sapi, --tei, --kinds and --no-polls
+after a point, or with - if the capture does not have it. The time of day is UTC, such as
+09:05:07.000000. --sapi, --tei, --kinds and --no-polls
 choose the frames that are printed, by their octets; octets that lack what is requested are left
 out. --count ends the output after so many printed frames: no more packets are read, and lines are
 skipped. With --any-sapi octets with a SAPI other than 0, 16 and 63 are read as if it were 0, and
@@ -665,17 +668,18 @@ printed with it.
 
 With --follow the remarks on a frame are last, each after `; `. Frames that are not printed are
 followed too, up to the last one that --count allows. A frame that is simply the next one
-of its link has none. `violation: ` marks what no two ends do that follow Q.921. At the end of the
-input a table of each link has its establishments and, of each direction, the frames by kind, the
-messages, their octets, the repeated I frames, the polls, the times of answers and the time that an
-end was busy. Messages of TEI management have remarks too.
+of its link has none. `violation: ` marks what no two ends do that follow Q.921, if each answer
+arrives before T200 expires. At the end of the input a table of each link has its establishments
+and, of each direction, the frames by kind, the messages, their octets, the repeated I frames, the
+polls, the times of answers and the time that an end was busy. Messages of TEI management have
+remarks too.
 
 With --ladder each frame is an arrow between the user at the left and the network at the right, with
 the number of its packet, its time, and what the frames show of both ends: S and the next N(S), R
 and the last N(R), poll if a poll is not answered, busy, or SABME sent or DISC sent if that is not
 answered. In the arrow are SAPI, TEI and the fields; below it are the remarks. There are no tables.
 A frame whose sender is not known is a line between two ?, without a head. --svg draws the same into
-a file, on pages of 25 frames.
+a file, on pages of 25 frames, 10000 frames at most without --count.
 
 With --json a line is an object with these members, in the order of their names:
   direction        \"U>N\" or \"N>U\", if the sender is known

@@ -13,17 +13,22 @@ use lapd_cli_values::{
 };
 use std::alloc::Global;
 
+/// The frames of a picture without `--count`: a browser shows a picture of some megabytes.
+const PICTURE_FRAMES: u64 = 10_000;
+
 /// The options of `decode` among these.
 pub(crate) fn decode_of<'a>(given: &ArgMatches<'a>) -> Result<DecodeOptions, NoInvocation<'a>> {
     let layout = layout_of(given)?;
     let follow = follow_of(given)?;
     let time = time_of(given)?;
-    let count = number_of(given, COUNT)?;
+    let count = count_of(given, layout)?;
+    let no_octets = no_octets_of(given, layout)?;
     let frames = frames_of(given)?;
     Ok(DecodeOptions {
         loose: given.get_flag("loose"),
         sender: sender_of(given),
         names: given.get_flag("names"),
+        no_octets,
         json: given.get_flag("json"),
         layout,
         keep_going: given.get_flag("keep-going"),
@@ -71,6 +76,38 @@ fn layout_of<'a>(given: &ArgMatches<'a>) -> Result<PrintedLayout, NoInvocation<'
     Ok(layout)
 }
 
+// After how many printed frames the output ends. A picture has an end.
+fn count_of<'a>(
+    given: &ArgMatches<'a>,
+    layout: PrintedLayout,
+) -> Result<Option<u64>, NoInvocation<'a>> {
+    match (number_of(given, COUNT)?, layout) {
+        (None, PrintedLayout::Picture) => Ok(Some(PICTURE_FRAMES)),
+        (count, _) => Ok(count),
+    }
+}
+
+// Whether the octets of information are left out. Only a trace line with names can do without.
+fn no_octets_of<'a>(
+    given: &ArgMatches<'a>,
+    layout: PrintedLayout,
+) -> Result<bool, NoInvocation<'a>> {
+    if !given.get_flag("no-octets") {
+        return Ok(false);
+    }
+    if layout != PrintedLayout::Lines {
+        return Err(NoInvocation::NotBoth("no-octets", option_of(layout)));
+    }
+    if given.get_flag("json") {
+        return Err(NoInvocation::NotBoth("no-octets", "json"));
+    }
+    if given.get_flag("names") {
+        Ok(true)
+    } else {
+        Err(NoInvocation::NotNamed("no-octets"))
+    }
+}
+
 // The option of a drawing.
 fn option_of(layout: PrintedLayout) -> &'static str {
     match layout {
@@ -111,6 +148,7 @@ fn time_of<'a>(given: &ArgMatches<'a>) -> Result<PrintedTime, NoInvocation<'a>> 
         Some("absolute") => PrintedTime::Absolute,
         Some("relative") => PrintedTime::Relative,
         Some("delta") => PrintedTime::Delta,
+        Some("day") => PrintedTime::Day,
         _ => return Ok(PrintedTime::Hidden),
     };
     if given.get_str("pcap").is_some() || has_files(given) {

@@ -31,86 +31,97 @@ pub const DECODE_ABOUT: &str = "Prints the frames of captures, scripts, logs and
 
 /// The help of `--recovery`.
 pub const RECOVERY: &str = "\
-The frame that T200 sends in state 7:
-an enquiry, or the last I frame again";
+The frame that T200 sends in state 7: an enquiry, or the last I frame
+again";
 
 /// The help of `--recovery-user`, of `pair` and `loop`.
 pub const RECOVERY_USER: &str = "\
-The frame that T200 of the user side sends in state 7:
-an enquiry, or the last I frame again";
+The frame that T200 of the user side sends in state 7: an
+enquiry, or the last
+I frame again";
 
 /// The help of `--recovery-net`, of `pair` and `loop`.
 pub const RECOVERY_NET: &str = "\
-The frame that T200 of the network side sends in state 7:
-an enquiry, or the last I frame again";
+The frame that T200 of the network side sends in state 7: an
+enquiry, or the last
+I frame again";
 
 /// The help of `--sapi`, of `answer`.
 pub const SAPI: &str = "\
-The SAPI of the link: 0 is call control,
-16 is packet communication on the D channel";
+The SAPI of the link: 0 is call control, 16 is packet communication on
+the D channel";
 
 /// The help of `--pri`.
-pub const PRI: &str =
-    "Primary rate: TEI 0 if --tei is absent, a window of 7, and SAPI 16 only with --sapi16";
+pub const PRI: &str = "\
+Primary rate: TEI 0 if --tei is absent, a window of 7, and SAPI 16
+only with --sapi16";
 
 /// The help of `--sapi16`.
-pub const SAPI16: &str = "With --pri, serves SAPI 16 too; without --pri, SAPI 16 is always served";
+pub const SAPI16: &str = "\
+With --pri, serves SAPI 16 too; without --pri, SAPI 16 is always
+served";
 
 /// The help of `--ladder`, of `pair`.
 pub const PAIR_LADDER: &str = "\
-Draws each frame that arrives or is lost as an arrow between the user and the network,
-with both ends after that";
+Draws each frame that arrives or is lost as an arrow between the
+user and the network, with both ends after that";
 
 /// The help of the files of `decode`.
 pub const FILES: &str = "\
-Files to print, by their content: captures (pcap, pcapng), or text as on standard input;
-- is standard input";
+Files to print, by their content: captures (pcap, pcapng), or text as on standard
+input; - is standard input";
 
 /// The help of the options of `decode`.
 pub const LOOSE: &str = "\
-Allows spaces, colons, brackets and 0x in HEX, and lines of libpri and of logs, hex dumps,
-and HEX alone; skips and counts other lines";
+Allows spaces, colons, brackets and 0x in HEX, and lines of libpri and of
+logs, hex dumps, and HEX alone; skips and counts other lines";
 
 pub const SENDER: &str = "\
-The side that printed the lines of libpri and of logs, and that sent the octets of a line
-or a capture that does not name it; by default it is taken from
-their kind and C/R bit";
+The side that printed the lines of libpri and of logs, and that sent the
+octets of a line or a capture that does not name it; by default it is taken
+from their kind and C/R bit";
 
 pub const NAMES: &str = "Adds the message of TEI management or of Q.931 to the line, in words";
+
+pub const NO_OCTETS: &str = "With --names, leaves out the octets of information in the line";
 
 pub const JSON: &str = "Prints each frame as a JSON object, one per line";
 
 pub const KEEP_GOING: &str = "Reports a bad line or packet on standard error, and skips it";
 
 pub const PCAP: &str = "\
-Prints the frames of this pcap or pcapng file as they arrive, - for standard input; no
-script is read";
+Prints the frames of this pcap or pcapng file as they arrive, - for standard
+input; no script is read";
 
 pub const FOLLOW: &str = "\
-Adds remarks on what each frame means for its link, and prints a table of each link at the
-end; with --strict also ends with exit status 5 if a frame violates Q.921";
+Adds remarks on what each frame means for its link, and prints a table of
+each link at the end; with --strict also ends with exit status 5 if a frame
+violates Q.921";
 
 pub const LADDER: &str = "\
-Draws the frames as arrows between the user and the network, with what is known of both
-ends and the remarks of --follow";
+Draws the frames as arrows between the user and the network, with what is
+known of both ends and the remarks of --follow";
 
-pub const SVG: &str = "Draws the same into this file, as a picture (SVG) that a browser shows";
+pub const SVG: &str = "\
+Draws the same into this file, as a picture (SVG) that a browser shows, of
+10000 frames at most without --count";
 
 pub const FRAME_TIME: &str = "\
-Begins each trace line of a capture with the time in seconds: since 1970, since the first
-printed frame, or since the
-printed frame before";
+Begins each trace line of a capture with the time in seconds: since 1970,
+since the first printed frame, or since the printed frame before; or with
+the time of day,
+UTC";
 
 pub const KINDS: &str = "\
-Prints only frames of these kinds, with commas between: i (I), s (supervisory), u
-(unnumbered)";
+Prints only frames of these kinds, with commas between: i (I), s
+(supervisory), u (unnumbered)";
 
 pub const NO_POLLS: &str = "Leaves out supervisory frames with P or F 1";
 
 pub const COLOR: &str = "\
-Prints trace lines in a color for each sender, and violations in red;
-auto: if standard output is a terminal
-and NO_COLOR is not set";
+Prints trace lines in a color for each sender, and violations in red; auto:
+if standard output is a terminal and
+NO_COLOR is not set";
 
 pub const ANY_SAPI: &str = "Prints frames of all SAPIs, not only of 0, 16 and 63";
 
@@ -119,26 +130,31 @@ pub const SIDE_JSON: &str = "Prints each line as a JSON object";
 
 /// The help of the options of the clock.
 pub const CLOCK: &str = "\
-The clock: that of the script, which only `tick` advances,
-or the real one";
+The clock: that of the script, which only `tick` advances, or the
+real one";
 
 pub const TIME: &str = "\
-With --clock real, begins each line with the time, in milliseconds since the first
-connection";
+With --clock real, begins each line with the time, in milliseconds
+since the first connection";
 
 pub const QUIET: &str = "With --clock real, prints no trace lines of frames";
 
-pub const SERVE: &str =
-    "With --clock real, continues after the end of the script, until the connection closes";
+pub const SERVE: &str = "\
+With --clock real, continues after the end of the script, until the
+connection closes";
 
-pub const KEEP: &str = "With --clock real, accepts or makes the next connection when one is lost";
+pub const KEEP: &str = "\
+With --clock real, accepts or makes the next connection when one is
+lost";
 
-pub const LIVE_PCAP: &str =
-    "With --clock real, writes each frame to this file, as pcap of link type 177 (LINUX_LAPD)";
+pub const LIVE_PCAP: &str = "\
+With --clock real, writes each frame to this file, as pcap of link
+type 177 (LINUX_LAPD)";
 
 pub const LIVE_LADDER: &str = "\
-With --clock real, draws each frame into this file, as an arrow between the user and the
-network, with what is known of both ends: the lines of decode --ladder";
+With --clock real, draws each frame into this file, as an arrow
+between the user and the network, with what is known of both ends:
+the lines of decode --ladder";
 
 /// The help of `--strict`.
 pub const STRICT: &str = "Ends with exit status 5 if a line of the script was refused";

@@ -99,6 +99,8 @@ pub struct DecodeOptions {
     pub sender: Option<Side>,
     /// Whether the message in a frame is named.
     pub names: bool,
+    /// Whether the octets of information are left out of a trace line with names.
+    pub no_octets: bool,
     /// Whether each frame is printed as a JSON object.
     pub json: bool,
     /// The layout of the frames.
@@ -153,12 +155,14 @@ pub enum PrintedTime {
     Relative,
     /// The seconds since the printed frame before.
     Delta,
+    /// The time of day, of the time zone UTC.
+    Day,
 }
 
 /// The options of `decode --follow`.
 #[derive(Clone, Copy)]
 pub struct FollowOptions {
-    /// The window k of all links, 1 to 127; `None` if no window is checked.
+    /// The window k of all links, 1 to 127; `None` if 127 is checked.
     pub k: Option<u8>,
 }
 

@@ -11,7 +11,7 @@ pub enum NoInvocation<'a> {
     /// 0.
     Shown(String),
     /// The parser refuses them, for the reason in this text. The text is for standard error, and
-    /// the exit status is 2, as for `OutOfRange`, `NotReal`, `NotFollowed`, `NotCaptured`,
+    /// the exit status is 2, as for `OutOfRange`, `NotReal`, `NotFollowed`, `NotNamed`, `NotCaptured`,
     /// `PcapAndFile`, `OneFile`, `NotBoth`, `NotKinds` and `OneTerminal`.
     Refused(String),
     /// A number that is not in the range of its option.
@@ -21,6 +21,8 @@ pub enum NoInvocation<'a> {
     NotReal(&'static str),
     /// The option with this name, without the hyphens, requires `--follow`, which is absent.
     NotFollowed(&'static str),
+    /// The option with this name, without the hyphens, requires `--names`, which is absent.
+    NotNamed(&'static str),
     /// The option with this name, without the hyphens, requires a capture, and there is no file.
     NotCaptured(&'static str),
     /// `--pcap` is present, and files besides.
@@ -49,6 +51,7 @@ impl fmt::Display for NoInvocation<'_> {
             NoInvocation::NotFollowed(option) => {
                 writeln!(f, "error: --{option} requires --follow")
             }
+            NoInvocation::NotNamed(option) => writeln!(f, "error: --{option} requires --names"),
             NoInvocation::NotCaptured(option) => {
                 writeln!(
                     f,

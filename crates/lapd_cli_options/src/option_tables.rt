@@ -71,6 +71,7 @@ pub(crate) const DECODE: &[&[CommandOption]] = &[
         CommandOption::Flag("loose", help::LOOSE),
         CommandOption::BareWord(SENDER),
         CommandOption::Flag("names", help::NAMES),
+        CommandOption::Flag("no-octets", help::NO_OCTETS),
         CommandOption::Flag("json", help::JSON),
         CommandOption::Flag("keep-going", help::KEEP_GOING),
         CommandOption::File("pcap", help::PCAP),
@@ -154,7 +155,7 @@ const FRAME_TIME: WordOption = WordOption {
     name: "time",
     value_name: "TIME",
     help: help::FRAME_TIME,
-    words: &["none", "absolute", "relative", "delta"],
+    words: &["none", "absolute", "relative", "delta", "day"],
     default: "none",
 };
 

@@ -71,15 +71,17 @@ lapd decode --ladder => decode follow ladder
 lapd decode --ladder --follow --k 7 => decode follow 7 ladder
 lapd decode --ladder --pcap a --sender user => decode follow ladder from user
 lapd decode --ladder --pcap a --time absolute => decode follow ladder absolute
-lapd decode --svg b => decode follow picture
+lapd decode --svg b => decode follow picture count 10000
 lapd decode --pcap a --svg=b --count 2 => decode follow picture count 2
 lapd decode a => decode of a
 lapd decode a - --follow b => decode follow of a - b
-lapd decode --time delta a --svg b => decode follow picture delta of a
+lapd decode --time delta a --svg b => decode follow picture delta count 10000 of a
 lapd decode -- --follow => decode of --follow
 lapd decode --time none --kinds i,s,u => decode
 lapd decode --time absolute --pcap a => decode absolute
 lapd decode --time=relative --pcap=a => decode relative
+lapd decode --time day a => decode day of a
+lapd decode --no-octets --names --follow => decode follow no-octets
 lapd decode --time delta --pcap - --count 1 => decode delta count 1
 lapd decode --count 18446744073709551615 => decode count 18446744073709551615
 lapd decode --sapi 63 --tei 127 => decode sapi 63 tei 127 isu polls
@@ -183,6 +185,11 @@ lapd pair --help => a text
 lapd loop --help => a text
 lapd net --help => a text
 lapd net -h => the short help
+lapd user -h => the short help
+lapd pair -h => the short help
+lapd loop -h => the short help
+lapd bus -h => the short help
+lapd decode -h => the short help
 lapd user --help => a text
 lapd decode --help => a text
 lapd --version => a text
@@ -207,6 +214,10 @@ lapd loop --n200 101 => error: invalid value '101' for '--n200 <TIMES>': not a n
 lapd bus --terminals 0 => error: invalid value '0' for '--terminals <TERMINALS>': not a number from 1 to 127 in decimal digits~
 lapd bus --terminals 128 => error: invalid value '128' for '--terminals <TERMINALS>': not a number from 1 to 127 in decimal digits~
 lapd decode --k 3 => error: --k requires --follow~
+lapd decode --no-octets => error: --no-octets requires --names~
+lapd decode --no-octets --names --json => error: --no-octets cannot be used with --json~
+lapd decode --no-octets --names --svg a => error: --no-octets cannot be used with --svg~
+lapd decode --ladder --no-octets => error: --no-octets cannot be used with --ladder~
 lapd decode --time delta => error: --time requires a capture: --pcap FILE, or FILE~
 lapd decode --pcap a b => error: --pcap cannot be used with FILE; without --pcap, FILE may be a capture~
 lapd decode a b --svg c => error: --svg takes one FILE~
@@ -282,8 +293,14 @@ fn shown_words(alloc: Global, words: &[&str]) -> String {
     text
 }
 
+/// The columns of help.
+const WIDTH: usize = 100;
+
 fn show_none(text: &mut String, unchosen: &NoInvocation<'_>) {
     let _ = match unchosen {
+        NoInvocation::Shown(shown) if shown.lines().any(|line| line.len() > WIDTH) => {
+            text.push_str("lines of more than 100 columns")
+        }
         NoInvocation::Shown(shown) if shown.trim_end().ends_with(help::SHORT) => {
             text.push_str("the short help")
         }
@@ -381,7 +398,9 @@ fn show_output(text: &mut String, options: &DecodeOptions) {
         PrintedTime::Absolute => " absolute",
         PrintedTime::Relative => " relative",
         PrintedTime::Delta => " delta",
+        PrintedTime::Day => " day",
     });
+    let _ = text.push_str(if options.no_octets { " no-octets" } else { "" });
     if let Some(count) = options.count {
         let _ = write!(text, " count {count}");
     }
@@ -486,7 +505,13 @@ fn wrong_row(alloc: Global) -> Option<&'static str> {
 #[test]
 fn words_choose_a_job(rt: HostRuntime) -> Result<(), Fail> {
     match wrong_row(rt.alloc()) {
-        Some(row) => Err(Fail::new(format_args!("{row}: they come to something else"))),
+        Some(row) => {
+            let (words, _) = row.split_once(" => ").unwrap_or((row, ""));
+            let words = words_of(rt.alloc(), words);
+            let shown = shown_words(rt.alloc(), words.as_slice());
+            let shown = shown.as_str();
+            Err(Fail::new(format_args!("{row}: they come to {shown}")))
+        }
         None => Ok(()),
     }
 }

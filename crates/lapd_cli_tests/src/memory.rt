@@ -97,13 +97,13 @@ fn moves_are_drawn_while_there_is_memory(rt: HostRuntime) -> Result<(), Fail> {
 }
 
 const DRAWN_MOVES: &str =
-    "                     user |                                                | network
+    "                 user |                                                | network
 establish user
 deliver net
-               5 S0 A0 R0 |-- 0 64 SABME P=1 ----------------------------->| 7 S0 A0 R0
-                          |  net established                               |
+           5 S0 A0 R0 |-- 0 64 SABME P=1 ----------------------------->| 7 S0 A0 R0
+                      |  net established                               |
 lose user 0
-               5 S0 A0 R0 |          X-- 0 64 UA F=1 ----------------------| 7 S0 A0 R0
+           5 S0 A0 R0 |          X-- 0 64 UA F=1 ----------------------| 7 S0 A0 R0
 .
     user: state 5, given 0, received 0, acknowledged 0, dropped 0
     net: state 7, given 0, received 0, acknowledged 0, dropped 0
@@ -200,6 +200,7 @@ const DECODE: DecodeOptions = DecodeOptions {
     names: false,
     json: false,
     layout: PrintedLayout::Lines,
+    no_octets: false,
     keep_going: false,
     follow: None,
     time: PrintedTime::Hidden,
@@ -221,10 +222,10 @@ fn draws_while_there_is_memory(rt: HostRuntime) -> Result<(), Fail> {
 
 const DRAWN: &str = "\
 user
-    packet           user |                                                | network
-         1                |-- F1 TooShort -------------------------------->|
+    packet       user |                                                | network
+         1            |-- F1 TooShort -------------------------------->|
 net 02817f
-         2              - |<-- 0 64 SABME P=1 -----------------------------| SABME sent
+         2          - |<-- 0 64 SABME P=1 -----------------------------| SABME sent
 ";
 
 const FOLLOWED: &str = "\

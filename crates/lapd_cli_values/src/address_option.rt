@@ -26,6 +26,6 @@ pub const CONNECT: AddressOption = AddressOption {
 pub const GSMTAP: AddressOption = AddressOption {
     name: "gsmtap",
     help: "\
-With --clock real, sends each frame as GSMTAP over UDP to this address, such as
-127.0.0.1:4729",
+With --clock real, sends each frame as GSMTAP over UDP to this
+address, such as 127.0.0.1:4729",
 };

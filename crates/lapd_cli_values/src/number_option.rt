@@ -26,7 +26,9 @@ pub struct NumberOption {
 pub const K: NumberOption = NumberOption {
     name: "k",
     value_name: "FRAMES",
-    help: "The most outstanding I frames, the window k, 1 to 127",
+    help: "\
+The
+most outstanding I frames, the window k, 1 to 127",
     default: "1",
     least: 1,
     most: 127,
@@ -67,8 +69,8 @@ pub const CONNECTED_TERMINALS: NumberOption = NumberOption {
     name: "terminals",
     value_name: "TERMINALS",
     help: "\
-With --clock real, the number of connections that are accepted, each of a terminal
-on the bus, 1 to 127 [default: 1]",
+With --clock real, the number of connections that are accepted, each
+of a terminal on the bus, 1 to 127 [default: 1]",
     default: "",
     least: 1,
     most: 127,
@@ -80,8 +82,8 @@ pub const IDLE_LIMIT: NumberOption = NumberOption {
     name: "idle-limit",
     value_name: "MS",
     help: "\
-With --terminals above 1, closes a connection that has sent no whole frame for this
-many milliseconds, 1 to 3600000",
+With --terminals above 1, closes a connection that has sent no whole
+frame for this many milliseconds, 1 to 3600000",
     default: "",
     least: 1,
     most: 3_600_000,
@@ -124,19 +126,19 @@ pub const LINKS_K: NumberOption = NumberOption {
     name: "k",
     value_name: "FRAMES",
     help: "\
-The most outstanding I frames of a link, the window k, 1 to 127 [default: 1 for SAPI
-0 and 3 for SAPI 16; with --pri 7]",
+The most outstanding I frames of a link, the window k, 1 to 127
+[default: 1 for SAPI 0 and 3 for SAPI 16; with --pri 7]",
     default: "",
     least: 1,
     most: 127,
 };
 
-/// The window of all links that `decode --follow` reads (Q.921 5.9.5). By default no window is
-/// checked.
+/// The window of all links that `decode --follow` reads (Q.921 5.9.5). By default the greatest one,
+/// 127, is checked.
 pub const FOLLOWED_K: NumberOption = NumberOption {
     name: "k",
     value_name: "FRAMES",
-    help: "With --follow, the window k of all links, 1 to 127; if absent, no window is checked",
+    help: "With --follow, the window k of all links, 1 to 127; if absent, 127",
     default: "",
     least: 1,
     most: 127,
@@ -147,8 +149,8 @@ pub const COUNT: NumberOption = NumberOption {
     name: "count",
     value_name: "FRAMES",
     help: "\
-Ends after this many frames were printed, 1 to 18446744073709551615; if absent, at
-the end of the input",
+Ends after this many frames were printed, 1 to 18446744073709551615; if
+absent, at the end of the input",
     default: "",
     least: 1,
     most: 18_446_744_073_709_551_615,
@@ -178,7 +180,9 @@ pub const PRINTED_TEI: NumberOption = NumberOption {
 pub const T200: NumberOption = NumberOption {
     name: "t200",
     value_name: "MS",
-    help: "How long T200 runs before a frame is sent again, in milliseconds, 1 to 3600000",
+    help: "\
+How long T200 runs before a frame is sent again, in milliseconds, 1
+to 3600000",
     default: "1000",
     least: 1,
     most: 3_600_000,
@@ -189,8 +193,8 @@ pub const T201: NumberOption = NumberOption {
     name: "t201",
     value_name: "MS",
     help: "\
-How long T201 of the network side runs before a TEI is checked again, in
-milliseconds, 1 to 3600000",
+How long T201 of the network side runs before a TEI is checked again,
+in milliseconds, 1 to 3600000",
     default: "1000",
     least: 1,
     most: 3_600_000,
@@ -201,8 +205,8 @@ pub const T202: NumberOption = NumberOption {
     name: "t202",
     value_name: "MS",
     help: "\
-How long T202 of the user side runs before a TEI is requested again, in
-milliseconds, 1 to 3600000",
+How long T202 of the user side runs before a TEI is requested again,
+in milliseconds, 1 to 3600000",
     default: "2000",
     least: 1,
     most: 3_600_000,
@@ -213,8 +217,8 @@ pub const T203: NumberOption = NumberOption {
     name: "t203",
     value_name: "MS",
     help: "\
-How long T203 runs on an idle link before an enquiry is sent, in milliseconds, 1 to
-3600000",
+How long T203 runs on an idle link before an enquiry is sent, in
+milliseconds, 1 to 3600000",
     default: "10000",
     least: 1,
     most: 3_600_000,
@@ -226,8 +230,9 @@ pub const SEED: NumberOption = NumberOption {
     name: "seed",
     value_name: "NUMBER",
     help: "\
-The seed of the user side's references of TEI management, 0 to 18446744073709551615
-[default: 921; with --clock real drawn from the system]",
+The seed of the user side's references of TEI management, 0 to
+18446744073709551615 [default: 921; with --clock real drawn from the
+system]",
     default: "",
     least: 0,
     most: 18_446_744_073_709_551_615,

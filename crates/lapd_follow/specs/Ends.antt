@@ -1,5 +1,5 @@
 -- The state of one end of a data link, as far as the frames seen on the line show it.
-use Rattle.std.specs.Prelude.{ℕ, ◌+◌, ◌-◌, ◌^◌, ◌==◌, min, nat_le, if◌then◌else◌, Bool, true, false, List, [], ◌∷◌, ◌++◌, length, drop, slice_get, Option, Some, None}
+use Rattle.std.specs.Prelude.{ℕ, ◌+◌, ◌-◌, ◌^◌, ◌==◌, ◌||◌, not, min, nat_le, if◌then◌else◌, Bool, true, false, List, [], ◌∷◌, ◌++◌, length, drop, slice_get, Option, Some, None}
 use Rattle.lapd_mod128.specs.Counting.{Tagged, after, steps, lies_within}
 use Rattle.lapd_follow.specs.declared.packet.Packet.{Packet}
 use Rattle.lapd_follow.specs.declared.polls.Polls.{Polls}
@@ -89,15 +89,19 @@ from_end n frames = if nat_le n (length frames) then slice_get frames (length fr
 
 -- The numbers of its frames, if they are known. The octets of its I frames up to the next
 -- N(S) that its peer has not acknowledged, oldest first, 127 at most. Whether it is busy (5.6.6).
--- Its I, RR, RNR and REJ commands with P=1. Its SABME and DISC commands, and whether the last was a
--- SABME.
+-- Its I, RR, RNR and REJ commands with P=1, and the last of them while it awaits an answer (5.6.7).
+-- Its SABME and DISC commands, whether the last was a SABME, and whether that had P=1. Whether it
+-- sends no I or S frame until its link is established again (5.5.4).
 pub record EndKnown : Type 0 where
   pub numbering : Option Numbering
   pub unacknowledged : List (List ℕ)
   pub busy : Busy
   pub polls : Polls
+  pub awaited : Option Packet
   pub commands : Polls
   pub is_establishing : Bool
+  pub is_polling : Bool
+  pub is_released : Bool
 
 -- nothing was seen
 unfoldable pub new_end : EndKnown
@@ -106,8 +110,11 @@ new_end = record {
   unacknowledged = [];
   busy = Free;
   polls = unseen_polls;
+  awaited = None;
   commands = unseen_polls;
   is_establishing = false;
+  is_polling = false;
+  is_released = false;
 }
 
 -- After its SABME, DISC, UA or DM its next I or S frame belongs to an establishment that began
@@ -117,6 +124,7 @@ begun e = record e {
   numbering = Some first_numbering;
   unacknowledged = [];
   busy = Free;
+  awaited = None;
 }
 
 -- After a SABME, DISC or DM of its peer this end may begin anew or continue, until its own next
@@ -126,7 +134,12 @@ unnumbered e = record e {
   numbering = None;
   unacknowledged = [];
   busy = Free;
+  awaited = None;
 }
+
+-- its link is released at this end, or not
+unfoldable pub with_release : Bool → EndKnown → EndKnown
+with_release is_released e = record e { is_released = is_released }
 
 -- its busy condition, as reported, is this one
 unfoldable pub with_busy : Busy → EndKnown → EndKnown
@@ -134,21 +147,23 @@ with_busy busy e = record e { busy = busy }
 
 -- it sent an I or S command with P=1
 unfoldable pub has_polled : Packet → EndKnown → EndKnown
-has_polled packet e = record e { polls = with_poll packet e.polls }
+has_polled packet e = record e { polls = with_poll packet e.polls; awaited = Some packet }
 
 -- its poll is answered
 unfoldable pub poll_answered : EndKnown → EndKnown
-poll_answered e = record e { polls = with_answer e.polls }
+poll_answered e = record e { polls = with_answer e.polls; awaited = None }
 
 -- its polls are not answered any more
 unfoldable pub polls_ended : EndKnown → EndKnown
-polls_ended e = record e { polls = no_polls }
+polls_ended e = record e { polls = no_polls; awaited = None }
 
--- it sent a SABME or a DISC
-unfoldable pub has_commanded : Bool → Packet → EndKnown → EndKnown
-has_commanded is_sabme packet e = record e {
+-- It sent a SABME or a DISC, with this P bit. After a DISC its link is released (5.5.3.2).
+unfoldable pub has_commanded : Bool → Bool → Packet → EndKnown → EndKnown
+has_commanded is_sabme p packet e = record e {
   commands = with_poll packet e.commands;
   is_establishing = is_sabme;
+  is_polling = p;
+  is_released = e.is_released || not is_sabme;
 }
 
 -- its SABME or DISC is answered

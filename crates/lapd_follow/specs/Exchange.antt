@@ -14,7 +14,7 @@ use Rattle.lapd_follow.specs.declared.packet.Packet.{Packet}
 use Rattle.lapd_follow.specs.declared.polls.Polls.{Polls}
 use Rattle.lapd_follow.specs.declared.end.Busy.{Busy}
 use Rattle.lapd_follow.specs.declared.end.Busy.TheVariants.{Free, Reported, Answered}
-use Rattle.lapd_follow.specs.Ends.{EndKnown, one_more, begun, unnumbered, with_busy, has_polled, poll_answered, polls_ended, has_commanded, command_answered, commands_ended, has_sent, has_acknowledged, is_acknowledged, is_valid_nr}
+use Rattle.lapd_follow.specs.Ends.{EndKnown, one_more, begun, unnumbered, with_release, with_busy, has_polled, poll_answered, polls_ended, has_commanded, command_answered, commands_ended, has_sent, has_acknowledged, is_acknowledged, is_valid_nr}
 
 -- the end that sent the frame, the other end, and how many establishments began
 pub record Exchange : Type 0 where
@@ -35,15 +35,18 @@ turned before now x = x
 unfoldable pub sender_begins : Exchange → Exchange
 sender_begins x = record x { from = begun x.from; to = polls_ended (unnumbered x.to) }
 
--- a SABME or a DISC
-unfoldable pub commands : Bool → Packet → Exchange → Exchange
-commands is_sabme packet x = record (sender_begins x) {
-  from = has_commanded is_sabme packet (begun x.from);
+-- A SABME or a DISC, with this P bit. The other end may answer a SABME by a UA that is lost before
+-- the listener, and then sends I and S frames.
+unfoldable pub commands : Bool → Bool → Packet → Exchange → Exchange
+commands is_sabme p packet x = record (sender_begins x) {
+  from = has_commanded is_sabme p packet (begun x.from);
+  to = with_release (x.to.is_released && not is_sabme) (polls_ended (unnumbered x.to));
 }
 
--- a DM; with F=1 it answers a SABME or a DISC (Q.921 5.4.5)
+-- A DM; with F=1 it answers a SABME or a DISC (Q.921 5.4.5). Its sender has released the link.
 unfoldable pub disconnects : Bool → Exchange → Exchange
 disconnects f x = record (sender_begins x) {
+  from = with_release true (begun x.from);
   to = if f then command_answered (polls_ended (unnumbered x.to))
       else polls_ended (unnumbered x.to);
 }
@@ -57,19 +60,28 @@ awaits_ua e = is_some e.commands.last && e.is_establishing
 abbrev pub begins_establishment : Exchange → Bool
 begins_establishment x = awaits_ua x.to && not (awaits_ua x.from)
 
+-- A UA that answers a DISC of the other end, and can answer no SABME: both ends have released the
+-- link (Q.921 5.5.3.2).
+abbrev pub answers_disc : EndKnown → Bool
+answers_disc e = not e.is_establishing && (e.commands.unanswered == 1)
+
 -- a UA that answers the last SABME or DISC of the other end
 unfoldable pub accepts : Exchange → Exchange
 accepts x = record {
-  from = polls_ended (begun x.from);
-  to = command_answered (polls_ended (with_busy Free x.to));
+  from = with_release (answers_disc x.to) (polls_ended (begun x.from));
+  to = command_answered (polls_ended (with_busy Free
+      (with_release (x.to.is_released && answers_disc x.to) x.to)));
   establishments = if begins_establishment x then one_more x.establishments
       else x.establishments;
 }
 
 -- A UA that answers an earlier SABME or DISC, or none: its sender begins anew, and the numbers of
--- the other end are unknown.
+-- the other end are unknown. Either end may have established the link.
 unfoldable pub accepts_late : Exchange → Exchange
-accepts_late x = record x { from = begun x.from; to = command_answered (unnumbered x.to) }
+accepts_late x = record x {
+  from = with_release false (begun x.from);
+  to = command_answered (unnumbered (with_release false x.to));
+}
 
 -- a UA (Q.921 3.6.8)
 unfoldable pub acknowledges_mode : Exchange → Exchange
@@ -139,10 +151,10 @@ after_control (Rr nr pf) role octets packet x = supervises role pf nr Free packe
 after_control (Rnr nr pf) role octets packet x =
     supervises role pf nr (busy_after_rnr role pf x) packet x
 after_control (Rej nr pf) role octets packet x = supervises role pf nr Free packet x
-after_control (Sabme p) role octets packet x = commands true packet x
+after_control (Sabme p) role octets packet x = commands true p packet x
 after_control (Dm f) role octets packet x = disconnects f x
 after_control (Ui p) role octets packet x = x
-after_control (Disc p) role octets packet x = commands false packet x
+after_control (Disc p) role octets packet x = commands false p packet x
 after_control (Ua f) role octets packet x = acknowledges_mode x
 after_control (Frmr f) role octets packet x = x
 after_control (Xid pf) role octets packet x = x

@@ -91,6 +91,7 @@ no_remarks = record {
   window = None;
   busy = None;
   nr = None;
+  bit = None;
   answer = None;
   identity = None;
   conflict = None;

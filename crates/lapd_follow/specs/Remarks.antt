@@ -15,9 +15,9 @@ use Rattle.lapd_follow.specs.declared.end.Busy.TheVariants as busy
 use Rattle.lapd_follow.specs.declared.remark.Class.{Class}
 use Rattle.lapd_follow.specs.declared.remark.Class.TheVariants.{Normal, Recovery, Violation}
 use Rattle.lapd_follow.specs.declared.remark.Remark.{Remark}
-use Rattle.lapd_follow.specs.declared.remark.Remark.TheVariants.{Begins, LateUa, UaWithoutCommand, FirstNs, NsExpected, Repeated, RepeatedOtherwise, WindowExceeded, SentToBusy, SentToKnownBusy, NrOutside, Answers, LateResponse, ResponseWithoutPoll, NotAnswered, Manages, Unrequested, AssignedTwice, AssignedInUse, TwoResponses}
+use Rattle.lapd_follow.specs.declared.remark.Remark.TheVariants.{Begins, LateUa, UaWithoutCommand, SentReleased, FirstNs, NsExpected, Repeated, RepeatedOtherwise, WindowExceeded, SentToBusy, SentToKnownBusy, NrOutside, SabmeWithoutP, DiscWithoutP, UaWithoutF, BeforeAnswer, Answers, LateResponse, ResponseWithoutPoll, NotAnswered, Manages, Unrequested, NotAutomatic, AssignedTwice, AssignedInUse, TwoResponses}
 use Rattle.lapd_follow.specs.declared.remarks.Remarks.{Remarks}
-use Rattle.lapd_follow.specs.Ends.{one_more, from_end}
+use Rattle.lapd_follow.specs.Ends.{EndKnown, one_more, from_end}
 use Rattle.lapd_follow.specs.Exchange.{Exchange, begins_establishment}
 
 -- Normal: an undisturbed data link does this. Recovery: two ends that follow Q.921 do this only if
@@ -26,6 +26,7 @@ abbrev pub class_of : Remark → Class
 class_of (Begins n) = Normal
 class_of LateUa = Recovery
 class_of UaWithoutCommand = Violation
+class_of SentReleased = Violation
 class_of (FirstNs ns) = Recovery
 class_of (NsExpected ns expected) = Recovery
 class_of Repeated = Recovery
@@ -34,12 +35,17 @@ class_of (WindowExceeded k) = Violation
 class_of SentToBusy = Recovery
 class_of SentToKnownBusy = Violation
 class_of (NrOutside nr first last) = Violation
+class_of SabmeWithoutP = Violation
+class_of DiscWithoutP = Violation
+class_of UaWithoutF = Violation
+class_of (BeforeAnswer packet) = Violation
 class_of (Answers packet after) = Normal
 class_of LateResponse = Recovery
 class_of ResponseWithoutPoll = Violation
 class_of (NotAnswered packet) = Recovery
 class_of (Manages message) = Normal
 class_of Unrequested = Recovery
+class_of (NotAutomatic tei) = Violation
 class_of (AssignedTwice tei ri) = Violation
 class_of (AssignedInUse tei) = Recovery
 class_of (TwoResponses tei first second) = Recovery
@@ -53,7 +59,7 @@ abbrev pub is_violation : Option Remark → Bool
 is_violation None = false
 is_violation (Some remark) = is_violation_class (class_of remark)
 
--- ---- Establishment: of a UA (Q.921 5.5.1.2, 5.5.3.2).
+-- ---- Establishment: of a UA (Q.921 5.5.1.2, 5.5.3.2), and of an I or S frame (5.5.4).
 
 -- a UA is sent for a SABME or DISC alone
 abbrev pub unexpected_ua : Polls → Remark
@@ -65,7 +71,16 @@ ua_remark x = if is_some x.to.commands.last
     then (if begins_establishment x then Some (Begins (one_more x.establishments)) else None)
     else Some (unexpected_ua x.to.commands)
 
+-- an end whose link is released sends no I or S frame
+abbrev pub sent_released : Bool → Option Remark
+sent_released false = None
+sent_released true = Some SentReleased
+
 abbrev pub establishment_remark : Control → Exchange → Option Remark
+establishment_remark (I ns nr p) x = sent_released x.from.is_released
+establishment_remark (Rr nr pf) x = sent_released x.from.is_released
+establishment_remark (Rnr nr pf) x = sent_released x.from.is_released
+establishment_remark (Rej nr pf) x = sent_released x.from.is_released
 establishment_remark (Ua f) x = ua_remark x
 establishment_remark control x = None
 
@@ -93,16 +108,19 @@ ns_remark ns octets unacknowledged (Some own) (Some peer) = if ns == own.next th
 
 -- ---- The window (Q.921 5.9.5). At most k I frames follow V(A), which is at most the last N(R) of
 -- the peer. A frame is within, if fewer than k steps lead to it from that N(R), or if it is one of
--- the last k, whose acknowledgement may be lost.
+-- the last k, whose acknowledgement may be lost. No k is greater than 127.
 abbrev pub is_in_window : ℕ → ℕ → Numbering → Numbering → Bool
 is_in_window k ns own peer = if nat_lt (steps Tagged peer.nr ns) k then true
     else (nat_lt 0 (steps Tagged ns own.next) && nat_le (steps Tagged ns own.next) k)
 
-abbrev pub window_remark : Option ℕ → ℕ → Option Numbering → Option Numbering → Option Remark
-window_remark None ns own peer = None
-window_remark (Some k) ns None peer = None
-window_remark (Some k) ns (Some own) None = None
-window_remark (Some k) ns (Some own) (Some peer) = if is_in_window k ns own peer then None
+abbrev pub k_or_most : Option ℕ → ℕ
+k_or_most None = 127
+k_or_most (Some k) = k
+
+abbrev pub window_remark : ℕ → ℕ → Option Numbering → Option Numbering → Option Remark
+window_remark k ns None peer = None
+window_remark k ns (Some own) None = None
+window_remark k ns (Some own) (Some peer) = if is_in_window k ns own peer then None
     else Some (WindowExceeded k)
 
 -- ---- Busy: of an I frame whose receiver is busy (Q.921 5.6.5). The last I frame again, with P=1,
@@ -119,6 +137,31 @@ nr_remark nr None peer = None
 nr_remark nr (Some own) None = None
 nr_remark nr (Some own) (Some peer) = if lies_within Tagged own.nr nr peer.next then None
     else Some (NrOutside nr own.nr peer.next)
+
+-- ---- The P bit of a SABME, DISC or I frame, and the F bit of a UA.
+
+-- a SABME and a DISC are sent with P=1 alone (Q.921 5.5.1.2, 5.5.3.2)
+abbrev pub without_p : Bool → Remark → Option Remark
+without_p true remark = None
+without_p false remark = Some remark
+
+-- the F bit of a UA is the P bit of the command that it answers (5.5.1.2, 5.5.3.2)
+abbrev pub ua_bit : Bool → EndKnown → Option Remark
+ua_bit true e = None
+ua_bit false e = if is_some e.commands.last && e.is_polling then Some UaWithoutF else None
+
+-- an end that polled sends no I frame with P=0 before the answer (5.6.7)
+abbrev pub before_answer : Bool → Option Packet → Option Remark
+before_answer true awaited = None
+before_answer false None = None
+before_answer false (Some poll) = Some (BeforeAnswer poll.number)
+
+abbrev pub bit_remark : Control → Exchange → Option Remark
+bit_remark (I ns nr p) x = before_answer p x.from.awaited
+bit_remark (Sabme p) x = without_p p SabmeWithoutP
+bit_remark (Disc p) x = without_p p DiscWithoutP
+bit_remark (Ua f) x = ua_bit f x.to
+bit_remark control x = None
 
 -- ---- Polls and their answers (Q.921 3.5.1, 5.6.2.1, 5.6.7).
 
@@ -174,7 +217,7 @@ ns_of (I ns nr p) octets x =
 ns_of control octets x = None
 
 abbrev pub window_of : Option ℕ → Control → Exchange → Option Remark
-window_of k (I ns nr p) x = window_remark k ns x.from.numbering x.to.numbering
+window_of k (I ns nr p) x = window_remark (k_or_most k) ns x.from.numbering x.to.numbering
 window_of k control x = None
 
 abbrev pub busy_of : Control → Exchange → Option Remark
@@ -196,6 +239,7 @@ remarks_on k packet f x = record {
   window = window_of k f.control x;
   busy = busy_of f.control x;
   nr = nr_of f.control x;
+  bit = bit_remark f.control x;
   answer = answer_remark f.control f.address.role packet x;
   identity = None;
   conflict = None;
@@ -204,5 +248,5 @@ remarks_on k packet f x = record {
 -- one of the remarks is a violation
 abbrev pub has_violation : Remarks → Bool
 has_violation r = is_violation r.establishment || is_violation r.ns || is_violation r.window
-    || is_violation r.busy || is_violation r.nr || is_violation r.answer
+    || is_violation r.busy || is_violation r.nr || is_violation r.bit || is_violation r.answer
     || is_violation r.identity || is_violation r.conflict

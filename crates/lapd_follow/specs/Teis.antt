@@ -1,12 +1,12 @@
 -- The knowledge of a listener about the TEIs of a line (Q.921 5.3), and how the next message
 -- conflicts with the messages before it.
-use Rattle.std.specs.Prelude.{ℕ, ◌==◌, not, if◌then◌else◌, Bool, List, [], ◌∷◌, ◌++◌, length, drop, filter, set, replicate, slice_index_or, Option, Some, None}
+use Rattle.std.specs.Prelude.{ℕ, ◌==◌, not, nat_lt, if◌then◌else◌, Bool, List, [], ◌∷◌, ◌++◌, length, drop, filter, set, replicate, slice_index_or, Option, Some, None}
 use Rattle.std.specs.List.{list_any}
 use Rattle.lapd_follow.specs.declared.identity.Identity.{Identity}
 use Rattle.lapd_follow.specs.declared.identity.Identity.TheVariants.{Request, Assigned, Denied, CheckRequest, CheckResponse, Remove, Verify}
 use Rattle.lapd_follow.specs.declared.holder.Holder.{Holder}
 use Rattle.lapd_follow.specs.declared.remark.Remark.{Remark}
-use Rattle.lapd_follow.specs.declared.remark.Remark.TheVariants.{Unrequested, AssignedTwice, AssignedInUse, TwoResponses}
+use Rattle.lapd_follow.specs.declared.remark.Remark.TheVariants.{Unrequested, NotAutomatic, AssignedTwice, AssignedInUse, TwoResponses}
 
 -- ---- Requests that are not answered, oldest first. A terminal draws a reference for each (5.3.2).
 
@@ -96,6 +96,11 @@ conflict_of_assignment tei ri None t =
 conflict_of_assignment tei ri (Some other) t = if other == ri then unrequested ri t.requests
     else Some (AssignedTwice tei other)
 
+-- The network assigns TEIs from 64 on; the others are set at the terminals (3.3.4.2).
+abbrev pub conflict_of_assigned : ℕ → ℕ → TeisKnown → Option Remark
+conflict_of_assigned tei ri t = if nat_lt tei 64 then Some (NotAutomatic tei)
+    else conflict_of_assignment tei ri (holder_at tei t.holders).assigned t
+
 -- a terminal responds once to each check request, so two responses are of two terminals (5.3.3.2)
 abbrev pub conflict_of_response : ℕ → ℕ → Option ℕ → Option Remark
 conflict_of_response tei ri None = None
@@ -105,8 +110,7 @@ conflict_of_response tei ri (Some first) = if first == ri then None
 -- how the next message conflicts with those before, if it does
 abbrev pub conflict_of : Identity → TeisKnown → Option Remark
 conflict_of (Request ri) t = None
-conflict_of (Assigned tei ri) t =
-    conflict_of_assignment tei ri (holder_at tei t.holders).assigned t
+conflict_of (Assigned tei ri) t = conflict_of_assigned tei ri t
 conflict_of (Denied ri) t = unrequested ri t.requests
 conflict_of (CheckRequest tei) t = None
 conflict_of (CheckResponse tei ri) t =

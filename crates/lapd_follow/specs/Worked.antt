@@ -6,7 +6,7 @@ use Rattle.lapd_frame.specs.declared.Role.{Role}
 use Rattle.lapd_frame.specs.declared.Role.TheVariants.{Command, Answer}
 use Rattle.lapd_frame.specs.declared.Sapi.TheVariants.{Call}
 use Rattle.lapd_frame.specs.declared.Control.{Control}
-use Rattle.lapd_frame.specs.declared.Control.TheVariants.{I, Rr, Rnr, Rej, Sabme, Ua}
+use Rattle.lapd_frame.specs.declared.Control.TheVariants.{I, Rr, Rnr, Rej, Sabme, Dm, Disc, Ua}
 use Rattle.lapd_follow.specs.declared.remark.Remark.{Remark}
 use Rattle.lapd_follow.specs.declared.remarks.Remarks.{Remarks}
 use Rattle.lapd_follow.specs.Link.{Sighting, new_link, said_of_all}
@@ -14,8 +14,9 @@ use Rattle.lapd_follow.specs.Link.{Sighting, new_link, said_of_all}
 -- the remarks in order
 abbrev pub list_of : Remarks → List Remark
 list_of r = option_to_list r.establishment ++ (option_to_list r.ns ++ (option_to_list r.window
-    ++ (option_to_list r.busy ++ (option_to_list r.nr ++ (option_to_list r.answer
-    ++ (option_to_list r.identity ++ option_to_list r.conflict))))))
+    ++ (option_to_list r.busy ++ (option_to_list r.nr ++ (option_to_list r.bit
+    ++ (option_to_list r.answer ++ (option_to_list r.identity
+    ++ option_to_list r.conflict)))))))
 
 -- a frame of SAPI 0 and TEI 64, before it is numbered
 pub record Sent : Type 0 where
@@ -92,6 +93,24 @@ to_busy = established ++ message User 0 0 5 ∷ response Network (Rnr 0 false) �
 abbrev pub four_messages : List Sent
 four_messages = established ++ message User 0 0 1 ∷ message User 1 0 2 ∷ message User 2 0 3
     ∷ message User 3 0 4 ∷ []
+
+-- after a release both ends send on, until the network establishes the link again; then it
+-- disconnects, and sends on
+abbrev pub to_released : List Sent
+to_released = established ++ command User (Disc true) ∷ response Network (Ua true)
+    ∷ message User 0 0 5 ∷ response Network (Rr 1 false) ∷ command Network (Sabme true)
+    ∷ response User (Ua true) ∷ message User 0 0 6 ∷ response Network (Dm false)
+    ∷ response Network (Rr 0 false) ∷ []
+
+-- a SABME and a DISC with P=0, which a UA with F=0 may answer, and a UA with F=0 for P=1
+abbrev pub without_bits : List Sent
+without_bits = command User (Sabme false) ∷ response Network (Ua false)
+    ∷ command User (Sabme true) ∷ response Network (Ua false) ∷ command User (Disc false) ∷ []
+
+-- an end that polled sends an I frame with P=0 before the answer, one with P=1, and one after it
+abbrev pub before_answers : List Sent
+before_answers = established ++ command User (Rr 0 true) ∷ message User 0 0 5
+    ∷ record (message User 0 0 5) { control = I 0 0 true } ∷ response Network (Rr 1 true) ∷ message User 1 0 6 ∷ []
 
 -- both ends establish at once, while a frame of the old establishment is on the line
 abbrev pub collision : List Sent

@@ -81,6 +81,10 @@ checks = verify ∷ check ∷ response 1 ∷ check ∷ response 2 ∷ response 3
 abbrev pub assigned_twice : List (Side × List ℕ)
 assigned_twice = request 1 ∷ assigned 1 ∷ request 2 ∷ assigned 2 ∷ []
 
+-- a TEI below 64 is assigned
+abbrev pub assigned_below : List (Side × List ℕ)
+assigned_below = request 1 ∷ (Network, 0x0F ∷ 0 ∷ 1 ∷ 2 ∷ 0x7F ∷ []) ∷ []
+
 -- it is assigned again after a removal, after a check that no terminal answers, and after the
 -- removal of all TEIs
 abbrev pub assigned_anew : List (Side × List ℕ)

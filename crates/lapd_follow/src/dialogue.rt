@@ -52,12 +52,14 @@ impl Dialogue {
         self.to.end_polls();
     }
 
-    /// Takes a SABME or a DISC.
-    fn command(&mut self, is_sabme: bool, packet: Packet)
-        ensures { self.new ≡ commands is_sabme packet self.old }
+    /// Takes a SABME or a DISC, with this P bit.
+    fn command(&mut self, is_sabme: bool, p: bool, packet: Packet)
+        ensures { self.new ≡ commands is_sabme p packet self.old }
     {
+        let is_released = self.to.is_released && !is_sabme;
         self.begin();
-        self.from.command(is_sabme, packet);
+        self.from.command(is_sabme, p, packet);
+        self.to.set_released(is_released);
     }
 
     /// Takes a DM.
@@ -65,6 +67,7 @@ impl Dialogue {
         ensures { self.new ≡ disconnects f self.old }
     {
         self.begin();
+        self.from.set_released(true);
         if f {
             self.to.take_command_answer();
         }
@@ -84,8 +87,12 @@ impl Dialogue {
         if self.begins_establishment() {
             self.establishments = self.establishments.saturating_add(1);
         }
+        let is_release = self.to.awaits_release();
         self.from.begin();
         self.from.end_polls();
+        self.from.set_released(is_release);
+        let is_released = self.to.is_released && is_release;
+        self.to.set_released(is_released);
         self.to.report(Busy::Free);
         self.to.end_polls();
         self.to.take_command_answer();
@@ -96,6 +103,8 @@ impl Dialogue {
         ensures { self.new ≡ accepts_late self.old }
     {
         self.from.begin();
+        self.from.set_released(false);
+        self.to.set_released(false);
         self.to.lose_numbers();
         self.to.take_command_answer();
     }
@@ -209,8 +218,8 @@ impl Dialogue {
                 let busy = self.busy_after_rnr(role, pf);
                 self.supervise(role, pf, nr, busy, packet);
             }
-            Control::Sabme { .. } => self.command(true, packet),
-            Control::Disc { .. } => self.command(false, packet),
+            Control::Sabme { p } => self.command(true, p, packet),
+            Control::Disc { p } => self.command(false, p, packet),
             Control::Dm { f } => self.disconnect(f),
             Control::Ua { .. } => self.acknowledge_mode(),
             Control::Ui { .. } | Control::Frmr { .. } | Control::Xid { .. } => {}

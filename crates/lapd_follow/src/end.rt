@@ -1,6 +1,6 @@
 ghost use Rattle.std.specs.Prelude.{◌≡◌, IfOk};
-ghost use Rattle.lapd_follow.specs.Ends.{EndKnown, new_end, begun, unnumbered, with_busy, has_polled, poll_answered, polls_ended, has_commanded, command_answered, commands_ended, has_sent, has_acknowledged, is_acknowledged, keep_last};
-ghost use Rattle.lapd_follow.specs.Exchange.{answered, awaits_ua};
+ghost use Rattle.lapd_follow.specs.Ends.{EndKnown, new_end, begun, unnumbered, with_release, with_busy, has_polled, poll_answered, polls_ended, has_commanded, command_answered, commands_ended, has_sent, has_acknowledged, is_acknowledged, keep_last};
+ghost use Rattle.lapd_follow.specs.Exchange.{answered, answers_disc, awaits_ua};
 
 use crate::numbering::{first_numbering, is_next, left_after, with_nr, with_ns};
 use crate::unacknowledged::Unacknowledged;
@@ -27,8 +27,14 @@ pub(crate) struct End {
     pub(crate) unacknowledged: Unacknowledged,
     pub(crate) busy: Busy,
     pub(crate) polls: Polls,
+    /// Its last poll, if it awaits an answer.
+    pub(crate) awaited: Option<Packet>,
     pub(crate) commands: Polls,
+    /// Whether its last SABME or DISC is a SABME, and whether that has P=1.
     pub(crate) is_establishing: bool,
+    pub(crate) is_polling: bool,
+    /// Whether it sends no I or S frame until its link is established again.
+    pub(crate) is_released: bool,
 }
 
 impl Model for End {
@@ -41,13 +47,16 @@ impl Model for End {
       unacknowledged = e.unacknowledged;
       busy = e.busy;
       polls = e.polls;
+      awaited = e.awaited;
       commands = e.commands;
       is_establishing = e.is_establishing;
+      is_polling = e.is_polling;
+      is_released = e.is_released;
     } };
 }
 
 /// A new end, and its establishments.
-#[tactic(auto, unfolding(crate::specs::Ends::new_end, crate::specs::Ends::begun, crate::specs::Ends::unnumbered, crate::specs::Ends::with_busy))]
+#[tactic(auto, unfolding(crate::specs::Ends::new_end, crate::specs::Ends::begun, crate::specs::Ends::unnumbered, crate::specs::Ends::with_release, crate::specs::Ends::with_busy))]
 impl End {
     /// An end of which nothing was seen.
     pub(crate) fn new(alloc: Global) -> Result<End, AllocError>
@@ -58,8 +67,11 @@ impl End {
             unacknowledged: Unacknowledged::new(alloc)?,
             busy: Busy::Free,
             polls: Polls::unseen(),
+            awaited: None,
             commands: Polls::unseen(),
             is_establishing: false,
+            is_polling: false,
+            is_released: false,
         })
     }
 
@@ -70,6 +82,7 @@ impl End {
         self.numbering = Some(first_numbering());
         self.unacknowledged.clear();
         self.busy = Busy::Free;
+        self.awaited = None;
     }
 
     /// Its numbers are not known any more.
@@ -79,6 +92,14 @@ impl End {
         self.numbering = None;
         self.unacknowledged.clear();
         self.busy = Busy::Free;
+        self.awaited = None;
+    }
+
+    /// Its link is released, or not.
+    pub(crate) fn set_released(&mut self, is_released: bool)
+        ensures { self.new ≡ with_release is_released self.old }
+    {
+        self.is_released = is_released;
     }
 
     /// It reported this condition.
@@ -97,6 +118,7 @@ impl End {
         ensures { self.new ≡ has_polled packet self.old }
     {
         self.polls = self.polls.sent(packet);
+        self.awaited = Some(packet);
     }
 
     /// Its poll is answered.
@@ -104,6 +126,7 @@ impl End {
         ensures { self.new ≡ poll_answered self.old }
     {
         self.polls = self.polls.answered();
+        self.awaited = None;
     }
 
     /// Its polls are not answered any more.
@@ -111,14 +134,17 @@ impl End {
         ensures { self.new ≡ polls_ended self.old }
     {
         self.polls = Polls::ended();
+        self.awaited = None;
     }
 
-    /// It sent a SABME or a DISC.
-    pub(crate) fn command(&mut self, is_sabme: bool, packet: Packet)
-        ensures { self.new ≡ has_commanded is_sabme packet self.old }
+    /// It sent a SABME or a DISC, with this P bit.
+    pub(crate) fn command(&mut self, is_sabme: bool, p: bool, packet: Packet)
+        ensures { self.new ≡ has_commanded is_sabme p packet self.old }
     {
         self.commands = self.commands.sent(packet);
         self.is_establishing = is_sabme;
+        self.is_polling = p;
+        self.is_released = self.is_released || !is_sabme;
     }
 
     /// Its SABME or DISC is answered.
@@ -140,6 +166,13 @@ impl End {
         ensures { result ≡ awaits_ua self.now }
     {
         self.commands.last.is_some() && self.is_establishing
+    }
+
+    /// Whether a UA answers its DISC, and can answer no SABME.
+    pub(crate) fn awaits_release(&self) -> bool
+        ensures { result ≡ answers_disc self.now }
+    {
+        !self.is_establishing && self.commands.unanswered == 1
     }
 }
 

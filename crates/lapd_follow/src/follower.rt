@@ -29,7 +29,8 @@ impl Model for Follower {
 }
 
 impl Follower {
-    /// A line of which nothing was seen. `k` is the window of all links, 1 to 127, if it is known.
+    /// A line of which nothing was seen. `k` is the window of all links, 1 to 127, if it is known;
+    /// otherwise the greatest, 127, is checked.
     pub fn new(alloc: Global, k: Option<u8>) -> Result<Follower, AllocError>
         ensures { IfOk result (λ line. line ≡ new_line k) }
     {

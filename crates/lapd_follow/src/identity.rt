@@ -2,6 +2,7 @@ ghost use Rattle.std.specs.Prelude.{◌≡◌, Some, None};
 ghost use Rattle.lapd_follow.specs.Identities.{behind_entity, identity_by, identity_for, identity_in, identity_of, network_identity, of_one, renewed, user_identity, with_ai, with_last};
 ghost use Rattle.lapd_follow.specs.Texts.{identity_clause, identity_text, tei_names};
 
+use crate::reference::Reference;
 use lapd_frame::{Control, Frame, Sapi, Side, Tei};
 use std::fmt;
 
@@ -73,19 +74,27 @@ impl fmt::Display for Identity {
 
     fn fmt<W: fmt::Write>(&self, f: &mut fmt::Formatter<W>) -> fmt::Result {
         match *self {
-            Identity::Request(ri) => write!(f, "requests a TEI, reference {ri}"),
+            Identity::Request(ri) => {
+                let reference = Reference { ri };
+                write!(f, "requests a TEI, reference {reference}")
+            }
             Identity::Assigned { tei, ri } => {
                 let tei = tei.value();
-                write!(f, "assigns TEI {tei} to reference {ri}")
+                let reference = Reference { ri };
+                write!(f, "assigns TEI {tei} to reference {reference}")
             }
-            Identity::Denied(ri) => write!(f, "denies a TEI to reference {ri}"),
+            Identity::Denied(ri) => {
+                let reference = Reference { ri };
+                write!(f, "denies a TEI to reference {reference}")
+            }
             Identity::CheckRequest(tei) => {
                 let names = TeiNames { tei: tei.value() };
                 write!(f, "checks {names}")
             }
             Identity::CheckResponse { tei, ri } => {
                 let tei = tei.value();
-                write!(f, "answers the check of TEI {tei}, reference {ri}")
+                let reference = Reference { ri };
+                write!(f, "answers the check of TEI {tei}, reference {reference}")
             }
             Identity::Remove(tei) => {
                 let names = TeiNames { tei: tei.value() };

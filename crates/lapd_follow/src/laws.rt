@@ -1,14 +1,15 @@
 //! Laws that test the definitions. Calling them does nothing.
 
-ghost use Rattle.std.specs.Prelude.{◌≡◌, ◌<◌, ◌^◌, ℕ, List, [], ◌∷◌, length, nat_le, nat_lt, Some, None};
+ghost use Rattle.std.specs.Prelude.{◌≡◌, ◌<◌, ◌^◌, ℕ, true, false, List, [], ◌∷◌, length, nat_le, nat_lt, Some, None};
 ghost use Rattle.std.specs.List.{All};
 ghost use Rattle.lapd_follow.specs.declared.identity.Identity.TheVariants.{Request, Assigned, Denied, CheckRequest, CheckResponse, Remove, Verify};
-ghost use Rattle.lapd_follow.specs.declared.remark.Remark.TheVariants.{Begins, UaWithoutCommand, NsExpected, Repeated, RepeatedOtherwise, WindowExceeded, SentToBusy, SentToKnownBusy, NrOutside, Answers, ResponseWithoutPoll, Unrequested, AssignedTwice, AssignedInUse, TwoResponses};
+ghost use Rattle.lapd_follow.specs.declared.remark.Remark.TheVariants.{Begins, UaWithoutCommand, SentReleased, NsExpected, Repeated, RepeatedOtherwise, WindowExceeded, SentToBusy, SentToKnownBusy, NrOutside, SabmeWithoutP, DiscWithoutP, UaWithoutF, BeforeAnswer, Answers, ResponseWithoutPoll, NotAnswered, Unrequested, NotAutomatic, AssignedTwice, AssignedInUse, TwoResponses};
 ghost use Rattle.lapd_follow.specs.declared.classes.Middle.{Middle};
+ghost use Rattle.lapd_follow.specs.Remarks.{k_or_most, window_remark};
 ghost use Rattle.lapd_follow.specs.Classes.{Halve, IsNarrow, class_of, middle_class};
 ghost use Rattle.lapd_follow.specs.Tallies.{middle_of, no_times, with_times};
-ghost use Rattle.lapd_follow.specs.Worked.{told, undisturbed, vr_not_reset, sent_again, without_cause, to_busy, four_messages, collision};
-ghost use Rattle.lapd_follow.specs.WorkedTeis.{notes, said, said_but, assignment, checks, assigned_twice, assigned_anew};
+ghost use Rattle.lapd_follow.specs.Worked.{told, undisturbed, vr_not_reset, sent_again, without_cause, to_busy, four_messages, to_released, without_bits, before_answers, collision};
+ghost use Rattle.lapd_follow.specs.WorkedTeis.{notes, said, said_but, assignment, checks, assigned_twice, assigned_below, assigned_anew};
 
 /// The remarks on each frame of worked dialogues: only establishments and answers on an undisturbed
 /// link, recoveries after a loss, and violations if an end has an error.
@@ -26,6 +27,18 @@ pub fn remarks_are_computed()
         ∷ (Repeated ∷ SentToKnownBusy ∷ []) ∷ [] }
     ensures window { told four_messages ≡ [] ∷ (Begins 1 ∷ Answers 1 (Some 1000) ∷ []) ∷ [] ∷ []
         ∷ [] ∷ (WindowExceeded 3 ∷ []) ∷ [] }
+    ensures most { window_remark (k_or_most None) 127
+        (Some (record { is_first = false; next = 127; nr = 0 }))
+        (Some (record { is_first = true; next = 0; nr = 0 })) ≡ Some (WindowExceeded 127) }
+    ensures released { told to_released ≡ [] ∷ (Begins 1 ∷ Answers 1 (Some 1000) ∷ []) ∷ []
+        ∷ (Answers 3 (Some 1000) ∷ []) ∷ (SentReleased ∷ []) ∷ (SentReleased ∷ []) ∷ []
+        ∷ (Begins 2 ∷ Answers 7 (Some 1000) ∷ []) ∷ [] ∷ [] ∷ (SentReleased ∷ []) ∷ [] }
+    ensures bits { told without_bits ≡ (SabmeWithoutP ∷ [])
+        ∷ (Begins 1 ∷ Answers 1 (Some 1000) ∷ []) ∷ []
+        ∷ (Begins 2 ∷ UaWithoutF ∷ Answers 3 (Some 1000) ∷ []) ∷ (DiscWithoutP ∷ []) ∷ [] }
+    ensures before_answer { told before_answers ≡ [] ∷ (Begins 1 ∷ Answers 1 (Some 1000) ∷ [])
+        ∷ [] ∷ (BeforeAnswer 3 ∷ []) ∷ (Repeated ∷ NotAnswered 3 ∷ [])
+        ∷ (Answers 5 (Some 1000) ∷ []) ∷ [] ∷ [] }
     ensures collision { told collision ≡ [] ∷ (Begins 1 ∷ Answers 1 (Some 1000) ∷ []) ∷ [] ∷ []
         ∷ [] ∷ [] ∷ (Answers 6 (Some 1000) ∷ []) ∷ (Begins 2 ∷ Answers 4 (Some 4000) ∷ []) ∷ []
         ∷ [] ∷ [] }
@@ -43,6 +56,8 @@ pub fn identities_are_computed()
         ∷ said_but (Assigned 64 1) (AssignedInUse 64) ∷ [] }
     ensures given_twice { notes assigned_twice ≡ said (Request 1) ∷ said (Assigned 64 1)
         ∷ said (Request 2) ∷ said_but (Assigned 64 2) (AssignedTwice 64 1) ∷ [] }
+    ensures given_below { notes assigned_below ≡ said (Request 1)
+        ∷ said_but (Assigned 63 1) (NotAutomatic 63) ∷ [] }
     ensures given_anew { notes assigned_anew ≡ said (Request 1) ∷ said (Assigned 64 1)
         ∷ said (Remove 64) ∷ said (Request 2) ∷ said (Assigned 64 2) ∷ said (CheckRequest 64)
         ∷ said (CheckRequest 64) ∷ said (Request 3) ∷ said (Assigned 64 3) ∷ said (Remove 127)

@@ -26,6 +26,7 @@ mod noted;
 mod numbering;
 mod packet;
 mod polls;
+mod reference;
 mod remark;
 mod remarks;
 mod tally;

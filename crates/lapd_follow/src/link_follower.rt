@@ -30,8 +30,8 @@ impl Model for LinkFollower {
 
 #[tactic(auto, using(crate::proofs::Turned::seen_is_turned, crate::proofs::Kept::kept_is_enough))]
 impl LinkFollower {
-    /// A link of which nothing was seen. `k` is its window, 1 to 127, if it is known. It allocates
-    /// the places for 127 I frames of each end.
+    /// A link of which nothing was seen. `k` is its window, 1 to 127, if it is known; otherwise the
+    /// greatest, 127, is checked. It allocates the places for 127 I frames of each end.
     pub fn new(alloc: Global, k: Option<u8>) -> Result<LinkFollower, AllocError>
         ensures { IfOk result (λ l. l ≡ new_link k) }
     {

@@ -76,7 +76,8 @@ impl Model for Listener {
 }
 
 impl Listener {
-    /// A line of which nothing was seen. `k` is the window of all links, 1 to 127, if it is known.
+    /// A line of which nothing was seen. `k` is the window of all links, 1 to 127, if it is known;
+    /// otherwise the greatest, 127, is checked.
     pub fn new(alloc: Global, k: Option<u8>) -> Result<Listener, AllocError>
         ensures { IfOk result (λ l. l ≡ new_listening k) }
     {

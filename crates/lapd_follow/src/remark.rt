@@ -3,6 +3,7 @@ ghost use Rattle.lapd_follow.specs.Remarks.{class_of};
 ghost use Rattle.lapd_follow.specs.Texts.{assignment_text, class_name, clause_of, remark_text};
 
 use crate::Identity;
+use crate::reference::Reference;
 use lapd_frame::Tei;
 use lapd_mod128::Seq;
 use std::fmt;
@@ -40,6 +41,9 @@ pub enum Remark {
     LateUa,
     /// The frame is a UA, but every SABME and DISC is answered (Q.921 3.6.8).
     UaWithoutCommand,
+    /// The frame is an I or S frame of an end that released the link, and the link is not
+    /// established again (Q.921 5.5.4).
+    SentReleased,
     /// The first N(S) of an establishment is this, and not 0 (Q.921 5.5.1.2).
     FirstNs(Seq),
     /// The N(S) is not the next one (Q.921 5.6.2).
@@ -68,6 +72,15 @@ pub enum Remark {
         /// The next N(S) of the peer.
         last: Seq,
     },
+    /// The frame is a SABME with P=0 (Q.921 5.5.1.2).
+    SabmeWithoutP,
+    /// The frame is a DISC with P=0 (Q.921 5.5.3.2).
+    DiscWithoutP,
+    /// The frame is a UA with F=0, and the SABME or DISC that it answers has P=1 (Q.921 5.5.1.2,
+    /// 5.5.3.2).
+    UaWithoutF,
+    /// An I frame with P=0 is sent before the poll in this packet is answered (Q.921 5.6.7).
+    BeforeAnswer(u64),
     /// The response answers a poll (Q.921 3.5.1).
     Answers {
         /// The number of the packet that polled.
@@ -85,6 +98,8 @@ pub enum Remark {
     Manages(Identity),
     /// A TEI is assigned or denied, but no known request has the reference (Q.921 5.3.2).
     Unrequested,
+    /// The assigned TEI is below 64, and so not for automatic assignment (Q.921 3.3.4.2).
+    NotAutomatic(Tei),
     /// A TEI is assigned that was assigned before, and neither removed nor checked since (Q.921
     /// 5.3.2).
     AssignedTwice {
@@ -124,10 +139,16 @@ impl Remark {
             | Remark::AssignedInUse(_)
             | Remark::TwoResponses { .. } => Class::Recovery,
             Remark::UaWithoutCommand
+            | Remark::SentReleased
             | Remark::RepeatedOtherwise
             | Remark::WindowExceeded(_)
             | Remark::SentToKnownBusy
             | Remark::NrOutside { .. }
+            | Remark::SabmeWithoutP
+            | Remark::DiscWithoutP
+            | Remark::UaWithoutF
+            | Remark::BeforeAnswer(_)
+            | Remark::NotAutomatic(_)
             | Remark::AssignedTwice { .. }
             | Remark::ResponseWithoutPoll => Class::Violation,
         }
@@ -141,6 +162,7 @@ impl Remark {
             Remark::Begins(_) => "5.5.1.2",
             Remark::LateUa => "5.5.1.3",
             Remark::UaWithoutCommand => "3.6.8",
+            Remark::SentReleased => "5.5.4",
             Remark::FirstNs(_) => "5.5.1.2",
             Remark::NsExpected { .. } => "5.6.2",
             Remark::Repeated => "5.6.4",
@@ -149,12 +171,17 @@ impl Remark {
             Remark::SentToBusy => "5.6.5",
             Remark::SentToKnownBusy => "5.6.5",
             Remark::NrOutside { .. } => "3.5.2.3",
+            Remark::SabmeWithoutP => "5.5.1.2",
+            Remark::DiscWithoutP => "5.5.3.2",
+            Remark::UaWithoutF => "5.5.1.2",
+            Remark::BeforeAnswer(_) => "5.6.7",
             Remark::Answers { .. } => "3.5.1",
             Remark::LateResponse => "5.6.7",
             Remark::ResponseWithoutPoll => "5.6.2.1",
             Remark::NotAnswered(_) => "5.6.7",
             Remark::Manages(message) => message.clause(),
             Remark::Unrequested => "5.3.2",
+            Remark::NotAutomatic(_) => "3.3.4.2",
             Remark::AssignedTwice { .. } => "5.3.2",
             Remark::AssignedInUse(_) => "5.3.3.2",
             Remark::TwoResponses { .. } => "5.3.3.2",
@@ -170,6 +197,7 @@ impl fmt::Display for Remark {
             Remark::Begins(number) => write!(f, "begins establishment {number}"),
             Remark::LateUa => write!(f, "answers an earlier SABME or DISC"),
             Remark::UaWithoutCommand => write!(f, "UA without SABME or DISC"),
+            Remark::SentReleased => write!(f, "sent on a released link"),
             Remark::FirstNs(ns) => {
                 let ns = ns.value();
                 write!(f, "first N(S) is {ns}, not 0")
@@ -190,6 +218,10 @@ impl fmt::Display for Remark {
                 let last = last.value();
                 write!(f, "N(R) {nr} is not from {first} to {last}")
             }
+            Remark::SabmeWithoutP => write!(f, "SABME with P=0"),
+            Remark::DiscWithoutP => write!(f, "DISC with P=0"),
+            Remark::UaWithoutF => write!(f, "F=0 answers P=1"),
+            Remark::BeforeAnswer(packet) => write!(f, "sent before packet {packet} is answered"),
             Remark::Answers {
                 packet,
                 after: None,
@@ -212,6 +244,10 @@ impl fmt::Display for Remark {
             Remark::NotAnswered(packet) => write!(f, "packet {packet} is not answered"),
             Remark::Manages(message) => write!(f, "{message}"),
             Remark::Unrequested => write!(f, "no known request has this reference"),
+            Remark::NotAutomatic(tei) => {
+                let tei = tei.value();
+                write!(f, "TEI {tei} is not for automatic assignment")
+            }
             Remark::AssignedTwice { tei, ri } => {
                 let earlier = Assignment {
                     tei: tei.value(),
@@ -225,6 +261,8 @@ impl fmt::Display for Remark {
             }
             Remark::TwoResponses { tei, first, second } => {
                 let tei = tei.value();
+                let first = Reference { ri: first };
+                let second = Reference { ri: second };
                 write!(
                     f,
                     "two terminals answer the check of TEI {tei}, references {first} and {second}"
@@ -246,7 +284,7 @@ impl fmt::Display for Assignment {
 
     fn fmt<W: fmt::Write>(&self, f: &mut fmt::Formatter<W>) -> fmt::Result {
         let tei = self.tei;
-        let ri = self.ri;
-        write!(f, "TEI {tei} is already assigned to reference {ri}")
+        let reference = Reference { ri: self.ri };
+        write!(f, "TEI {tei} is already assigned to reference {reference}")
     }
 }

@@ -3,11 +3,11 @@ ghost use Rattle.std.specs.Fmt.{DisplaysOnOk};
 ghost use Rattle.lapd_frame.specs.Reading.{is_command};
 ghost use Rattle.lapd_follow.specs.Exchange.{Exchange};
 ghost use Rattle.lapd_follow.specs.Listening.{no_remarks};
-ghost use Rattle.lapd_follow.specs.Remarks.{unexpected_ua, ua_remark, establishment_remark, repeated, out_of_sequence, ns_remark, is_in_window, window_remark, sent_to_busy, nr_remark, time_from, answers_poll, answer_to, response_to, left_unanswered, supervisory_remark, answer_remark, ns_of, window_of, busy_of, nr_of, remarks_on, has_violation, is_violation};
+ghost use Rattle.lapd_follow.specs.Remarks.{unexpected_ua, ua_remark, sent_released, establishment_remark, repeated, out_of_sequence, ns_remark, is_in_window, k_or_most, window_remark, sent_to_busy, nr_remark, without_p, ua_bit, before_answer, bit_remark, time_from, answers_poll, answer_to, response_to, left_unanswered, supervisory_remark, answer_remark, ns_of, window_of, busy_of, nr_of, remarks_on, has_violation, is_violation};
 ghost use Rattle.lapd_follow.specs.Texts.{noted_text, remarks_text};
 
 use crate::dialogue::Dialogue;
-use crate::end::Busy;
+use crate::end::{Busy, End};
 use crate::noted::put_noted;
 use crate::numbering::counter;
 use crate::unacknowledged::Unacknowledged;
@@ -19,7 +19,7 @@ use std::fmt;
 /// The remarks on one frame, at most one of each kind.
 #[derive(Clone, Copy, Debug, PartialEq, Eq)]
 pub struct Remarks {
-    /// Whether a UA begins an establishment.
+    /// Whether a UA begins an establishment, or an I or S frame is sent on a released link.
     pub establishment: Option<Remark>,
     /// On the N(S) of an I frame.
     pub ns: Option<Remark>,
@@ -29,6 +29,8 @@ pub struct Remarks {
     pub busy: Option<Remark>,
     /// On the N(R) of an I or S frame.
     pub nr: Option<Remark>,
+    /// On the P bit of a SABME, DISC or I frame, or on the F bit of a UA.
+    pub bit: Option<Remark>,
     /// The poll that a response answers, or the poll before this one that was not answered.
     pub answer: Option<Remark>,
     /// The message of TEI management that the frame carries.
@@ -48,6 +50,7 @@ impl Remarks {
             window: None,
             busy: None,
             nr: None,
+            bit: None,
             answer: None,
             identity: None,
             conflict: None,
@@ -63,6 +66,7 @@ impl Remarks {
             || is_violation(&self.window)
             || is_violation(&self.busy)
             || is_violation(&self.nr)
+            || is_violation(&self.bit)
             || is_violation(&self.answer)
             || is_violation(&self.identity)
             || is_violation(&self.conflict)
@@ -94,10 +98,11 @@ fn put_on_numbers<W: fmt::Write>(said: &Remarks, f: &mut fmt::Formatter<W>) -> f
 /// Writes the other remarks.
 fn put_on_polls<W: fmt::Write>(said: &Remarks, f: &mut fmt::Formatter<W>) -> fmt::Result
     ensures { DisplaysOnOk W.write_str_gives f.old result
-        (Some (noted_text said.now.nr ++ (noted_text said.now.answer
-        ++ (noted_text said.now.identity ++ noted_text said.now.conflict)))) f.new }
+        (Some (noted_text said.now.nr ++ (noted_text said.now.bit ++ (noted_text said.now.answer
+        ++ (noted_text said.now.identity ++ noted_text said.now.conflict))))) f.new }
 {
     put_noted(&said.nr, f)?;
+    put_noted(&said.bit, f)?;
     put_noted(&said.answer, f)?;
     put_noted(&said.identity, f)?;
     put_noted(&said.conflict, f)
@@ -129,18 +134,32 @@ pub(crate) fn put_remarks(
     said.window = window_of(k, &control, dialogue);
     said.busy = busy_of(&control, dialogue);
     said.nr = nr_of(&control, dialogue);
+    said.bit = bit_remark(&control, dialogue);
     said.answer = answer_remark(&control, frame.address().role, packet, dialogue);
     said.identity = None;
     said.conflict = None;
 }
 
-/// The remark on establishment: only a UA has one.
+/// The remark on establishment: of a UA, or of an I or S frame.
 fn establishment_remark(control: &Control, dialogue: &Dialogue) -> Option<Remark>
     ensures { result ≡ establishment_remark control.now dialogue.now }
 {
     match *control {
+        Control::I { .. } | Control::Rr { .. } | Control::Rnr { .. } | Control::Rej { .. } => {
+            sent_released(dialogue.from.is_released)
+        }
         Control::Ua { .. } => ua_remark(dialogue),
         _ => None,
+    }
+}
+
+fn sent_released(is_released: bool) -> Option<Remark>
+    ensures { result ≡ sent_released is_released }
+{
+    if is_released {
+        Some(Remark::SentReleased)
+    } else {
+        None
     }
 }
 
@@ -232,7 +251,7 @@ fn window_of(k: Option<u8>, control: &Control, dialogue: &Dialogue) -> Option<Re
 {
     match *control {
         Control::I { ns, .. } => window_remark(
-            k,
+            k_or_most(k),
             counter(ns),
             dialogue.from.numbering,
             dialogue.to.numbering,
@@ -241,16 +260,18 @@ fn window_of(k: Option<u8>, control: &Control, dialogue: &Dialogue) -> Option<Re
     }
 }
 
-fn window_remark(
-    k: Option<u8>,
-    ns: Seq,
-    own: Option<Numbering>,
-    peer: Option<Numbering>,
-) -> Option<Remark>
+/// The window: the greatest one if it is not known.
+fn k_or_most(k: Option<u8>) -> u8
+    ensures { result ≡ k_or_most k }
+{
+    k.unwrap_or(127)
+}
+
+fn window_remark(k: u8, ns: Seq, own: Option<Numbering>, peer: Option<Numbering>) -> Option<Remark>
     ensures { result ≡ window_remark k ns own peer }
 {
-    match (k, own, peer) {
-        (Some(k), Some(own), Some(peer)) => {
+    match (own, peer) {
+        (Some(own), Some(peer)) => {
             if is_in_window(k, ns, own, peer) {
                 None
             } else {
@@ -321,6 +342,44 @@ fn nr_remark(nr: Seq, own: Option<Numbering>, peer: Option<Numbering>) -> Option
                 })
             }
         }
+        _ => None,
+    }
+}
+
+/// The remark on the P bit of a SABME, DISC or I frame, or on the F bit of a UA.
+fn bit_remark(control: &Control, dialogue: &Dialogue) -> Option<Remark>
+    ensures { result ≡ bit_remark control.now dialogue.now }
+{
+    match *control {
+        Control::I { p, .. } => before_answer(p, dialogue.from.awaited),
+        Control::Sabme { p } => without_p(p, Remark::SabmeWithoutP),
+        Control::Disc { p } => without_p(p, Remark::DiscWithoutP),
+        Control::Ua { f } => ua_bit(f, &dialogue.to),
+        _ => None,
+    }
+}
+
+fn without_p(p: bool, remark: Remark) -> Option<Remark>
+    ensures { result ≡ without_p p remark }
+{
+    if p { None } else { Some(remark) }
+}
+
+fn ua_bit(f: bool, peer: &End) -> Option<Remark>
+    ensures { result ≡ ua_bit f peer.now }
+{
+    if !f && peer.commands.last.is_some() && peer.is_polling {
+        Some(Remark::UaWithoutF)
+    } else {
+        None
+    }
+}
+
+fn before_answer(p: bool, awaited: Option<Packet>) -> Option<Remark>
+    ensures { result ≡ before_answer p awaited }
+{
+    match (p, awaited) {
+        (false, Some(poll)) => Some(Remark::BeforeAnswer(poll.number)),
         _ => None,
     }
 }

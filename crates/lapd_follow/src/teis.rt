@@ -1,6 +1,6 @@
 ghost use Rattle.std.specs.Prelude.{◌≡◌, ◌<◌, [], ◌∷◌, ◌++◌};
 ghost use Rattle.arrayvec.specs.ArrayVec.{array_vec_len};
-ghost use Rattle.lapd_follow.specs.Teis.{answered_check, conflict_of, conflict_of_assignment, conflict_of_response, forgotten_tei, holder_at, new_teis, teis_after, unrequested, with_request, with_room, without};
+ghost use Rattle.lapd_follow.specs.Teis.{answered_check, conflict_of, conflict_of_assigned, conflict_of_assignment, conflict_of_response, forgotten_tei, holder_at, new_teis, teis_after, unrequested, with_request, with_room, without};
 
 use crate::holder::Holder;
 use crate::{Identity, Remark};
@@ -48,7 +48,7 @@ impl Teis {
         ensures { result ≡ conflict_of message.now self.now }
     {
         match *message {
-            Identity::Assigned { tei, ri } => self.conflict_of_assignment(tei, ri),
+            Identity::Assigned { tei, ri } => self.conflict_of_assigned(tei, ri),
             Identity::Denied(ri) => self.unrequested(ri),
             Identity::CheckResponse { tei, ri } => {
                 conflict_of_response(tei, ri, self.holder(tei).answer)
@@ -98,7 +98,18 @@ impl Teis {
         }
     }
 
-    /// The conflict of an assignment.
+    /// The conflict of an assignment of any TEI.
+    fn conflict_of_assigned(&self, tei: Tei, ri: u16) -> Option<Remark>
+        ensures { result ≡ conflict_of_assigned tei ri self.now }
+    {
+        if tei.value() < 64 {
+            Some(Remark::NotAutomatic(tei))
+        } else {
+            self.conflict_of_assignment(tei, ri)
+        }
+    }
+
+    /// The conflict of an assignment of a TEI that the network may assign.
     fn conflict_of_assignment(&self, tei: Tei, ri: u16) -> Option<Remark>
         ensures { result ≡ conflict_of_assignment tei ri (holder_at tei self.now.holders).assigned
             self.now }

@@ -139,55 +139,105 @@ net 00810902:
 user 0081020002:
 user 0081040003:
 net 00810106:
+# I and S frames on a released link, until it is established again
+user 00817f:
+net 008173: begins establishment 1; answers packet 1 after 0.040 s;
+user 008153:
+net 00810102:
+net 008173: answers packet 3 after 0.080 s;
+user 0081000001: !sent on a released link;
+net 00810100: !sent on a released link;
+user 00817f:
+user 0081000001: !sent on a released link;
+net 008173: begins establishment 2; answers packet 8 after 0.080 s;
+user 0081020001:
+net 00811f:
+net 00810102: !sent on a released link;
+# after a DISC that is sent again, a UA may answer an earlier SABME; the UA to a SABME may be lost
+user 00817f:
+user 00817f: packet 1 is not answered;
+net 008173: begins establishment 1; answers packet 2 after 0.040 s;
+user 008153:
+net 008173: answers packet 4 after 0.040 s;
+user 0081000001:
+net 028153:
+net 028153: packet 7 is not answered;
+user 02811f: answers packet 8 after 0.040 s;
+net 02817f:
+user 0081000001:
+# SABME and DISC with P=0, and UA with F=0
+user 00816f: !SABME with P=0;
+net 008163: begins establishment 1; answers packet 1 after 0.040 s;
+user 00817f:
+net 008163: begins establishment 2; !F=0 answers P=1; answers packet 3 after 0.040 s;
+user 008143: !DISC with P=0;
+net 008163: answers packet 5 after 0.040 s;
+# an I frame with P=0 before the answer to a poll
+user 00817f:
+net 008173: begins establishment 1; answers packet 1 after 0.040 s;
+user 00810101:
+net 00810100:
+user 0081000001: !sent before packet 3 is answered;
+user 0081000101: repeated; packet 3 is not answered;
+net 00810103: answers packet 6 after 0.040 s;
+user 0081020001:
+user 00810101:
+net 02817f:
+user 028173: begins establishment 2; answers packet 10 after 0.040 s;
+user 0081000001:
 # TEIs are assigned and denied; then without a request
-user fcff030f123401ff: requests a TEI, reference 4660;
-net feff030f12340281: assigns TEI 64 to reference 4660;
-user fcff030f567801ff: requests a TEI, reference 22136;
-net feff030f567803ff: denies a TEI to reference 22136;
-net feff030f12340283: assigns TEI 65 to reference 4660; no known request has this reference;
-net feff030f567803ff: denies a TEI to reference 22136; no known request has this reference;
+user fcff030f123401ff: requests a TEI, reference 1234;
+net feff030f12340281: assigns TEI 64 to reference 1234;
+user fcff030f567801ff: requests a TEI, reference 5678;
+net feff030f567803ff: denies a TEI to reference 5678;
+net feff030f12340283: assigns TEI 65 to reference 1234; no known request has this reference;
+net feff030f567803ff: denies a TEI to reference 5678; no known request has this reference;
 # one terminal answers each request of a check
 user fcff030f00000781: requests a check of TEI 64;
 net feff030f00000481: checks TEI 64;
-user fcff030f00010581: answers the check of TEI 64, reference 1;
+user fcff030f00010581: answers the check of TEI 64, reference 0001;
 net feff030f00000481: checks TEI 64;
-user fcff030f00020581: answers the check of TEI 64, reference 2;
+user fcff030f00020581: answers the check of TEI 64, reference 0002;
 net feff030f000004ff: checks all TEIs;
-user fcff030f00030581: answers the check of TEI 64, reference 3;
+user fcff030f00030581: answers the check of TEI 64, reference 0003;
 # two terminals answer a check, so the TEI is removed
 net feff030f00000481: checks TEI 64;
-user fcff030f00010581: answers the check of TEI 64, reference 1;
-user fcff030f00010581: answers the check of TEI 64, reference 1;
-user fcff030f00020581: answers the check of TEI 64, reference 2; \
-two terminals answer the check of TEI 64, references 1 and 2;
+user fcff030f00010581: answers the check of TEI 64, reference 0001;
+user fcff030f00010581: answers the check of TEI 64, reference 0001;
+user fcff030f00020581: answers the check of TEI 64, reference 0002; \
+two terminals answer the check of TEI 64, references 0001 and 0002;
 net feff030f00000681: removes TEI 64;
 net feff030f00000681: removes TEI 64;
 net feff030f000006ff: removes all TEIs;
 # a TEI is assigned twice
-user fcff030f123401ff: requests a TEI, reference 4660;
-net feff030f12340281: assigns TEI 64 to reference 4660;
-user fcff030f567801ff: requests a TEI, reference 22136;
-net feff030f56780281: assigns TEI 64 to reference 22136; \
-!TEI 64 is already assigned to reference 4660;
+user fcff030f123401ff: requests a TEI, reference 1234;
+net feff030f12340281: assigns TEI 64 to reference 1234;
+user fcff030f567801ff: requests a TEI, reference 5678;
+net feff030f56780281: assigns TEI 64 to reference 5678; \
+!TEI 64 is already assigned to reference 1234;
+# a TEI below 64 is assigned
+user fcff030f123401ff: requests a TEI, reference 1234;
+net feff030f1234027f: assigns TEI 63 to reference 1234; \
+!TEI 63 is not for automatic assignment;
 # a TEI is assigned again: to the same reference, after a check, and after removals
-user fcff030f123401ff: requests a TEI, reference 4660;
-net feff030f12340281: assigns TEI 64 to reference 4660;
-net feff030f12340281: assigns TEI 64 to reference 4660; no known request has this reference;
+user fcff030f123401ff: requests a TEI, reference 1234;
+net feff030f12340281: assigns TEI 64 to reference 1234;
+net feff030f12340281: assigns TEI 64 to reference 1234; no known request has this reference;
 net feff030f00000481: checks TEI 64;
 net feff030f00000481: checks TEI 64;
-user fcff030f567801ff: requests a TEI, reference 22136;
-net feff030f56780281: assigns TEI 64 to reference 22136;
+user fcff030f567801ff: requests a TEI, reference 5678;
+net feff030f56780281: assigns TEI 64 to reference 5678;
 net feff030f00000681: removes TEI 64;
-user fcff030f000101ff: requests a TEI, reference 1;
-net feff030f00010281: assigns TEI 64 to reference 1;
+user fcff030f000101ff: requests a TEI, reference 0001;
+net feff030f00010281: assigns TEI 64 to reference 0001;
 net feff030f000006ff: removes all TEIs;
-user fcff030f000201ff: requests a TEI, reference 2;
-net feff030f00020281: assigns TEI 64 to reference 2;
+user fcff030f000201ff: requests a TEI, reference 0002;
+net feff030f00020281: assigns TEI 64 to reference 0002;
 # a terminal that answered the check may have its TEI still
 net feff030f00000481: checks TEI 64;
-user fcff030f00010581: answers the check of TEI 64, reference 1;
-user fcff030f123401ff: requests a TEI, reference 4660;
-net feff030f12340281: assigns TEI 64 to reference 4660; \
+user fcff030f00010581: answers the check of TEI 64, reference 0001;
+user fcff030f123401ff: requests a TEI, reference 1234;
+net feff030f12340281: assigns TEI 64 to reference 1234; \
 a terminal answered the last check of TEI 64;
 # these are not messages of TEI management: of the wrong side, to another TEI, too short
 user fcff030f12340281:
@@ -247,6 +297,7 @@ fn put_remarks(text: &mut Text, said: &Remarks) {
     put_remark(text, &said.window);
     put_remark(text, &said.busy);
     put_remark(text, &said.nr);
+    put_remark(text, &said.bit);
     put_remark(text, &said.answer);
     put_remark(text, &said.identity);
     put_remark(text, &said.conflict);

@@ -68,20 +68,20 @@ U>N SAPI 0 TEI 64 C SABME P=1/N>U SAPI 0 TEI 64 R UA F=1; begins establishment 1
 /  N>U messages 0, octets 0, repeated 0, polls 0, answers 5 after 0.005 to 0.120 s, middle 0.010 to 0.020 s, mean 0.034 s";
 
 const LADDER: &str = "\
-packet         time           user |                                                | network\
-/     1     0.000000     SABME sent |-- 0 64 SABME P=1 ----------------------------->| -\
-/     2     0.023000          S0 R0 |<-- 0 64 UA F=1 --------------------------------| S0 R0\
-/                                   |  [cut]                                         |\
-/                                   |  begins establishment 1                        |\
-/                                   |  answers packet 1 after 0.023 s                |";
+packet         time       user |                                    | network\
+/     1     0.000000 SABME sent |-- 0 64 SABME P=1 ----------------->| -\
+/     2     0.023000      S0 R0 |<-- 0 64 UA F=1 --------------------| S0 R0\
+/                               |  [cut]                             |\
+/                               |  begins establishment 1            |\
+/                               |  answers packet 1 after 0.023 s    |";
 
 const WIDE_LADDER: &str = "\
-packet              time           user |                                                | network\
-/     1          1.002000     SABME sent |-- 0 64 SABME P=1 ----------------------------->| -\
-/     2          1.025000          S0 R0 |<-- 0 64 UA F=1 --------------------------------| S0 R0\
-/                                        |  [cut]                                         |\
-/                                        |  begins establishment 1                        |\
-/                                        |  answers packet 1 after 0.023 s                |";
+packet              time       user |                                    | network\
+/     1          1.002000 SABME sent |-- 0 64 SABME P=1 ----------------->| -\
+/     2          1.025000      S0 R0 |<-- 0 64 UA F=1 --------------------| S0 R0\
+/                                    |  [cut]                             |\
+/                                    |  begins establishment 1            |\
+/                                    |  answers packet 1 after 0.023 s    |";
 
 const OBJECTS: &str =
     r#"{"direction":"U>N","frame":"SABME","p":1,"packet":1,"role":"command","sapi":0,"tei":64,"time":"1.002000","remarks":[]}/{"direction":"N>U","f":1,"frame":"UA","packet":2,"role":"response","sapi":0,"tei":64,"time":"1.025000","remarks":[{"class":"normal","clause":"5.5.1.2","text":"begins establishment 1"},{"class":"normal","clause":"3.5.1","text":"answers packet 1 after 0.023 s"}]}/{"direction":"N>U","f":0,"frame":"RNR","nr":0,"packet":3,"role":"response","sapi":0,"tei":64,"time":"1.030000","remarks":[]}/{"direction":"N>U","f":0,"frame":"RR","nr":0,"packet":4,"role":"response","sapi":0,"tei":64,"time":"2.280000","remarks":[]}/{"establishments":1,"network":{"answers":{"count":1,"greatest":23000,"least":23000,"mean":23000,"middle":[23000,23000]},"busy":1250000,"disc":0,"dm":0,"frmr":0,"i":0,"messages":0,"octets":0,"polls":0,"rej":0,"repeated":0,"rnr":1,"rr":1,"sabme":0,"ua":1,"ui":0,"xid":0},"sapi":0,"tei":64,"user":{"disc":0,"dm":0,"frmr":0,"i":0,"messages":0,"octets":0,"polls":1,"rej":0,"repeated":0,"rnr":0,"rr":0,"sabme":1,"ua":0,"ui":0,"xid":0}}"#;

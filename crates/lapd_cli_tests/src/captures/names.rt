@@ -30,6 +30,19 @@ user 008100000801010504038090a370|U>N SAPI 0 TEI 64 C I N(S)=0 N(R)=0 P=0 info=0
 user 008100000801010504038090a39670028131|U>N SAPI 0 TEI 64 C I N(S)=0 N(R)=0 P=0 info=0801010504038090a39670028131 SETUP cr=1 from origin bearer=speech
 user 008100000801010504038090a39e70028131|U>N SAPI 0 TEI 64 C I N(S)=0 N(R)=0 P=0 info=0801010504038090a39e70028131 SETUP cr=1 from origin bearer=speech";
 
+// Without the octets of information; those that do not form a valid frame are shown.
+const BRIEF: &str = "\
+user fcff030f619901ff|U>N SAPI 63 TEI 127 C UI P=0 identity request Ri=6199 Ai=127
+user 0081000008010105700481323030|U>N SAPI 0 TEI 64 C I N(S)=0 N(R)=0 P=0 SETUP cr=1 from origin called=200
+net 0281000208|N>U SAPI 0 TEI 64 C I N(S)=0 N(R)=1 P=0
+net 00810103|N>U SAPI 0 TEI 64 R RR N(R)=1 F=1
+net 0281ff|N>U F4 Undefined 0281ff";
+
+#[test]
+fn octets_are_left_out(rt: HostRuntime) -> Result<(), Fail> {
+    rows_hold(rt.alloc(), BRIEF, Style::Brief)
+}
+
 #[test]
 fn messages_are_named(rt: HostRuntime) -> Result<(), Fail> {
     rows_hold(rt.alloc(), MESSAGES, Style::Named)

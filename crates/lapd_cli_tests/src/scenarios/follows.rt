@@ -85,7 +85,7 @@ user 00817f
 net 008173
     N>U SAPI 0 TEI 64 R UA F=1; begins establishment 1; answers packet 1
 user fcff030f619901ff
-    U>N SAPI 63 TEI 127 C UI P=0 info=0f619901ff; requests a TEI, reference 24985
+    U>N SAPI 63 TEI 127 C UI P=0 info=0f619901ff; requests a TEI, reference 6199
 user
     U>N F1 TooShort
 user 00810000aa
@@ -115,19 +115,19 @@ user 00810101
 lapd decode --follow
 # a TEI is given twice, and two terminals answer its check
 user fcff030f123401ff
-    U>N SAPI 63 TEI 127 C UI P=0 info=0f123401ff; requests a TEI, reference 4660
+    U>N SAPI 63 TEI 127 C UI P=0 info=0f123401ff; requests a TEI, reference 1234
 net feff030f12340281
-    N>U SAPI 63 TEI 127 C UI P=0 info=0f12340281; assigns TEI 64 to reference 4660
+    N>U SAPI 63 TEI 127 C UI P=0 info=0f12340281; assigns TEI 64 to reference 1234
 user fcff030f567801ff
-    U>N SAPI 63 TEI 127 C UI P=0 info=0f567801ff; requests a TEI, reference 22136
+    U>N SAPI 63 TEI 127 C UI P=0 info=0f567801ff; requests a TEI, reference 5678
 net feff030f56780281
-    N>U SAPI 63 TEI 127 C UI P=0 info=0f56780281; assigns TEI 64 to reference 22136; violation: TEI 64 is already assigned to reference 4660
+    N>U SAPI 63 TEI 127 C UI P=0 info=0f56780281; assigns TEI 64 to reference 5678; violation: TEI 64 is already assigned to reference 1234
 net feff030f00000481
     N>U SAPI 63 TEI 127 C UI P=0 info=0f00000481; checks TEI 64
 user fcff030f00010581
-    U>N SAPI 63 TEI 127 C UI P=0 info=0f00010581; answers the check of TEI 64, reference 1
+    U>N SAPI 63 TEI 127 C UI P=0 info=0f00010581; answers the check of TEI 64, reference 0001
 user fcff030f00020581
-    U>N SAPI 63 TEI 127 C UI P=0 info=0f00020581; answers the check of TEI 64, reference 2; two terminals answer the check of TEI 64, references 1 and 2
+    U>N SAPI 63 TEI 127 C UI P=0 info=0f00020581; answers the check of TEI 64, reference 0002; two terminals answer the check of TEI 64, references 0001 and 0002
 net feff030f00000681
     N>U SAPI 63 TEI 127 C UI P=0 info=0f00000681; removes TEI 64
 .
@@ -139,6 +139,6 @@ net feff030f00000681
 
 lapd decode --follow --json
 net feff030f56780281
-    {"direction":"N>U","frame":"UI","info":"0f56780281","p":0,"role":"command","sapi":63,"tei":127,"remarks":[{"class":"normal","clause":"5.3.2","text":"assigns TEI 64 to reference 22136"},{"class":"recovery","clause":"5.3.2","text":"no known request has this reference"}]}
+    {"direction":"N>U","frame":"UI","info":"0f56780281","p":0,"role":"command","sapi":63,"tei":127,"remarks":[{"class":"normal","clause":"5.3.2","text":"assigns TEI 64 to reference 5678"},{"class":"recovery","clause":"5.3.2","text":"no known request has this reference"}]}
 .
     {"establishments":0,"network":{"disc":0,"dm":0,"frmr":0,"i":0,"messages":0,"octets":5,"polls":0,"rej":0,"repeated":0,"rnr":0,"rr":0,"sabme":0,"ua":0,"ui":1,"xid":0},"sapi":63,"tei":127,"user":{"disc":0,"dm":0,"frmr":0,"i":0,"messages":0,"octets":0,"polls":0,"rej":0,"repeated":0,"rnr":0,"rr":0,"sabme":0,"ua":0,"ui":0,"xid":0}}"#;

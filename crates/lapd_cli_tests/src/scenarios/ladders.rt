@@ -3,114 +3,114 @@
 /// Sent octets or moves, and their parts of the ladder or picture.
 pub(crate) const SCENARIOS: &str = r##"lapd decode --ladder
 user
-    packet           user |                                                | network
-         1                |-- F1 TooShort -------------------------------->|
+    packet       user |                                                | network
+         1            |-- F1 TooShort -------------------------------->|
 user 00817f
-         2     SABME sent |-- 0 64 SABME P=1 ----------------------------->| -
+         2 SABME sent |-- 0 64 SABME P=1 ----------------------------->| -
 nobody 00
 ! line 3: bad command
 
 lapd decode --ladder --names
 # a link is established, a message is lost, and the network rejects the next one
 user 00817f
-    packet           user |                                                | network
-         1     SABME sent |-- 0 64 SABME P=1 ----------------------------->| -
+    packet       user |                                                | network
+         1 SABME sent |-- 0 64 SABME P=1 ----------------------------->| -
 net 008173
-         2          S0 R0 |<-- 0 64 UA F=1 --------------------------------| S0 R0
-                          |  begins establishment 1                        |
-                          |  answers packet 1                              |
+         2      S0 R0 |<-- 0 64 UA F=1 --------------------------------| S0 R0
+                      |  begins establishment 1                        |
+                      |  answers packet 1                              |
 user 0081000008010105
-         3          S1 R0 |-- 0 64 I N(S)=0 N(R)=0 P=0 info=08010105 ----->| S0 R0
-                          |  SETUP cr=1 from origin                        |
+         3      S1 R0 |-- 0 64 I N(S)=0 N(R)=0 P=0 info=08010105 ----->| S0 R0
+                      |  SETUP cr=1 from origin                        |
 user 008102000801010f
-         4          S2 R0 |-- 0 64 I N(S)=1 N(R)=0 P=0 info=0801010f ----->| S0 R0
-                          |  CONNECT ACKNOWLEDGE cr=1 from origin          |
+         4      S2 R0 |-- 0 64 I N(S)=1 N(R)=0 P=0 info=0801010f ----->| S0 R0
+                      |  CONNECT ACKNOWLEDGE cr=1 from origin          |
 net 00810900
-         5          S2 R0 |<-- 0 64 REJ N(R)=0 F=0 ------------------------| S0 R0
+         5      S2 R0 |<-- 0 64 REJ N(R)=0 F=0 ------------------------| S0 R0
 user 0081000008010105
-         6          S2 R0 |-- 0 64 I N(S)=0 N(R)=0 P=0 info=08010105 ----->| S0 R0
-                          |  SETUP cr=1 from origin                        |
-                          |  repeated                                      |
+         6      S2 R0 |-- 0 64 I N(S)=0 N(R)=0 P=0 info=08010105 ----->| S0 R0
+                      |  SETUP cr=1 from origin                        |
+                      |  repeated                                      |
 net 00810502
-         7          S2 R0 |<-- 0 64 RNR N(R)=1 F=0 ------------------------| S0 R1 busy
+         7      S2 R0 |<-- 0 64 RNR N(R)=1 F=0 ------------------------| S0 R1 busy
 user 00810101
-         8     S2 R0 poll |-- 0 64 RR N(R)=0 P=1 ------------------------->| S0 R1 busy
+         8 S2 R0 poll |-- 0 64 RR N(R)=0 P=1 ------------------------->| S0 R1 busy
 net 00810503
-         9          S2 R0 |<-- 0 64 RNR N(R)=1 F=1 ------------------------| S0 R1 busy
-                          |  answers packet 8                              |
+         9      S2 R0 |<-- 0 64 RNR N(R)=1 F=1 ------------------------| S0 R1 busy
+                      |  answers packet 8                              |
 user 008102000801010f
-        10          S2 R0 |-- 0 64 I N(S)=1 N(R)=0 P=0 info=0801010f ----->| S0 R1 busy
-                          |  CONNECT ACKNOWLEDGE cr=1 from origin          |
-                          |  repeated                                      |
-                          |  violation: sent to a peer that answered a poll by RNR |
+        10      S2 R0 |-- 0 64 I N(S)=1 N(R)=0 P=0 info=0801010f ----->| S0 R1 busy
+                      |  CONNECT ACKNOWLEDGE cr=1 from origin          |
+                      |  repeated                                      |
+                      |  violation: sent to a peer that answered a poll by RNR |
 user 008153
-        11      DISC sent |-- 0 64 DISC P=1 ------------------------------>| -
+        11  DISC sent |-- 0 64 DISC P=1 ------------------------------>| -
 net 008173
-        12          S0 R0 |<-- 0 64 UA F=1 --------------------------------| S0 R0
-                          |  answers packet 11                             |
+        12      S0 R0 |<-- 0 64 UA F=1 --------------------------------| S0 R0
+                      |  answers packet 11                             |
 
 lapd decode --ladder --kinds i --count 2
 # frames that are not printed are followed, and a long one is cut
 user 00817f
 net 008173
 user 008100000000000000000000000000000000000000000000
-    packet           user |                                                | network
-         3          S1 R0 |-- 0 64 I N(S)=0 N(R)=0 P=0 info=0000000000.. ->| S0 R0
+    packet       user |                                                | network
+         3      S1 R0 |-- 0 64 I N(S)=0 N(R)=0 P=0 info=0000000000.. ->| S0 R0
 net 02810002aa
-         4          S1 R0 |<-- 0 64 I N(S)=0 N(R)=1 P=0 info=aa -----------| S1 R1
+         4      S1 R0 |<-- 0 64 I N(S)=0 N(R)=1 P=0 info=aa -----------| S1 R1
 nobody 00
 
 lapd decode --ladder
 # a TEI is given twice
 user fcff030f123401ff
-    packet           user |                                                | network
-         1              - |-- 63 127 UI P=0 info=0f123401ff -------------->| -
-                          |  requests a TEI, reference 4660                |
+    packet       user |                                                | network
+         1          - |-- 63 127 UI P=0 info=0f123401ff -------------->| -
+                      |  requests a TEI, reference 1234                |
 net feff030f12340281
-         2              - |<-- 63 127 UI P=0 info=0f12340281 --------------| -
-                          |  assigns TEI 64 to reference 4660              |
+         2          - |<-- 63 127 UI P=0 info=0f12340281 --------------| -
+                      |  assigns TEI 64 to reference 1234              |
 user fcff030f567801ff
-         3              - |-- 63 127 UI P=0 info=0f567801ff -------------->| -
-                          |  requests a TEI, reference 22136               |
+         3          - |-- 63 127 UI P=0 info=0f567801ff -------------->| -
+                      |  requests a TEI, reference 5678                |
 net feff030f56780281
-         4              - |<-- 63 127 UI P=0 info=0f56780281 --------------| -
-                          |  assigns TEI 64 to reference 22136             |
-                          |  violation: TEI 64 is already assigned to reference 4660 |
+         4          - |<-- 63 127 UI P=0 info=0f56780281 --------------| -
+                      |  assigns TEI 64 to reference 5678              |
+                      |  violation: TEI 64 is already assigned to reference 1234 |
 net feff030f000006ff
-         5              - |<-- 63 127 UI P=0 info=0f000006ff --------------| -
-                          |  removes all TEIs                              |
+         5          - |<-- 63 127 UI P=0 info=0f000006ff --------------| -
+                      |  removes all TEIs                              |
 
 lapd pair --ladder --k 7
-                     user |                                                | network
+                 user |                                                | network
 # a message is lost
 establish user
 deliver net
-               5 S0 A0 R0 |-- 0 64 SABME P=1 ----------------------------->| 7 S0 A0 R0
-                          |  net established                               |
+           5 S0 A0 R0 |-- 0 64 SABME P=1 ----------------------------->| 7 S0 A0 R0
+                      |  net established                               |
 deliver user
-               7 S0 A0 R0 |<-- 0 64 UA F=1 --------------------------------| 7 S0 A0 R0
-                          |  user confirmed                                |
+           7 S0 A0 R0 |<-- 0 64 UA F=1 --------------------------------| 7 S0 A0 R0
+                      |  user confirmed                                |
 give user 01
 give user 02
 lose net 0
-               7 S2 A0 R0 |-- 0 64 I N(S)=0 N(R)=0 P=0 info=01 -X          | 7 S0 A0 R0
+           7 S2 A0 R0 |-- 0 64 I N(S)=0 N(R)=0 P=0 info=01 -X          | 7 S0 A0 R0
 deliver net
-               7 S2 A0 R0 |-- 0 64 I N(S)=1 N(R)=0 P=0 info=02 ----------->| 7 S0 A0 R0
+           7 S2 A0 R0 |-- 0 64 I N(S)=1 N(R)=0 P=0 info=02 ----------->| 7 S0 A0 R0
 deliver user
-               7 S2 A0 R0 |<-- 0 64 REJ N(R)=0 F=0 ------------------------| 7 S0 A0 R0
+           7 S2 A0 R0 |<-- 0 64 REJ N(R)=0 F=0 ------------------------| 7 S0 A0 R0
 deliver net
-               7 S2 A0 R0 |-- 0 64 I N(S)=0 N(R)=0 P=0 info=01 ----------->| 7 S0 A0 R1
-                          |  net data 01                                   |
+           7 S2 A0 R0 |-- 0 64 I N(S)=0 N(R)=0 P=0 info=01 ----------->| 7 S0 A0 R1
+                      |  net data 01                                   |
 deliver net
-               7 S2 A0 R0 |-- 0 64 I N(S)=1 N(R)=0 P=0 info=02 ----------->| 7 S0 A0 R2
-                          |  net data 02                                   |
+           7 S2 A0 R0 |-- 0 64 I N(S)=1 N(R)=0 P=0 info=02 ----------->| 7 S0 A0 R2
+                      |  net data 02                                   |
 deliver user
-               7 S2 A1 R0 |<-- 0 64 RR N(R)=1 F=0 -------------------------| 7 S0 A0 R2
-                          |  user acknowledged 1                           |
+           7 S2 A1 R0 |<-- 0 64 RR N(R)=1 F=0 -------------------------| 7 S0 A0 R2
+                      |  user acknowledged 1                           |
 lose user 0
-               7 S2 A1 R0 |          X-- 0 64 RR N(R)=2 F=0 ---------------| 7 S0 A0 R2
+           7 S2 A1 R0 |          X-- 0 64 RR N(R)=2 F=0 ---------------| 7 S0 A0 R2
 settle
-                          |  settled 3 rest                                |
+                      |  settled 3 rest                                |
 deliver net
     refused P1 NothingThere
 .
@@ -118,28 +118,28 @@ deliver net
     net: state 7, given 0, received 2, acknowledged 0, dropped 0
 
 lapd pair --ladder
-                     user |                                                | network
+                 user |                                                | network
 # frames of the network are lost, and a long one
 establish net
 lose user 0
-               4 S0 A0 R0 |          X-- 0 64 SABME P=1 -------------------| 5 S0 A0 R0
+           4 S0 A0 R0 |          X-- 0 64 SABME P=1 -------------------| 5 S0 A0 R0
 expire200 net
 expire200 net
     refused P3 NotYet user 0
 deliver user
-               7 S0 A0 R0 |<-- 0 64 SABME P=1 -----------------------------| 5 S0 A0 R0
-                          |  user established                              |
+           7 S0 A0 R0 |<-- 0 64 SABME P=1 -----------------------------| 5 S0 A0 R0
+                      |  user established                              |
 deliver net
-               7 S0 A0 R0 |-- 0 64 UA F=1 -------------------------------->| 7 S0 A0 R0
-                          |  net confirmed                                 |
+           7 S0 A0 R0 |-- 0 64 UA F=1 -------------------------------->| 7 S0 A0 R0
+                      |  net confirmed                                 |
 give net 000102030405060708
 lose user 0
-               7 S0 A0 R0 |          X-- 0 64 I N(S)=0 N(R)=0 P=0 info=.. -| 7 S1 A0 R0
+           7 S0 A0 R0 |          X-- 0 64 I N(S)=0 N(R)=0 P=0 info=.. -| 7 S1 A0 R0
 lose user 0
     refused P1 NothingThere
 expire200 net
 deliver user
-               7 S0 A0 R0 |<-- 0 64 RR N(R)=0 P=1 -------------------------| 8 S1 A0 R0
+           7 S0 A0 R0 |<-- 0 64 RR N(R)=0 P=1 -------------------------| 8 S1 A0 R0
 .
     user: state 7, given 0, received 0, acknowledged 0, dropped 0
     net: state 8, given 1, received 0, acknowledged 0, dropped 0

@@ -10,5 +10,8 @@ returns-clause-checked c = refl
 pub returns-clause-given_twice : goal.returns-clause-given_twice
 returns-clause-given_twice c = refl
 
+pub returns-clause-given_below : goal.returns-clause-given_below
+returns-clause-given_below c = refl
+
 pub returns-clause-given_anew : goal.returns-clause-given_anew
 returns-clause-given_anew c = refl
