@@ -130,7 +130,7 @@ fn with_queue(all: u64, queue: &IQueue) -> u64 {
     all
 }
 
-fn with_octets(all: u64, octets: &[u8]) -> u64 {
+pub(crate) fn with_octets(all: u64, octets: &[u8]) -> u64 {
     let mut all = with(all, octets.len() as u64);
     for octet in octets {
         all = with(all, u64::from(*octet));

@@ -18,6 +18,8 @@ mod given;
 #[cfg(test)]
 mod hostile;
 #[cfg(test)]
+mod queued;
+#[cfg(test)]
 mod rows;
 #[cfg(test)]
 mod shows;

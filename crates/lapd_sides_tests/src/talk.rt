@@ -85,7 +85,7 @@ fn user_side(alloc: Global, words: &str) -> Result<UserSide, AllocError> {
 }
 
 /// The side that these words describe.
-fn side_of(alloc: Global, words: &str) -> Result<EitherSide, AllocError> {
+pub(crate) fn side_of(alloc: Global, words: &str) -> Result<EitherSide, AllocError> {
     if words.starts_with("net") {
         Ok(EitherSide::Network(network_side(alloc, words)?))
     } else {
