@@ -11,7 +11,7 @@ use Rattle.lapd_sides.specs.Either.{side_of}
 use Rattle.lapd_cli_outside.specs.declared.outside.Lines.{Lines}
 use Rattle.lapd_cli_live.specs.Unseen.{has_line}
 use Rattle.lapd_cli_live.specs.WaitingLines.{Expects, behind_line}
-use Rattle.lapd_cli_live.specs.LineDone.{LooksOut}
+use Rattle.lapd_cli_live.specs.LineDone.{FindsLine, LooksOut, sought}
 use Rattle.lapd_cli_live.specs.declared.printer.Printer.{Printer}
 use Rattle.lapd_cli_outside.specs.IoEvents.{IoEvent}
 use Rattle.lapd_cli_outside.specs.declared.impairment.Impairment.{Impairment}
@@ -69,3 +69,9 @@ looks_out words ms lines matched is a m b none taken expects same = record {
   none_kept = none;
   expects = subst (λ (x : LiveState). Expects words ms lines is x b) taken (subst (λ (x : Bool). Expects words ms lines x m b) same expects);
 }
+
+-- the words of a line, put in their place
+pub finds_sought : (line words : List ℕ) (ms : ℕ) (lines : Lines) (matched is : Bool) (a b : LiveState) → line ≡ sought words a → matched ≡ is
+    → FindsLine line ms lines matched a b → FindsLine (sought words a) ms lines is a b
+finds_sought line words ms lines matched is a b same known finds =
+    subst (λ (x : List ℕ). FindsLine x ms lines is a b) same (subst (λ (x : Bool). FindsLine line ms lines x a b) known finds)

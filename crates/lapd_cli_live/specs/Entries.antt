@@ -1,6 +1,6 @@
 -- The entries that a running side prints and counts.
-use Rattle.std.specs.Prelude.{◌≡◌, ℕ, ◌-◌, ◌&&◌, ◌||◌, ◌==◌, not, nat_eq, if◌then◌else◌, Bool, true, false, List, [], ◌∷◌, ◌++◌, length, take, fold, codes, Option}
-use Rattle.std.specs.List.{list_any, starts_with}
+use Rattle.std.specs.Prelude.{◌≡◌, ℕ, ◌-◌, ◌&&◌, ◌||◌, ◌==◌, not, if◌then◌else◌, Bool, true, false, List, [], ◌∷◌, ◌++◌, length, take, fold, codes, Option}
+use Rattle.std.specs.List.{list_any}
 use Rattle.std.specs.Fmt.{decimal}
 use Rattle.std.specs.Io.KnownBytes.{Appends}
 use Rattle.lapd_frame.specs.declared.Side.{Side}
@@ -14,6 +14,7 @@ use Rattle.lapd_sides_links.specs.Texts.{kind_text}
 use Rattle.lapd_cli_side_lines.specs.declared.line_style.LineStyle.{LineStyle}
 use Rattle.lapd_cli_side_lines.specs.declared.line_style.LineStyle.TheVariants.{Text, Json}
 use Rattle.lapd_cli_side_lines.specs.SideTexts.{frame_text_line, primitive_line}
+use Rattle.lapd_cli_live_text.specs.AwaitedLine.{begins_as}
 use Rattle.lapd_cli_live_text.specs.LineObjects.{words_object}
 use Rattle.lapd_cli_live_text.specs.declared.stats.Stats.{Stats}
 use Rattle.lapd_cli_live_text.specs.Stats.{received_counted, received_words, reports_words, sent_counted, sent_words, primitive_counted}
@@ -138,9 +139,11 @@ counted own stats (Lost frame) = sent_counted stats own frame
 counted own stats (Delivered primitive) = primitive_counted stats primitive
 counted own stats entry = stats
 
--- a line begins with the awaited words; if there are no words, no line is awaited
+-- a line begins with the awaited words; if there are no words, no line is awaited, and some entries
+-- have no line
 abbrev pub begins_so : List ℕ → List ℕ → Bool
-begins_so awaited line = not (length awaited == 0) && starts_with nat_eq line awaited
+begins_so awaited [] = false
+begins_so awaited (first ∷ line) = not (length awaited == 0) && begins_as awaited (first ∷ line)
 
 abbrev pub is_awaited : Style → Side → List ℕ → Entry → Bool
 is_awaited style own awaited entry = begins_so awaited (line_of style own entry)

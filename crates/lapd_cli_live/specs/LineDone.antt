@@ -8,6 +8,7 @@ use Rattle.lapd_sides.specs.declared.either_side.EitherSide.TheVariants as eithe
 use Rattle.lapd_sides.specs.Either.{side_of}
 use Rattle.lapd_sides.specs.ShowsUser as user
 use Rattle.lapd_cli_live_text.specs.LiveRequests.{live_request_of, live_request_of_line}
+use Rattle.lapd_cli_live_text.specs.AwaitedLine.{awaited_line}
 use Rattle.lapd_cli_live_text.specs.AwaitedText.{shown_words}
 use Rattle.lapd_cli_outside.specs.declared.impairment.Impairment.{Impairment}
 use Rattle.lapd_cli_outside.specs.declared.outside.Lines.{Lines}
@@ -31,15 +32,24 @@ pub record LooksOut (words : List ℕ) (ms : ℕ) (lines : Lines) (matched : Boo
   pub none_kept : has_line words a.shown.kept ≡ false
   pub expects : Expects words ms lines matched (behind_line words a) b
 
--- `expect` succeeds: a line that begins with the words was printed and kept while the line of input
--- was awaited, or is printed in time while the side runs
+-- a line that begins with the words was printed and kept while the line of input was awaited, or is
+-- printed in time while the side runs; or there is no such line
+abbrev pub FindsLine : List ℕ → ℕ → Lines → Bool → LiveState → LiveState → Type 0
+FindsLine words ms lines true a b = FindsKept words a b ⊎ LooksOut words ms lines true a b
+FindsLine words ms lines false a b = LooksOut words ms lines false a b
+
+-- the words with which the line begins: those of a user side may leave out the TEI
+abbrev pub sought : List ℕ → LiveState → List ℕ
+sought words a = awaited_line (side_of a.side) words
+
+-- `expect` succeeds: there is such a line
 abbrev pub MatchesLine : List ℕ → ℕ → Lines → LiveState → LiveState → Type 0
-MatchesLine words ms lines a b = FindsKept words a b ⊎ LooksOut words ms lines true a b
+MatchesLine words ms lines a b = FindsLine (sought words a) ms lines true a b
 
 -- `expect` fails: there was no such line, and the side prints the words
 pub record MissesLine (words : List ℕ) (ms : ℕ) (lines : Lines) (a b : LiveState) : Type 0 where
   pub served_to : LiveState
-  pub looks : LooksOut words ms lines false a served_to
+  pub looks : FindsLine (sought words a) ms lines false a served_to
   pub prints : HappenBeside (Shows (Named (codes "expected") (shown_words words)) ∷ []) served_to b
 
 abbrev pub ExpectDone : List ℕ → ℕ → Lines → Bool → LiveState → LiveState → Type 0

@@ -1,8 +1,9 @@
 -- Lines that were printed while a line of input was awaited, for a later `expect`.
-use Rattle.std.specs.Prelude.{ℕ, Bool, nat_le, nat_eq, if◌then◌else◌, List, [], ◌∷◌, ◌++◌, length, map}
-use Rattle.std.specs.List.{list_any, starts_with}
+use Rattle.std.specs.Prelude.{ℕ, Bool, nat_le, if◌then◌else◌, List, [], ◌∷◌, ◌++◌, length, map}
+use Rattle.std.specs.List.{list_any}
 use Rattle.std.specs.declared.alloc.Global.{Global}
 use Rattle.std.specs.declared.vec.Vec.{Vec}
+use Rattle.lapd_cli_live_text.specs.AwaitedLine.{begins_as}
 use Rattle.lapd_cli_live.specs.declared.unseen.Unseen.{Unseen}
 
 -- the octets of some lines
@@ -21,14 +22,14 @@ with_line preserved line lines = if preserved
 
 -- a line of a vector begins with these words
 abbrev pub begins_with : List ℕ → Vec ℕ Global → Bool
-begins_with words line = starts_with nat_eq line.items words
+begins_with words line = begins_as words line.items
 
 -- one of some lines begins with these words
 abbrev pub has_line : List ℕ → List (List ℕ) → Bool
-has_line words lines = list_any (λ line. starts_with nat_eq line words) lines
+has_line words lines = list_any (λ line. begins_as words line) lines
 
 -- the lines after the first one that begins with these words; none if no line begins so
 abbrev pub lines_behind : List ℕ → List (List ℕ) → List (List ℕ)
 lines_behind words [] = []
-lines_behind words (line ∷ lines) = if starts_with nat_eq line words
+lines_behind words (line ∷ lines) = if begins_as words line
     then lines else lines_behind words lines

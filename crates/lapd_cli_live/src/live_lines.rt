@@ -7,7 +7,9 @@ use crate::fault::LiveFault;
 use crate::live_side::LiveSide;
 use crate::obeyed::Obeyed;
 use crate::service::{EndReason, Service, Until};
-use lapd_cli_live_text::{LiveLine, awaited_text, push_link, push_management, read_live_line};
+use lapd_cli_live_text::{
+    LiveLine, awaited_line, awaited_text, push_link, push_management, read_live_line,
+};
 use lapd_cli_outside::{Impairment, Lines, Outside};
 use lapd_cli_script::LineFault;
 use lapd_sides::{EitherSide, LinkId, SideKind, Tei};
@@ -16,7 +18,7 @@ use std::io::Write;
 impl<O: Outside, W: Write> LiveSide<O, W> {
     ghost use Rattle.lapd_cli_live.specs.Log.{Between};
     ghost use Rattle.lapd_cli_live.specs.StateLines.{PutsManagement, PutsState, StateEach, StatesAll, StatesCounts, StatesLink};
-    ghost use Rattle.lapd_cli_live.specs.LineDone.{ExpectDone, HasOwnTei, begun, impaired_as};
+    ghost use Rattle.lapd_cli_live.specs.LineDone.{ExpectDone, FindsLine, HasOwnTei, begun, impaired_as};
     ghost use Rattle.lapd_cli_live.specs.Sessions.{AwaitsInput, ObeysAs, RequestEnds};
     ghost use Rattle.lapd_cli_live.specs.WaitingLines.{Expects, Reads, Runs};
 
@@ -146,23 +148,34 @@ impl<O: Outside, W: Write> LiveSide<O, W> {
         }
     }
 
-    /// Looks for a printed line that begins with these words: first among the kept lines, then for
-    /// `ms` milliseconds among those that are printed while the side is served. Returns whether
-    /// there was one, and prints it if not.
+    /// Looks for a printed line that begins with these words, of which the user side may leave out
+    /// the TEI, for `ms` milliseconds. Returns whether there was one, and prints the words if not.
     fn expect(&mut self, words: &[u8], ms: u64, lines: Lines) -> Result<bool, LiveFault>
         ensures { IfOk result (λ matched.
             Between O.io_events O.impaired_by W.contents self.old self.new
             (ExpectDone words.now ms lines matched)) }
     {
-        if self.printer.take_unseen(words) {
-            return Ok(true);
-        }
-        if self.await_words(words, ms, lines)? {
+        let line = awaited_line(self.alloc, self.side.side(), words)?;
+        if self.find_line(line.as_slice(), ms, lines)? {
             return Ok(true);
         }
         let text = awaited_text(self.alloc, words)?;
         self.printer.put_named("expected", text.as_str())?;
         Ok(false)
+    }
+
+    /// Looks for a printed line that begins with these words: first among the kept lines, then for
+    /// `ms` milliseconds among those that are printed while the side is served. Returns whether
+    /// there was one.
+    fn find_line(&mut self, words: &[u8], ms: u64, lines: Lines) -> Result<bool, LiveFault>
+        ensures { IfOk result (λ matched.
+            Between O.io_events O.impaired_by W.contents self.old self.new
+            (FindsLine words.now ms lines matched)) }
+    {
+        if self.printer.take_unseen(words) {
+            return Ok(true);
+        }
+        self.await_words(words, ms, lines)
     }
 
     /// Serves the side until it prints a line that begins with these words, but for at most `ms`

@@ -15,7 +15,7 @@ ghost use Rattle.lapd_cli_side_lines.specs.SideTexts.{frame_text_line};
 use crate::fault::LiveFault;
 use crate::style::Style;
 use crate::unseen::Unseen;
-use lapd_cli_live_text::{Stats, words_object};
+use lapd_cli_live_text::{Stats, begins_as, words_object};
 use lapd_cli_outside::Sending;
 use lapd_cli_script::LineFault;
 use lapd_cli_side_lines::{LineStyle, push_primitive, push_trace_of};
@@ -450,7 +450,10 @@ impl<W: Write> Printer<W> {
 fn begins_so(awaited: &[u8], line: &[u8]) -> bool
     ensures { result ≡ begins awaited.now line.now }
 {
-    !awaited.is_empty() && line.starts_with(awaited)
+    match line {
+        [] => false,
+        [_, ..] => !awaited.is_empty() && begins_as(awaited, line),
+    }
 }
 
 /// Appends the moment of a line and a space, if the style shows moments.

@@ -2,6 +2,7 @@ ghost use Rattle.std.specs.Prelude.{◌<◌, ◌≡◌, ◌+◌, drop, length, [
 ghost use Rattle.std.specs.List.{list_any};
 ghost use Rattle.lapd_cli_live.specs.Unseen.{begins_with, line_octets, lines_behind};
 
+use lapd_cli_live_text::begins_as;
 use std::alloc::{AllocError, Global};
 
 /// The most lines that are kept. When one more is printed, all earlier lines are forgotten.
@@ -101,7 +102,7 @@ fn place_of(lines: &[Vec<u8>], words: &[u8]) -> Option<usize>
     ensures none { result ≡ None → lines_behind words.now (line_octets lines.now) ≡ [] }
 {
     for (place, line) in lines.iter().enumerate() {
-        if line.as_slice().starts_with(words) {
+        if begins_as(words, line.as_slice()) {
             return Some(place);
         }
     }

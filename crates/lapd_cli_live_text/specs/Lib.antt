@@ -4,6 +4,7 @@ pub mod Stats
 pub mod LineObjects
 pub mod LineParts
 pub mod AwaitedText
+pub mod AwaitedLine
 pub mod LiveRequests
 pub mod Histories
 pub mod Worked

@@ -1,10 +1,12 @@
 //! Laws over the definitions. The functions do nothing.
 
-ghost use Rattle.std.specs.Prelude.{◌≡◌, ◌∷◌, List, [], codes, false, None, Some};
+ghost use Rattle.std.specs.Prelude.{◌≡◌, ◌≢◌, ◌∷◌, ℕ, List, [], codes, false, true, nat_eq, None, Some};
+ghost use Rattle.std.specs.List.{AllByRecursion, starts_with};
 ghost use Rattle.lapd_frame.specs.declared.Side.{Side};
 ghost use Rattle.lapd_frame.specs.declared.Side.TheVariants.{Network, User};
 ghost use Rattle.lapd_frame.specs.declared.Sapi.TheVariants.{Call, Packet};
 ghost use Rattle.lapd_cli_side_lines.specs.LineRequests.{Release, Remove, named};
+ghost use Rattle.lapd_cli_live_text.specs.AwaitedLine.{awaited_line, begins_as};
 ghost use Rattle.lapd_cli_live_text.specs.AwaitedText.{shown_chars};
 ghost use Rattle.lapd_cli_live_text.specs.LiveRequests.{Ask, Busy, Expect, Impair, Read, Run, State, live_request_of_line};
 ghost use Rattle.lapd_cli_live_text.specs.Histories.{CountsEvents, StatsEvent, stats_after};
@@ -67,6 +69,27 @@ pub fn worked_requests()
     ensures no_delay { live_request_of_line User 70 (codes "impair 0") ≡ Some (Impair 0 0) }
     ensures too_much { live_request_of_line User 70 (codes "impair 101%") ≡ None }
     ensures tick { live_request_of_line Network 127 (codes "tick 5") ≡ None }
+{}
+
+/// Words without `*` are the first octets of a line that begins with them.
+pub fn plain_words_are_first_octets()
+    ensures { (words line : List ℕ) → AllByRecursion (λ octet. octet ≢ 42) words
+        → begins_as words line ≡ starts_with nat_eq line words }
+{}
+
+/// Lines that begin with expected words, as documented: a `*` stands for the rest of a word, and
+/// at the user side the TEI may be left out.
+pub fn worked_awaited_lines()
+    ensures any_tei { begins_as (codes "0 * confirmed") (codes "0 64 confirmed\n") ≡ true }
+    ensures rest { begins_as (codes "0 6* conf") (codes "0 64 confirmed\n") ≡ true }
+    ensures one_word { begins_as (codes "0 * confirmed") (codes "0 64 not confirmed\n") ≡ false }
+    ensures other_sapi { begins_as (codes "0 * confirmed") (codes "16 64 confirmed\n") ≡ false }
+    ensures left_out { awaited_line User (codes "0 confirmed") ≡ codes "0 * confirmed" }
+    ensures named { awaited_line User (codes "16 70 data 08") ≡ codes "16 70 data 08" }
+    ensures star { awaited_line User (codes "0 * data") ≡ codes "0 * data" }
+    ensures alone { awaited_line User (codes "0") ≡ codes "0" }
+    ensures no_sapi { awaited_line User (codes "tei got") ≡ codes "tei got" }
+    ensures network { awaited_line Network (codes "0 confirmed") ≡ codes "0 confirmed" }
 {}
 
 /// Expected words, and how they are shown, as documented. 27 is ESC, 195 and 169 are the octets of

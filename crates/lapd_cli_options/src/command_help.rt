@@ -434,7 +434,8 @@ wait:
   run [MS]              for MS milliseconds, or until the other side closes the connection
   wait MS               for MS milliseconds
   expect WORDS.. MS     until a line is printed that begins with WORDS, for at most MS milliseconds;
-                        then `expected WORDS..` is printed, and the script ends with exit status 5
+                        then `expected WORDS..` is printed, and the script ends with exit status 5;
+                        a * stands for the rest of a word, as in `expect 0 * established 3000`
 MS is 1 to 3600000. `tick` is not valid; the other lines above are, and so are these:
   busy SAPI TEI on      this side can receive no more messages of the link (own receiver busy)
   busy SAPI TEI off     it can receive them again
@@ -572,7 +573,8 @@ also for the next line of a terminal or a pipe: frames are received when they ar
 expire when they are due. A script in a file is executed as fast as its lines allow. `tick` is not
 valid; the lines are:
   read [MS], run [MS], wait MS, expect WORDS.. MS, stats, impair LOSS% [MS]
-                        as in `lapd net --help`
+                        as in `lapd net --help`; WORDS may leave out the TEI after a SAPI, as in
+                        `expect 0 confirmed 3000`
   establish SAPI, release SAPI, give SAPI HEX, unit SAPI HEX, ask
                         as above, without a TEI: the links have the terminal's own
   busy SAPI on, busy SAPI off, state [SAPI]

@@ -82,6 +82,61 @@ stats
 ---
 7 0 64 established
 500 expected 0 64 report
+=== a terminal expects the lines of its link without the TEI, which its script doesn't know
+user file quiet done
+5 feff030f61990281
+10 008173
+20 028100000801
+30 028153
+---
+establish 0
+expect tei got * 100
+expect 0 confirmed 100
+expect 0 da 100
+expect 0 64 released 100
+---
+5 tei got 64
+10 0 64 confirmed
+20 0 64 data 0801
+30 0 64 released
+=== a star stands for the rest of a word, and for no more
+net file quiet unmet
+5 00817f
+10 008153
+---
+expect 0 6* est 100
+expect * * released 100
+expect 0 * released 20
+---
+5 0 64 established
+10 0 64 released
+30 expected 0 * released
+=== the network side names the TEI
+net file quiet unmet
+5 00817f
+---
+expect 0 established 20
+---
+5 0 64 established
+20 expected 0 established
+=== in words that are printed as they were typed
+user file quiet unmet
+---
+expect 0 confirmed 20
+---
+20 expected 0 confirmed
+=== a frame of the last millisecond is received before the line ends
+net file quiet done
+300 00817f
+310 008153
+---
+run 300
+state 0 64
+read 10
+---
+300 0 64 established
+300 0 64 state 7 V(S)=0 V(A)=0 V(R)=0 RC=0 queue=0 T203=10000
+310 0 64 released
 === a line that was printed before is not found in a file
 net file quiet unmet
 0 00817f
