@@ -40,8 +40,17 @@ fn main(rt: HostRuntime) -> ExitCode {
         Err(fault) => return print_words_fault(&rt, fault),
     };
     match parse_words(rt.alloc(), words.as_slice()) {
-        Ok(chosen) => do_chosen(&rt, &chosen),
+        Ok(chosen) => do_chosen(&rt, &for_input(&rt, chosen)),
         Err(unchosen) => print_no_invocation(&rt, &unchosen),
+    }
+}
+
+// The chosen job. At a terminal `net` and `user` use the real clock if no clock is named.
+fn for_input<'a>(rt: &HostRuntime, chosen: Invocation<'a>) -> Invocation<'a> {
+    if rt.stdin().is_terminal() {
+        chosen.typed()
+    } else {
+        chosen
     }
 }
 

@@ -1,12 +1,14 @@
 -- The meaning of the command line's words.
-use Rattle.std.specs.Prelude.{◌≡◌, false, None, []}
+use Rattle.std.specs.Prelude.{◌≡◌, Bool, true, false, None, []}
 use Rattle.lapd_frame.specs.declared.Side.TheVariants.{Network}
 use Rattle.lapd_frame.specs.declared.Sapi.TheVariants.{Call}
 use Rattle.lapd_link_definition.specs.declared.recovery.Recovery.TheVariants.{Enquiry}
 use Rattle.lapd_link_definition.specs.Parameters.{Parameters}
 use Rattle.lapd_cli_values.specs.declared.link_end.LinkEnd.{LinkEnd}
 use Rattle.lapd_cli_options.specs.declared.invocation.Invocation.{Invocation}
-use Rattle.lapd_cli_options.specs.declared.invocation.Clock.TheVariants.{Script}
+use Rattle.lapd_cli_options.specs.declared.invocation.Clock.{Clock}
+use Rattle.lapd_cli_options.specs.declared.invocation.Clock.TheVariants.{Script, Real}
+use Rattle.lapd_cli_options.specs.declared.invocation.LiveOptions.{LiveOptions}
 use Rattle.lapd_cli_options.specs.declared.invocation.DecodeOptions.{DecodeOptions}
 use Rattle.lapd_cli_options.specs.declared.invocation.PrintedLayout.{PrintedLayout}
 use Rattle.lapd_cli_options.specs.declared.invocation.PrintedLayout.TheVariants.{Lines, Ladder, Picture}
@@ -38,6 +40,32 @@ pub record IsDefault (chosen : Invocation) : Type 0 where
   pub clock : chosen.clock ≡ Script
   pub json : chosen.json ≡ false
   pub strict : chosen.strict ≡ false
+
+-- ---- `net` and `user` at a terminal.
+
+-- no option of the real clock is present
+abbrev pub usual_options : LiveOptions
+usual_options = record {
+  time = false;
+  quiet = false;
+  serve = false;
+  keep = false;
+  terminals = 1;
+  idle_limit = None;
+  pcap = None;
+  ladder = None;
+  gsmtap = None;
+}
+
+-- the clock, if no clock is named or one is
+abbrev pub terminal_clock : Bool → Clock → Clock
+terminal_clock true clock = Real usual_options
+terminal_clock false clock = clock
+
+abbrev pub typed_invocation : Invocation → Invocation
+typed_invocation chosen = record chosen { clock = terminal_clock chosen.is_clock_open chosen.clock }
+
+-- ---- The times of `decode`.
 
 -- the time of each frame in a drawing of a capture, if this one is requested
 abbrev pub drawn_time : PrintedTime → PrintedTime

@@ -23,6 +23,14 @@ pub(crate) fn clock_of<'a>(
     }
 }
 
+/// Whether this command has a clock, and none is named.
+pub(crate) fn is_clock_open(command: ScriptCommand, given: &ArgMatches<'_>) -> bool {
+    match command {
+        ScriptCommand::Net | ScriptCommand::User => given.get_str("clock").is_none(),
+        _ => false,
+    }
+}
+
 // The clock of a side. Options that require the real clock are refused without it.
 fn side_clock_of<'a>(given: &ArgMatches<'a>) -> Result<Clock<'a>, NoInvocation<'a>> {
     if given.get_str("clock") == Some("real") {

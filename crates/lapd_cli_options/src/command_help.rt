@@ -426,10 +426,10 @@ has. A line after < is a line of the script, and a line after > is printed.
   > N>U SAPI 0 TEI 64 R UA F=1
   > 0 64 released
 
-With --clock real the clock is that of the system. The side is served whenever the program waits,
-also for the next line of a terminal or a pipe: frames are received when they arrive, and timers
-expire when they are due. A script in a file is executed as fast as its lines allow. These lines
-wait:
+With --clock real, or at a terminal without --clock, the clock is that of the system. The side is
+served whenever the program waits, also for the next line of a terminal or a pipe: frames are
+received when they arrive, and timers expire when they are due. A script in a file is executed as
+fast as its lines allow. These lines wait:
   read [MS]             until the next frame, for at most MS milliseconds; then `nothing` is printed
   run [MS]              for MS milliseconds, or until the other side closes the connection
   wait MS               for MS milliseconds
@@ -465,7 +465,9 @@ a frame, or sends no whole frame for --idle-limit MS. Standard error reports tha
 continue. A closed connection does not end `run` then, and --keep changes nothing.
 
 If this side has no link for a frame, the frame is discarded. Standard error reports the first one
-of each SAPI and TEI. A report on standard error is dropped if nobody reads it.
+of each SAPI and TEI. A report on standard error is dropped if nobody reads it, and so are frames
+that the reader of a named pipe of --pcap or --ladder does not take at once; their number is
+reported.
 
 T200 has to be longer than the way to the other side and back. Otherwise frames are sent again whose
 answers are still on their way.
@@ -568,10 +570,10 @@ has. A line after < is a line of the script, and a line after > is printed.
   > N>U SAPI 0 TEI 64 R UA F=1
   > 0 64 release-confirmed
 
-With --clock real the clock is that of the system. The side is served whenever the program waits,
-also for the next line of a terminal or a pipe: frames are received when they arrive, and timers
-expire when they are due. A script in a file is executed as fast as its lines allow. `tick` is not
-valid; the lines are:
+With --clock real, or at a terminal without --clock, the clock is that of the system. The side is
+served whenever the program waits, also for the next line of a terminal or a pipe: frames are
+received when they arrive, and timers expire when they are due. A script in a file is executed as
+fast as its lines allow. `tick` is not valid; the lines are:
   read [MS], run [MS], wait MS, expect WORDS.. MS, stats, impair LOSS% [MS]
                         as in `lapd net --help`; WORDS may leave out the TEI after a SAPI, as in
                         `expect 0 confirmed 3000`

@@ -130,8 +130,9 @@ pub const SIDE_JSON: &str = "Prints each line as a JSON object";
 
 /// The help of the options of the clock.
 pub const CLOCK: &str = "\
-The clock: that of the script, which only `tick` advances, or the
-real one";
+The clock: that of the script, which only `tick` advances,
+or the real one; without this option the real one at a
+terminal, and else that of the script";
 
 pub const TIME: &str = "\
 With --clock real, begins each line with the time, in milliseconds

@@ -1,5 +1,5 @@
 ghost use Rattle.std.specs.Prelude.{◌≡◌};
-ghost use Rattle.lapd_cli_options.specs.CommandLine.{IsDefault, time_in_capture};
+ghost use Rattle.lapd_cli_options.specs.CommandLine.{IsDefault, terminal_clock, time_in_capture, typed_invocation};
 
 use lapd_cli_values::{Filter, Interface, LinkEnd, Params, Sapi, Side, Tei};
 use std::alloc::Global;
@@ -19,6 +19,9 @@ pub struct Invocation<'a> {
     pub svg: Option<&'a str>,
     /// The clock of `net` or `user`.
     pub clock: Clock<'a>,
+    /// Whether `net` or `user` name no clock, so that it is the real one at a terminal
+    /// ([`Invocation::typed`]).
+    pub is_clock_open: bool,
     /// Whether `net` or `user` prints each line as a JSON object. `decode` has a field of its own.
     pub json: bool,
     /// Whether the exit status reports that a line of the script was refused.
@@ -86,6 +89,21 @@ pub struct LiveOptions<'a> {
     pub ladder: Option<&'a str>,
     /// The address and port of `--gsmtap`, unchanged from the command line.
     pub gsmtap: Option<&'a str>,
+}
+
+impl LiveOptions<'static> {
+    /// No option of the real clock is present.
+    const USUAL: LiveOptions<'static> = LiveOptions {
+        time: false,
+        quiet: false,
+        serve: false,
+        keep: false,
+        terminals: 1,
+        idle_limit: None,
+        pcap: None,
+        ladder: None,
+        gsmtap: None,
+    };
 }
 
 /// The options of `decode`.
@@ -197,8 +215,31 @@ impl Invocation<'_> {
             pcap: None,
             svg: None,
             clock: Clock::Script,
+            is_clock_open: false,
             json: false,
             strict: false,
         }
+    }
+}
+
+impl<'a> Invocation<'a> {
+    /// The meaning of the words if standard input is a terminal: `net` and `user` use the real
+    /// clock if no clock is named.
+    pub fn typed(self) -> Invocation<'a>
+        ensures { result ≡ typed_invocation self.entry }
+    {
+        let clock = clock_at_terminal(self.is_clock_open, self.clock);
+        Invocation { clock, ..self }
+    }
+}
+
+/// The clock at a terminal: the real one if no clock is named.
+fn clock_at_terminal(is_open: bool, clock: Clock<'_>) -> Clock<'_>
+    ensures { result ≡ terminal_clock is_open clock.entry }
+{
+    if is_open {
+        Clock::Real(LiveOptions::USUAL)
+    } else {
+        clock
     }
 }

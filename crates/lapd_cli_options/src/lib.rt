@@ -21,7 +21,7 @@ mod program_words;
 mod script_command;
 
 use clap::{ArgMatches, Command};
-use clock_options::clock_of;
+use clock_options::{clock_of, is_clock_open};
 use command_options::{address_of, job_of, pcap_of, prints_json, svg_of};
 use decode_options::files_of;
 pub use invocation::{
@@ -108,6 +108,7 @@ fn invocation_with<'a>(
         pcap: pcap_of(command, given),
         svg: svg_of(command, given),
         clock,
+        is_clock_open: is_clock_open(command, given),
         json: prints_json(command, given),
         strict: is_strict(given),
     })

@@ -123,7 +123,7 @@ const INTERFACE: &[CommandOption] = &[
 /// The options of a side's output, of its clock, and of the real clock.
 const LIVE: &[CommandOption] = &[
     CommandOption::Flag("json", help::SIDE_JSON),
-    CommandOption::Word(CLOCK),
+    CommandOption::BareWord(CLOCK),
     CommandOption::Flag("time", help::TIME),
     CommandOption::Flag("quiet", help::QUIET),
     CommandOption::Flag("serve", help::SERVE),
@@ -215,5 +215,5 @@ const CLOCK: WordOption = WordOption {
     value_name: "CLOCK",
     help: help::CLOCK,
     words: &["script", "real"],
-    default: "script",
+    default: "",
 };

@@ -21,6 +21,7 @@ use std::test::Fail;
 /// - for `decode`: whether links are followed and their window, the time, the count, the sender,
 ///   whether SAPIs are not checked, the colors, the frames that are printed if not all are, and
 ///   the files;
+/// - for a clock that is not named: `open`;
 /// - for the real clock: the number of terminals, the file, the address of GSMTAP and the other
 ///   flags.
 const ROWS: &str = "\
@@ -44,12 +45,12 @@ lapd pair --recovery-net=last --recovery-user=enquiry => pair 1 3 512 enquiry 1 
 lapd pair --ladder --k 7 => pair 7 3 512 enquiry 7 3 512 enquiry ladder
 lapd loop => loop 1 3 512 enquiry 1 3 512 enquiry
 lapd loop --k=7 --n200=2 --room=9 --recovery-net=last => loop 7 2 9 enquiry 7 2 9 last
-lapd net --listen 127.0.0.1:7000 => net 1 3 512 enquiry 3 3 512 enquiry 1000 1000 2000 10000 with-16 - at 127.0.0.1:7000
-lapd|user|--connect=no address:65535 => user 1 3 512 enquiry 3 3 512 enquiry 1000 1000 2000 10000 with-16 - at no address:65535
+lapd net --listen 127.0.0.1:7000 => net 1 3 512 enquiry 3 3 512 enquiry 1000 1000 2000 10000 with-16 - at 127.0.0.1:7000 open
+lapd|user|--connect=no address:65535 => user 1 3 512 enquiry 3 3 512 enquiry 1000 1000 2000 10000 with-16 - at no address:65535 open
 lapd answer --strict --side user => answer user 0 64 1 3 512 enquiry strict
-lapd net --listen=[::1]:0 --strict => net 1 3 512 enquiry 3 3 512 enquiry 1000 1000 2000 10000 with-16 - at [::1]:0 strict
+lapd net --listen=[::1]:0 --strict => net 1 3 512 enquiry 3 3 512 enquiry 1000 1000 2000 10000 with-16 - at [::1]:0 open strict
 lapd decode --strict => decode strict
-lapd net --listen a:1 => net 1 3 512 enquiry 3 3 512 enquiry 1000 1000 2000 10000 with-16 - at a:1
+lapd net --listen a:1 => net 1 3 512 enquiry 3 3 512 enquiry 1000 1000 2000 10000 with-16 - at a:1 open
 lapd user --connect a:1 --clock script => user 1 3 512 enquiry 3 3 512 enquiry 1000 1000 2000 10000 with-16 - at a:1
 lapd net --listen a:1 --clock real => net 1 3 512 enquiry 3 3 512 enquiry 1000 1000 2000 10000 with-16 - at a:1 real 1 - -
 lapd user --clock=real --time --connect=a:1 => user 1 3 512 enquiry 3 3 512 enquiry 1000 1000 2000 10000 with-16 - at a:1 real 1 - - time
@@ -60,8 +61,8 @@ lapd user --ladder=/dev/stdout --connect=a:1 --clock=real --quiet => user 1 3 51
 lapd net --listen=a:1 --clock=real --serve => net 1 3 512 enquiry 3 3 512 enquiry 1000 1000 2000 10000 with-16 - at a:1 real 1 - - serve
 lapd user --keep --connect=a:1 --clock=real => user 1 3 512 enquiry 3 3 512 enquiry 1000 1000 2000 10000 with-16 - at a:1 real 1 - - keep
 lapd net --listen=a:1 --clock=real --terminals=2 --idle-limit 3600000 => net 1 3 512 enquiry 3 3 512 enquiry 1000 1000 2000 10000 with-16 - at a:1 real 2 - - idle 3600000
-lapd net --listen=a:1 => net 1 3 512 enquiry 3 3 512 enquiry 1000 1000 2000 10000 with-16 - at a:1
-lapd net --listen=a:1 --json => net 1 3 512 enquiry 3 3 512 enquiry 1000 1000 2000 10000 with-16 - at a:1 json
+lapd net --listen=a:1 => net 1 3 512 enquiry 3 3 512 enquiry 1000 1000 2000 10000 with-16 - at a:1 open
+lapd net --listen=a:1 --json => net 1 3 512 enquiry 3 3 512 enquiry 1000 1000 2000 10000 with-16 - at a:1 open json
 lapd user --json --connect=a:1 --clock=real => user 1 3 512 enquiry 3 3 512 enquiry 1000 1000 2000 10000 with-16 - at a:1 real 1 - - json
 lapd decode --json => decode
 lapd decode --follow => decode follow
@@ -96,22 +97,22 @@ lapd decode --color=always --follow => decode follow always
 lapd decode --color never => decode never
 lapd decode --sender net => decode from net
 lapd decode --sender=user --any-sapi => decode from user any-sapi
-lapd net --listen 127.0.0.1:4000 => net 1 3 512 enquiry 3 3 512 enquiry 1000 1000 2000 10000 with-16 - at 127.0.0.1:4000
-lapd user --connect 127.0.0.1:4000 => user 1 3 512 enquiry 3 3 512 enquiry 1000 1000 2000 10000 with-16 - at 127.0.0.1:4000
-lapd net --listen 127.0.0.1:4000 --pri => net 7 3 512 enquiry 7 3 512 enquiry 1000 1000 2000 10000 without-16 - 0 at 127.0.0.1:4000
-lapd user --connect 127.0.0.1:4000 --pri => user 7 3 512 enquiry 7 3 512 enquiry 1000 1000 2000 10000 without-16 - 0 at 127.0.0.1:4000
-lapd net --listen 127.0.0.1:4000 --pri --sapi16 => net 7 3 512 enquiry 7 3 512 enquiry 1000 1000 2000 10000 with-16 - 0 at 127.0.0.1:4000
-lapd net --listen 127.0.0.1:4000 --pri --k 127 => net 127 3 512 enquiry 127 3 512 enquiry 1000 1000 2000 10000 without-16 - 0 at 127.0.0.1:4000
-lapd net --listen 127.0.0.1:4000 --pri --tei 64 => net 7 3 512 enquiry 7 3 512 enquiry 1000 1000 2000 10000 without-16 - 64 at 127.0.0.1:4000
-lapd net --listen 127.0.0.1:4000 --tei 0 --tei 126 => net 1 3 512 enquiry 3 3 512 enquiry 1000 1000 2000 10000 with-16 - 0 126 at 127.0.0.1:4000
-lapd user --connect 127.0.0.1:4000 --tei 126 => user 1 3 512 enquiry 3 3 512 enquiry 1000 1000 2000 10000 with-16 - 126 at 127.0.0.1:4000
-lapd user --connect 127.0.0.1:4000 --k 1 => user 1 3 512 enquiry 1 3 512 enquiry 1000 1000 2000 10000 with-16 - at 127.0.0.1:4000
-lapd user --connect 127.0.0.1:4000 --n200 100 --room 1024 => user 1 100 1024 enquiry 3 100 1024 enquiry 1000 1000 2000 10000 with-16 - at 127.0.0.1:4000
-lapd user --connect 127.0.0.1:4000 --n200 1 --room 1 => user 1 1 1 enquiry 3 1 1 enquiry 1000 1000 2000 10000 with-16 - at 127.0.0.1:4000
-lapd user --connect 127.0.0.1:4000 --recovery last => user 1 3 512 last 3 3 512 last 1000 1000 2000 10000 with-16 - at 127.0.0.1:4000
-lapd user --connect 127.0.0.1:4000 --t200 1 --t201 2 --t202 3 --t203 3600000 => user 1 3 512 enquiry 3 3 512 enquiry 1 2 3 3600000 with-16 - at 127.0.0.1:4000
-lapd net --listen 127.0.0.1:4000 --seed 18446744073709551615 => net 1 3 512 enquiry 3 3 512 enquiry 1000 1000 2000 10000 with-16 18446744073709551615 at 127.0.0.1:4000
-lapd net --listen 127.0.0.1:4000 --seed 0 => net 1 3 512 enquiry 3 3 512 enquiry 1000 1000 2000 10000 with-16 0 at 127.0.0.1:4000
+lapd net --listen 127.0.0.1:4000 => net 1 3 512 enquiry 3 3 512 enquiry 1000 1000 2000 10000 with-16 - at 127.0.0.1:4000 open
+lapd user --connect 127.0.0.1:4000 => user 1 3 512 enquiry 3 3 512 enquiry 1000 1000 2000 10000 with-16 - at 127.0.0.1:4000 open
+lapd net --listen 127.0.0.1:4000 --pri => net 7 3 512 enquiry 7 3 512 enquiry 1000 1000 2000 10000 without-16 - 0 at 127.0.0.1:4000 open
+lapd user --connect 127.0.0.1:4000 --pri => user 7 3 512 enquiry 7 3 512 enquiry 1000 1000 2000 10000 without-16 - 0 at 127.0.0.1:4000 open
+lapd net --listen 127.0.0.1:4000 --pri --sapi16 => net 7 3 512 enquiry 7 3 512 enquiry 1000 1000 2000 10000 with-16 - 0 at 127.0.0.1:4000 open
+lapd net --listen 127.0.0.1:4000 --pri --k 127 => net 127 3 512 enquiry 127 3 512 enquiry 1000 1000 2000 10000 without-16 - 0 at 127.0.0.1:4000 open
+lapd net --listen 127.0.0.1:4000 --pri --tei 64 => net 7 3 512 enquiry 7 3 512 enquiry 1000 1000 2000 10000 without-16 - 64 at 127.0.0.1:4000 open
+lapd net --listen 127.0.0.1:4000 --tei 0 --tei 126 => net 1 3 512 enquiry 3 3 512 enquiry 1000 1000 2000 10000 with-16 - 0 126 at 127.0.0.1:4000 open
+lapd user --connect 127.0.0.1:4000 --tei 126 => user 1 3 512 enquiry 3 3 512 enquiry 1000 1000 2000 10000 with-16 - 126 at 127.0.0.1:4000 open
+lapd user --connect 127.0.0.1:4000 --k 1 => user 1 3 512 enquiry 1 3 512 enquiry 1000 1000 2000 10000 with-16 - at 127.0.0.1:4000 open
+lapd user --connect 127.0.0.1:4000 --n200 100 --room 1024 => user 1 100 1024 enquiry 3 100 1024 enquiry 1000 1000 2000 10000 with-16 - at 127.0.0.1:4000 open
+lapd user --connect 127.0.0.1:4000 --n200 1 --room 1 => user 1 1 1 enquiry 3 1 1 enquiry 1000 1000 2000 10000 with-16 - at 127.0.0.1:4000 open
+lapd user --connect 127.0.0.1:4000 --recovery last => user 1 3 512 last 3 3 512 last 1000 1000 2000 10000 with-16 - at 127.0.0.1:4000 open
+lapd user --connect 127.0.0.1:4000 --t200 1 --t201 2 --t202 3 --t203 3600000 => user 1 3 512 enquiry 3 3 512 enquiry 1 2 3 3600000 with-16 - at 127.0.0.1:4000 open
+lapd net --listen 127.0.0.1:4000 --seed 18446744073709551615 => net 1 3 512 enquiry 3 3 512 enquiry 1000 1000 2000 10000 with-16 18446744073709551615 at 127.0.0.1:4000 open
+lapd net --listen 127.0.0.1:4000 --seed 0 => net 1 3 512 enquiry 3 3 512 enquiry 1000 1000 2000 10000 with-16 0 at 127.0.0.1:4000 open
 lapd user --connect a:1 --clock real --seed 921 => user 1 3 512 enquiry 3 3 512 enquiry 1000 1000 2000 10000 with-16 921 at a:1 real 1 - -
 lapd answer --sapi 16 --tei 126 --k 3 --side user => answer user 16 126 3 3 512 enquiry
 lapd answer --sapi 0 --tei 0 => answer net 0 0 1 3 512 enquiry
@@ -248,11 +249,11 @@ lapd user --connect=a:1 --ladder rungs => error: --ladder requires --clock real~
 lapd user --connect=a:1 --gsmtap b:4729 => error: --gsmtap requires --clock real~
 lapd net --listen=a:1 --clock=real --terminals=128 => error: invalid value '128' for '--terminals <TERMINALS>': not a number from 1 to 127 in decimal digits~
 lapd user --connect=a:1 --clock=real --gsmtap=b => user 1 3 512 enquiry 3 3 512 enquiry 1000 1000 2000 10000 with-16 - at a:1 real 1 - b
-lapd net --listen foo => net 1 3 512 enquiry 3 3 512 enquiry 1000 1000 2000 10000 with-16 - at foo
-lapd net --listen 127.0.0.1 => net 1 3 512 enquiry 3 3 512 enquiry 1000 1000 2000 10000 with-16 - at 127.0.0.1
-lapd user --connect=127.0.0.1:65536 => user 1 3 512 enquiry 3 3 512 enquiry 1000 1000 2000 10000 with-16 - at 127.0.0.1:65536
-lapd user --connect :80 => user 1 3 512 enquiry 3 3 512 enquiry 1000 1000 2000 10000 with-16 - at :80
-lapd|user|--connect=no address => user 1 3 512 enquiry 3 3 512 enquiry 1000 1000 2000 10000 with-16 - at no address
+lapd net --listen foo => net 1 3 512 enquiry 3 3 512 enquiry 1000 1000 2000 10000 with-16 - at foo open
+lapd net --listen 127.0.0.1 => net 1 3 512 enquiry 3 3 512 enquiry 1000 1000 2000 10000 with-16 - at 127.0.0.1 open
+lapd user --connect=127.0.0.1:65536 => user 1 3 512 enquiry 3 3 512 enquiry 1000 1000 2000 10000 with-16 - at 127.0.0.1:65536 open
+lapd user --connect :80 => user 1 3 512 enquiry 3 3 512 enquiry 1000 1000 2000 10000 with-16 - at :80 open
+lapd|user|--connect=no address => user 1 3 512 enquiry 3 3 512 enquiry 1000 1000 2000 10000 with-16 - at no address open
 lapd net --listen 127.0.0.1:4000 --tei 127 => error: invalid value '127' for '--tei <TEI>': not a number from 0 to 126 in decimal digits~
 lapd user --connect 127.0.0.1:4000 --tei 127 => error: invalid value '127' for '--tei <TEI>': not a number from 0 to 126 in decimal digits~
 lapd net --listen 127.0.0.1:4000 --k 0 => error: invalid value '0' for '--k <FRAMES>': not a number from 1 to 127 in decimal digits~
@@ -316,6 +317,7 @@ fn show(text: &mut String, chosen: &Invocation<'_>) {
         let _ = write!(text, " at {address}");
     }
     show_files(text, chosen.files.as_slice());
+    let _ = text.push_str(if chosen.is_clock_open { " open" } else { "" });
     if let Clock::Real(options) = &chosen.clock {
         let (pcap, gsmtap) = (options.pcap.unwrap_or("-"), options.gsmtap.unwrap_or("-"));
         let _ = write!(text, " real {} {pcap} {gsmtap}", options.terminals);

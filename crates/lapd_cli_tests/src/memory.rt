@@ -24,6 +24,7 @@ fn preserves(rt: &HostRuntime, job: Job, text: &str) -> Result<(), Fail> {
         pcap: None,
         svg: None,
         clock: Clock::Script,
+        is_clock_open: false,
         json: false,
         strict: false,
     };
