@@ -340,7 +340,7 @@ fn do_net<R: Read, W: Write>(
         config_of(setup.interface, setup.interface.seed.unwrap_or(SCRIPT_SEED)),
         setup.interface.teis.as_slice(),
     );
-    connection::print_closed(&notes, &stream);
+    connection::close(rt, &notes, stream);
     ended.map_err(Stop::Script)
 }
 
@@ -363,7 +363,7 @@ fn do_user<R: Read, W: Write>(
         config_of(setup.interface, setup.interface.seed.unwrap_or(SCRIPT_SEED)),
         setup.interface.fixed(),
     );
-    connection::print_closed(&notes, &stream);
+    connection::close(rt, &notes, stream);
     ended.map_err(Stop::Script)
 }
 

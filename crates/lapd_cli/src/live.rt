@@ -123,12 +123,14 @@ fn lines_of(side: Side) -> Script {
 }
 
 /// Flushes what was printed, even after a fault; the writer remembers its own faults. Notes if the
-/// other side has closed the connection.
+/// other side has closed the connection, and closes it.
 fn close<W: Write>(live: LiveSide<Line<'_>, &mut W>) {
     let (line, out, _flushed) = live.into_parts();
     let _ = out.flush();
     let (line, _taps) = line.into_parts();
-    line.into_inner().print_closed();
+    let connections = line.into_inner();
+    connections.print_closed();
+    connections.close();
 }
 
 /// Why the script of a running side did not run to its end.

@@ -49,7 +49,13 @@ fn accepted<'a>(
 ) -> io::Result<Connections<'a>> {
     let listener = connection::listening(rt, notes, setup.address)?;
     let (stream, peer) = connection::next(notes, &listener)?;
-    let mut connections = Connections::new(rt, notes, setup.terminals, setup.is_primary)?;
+    let mut connections = Connections::new(
+        rt,
+        notes,
+        Side::Network,
+        setup.terminals,
+        setup.is_primary,
+    )?;
     add(&mut connections, stream, peer)?;
     if setup.keep || 1 < setup.terminals {
         listener.set_nonblocking(true)?;
@@ -67,7 +73,7 @@ fn made<'a>(
 ) -> io::Result<Connections<'a>> {
     let stream = connection::made(rt, notes, setup.address)?;
     let peer = stream.peer_addr()?;
-    let mut connections = Connections::new(rt, notes, 1, setup.is_primary)?;
+    let mut connections = Connections::new(rt, notes, Side::User, 1, setup.is_primary)?;
     add(&mut connections, stream, peer)?;
     if setup.keep {
         connections.dial(peer);

@@ -3,8 +3,15 @@
 use crate::notes::Notes;
 use lapd_cli_script::port_reason;
 use lapd_port::PortFault;
-use std::io::{self, ErrorKind};
-use std::net::{SocketAddr, TcpListener, TcpStream};
+use std::io::{self, ErrorKind, Read};
+use std::net::{Shutdown, SocketAddr, TcpListener, TcpStream};
+use std::time::{Duration, Instant};
+
+/// How long a closing side reads what still arrives, in milliseconds at most.
+pub(crate) const LINGER: u64 = 1000;
+
+/// The most octets per read while a connection is closed.
+const PART: usize = 4096;
 
 /// Both ends of a new connection of the process to itself, over the loopback interface. The second
 /// end reads what is written to the first, each frame without delay.
@@ -79,11 +86,36 @@ pub fn made(rt: &HostRuntime, notes: &Notes<'_>, address: &str) -> io::Result<Tc
     Ok(stream)
 }
 
-/// Notes that the other side has closed the connection, if it has and everything it sent was read.
-pub fn print_closed(notes: &Notes<'_>, stream: &TcpStream) {
-    if is_closed(stream) {
+/// Closes a connection, and notes before if the other side has closed it and everything it sent was
+/// read. The sending direction is ended first. Then what arrives is read and dropped until the other
+/// side has closed too, for a second at most: octets that were not read would make the system reset
+/// the connection, and the other side might lose the last frames.
+pub fn close(rt: &HostRuntime, notes: &Notes<'_>, stream: TcpStream) {
+    if is_closed(&stream) {
         notes.print(port_reason(PortFault::End));
     }
+    let _ = linger(rt, &stream);
+}
+
+// Ends the sending direction, and reads and drops what arrives until the other side has closed, for
+// a second at most.
+fn linger(rt: &HostRuntime, stream: &TcpStream) -> io::Result<()> {
+    stream.shutdown(Shutdown::Write)?;
+    stream.set_nonblocking(false)?;
+    let start = Instant::now(rt)?;
+    let mut reader = stream;
+    let mut part = [0; PART];
+    for _read in 0..u64::MAX {
+        let passed = u64::try_from(start.elapsed(rt)?.as_millis()).unwrap_or(u64::MAX);
+        if LINGER <= passed {
+            break;
+        }
+        stream.set_read_timeout(Some(Duration::from_millis(LINGER - passed)))?;
+        if reader.read(&mut part)? == 0 {
+            break;
+        }
+    }
+    Ok(())
 }
 
 // Whether the other side has closed the connection and everything was read. Neither reads nor

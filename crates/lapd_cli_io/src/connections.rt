@@ -4,6 +4,7 @@
 ghost use Rattle.std.specs.Prelude.{◌≤◌, IfOk, IfSome};
 
 use crate::clock::RealClock;
+use crate::connection;
 use crate::dialler::Dialler;
 use crate::discards::Discards;
 use crate::door::Door;
@@ -14,6 +15,7 @@ use crate::notes::Notes;
 use crate::peers::{LostPeer, Peers};
 use lapd_cli_outside::{Impairment, Lines, Outside, Sending, Woken, is_reached};
 use lapd_cli_script::port_reason;
+use lapd_frame::Side;
 use lapd_port::{MOST_OCTETS, PortFault};
 use lapd_table::LinkId;
 use lapd_timers::earlier;
@@ -29,7 +31,9 @@ const INPUT: Token = Token(1000);
 /// The most events per poll.
 const EVENTS: usize = 130;
 
-/// The most frames taken in a row before the next poll.
+/// The most frames taken in a row before the next poll, if each is answered to one connection. With
+/// more connections fewer are taken, since an answer is sent to all: a terminal that sends without
+/// end does not keep the others waiting.
 const MOST_IN_A_ROW: u32 = 64;
 
 /// Connections, and a clock that begins when they are created.
@@ -54,7 +58,7 @@ pub struct Connections<'a> {
 }
 
 impl<'a> Connections<'a> {
-    /// Room for at most this many connections, 1 to 127, of a side at primary rate or at basic
+    /// Room for at most this many connections, 1 to 127, of this side, at primary rate or at basic
     /// access.
     ///
     /// # Errors
@@ -63,6 +67,7 @@ impl<'a> Connections<'a> {
     pub fn new(
         rt: &'a HostRuntime,
         notes: &'a Notes<'a>,
+        side: Side,
         most: u8,
         is_primary: bool,
     ) -> io::Result<Connections<'a>> {
@@ -76,7 +81,7 @@ impl<'a> Connections<'a> {
             peers: Peers::new(rt, most),
             further: Further::Nowhere,
             idle_limit: None,
-            discards: Discards::new(is_primary),
+            discards: Discards::new(side, is_primary),
             taken: 0,
             is_closed: false,
             poll,
@@ -121,6 +126,37 @@ impl<'a> Connections<'a> {
     pub fn print_closed(&self) {
         if self.further.is_nowhere() && self.peers.is_closed() {
             self.notes.print(port_reason(PortFault::End));
+        }
+    }
+
+    /// Closes the connections. The sending directions are ended first. Then what arrives is read and
+    /// dropped until the other sides have closed too, for a second at most: octets that were not
+    /// read would make the system reset a connection, and the other side might lose the last frames.
+    pub fn close(mut self) {
+        self.peers.end_sending();
+        let _ = self.linger();
+    }
+
+    /// Reads and drops what arrives until the other sides have closed, for a second at most.
+    fn linger(&mut self) -> io::Result<()> {
+        let end = self.clock.now()?.saturating_add(connection::LINGER);
+        for _wait in 0..u64::MAX {
+            let is_open = self.peers.drop_arrived();
+            let now = self.clock.now()?;
+            if !is_open || end <= now {
+                break;
+            }
+            let left = if self.peers.is_ready() { 0 } else { end - now };
+            self.poll(Some(left))?;
+        }
+        Ok(())
+    }
+
+    /// The most frames taken in a row before the next poll.
+    fn most_in_a_row(&self) -> u32 {
+        match u32::try_from(self.peers.count()) {
+            Ok(count) if 0 < count => (MOST_IN_A_ROW / count).max(1),
+            _ => MOST_IN_A_ROW,
         }
     }
 
@@ -306,7 +342,7 @@ impl Outside for Connections<'_> {
             self.peers.wake(0);
             return self.next_frame(frame);
         }
-        if self.taken < MOST_IN_A_ROW {
+        if self.taken < self.most_in_a_row() {
             if let Some(count) = self.next_frame(frame)? {
                 return Ok(Some(count));
             }

@@ -2,6 +2,7 @@
 
 ghost use Rattle.std.specs.Prelude.{◌<◌};
 
+use lapd_frame::Side;
 use lapd_table::{LinkId, Sapi};
 use std::fmt;
 
@@ -11,6 +12,7 @@ const ADDRESSES: usize = 3 * 128;
 /// The addresses for which a frame has been discarded.
 #[derive(Drop)]
 pub struct Discards {
+    side: Side,
     is_primary: bool,
     seen: [bool; ADDRESSES],
 }
@@ -24,17 +26,21 @@ pub struct Discard {
 }
 
 impl Discards {
-    /// No frame has been discarded yet. The side is at primary rate or at basic access.
-    pub fn new(is_primary: bool) -> Discards {
+    /// No frame has been discarded yet by this side, at primary rate or at basic access.
+    pub fn new(side: Side, is_primary: bool) -> Discards {
         Discards {
+            side,
             is_primary,
             seen: [false; ADDRESSES],
         }
     }
 
     /// Records a discarded frame of this address. Returns the note if it is the first one of its
-    /// address.
+    /// address, and not for another terminal of the bus.
     pub fn add(&mut self, id: LinkId) -> Option<Discard> {
+        if self.is_for_another(&id) {
+            return None;
+        }
         let place = place_of(&id);
         if self.seen[place] {
             return None;
@@ -44,6 +50,15 @@ impl Discards {
             id,
             is_primary: self.is_primary,
         })
+    }
+}
+
+impl Discards {
+    /// Whether a discarded frame is for another terminal of the bus: at basic access the network
+    /// sends each frame to all terminals. TEI 0 is that of a point-to-point interface.
+    fn is_for_another(&self, id: &LinkId) -> bool {
+        let is_on_bus = self.side == Side::User && !self.is_primary;
+        is_on_bus && matches!(id.tei.value(), 1..=126)
     }
 }
 

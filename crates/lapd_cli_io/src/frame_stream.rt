@@ -8,13 +8,16 @@ use lapd_port::{LEAST_OCTETS, MOST_OCTETS, PortFault};
 use mio::net::TcpStream;
 use mio::{Interest, Poll, Token};
 use std::io::{self, ErrorKind, Read, Write};
-use std::net::SocketAddr;
+use std::net::{Shutdown, SocketAddr};
 
 /// The number of octets in a length.
 const LENGTH_OCTETS: usize = 2;
 
 /// The most octets per read.
 const PART: usize = 4096;
+
+/// The most reads in a row while arriving octets are dropped.
+const MOST_DROPPED: u32 = 64;
 
 /// A connection, and the octets that arrived over it and were not taken yet.
 #[derive(Drop)]
@@ -180,6 +183,29 @@ impl FrameStream {
                 Err(Lost::NotTaken)
             }
         }
+    }
+
+    /// Ends the sending direction. Frames that were sent still arrive there, and then the end.
+    pub fn end_sending(&mut self) {
+        self.is_stuck = true;
+        self.is_ready = true;
+        if self.stream.shutdown(Shutdown::Write).is_err() {
+            self.is_ended = true;
+        }
+    }
+
+    /// Reads and drops what has arrived. Returns whether more may arrive.
+    pub fn drop_arrived(&mut self) -> bool {
+        for _read in 0..MOST_DROPPED {
+            if self.is_ended || !self.is_ready {
+                break;
+            }
+            self.text.clear();
+            if self.read_part().is_err() {
+                self.is_ended = true;
+            }
+        }
+        !self.is_ended
     }
 
     /// Whether the other side has closed the connection and all frames that it sent were taken.

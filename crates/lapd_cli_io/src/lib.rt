@@ -19,7 +19,9 @@ mod input;
 mod lost;
 mod notes;
 mod peers;
+mod record_file;
 mod taps;
+mod watch;
 
 pub use connecting::{ConnectionSetup, connect_side};
 pub use connections::Connections;

@@ -1,19 +1,17 @@
 //! Notes to people on standard error while a side is running. Writing a note never blocks.
 
-use mio::unix::SourceFd;
-use mio::{Events, Interest, Poll, Token};
+use crate::watch::Watch;
 use std::alloc::AllocError;
 use std::cell::RefCell;
 use std::fmt::Display;
-use std::io::{self, Write};
+use std::io::Write;
 use std::os::fd::RawFd;
-use std::time::Duration;
 
 /// The descriptor of standard error.
 const STANDARD_ERROR: RawFd = 2;
 
-/// The most octets of a note, with its line feed. A pipe that is reported as writable has room for
-/// this many.
+/// The most octets of a note, with its line feed. A descriptor that is reported as writable has room
+/// for this many.
 const MOST_OCTETS: usize = 4096;
 
 /// Notes on standard error, from several parts of the program. A note that would block is dropped,
@@ -32,18 +30,11 @@ struct Errors {
     given_up: u64,
 }
 
-/// Checks whether standard error can be written to.
-#[derive(Drop)]
-struct Watch {
-    poll: Poll,
-    events: Events,
-}
-
 impl<'a> Notes<'a> {
     /// Notes on the standard error of this process.
     pub fn new(rt: &'a HostRuntime) -> Notes<'a> {
         let errors = Errors {
-            watch: Watch::new(rt).ok(),
+            watch: Watch::new(rt, STANDARD_ERROR).ok(),
             given_up: 0,
         };
         Notes {
@@ -97,38 +88,5 @@ impl Errors {
         octets.truncate(MOST_OCTETS - 1);
         octets.push(b'\n')?;
         Ok(octets)
-    }
-}
-
-impl Watch {
-    /// # Errors
-    ///
-    /// Standard error is a regular file, or the system's error.
-    fn new(rt: &HostRuntime) -> io::Result<Watch> {
-        let watch = Watch {
-            poll: Poll::new(rt)?,
-            events: Events::with_capacity(rt.alloc(), 1)?,
-        };
-        let mut errors = SourceFd(&STANDARD_ERROR);
-        let registry = watch.poll.registry();
-        registry.register(&mut errors, Token(0), Interest::WRITABLE)?;
-        Ok(watch)
-    }
-
-    /// Whether standard error can be written to.
-    fn is_ready(&mut self) -> bool {
-        let mut errors = SourceFd(&STANDARD_ERROR);
-        let registry = self.poll.registry();
-        match registry.reregister(&mut errors, Token(0), Interest::WRITABLE) {
-            Ok(()) => self.is_reported(),
-            Err(_) => false,
-        }
-    }
-
-    fn is_reported(&mut self) -> bool {
-        match self.poll.poll(&mut self.events, Some(Duration::ZERO)) {
-            Ok(()) => self.events.iter().next().is_some(),
-            Err(_) => false,
-        }
     }
 }

@@ -53,6 +53,11 @@ impl Peers {
         self.most
     }
 
+    /// The number of connections.
+    pub fn count(&self) -> usize {
+        self.streams.len()
+    }
+
     /// Whether a further connection has room.
     pub fn has_room(&self) -> bool {
         self.streams.len() < self.most
@@ -196,6 +201,26 @@ impl Peers {
             next = Some(next.map_or(moment, |next: u64| next.min(moment)));
         }
         next
+    }
+
+    /// Ends the sending direction of each connection.
+    pub fn end_sending(&mut self) {
+        for place in 0..self.most {
+            if let Some(peer) = self.streams.get_mut(place) {
+                peer.stream.end_sending();
+            }
+        }
+    }
+
+    /// Reads and drops what has arrived over each connection. Returns whether more may arrive.
+    pub fn drop_arrived(&mut self) -> bool {
+        let mut is_open = false;
+        for place in 0..self.most {
+            if let Some(peer) = self.streams.get_mut(place) {
+                is_open = peer.stream.drop_arrived() || is_open;
+            }
+        }
+        is_open
     }
 
     /// Whether the other side has closed the only connection and all frames that it sent were

@@ -3,13 +3,13 @@
 ghost use Rattle.std.specs.Prelude.{◌≤◌, length};
 
 use crate::notes::Notes;
+use crate::record_file::RecordFile;
 use lapd_capture::{CaptureWriter, gsmtap_of};
 use lapd_cli_decode::FrameDrawer;
 use lapd_cli_outside::Tap;
 use lapd_cli_script::Reason;
 use lapd_frame::Side;
 use lapd_port::MOST_OCTETS;
-use std::fs::{self, File};
 use std::io::{self, ErrorKind};
 use std::net::{SocketAddr, ToSocketAddrs, UdpSocket};
 use std::time::{SystemTime, UNIX_EPOCH};
@@ -39,15 +39,16 @@ pub enum NoTaps {
 }
 
 /// A capture, a ladder and a socket, each if it was requested. If one of them fails, that is noted
-/// once on standard error, and it is not used any more.
+/// once on standard error, and it is not used any more. None of them blocks: frames that a capture or
+/// a ladder doesn't take at once are not recorded, and are counted.
 #[derive(Drop)]
 pub struct Taps<'rt> {
     rt: &'rt HostRuntime,
     notes: &'rt Notes<'rt>,
     /// The time of the start, in milliseconds since 1970, known from the first frame on.
     begun: Option<u64>,
-    capture: Option<CaptureWriter<File>>,
-    ladder: Option<FrameDrawer<File>>,
+    capture: Option<CaptureWriter<RecordFile<'rt>>>,
+    ladder: Option<FrameDrawer<RecordFile<'rt>>>,
     gsmtap: Option<GsmtapSocket>,
 }
 
@@ -73,11 +74,11 @@ impl<'rt> Taps<'rt> {
         setup: &TapSetup<'_>,
     ) -> Result<Taps<'rt>, NoTaps> {
         let capture = match setup.pcap {
-            Some(file) => Some(capture_into(rt, own, file).map_err(NoTaps::File)?),
+            Some(file) => Some(capture_into(rt, notes, own, file).map_err(NoTaps::File)?),
             None => None,
         };
         let ladder = match setup.ladder {
-            Some(file) => Some(ladder_into(rt, file)?),
+            Some(file) => Some(ladder_into(rt, notes, file)?),
             None => None,
         };
         let gsmtap = match setup.gsmtap {
@@ -183,13 +184,22 @@ fn gsmtap_address(rt: &HostRuntime, address: &str) -> io::Result<SocketAddr> {
 }
 
 // Creates this side's capture in a file, which is overwritten.
-fn capture_into(rt: &HostRuntime, own: Side, file: &str) -> io::Result<CaptureWriter<File>> {
-    CaptureWriter::new(own, fs::create(rt, file)?)
+fn capture_into<'rt>(
+    rt: &HostRuntime,
+    notes: &'rt Notes<'rt>,
+    own: Side,
+    file: &str,
+) -> io::Result<CaptureWriter<RecordFile<'rt>>> {
+    CaptureWriter::new(own, RecordFile::create(rt, notes, "capture", file)?)
 }
 
 // Begins a ladder in a file, which is overwritten.
-fn ladder_into(rt: &HostRuntime, file: &str) -> Result<FrameDrawer<File>, NoTaps> {
-    let file = fs::create(rt, file).map_err(NoTaps::Ladder)?;
+fn ladder_into<'rt>(
+    rt: &HostRuntime,
+    notes: &'rt Notes<'rt>,
+    file: &str,
+) -> Result<FrameDrawer<RecordFile<'rt>>, NoTaps> {
+    let file = RecordFile::create(rt, notes, "ladder", file).map_err(NoTaps::Ladder)?;
     FrameDrawer::new(rt.alloc(), file).map_err(|_| NoTaps::Memory)
 }
 
