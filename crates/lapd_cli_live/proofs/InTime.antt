@@ -1,11 +1,18 @@
 -- No timer expires early.
 use Rattle.std.proofs.Common.{◌≡◌, ℕ, List, [], ◌∷◌, ◌++◌, Option, None, Some, refl, sym, ap, subst, ◌∙◌, append_assoc, append-nil, inl, inr}
-use Rattle.std.specs.Prelude.{◌⊎◌}
+use Rattle.std.specs.Prelude.{◌⊎◌, Bool, true, false}
+use Rattle.lapd_cli_live.specs.declared.service.EndReason.TheVariants as end_reason
+use Rattle.lapd_cli_live.specs.declared.service.Service.{Service}
 use Rattle.lapd_cli_live.specs.declared.service.Until.{Until}
-use Rattle.lapd_cli_outside.specs.IoEvents.{Adds, Arrives, IoEvent, FindsNone, Reads, Sends, Waits}
-use Rattle.lapd_cli_live.specs.Log.{LiveState, io_events_in, moment_of}
-use Rattle.lapd_cli_live.specs.Steps.{CatchesUp, LooksInVain, Receives, TakesMost}
-use Rattle.lapd_cli_live.specs.PromptLine.{Arrival, ExpiresInTime, HasAllThatArrived, IsPrompt, IsPromptAfter, StartsWithEarlier, frames_received, one_left, three_at_once, three_received}
+use Rattle.lapd_cli_live.specs.declared.service.Until.TheVariants as until
+use Rattle.lapd_cli_outside.specs.declared.outside.Lines.{Lines}
+use Rattle.lapd_cli_outside.specs.declared.outside.Lines.TheVariants as lines
+use Rattle.lapd_cli_outside.specs.declared.outside.Woken.{Woken}
+use Rattle.lapd_cli_outside.specs.declared.outside.Woken.TheVariants as woken
+use Rattle.lapd_cli_outside.specs.IoEvents.{Adds, Arrives, IoEvent, FindsNone, Reads, Sends, Waits, is_reached}
+use Rattle.lapd_cli_live.specs.Log.{LiveState, io_events_in, is_matched, moment_of}
+use Rattle.lapd_cli_live.specs.Steps.{CatchesUp, IsMatched, IsOver, IsServed, LooksInVain, Receives, Step, TakesMost, WaitsOnce, end_by_wait, ended_by}
+use Rattle.lapd_cli_live.specs.PromptLine.{Arrival, EndsInTime, ExpiresInTime, HasAllThatArrived, IsPrompt, IsPromptAfter, StartsWithEarlier, frames_received, one_left, three_at_once, three_received}
 
 received_before : (io_events : List IoEvent) (now : ℕ) → frames_received (io_events ++ (Reads now ∷ FindsNone ∷ [])) ≡ frames_received io_events
 received_before [] now = refl
@@ -73,6 +80,41 @@ expires_in_time arrivals until a b io_events caught known prompt =
       moment = caught.due.moment;
       in_time = in_time arrivals until a caught.received before.before (io_events_in caught.due.events) io_events caught.receives before.was before.is prompt;
     }
+
+-- ---- The end of a service.
+
+no_frame_ends : (until : Until) (taken matched : Bool) → ended_by until taken matched ≡ Some end_reason.End → ⊥
+no_frame_ends until.End taken matched e = cc
+no_frame_ends until.Frame true matched e = cc
+no_frame_ends until.Frame false matched e = cc
+no_frame_ends until.Matched taken true e = cc
+no_frame_ends until.Matched taken false e = cc
+
+no_wait_ends : (lines : Lines) (woken : Woken) → end_by_wait lines woken ≡ Some end_reason.End → ⊥
+no_wait_ends lines woken.Arrival e = cc
+no_wait_ends lines woken.Due e = cc
+no_wait_ends lines woken.Closed e = cc
+no_wait_ends lines.Awaited woken.Line e = cc
+no_wait_ends lines.Ignored woken.Line e = cc
+
+ends_by_step : (arrivals : List Arrival) (service : Service) (a b : LiveState) (io_events : List IoEvent) → Step service a b (Some end_reason.End) → b.io_events ≡ Some io_events
+    → IsPrompt arrivals io_events → EndsInTime arrivals service b
+ends_by_step arrivals service a b io_events (inl cut) known prompt = absurd (no_frame_ends service.until true (is_matched b) (cut.ends.ends ∙ sym cut.is))
+ends_by_step arrivals service a b io_events (inr whole) known prompt = by_then whole.then
+  where
+    by_then : IsMatched service whole.ready b (Some end_reason.End) ⊎ (IsOver service whole.ready b (Some end_reason.End) ⊎ WaitsOnce service whole.ready b (Some end_reason.End))
+        → EndsInTime arrivals service b
+    by_then (inl matched) = absurd (no_frame_ends service.until false (is_matched whole.ready) (matched.matched ∙ sym matched.is))
+    by_then (inr (inl over)) = record {
+      last = a;
+      expires = expires_in_time arrivals service.until a b io_events (subst (λ (x : LiveState). CatchesUp service.until a x) (sym over.same) whole.catches_up) known prompt;
+      reached = ap (λ (x : LiveState). is_reached service.end (moment_of x)) over.same ∙ over.reached;
+    }
+    by_then (inr (inr waits)) = absurd (no_wait_ends service.lines waits.waits.woken (sym waits.waits.is))
+
+pub ends_in_time : (arrivals : List Arrival) (service : Service) (a b : LiveState) (io_events : List IoEvent) → IsServed service end_reason.End a b → b.io_events ≡ Some io_events
+    → IsPrompt arrivals io_events → EndsInTime arrivals service b
+ends_in_time arrivals service a b io_events served known prompt = ends_by_step arrivals service served.last b io_events served.ends known prompt
 
 -- ---- The worked line.
 

@@ -1,8 +1,9 @@
 -- A line that passes on what has arrived, and what is known in a step when its timers expire.
-use Rattle.std.specs.Prelude.{◌≡◌, ◌⊎◌, ℕ, nat_lt, List, [], ◌∷◌, ◌++◌, filter, map, Option, Some, None, ⊤}
+use Rattle.std.specs.Prelude.{◌≡◌, ◌⊎◌, ℕ, nat_lt, true, List, [], ◌∷◌, ◌++◌, filter, map, Option, Some, None, ⊤}
+use Rattle.lapd_cli_live.specs.declared.service.Service.{Service}
 use Rattle.lapd_cli_live.specs.declared.service.Until.{Until}
 use Rattle.lapd_cli_outside.specs.declared.outside.Woken.TheVariants as woken
-use Rattle.lapd_cli_outside.specs.IoEvents.{Arrives, IoEvent, FindsNone, Reads, Sends, Waits}
+use Rattle.lapd_cli_outside.specs.IoEvents.{Arrives, IoEvent, FindsNone, Reads, Sends, Waits, is_reached}
 use Rattle.lapd_cli_live.specs.Log.{LiveState, moment_of}
 use Rattle.lapd_cli_live.specs.Steps.{DoesDue, Receives, TakesMost}
 
@@ -70,6 +71,14 @@ pub record ExpiresInTime (arrivals : List Arrival) (until : Until) (a b : LiveSt
   pub due : DoesDue received b
   pub moment : moment_of b ≡ moment_of received
   pub in_time : HasAllThatArrived arrivals received ⊎ TakesMost until a received
+
+-- A service ends at its end only after its last look came at this moment or later: every frame that
+-- arrived before the millisecond of its last moment was received, and the due timers expired; or as
+-- many frames arrived at once as a step receives.
+pub record EndsInTime (arrivals : List Arrival) (service : Service) (b : LiveState) : Type 0 where
+  pub last : LiveState
+  pub expires : ExpiresInTime arrivals service.until last b
+  pub reached : is_reached service.end (moment_of b) ≡ true
 
 -- ---- A worked line: three frames arrive in millisecond 5, each after a look that found none.
 

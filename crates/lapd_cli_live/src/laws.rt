@@ -1,13 +1,15 @@
 //! Laws of the service.
 
 ghost use Rattle.std.specs.Prelude.{◌≡◌, ℕ, Bool, List, Some};
+ghost use Rattle.lapd_cli_live.specs.declared.service.Service.{Service};
 ghost use Rattle.lapd_cli_live.specs.declared.service.Until.{Until};
+ghost use Rattle.lapd_cli_live.specs.declared.service.EndReason.TheVariants.{End};
 ghost use Rattle.lapd_cli_outside.specs.IoEvents.{IoEvent};
 ghost use Rattle.lapd_cli_outside.specs.declared.outside.Lines.{Lines};
 ghost use Rattle.lapd_cli_live.specs.Log.{LiveState};
-ghost use Rattle.lapd_cli_live.specs.Steps.{CatchesUp};
+ghost use Rattle.lapd_cli_live.specs.Steps.{CatchesUp, IsServed};
 ghost use Rattle.lapd_cli_live.specs.WaitingLines.{Expects, PrintsMeanwhile};
-ghost use Rattle.lapd_cli_live.specs.PromptLine.{Arrival, ExpiresInTime, IsPrompt, one_left, three_at_once, three_received};
+ghost use Rattle.lapd_cli_live.specs.PromptLine.{Arrival, EndsInTime, ExpiresInTime, IsPrompt, one_left, three_at_once, three_received};
 
 /// No timer expires early. Before the side expires timers for a moment, it receives every frame
 /// that arrived in an earlier millisecond, if the line passes on all frames that have arrived. So
@@ -17,6 +19,16 @@ pub fn no_timer_expires_early()
     ensures { (arrivals : List Arrival) (until : Until) (a b : LiveState) (io_events : List IoEvent)
         → CatchesUp until a b → b.io_events ≡ Some io_events → IsPrompt arrivals io_events
         → ExpiresInTime arrivals until a b }
+{}
+
+/// No service of a number of milliseconds, such as `run 300`, ends before frames that arrived
+/// earlier are received. Its last look at the line comes after the clock has shown its end, and
+/// finds no frame that arrived in an earlier millisecond. The only exception is a flood of 4,096
+/// frames at once.
+pub fn no_service_ends_early()
+    ensures { (arrivals : List Arrival) (service : Service) (a b : LiveState)
+        (io_events : List IoEvent) → IsServed service End a b → b.io_events ≡ Some io_events
+        → IsPrompt arrivals io_events → EndsInTime arrivals service b }
 {}
 
 /// Any number of frames may arrive in a millisecond, before and after the looks in it. A frame that
