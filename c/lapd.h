@@ -26,9 +26,10 @@
  *     and it is never copied.
  *   - Each pointer points to objects of its type, as many as the size beside it says. It may be
  *     NULL if that size is 0. Memory that a call writes does not overlap any other argument.
- *   - Only one call at a time uses a side. This holds for calls with a `const lapd_side *` too, which
- *     leave the side unchanged. Calls may be made by several threads if locks, or the start or join
- *     of a thread, put them in order. Sides share nothing. No call is made from a signal handler.
+ *   - Only one call at a time uses a side. This holds for calls with a `const lapd_side *` too,
+ *     which leave the side unchanged. Calls may be made by several threads if locks, or the start
+ *     or join of a thread, put them in order. Sides share nothing. No call is made from a signal
+ *     handler.
  * If it does, every call is safe for all numbers, octets and moments: it returns, does not block or
  * call back, and writes nothing outside the buffers. Four things are trusted for this, not proved:
  * the stack suffices; the C compiler and the library agree on the calling convention; a call
@@ -205,7 +206,8 @@ uint32_t lapd_version(void);
 /* Creates a network side that holds `count` TEIs, each 0 to 126, whose links exist from the start;
  * other TEIs are assigned on request. Frees the side that the handle owned.
  * LAPD_OUT_OF_RANGE, LAPD_NO_MEMORY: the handle is unchanged. */
-uint32_t lapd_side_network(lapd_side *side, const lapd_settings *settings, const uint8_t *teis, size_t count);
+uint32_t lapd_side_network(lapd_side *side, const lapd_settings *settings, const uint8_t *teis,
+	size_t count);
 
 /* Creates a user side with a fixed TEI, 0 to 126, or with LAPD_NO_TEI. Without a TEI it requests
  * one from the network when layer 3 requests to establish a link, and by lapd_side_ask_tei.
@@ -232,11 +234,13 @@ uint32_t lapd_side_establish(lapd_side *side, uint8_t sapi, uint8_t tei, uint64_
 uint32_t lapd_side_release(lapd_side *side, uint8_t sapi, uint8_t tei, uint64_t now);
 
 /* Sends a message (DL-DATA request), which the side copies. Any code can be returned. */
-uint32_t lapd_side_give(lapd_side *side, uint8_t sapi, uint8_t tei, const uint8_t *message, size_t length, uint64_t now);
+uint32_t lapd_side_give(lapd_side *side, uint8_t sapi, uint8_t tei, const uint8_t *message,
+	size_t length, uint64_t now);
 
 /* Sends unit data (DL-UNIT DATA request), without acknowledgement; from a network side to all
  * terminals if tei is LAPD_GROUP_TEI. LAPD_NO_LINK, LAPD_NO_MEMORY, LAPD_TOO_LONG. */
-uint32_t lapd_side_unit(lapd_side *side, uint8_t sapi, uint8_t tei, const uint8_t *octets, size_t length, uint64_t now);
+uint32_t lapd_side_unit(lapd_side *side, uint8_t sapi, uint8_t tei, const uint8_t *octets,
+	size_t length, uint64_t now);
 
 /* Enters own receiver busy on the link if `on` is not 0, so that this end accepts no messages for
  * now, or leaves it (Q.921 5.6.6). LAPD_NO_LINK. */
@@ -262,7 +266,8 @@ uint32_t lapd_side_remove_tei(lapd_side *side, uint8_t tei, uint64_t now);
 /* Sets T200 to T203 in milliseconds, each 1 to 3600000, for timers that are started from then on,
  * also those of links that are added later. A running timer keeps its deadline. Never returns
  * LAPD_PENDING. LAPD_OUT_OF_RANGE: nothing is changed. */
-uint32_t lapd_side_set_timers(lapd_side *side, uint32_t t200, uint32_t t201, uint32_t t202, uint32_t t203);
+uint32_t lapd_side_set_timers(lapd_side *side, uint32_t t200, uint32_t t201, uint32_t t202,
+	uint32_t t203);
 
 /* Expires the first timer that is due at `now`. *expired is 1 if one was due, else 0; call it until
  * it is 0. Before you expire timers for a moment, pass in every frame that had arrived by then.
@@ -292,7 +297,8 @@ uint32_t lapd_side_count(lapd_side *side);
  * too: after it lost its TEI, the counters can still be read. A call counts its frames and reports
  * when it is made, even if they are not fetched yet. LAPD_OUT_OF_RANGE, LAPD_NO_SIDE,
  * LAPD_NOT_COUNTING: all of *counters is 0. */
-uint32_t lapd_side_counters(const lapd_side *side, uint8_t sapi, uint8_t tei, lapd_link_counters *counters);
+uint32_t lapd_side_counters(const lapd_side *side, uint8_t sapi, uint8_t tei,
+	lapd_link_counters *counters);
 
 /* The state of a user side's terminal (Q.921 Annex B): 1 TEI unassigned, 2 assign awaiting TEI,
  * 3 establish awaiting TEI, 4 TEI assigned; and its TEI in state 4, else LAPD_NO_TEI. For a network
@@ -305,7 +311,8 @@ uint32_t lapd_side_tei(const lapd_side *side, uint8_t *state, uint8_t *tei);
  * not call again to find none. A buffer of LAPD_MOST_FRAME octets has room for each.
  * LAPD_OUT_OF_RANGE: there are more than `size` octets, and *item contains their number; nothing is
  * written to the buffer, and the frame or primitive still waits. */
-uint32_t lapd_side_next(lapd_side *side, lapd_primitive *item, uint8_t *buffer, size_t size, size_t *left);
+uint32_t lapd_side_next(lapd_side *side, lapd_primitive *item, uint8_t *buffer, size_t size,
+	size_t *left);
 
 /* Fetches the next frame to send, into the beginning of the buffer. *length is its number of
  * octets, or 0 if none is left. LAPD_OUT_OF_RANGE: the frame has more than `size` octets; nothing
@@ -315,7 +322,8 @@ uint32_t lapd_side_frame(lapd_side *side, uint8_t *buffer, size_t size, size_t *
 /* Fetches the next primitive, and its octets into the beginning of the buffer. Its kind is
  * LAPD_NOTHING if none is left. LAPD_OUT_OF_RANGE: it has more than `size` octets, and *primitive
  * contains their number; nothing is written to the buffer, and the primitive still waits. */
-uint32_t lapd_side_primitive(lapd_side *side, lapd_primitive *primitive, uint8_t *buffer, size_t size);
+uint32_t lapd_side_primitive(lapd_side *side, lapd_primitive *primitive, uint8_t *buffer,
+	size_t size);
 
 /* Writes a line of text for the octets of a frame, as in `N>U SAPI 0 TEI 64 C RR N(R)=0 P=1`, or
  * for the first fault if they do not form a valid frame. The sender is a network side if `network`
@@ -323,13 +331,63 @@ uint32_t lapd_side_primitive(lapd_side *side, lapd_primitive *primitive, uint8_t
  * there is room. *text is its number of characters without the 0, at most 43 plus two for each
  * octet. LAPD_OUT_OF_RANGE: that is more than `size`, and nothing is written to the buffer.
  * LAPD_NO_MEMORY: *text is 0. The call needs no side. */
-uint32_t lapd_frame_text(const uint8_t *frame, size_t length, uint8_t network, uint8_t *buffer, size_t size, size_t *text);
+uint32_t lapd_frame_text(const uint8_t *frame, size_t length, uint8_t network, uint8_t *buffer,
+	size_t size, size_t *text);
 
 /* Writes the name of a code or a kind, as in `LAPD_NO_LINK`, as lapd_frame_text does. *text is
  * its number of characters, 0 if the number has no name. A buffer of LAPD_MOST_NAME octets has room
  * for each name and its final 0. */
 uint32_t lapd_code_name(uint32_t code, uint8_t *buffer, size_t size, size_t *text);
 uint32_t lapd_kind_name(uint8_t kind, uint8_t *buffer, size_t size, size_t *text);
+
+/* The same names as strings, "" if the number has no name, without a call of the library. C89 has
+ * no inline functions, so they are for C99 and later, and for C++. */
+#if defined(__cplusplus) || (defined(__STDC_VERSION__) && __STDC_VERSION__ >= 199901L)
+static inline const char *lapd_code_string(uint32_t code)
+{
+	switch (code) {
+	case LAPD_DONE: return "LAPD_DONE";
+	case LAPD_NO_SIDE: return "LAPD_NO_SIDE";
+	case LAPD_PENDING: return "LAPD_PENDING";
+	case LAPD_OUT_OF_RANGE: return "LAPD_OUT_OF_RANGE";
+	case LAPD_CHECK_RUNS: return "LAPD_CHECK_RUNS";
+	case LAPD_NOT_COUNTING: return "LAPD_NOT_COUNTING";
+	case LAPD_NO_LINK: return "LAPD_NO_LINK";
+	case LAPD_NO_MEMORY: return "LAPD_NO_MEMORY";
+	case LAPD_NOT_ESTABLISHED: return "LAPD_NOT_ESTABLISHED";
+	case LAPD_QUEUE_FULL: return "LAPD_QUEUE_FULL";
+	case LAPD_TOO_LONG: return "LAPD_TOO_LONG";
+	case LAPD_RELEASING: return "LAPD_RELEASING";
+	case LAPD_LAYER_3_ESTABLISHING: return "LAPD_LAYER_3_ESTABLISHING";
+	default: return "";
+	}
+}
+
+static inline const char *lapd_kind_string(uint8_t kind)
+{
+	switch (kind) {
+	case LAPD_NOTHING: return "LAPD_NOTHING";
+	case LAPD_DATA_IND: return "LAPD_DATA_IND";
+	case LAPD_UNIT_DATA_IND: return "LAPD_UNIT_DATA_IND";
+	case LAPD_ESTABLISH_IND: return "LAPD_ESTABLISH_IND";
+	case LAPD_ESTABLISH_CONF: return "LAPD_ESTABLISH_CONF";
+	case LAPD_RELEASE_IND: return "LAPD_RELEASE_IND";
+	case LAPD_RELEASE_CONF: return "LAPD_RELEASE_CONF";
+	case LAPD_ACKNOWLEDGED: return "LAPD_ACKNOWLEDGED";
+	case LAPD_DROPPED: return "LAPD_DROPPED";
+	case LAPD_MDL_ERROR: return "LAPD_MDL_ERROR";
+	case LAPD_TEI_GOT: return "LAPD_TEI_GOT";
+	case LAPD_TEI_GONE: return "LAPD_TEI_GONE";
+	case LAPD_TEI_FAILED: return "LAPD_TEI_FAILED";
+	case LAPD_TEI_GIVEN: return "LAPD_TEI_GIVEN";
+	case LAPD_TEI_FREE: return "LAPD_TEI_FREE";
+	case LAPD_TEI_IN_USE: return "LAPD_TEI_IN_USE";
+	case LAPD_TEI_DOUBLED: return "LAPD_TEI_DOUBLED";
+	case LAPD_FRAME: return "LAPD_FRAME";
+	default: return "";
+	}
+}
+#endif
 
 #ifdef __cplusplus
 }

@@ -2,9 +2,10 @@
 """check_header.py CRATE LAPD.h ARCHIVE: checks that the header agrees with the crate's exports.
 
 The header declares each export with the C types and names that correspond to its Rattle parameters,
-in order. A handle is const exactly if the contract says that the side is unchanged. Each struct has the fields of its Rattle struct, in order, and each code and kind has its
-number and its name in the crate's definitions. The version is one. The archive exports only these
-functions, and requires only memcpy, similar functions and the heap. Exit status 0 or 1."""
+in order. A handle is const exactly if the contract says that the side is unchanged. Each struct has
+the fields of its Rattle struct, in order, and each code and kind has its number and its name in the
+crate's definitions. The version is one. The archive exports only these functions, and requires only
+memcpy, similar functions and the heap. Exit status 0 or 1."""
 
 import re
 import subprocess

@@ -516,6 +516,18 @@ static void a_name(uint32_t number, bool is_kind, const char *wanted)
 	WANT(length == wants && strcmp((const char *)text, wanted) == 0);
 }
 
+/* The strings of the header are the names that the library writes. */
+static void strings(void)
+{
+	uint32_t number;
+
+	for (number = 0; number < 256; number++) {
+		a_name(number, false, lapd_code_string(number));
+		a_name(number, true, lapd_kind_string((uint8_t)number));
+	}
+	a_name(UINT32_MAX, false, lapd_code_string(UINT32_MAX));
+}
+
 static void names(void)
 {
 	uint8_t text[4] = { 1, 1, 1, 1 };
@@ -533,6 +545,7 @@ static void names(void)
 	a_name(255, true, "");
 	WANT_CODE(lapd_code_name(LAPD_NO_LINK, text, sizeof text, &length), LAPD_OUT_OF_RANGE);
 	WANT(length == 12 && text[0] == 1);
+	strings();
 }
 
 int main(void)
