@@ -30,17 +30,17 @@ use Rattle.lapd_sides_laws.specs.Primitives.{link_primitives, given_to, known_of
 
 -- ---- A message of given octets.
 
-abbrev Fits : Vec ℕ Global → List ℕ → Type 0
+abbrev pub Fits : Vec ℕ Global → List ℕ → Type 0
 Fits v octets = (v.len ≡ length octets) × (v.len ≤ v.cap)
 
-abbrev holding : (v : Vec ℕ Global) (octets : List ℕ) → Fits v octets → Vec ℕ Global
+abbrev pub holding : (v : Vec ℕ Global) (octets : List ℕ) → Fits v octets → Vec ℕ Global
 holding v octets fits = record { ptr = v.ptr; len = v.len; cap = v.cap; alloc = v.alloc; items = octets; ok = fits; small = v.small }
 
 -- a property of every vector that holds these octets is a property of this one
-with_octets : (P : Vec ℕ Global → Type 0) (octets : List ℕ) → ((v : Vec ℕ Global) (fits : Fits v octets) → P (holding v octets fits)) → (v : Vec ℕ Global) → v.items ≡ octets → P v
+pub with_octets : (P : Vec ℕ Global → Type 0) (octets : List ℕ) → ((v : Vec ℕ Global) (fits : Fits v octets) → P (holding v octets fits)) → (v : Vec ℕ Global) → v.items ≡ octets → P v
 with_octets P octets each v is = subst (λ (xs : List ℕ). (fits : Fits v xs) → P (holding v xs fits)) (sym is) (λ fits. each v fits) v.ok
 
-with_both : (P : Vec ℕ Global → Vec ℕ Global → Type 0) (a b : List ℕ) → ((v w : Vec ℕ Global) (x : Fits v a) (y : Fits w b) → P (holding v a x) (holding w b y)) → (v w : Vec ℕ Global) → v.items ≡ a → w.items ≡ b → P v w
+pub with_both : (P : Vec ℕ Global → Vec ℕ Global → Type 0) (a b : List ℕ) → ((v w : Vec ℕ Global) (x : Fits v a) (y : Fits w b) → P (holding v a x) (holding w b y)) → (v w : Vec ℕ Global) → v.items ≡ a → w.items ≡ b → P v w
 with_both P a b each v w is_a is_b = with_octets (λ u. P u w) a (λ u x. with_octets (λ t. P (holding u a x) t) b (λ t y. each u t x y) w is_b) v is_a
 
 -- ---- Both links.

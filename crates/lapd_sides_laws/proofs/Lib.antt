@@ -22,6 +22,7 @@ pub mod UserOwn
 pub mod AsMade
 pub mod NewLinks
 pub mod EndAnswers
+pub mod EachEffect
 pub mod EachLink
 pub mod EachNetwork
 pub mod EachUser
@@ -37,6 +38,8 @@ pub mod WaitingRuns
 pub mod UsualTerminal
 pub mod AnsweredWithoutTei
 pub mod AnswersComputed
+pub mod SideAccounts
+pub mod AccountsComputed
 pub mod ExactLinks
 pub mod ExactNetwork
 pub mod ExactUser

@@ -39,7 +39,7 @@ use Rattle.lapd_sides_laws.proofs.AsMade.{new_are_own, new_are_held}
 use Rattle.lapd_sides_laws.proofs.Managed.{some_same}
 use Rattle.lapd_sides_laws.proofs.NetworkOwn.{AreHeld, network_preserves, assigner_leaves}
 use Rattle.lapd_sides_laws.proofs.OwnTeis.{AreOf, LeavesOwn}
-use Rattle.lapd_sides_laws.proofs.TerminalOwn.{Owns, terminal_leaves}
+use Rattle.lapd_sides_laws.proofs.TerminalOwn.{terminal_leaves}
 use Rattle.lapd_sides_laws.proofs.UserOwn.{AreOwn, user_preserves}
 
 -- ---- The TEI of these outputs.
@@ -109,7 +109,7 @@ module _ (s : Network) (held : AreHeld s) where
   unfolding given_for
   octets_to_network octets = frame_to_network (frame_at side.User octets)
 
-network_steps_held : (config : Config) (side_steps : List SideStep) (v : SideView Network) → AreHeld v.now → AreHeld (stepped_by_all (network_behaviour config) side_steps v).now
+pub network_steps_held : (config : Config) (side_steps : List SideStep) (v : SideView Network) → AreHeld v.now → AreHeld (stepped_by_all (network_behaviour config) side_steps v).now
 unfolding does
 network_steps_held config [] v held = held
 network_steps_held config (side_step ∷ side_steps) v held =
@@ -136,7 +136,7 @@ module _ (s : User) (own : AreOwn s) where
   unfolding got_for
   octets_to_user octets = frame_to_user (frame_at side.Network octets)
 
-user_steps_own : (config : Config) (side_steps : List SideStep) (v : SideView User) → AreOwn v.now → AreOwn (stepped_by_all (user_behaviour config) side_steps v).now
+pub user_steps_own : (config : Config) (side_steps : List SideStep) (v : SideView User) → AreOwn v.now → AreOwn (stepped_by_all (user_behaviour config) side_steps v).now
 unfolding does
 user_steps_own config [] v own = own
 user_steps_own config (side_step ∷ side_steps) v own =

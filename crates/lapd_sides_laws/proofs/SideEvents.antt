@@ -490,7 +490,7 @@ module _ (S : Type 0) (w : Behaviour S) (side : Side) (id : LinkId) where
   is_there_for v end l (inr (inl early)) was = let now_absent = early.absent in cc
   is_there_for v end l (inr (inr late)) was = let now_absent = late.absent in cc
 
-  none_accepted : (request : Request) (now : ℕ) (s : S) (kind : SideKind) → w.requested request now s ≡ Err kind → accepted_by w request now s ≡ []
+  pub none_accepted : (request : Request) (now : ℕ) (s : S) (kind : SideKind) → w.requested request now s ≡ Err kind → accepted_by w request now s ≡ []
   none_accepted (request.Give other message) now s kind is = ap (if_granted (w.means s other) message.items) is
   none_accepted (request.Establish other) now s kind is = refl
   none_accepted (request.Release other) now s kind is = refl

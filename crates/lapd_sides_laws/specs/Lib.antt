@@ -14,3 +14,5 @@ pub mod NewLinks
 pub mod EndAnswers
 pub mod Answers
 pub mod AnswerRuns
+pub mod Accounts
+pub mod AccountRuns

@@ -37,6 +37,8 @@
 //! - `EndAnswers`, `Answers`: the requests of layer 3 to establish and to release a link, their
 //!   answers, how often T200 expires until then, and when timers are expired in time.
 //!   `AnswerRuns`: worked runs.
+//! - `Accounts`: the messages of a link that wait, and when each message submitted is acknowledged,
+//!   dropped or waits (`IsAccounted`). `AccountRuns`: worked runs.
 //! - `Calls`: which event a call of a side in code is. `Schedule`: worked runs.
 //!
 //! The laws:
@@ -57,14 +59,20 @@
 //! - [`every_request_is_answered`]: so does a side, whatever arrives, and in time if its timers are
 //!   expired when they are due.
 //! - [`bounds_are_reached`]: worked runs in which layer 3 has its answer at the last moment.
+//! - [`every_message_is_accounted_for`]: every message submitted is acknowledged, dropped or waits,
+//!   whatever arrives, as long as the TEI of its link stays.
+//! - [`accounts_are_computed`]: a worked run with one message of each, and runs that show that the
+//!   premises are needed.
 //!
 //! [`NetSide`]: lapd_sides::NetSide
 //! [`UserSide`]: lapd_sides::UserSide
 #![tactic(auto)]
 
+mod accounts;
 mod answers;
 mod laws;
 
+pub use accounts::{accounts_are_computed, every_message_is_accounted_for};
 pub use answers::{bounds_are_reached, every_end_answers, every_request_is_answered};
 pub use laws::{
     added_links_are_new, calls_are_events, each_link_gets_its_own, each_link_is_safe,
