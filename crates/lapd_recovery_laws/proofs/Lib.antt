@@ -15,11 +15,14 @@ pub mod FewLosses
 pub mod HalfSteps
 pub mod KeepsAgreement
 pub mod KeepsWanted
+pub mod KeptNumbers
+pub mod KeptOnTags
 pub mod Lone
 pub mod LoneAfterRuns
 pub mod LoneSteps
 pub mod LosesFrame
 pub mod Lost
+pub mod LostAtRestart
 pub mod LostExpires
 pub mod LostMoves
 pub mod OpenAfterRuns
@@ -29,6 +32,8 @@ pub mod OpenLine
 pub mod Outage
 pub mod OwnOnTags
 pub mod Proceeding
+pub mod QuickRuns
+pub mod QuickSchedule
 pub mod Releases
 pub mod ReleasesAfterRuns
 pub mod Replies
@@ -40,5 +45,6 @@ pub mod Situations
 pub mod TimersExpire
 pub mod TimersOfRuns
 pub mod Transitions
+pub mod UnreadNumbers
 pub mod Wanted
 pub mod WorkedWorlds

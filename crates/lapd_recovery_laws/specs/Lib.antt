@@ -8,6 +8,7 @@ pub mod LoneLine
 pub mod Losses
 pub mod OpenLine
 pub mod Own
+pub mod QuickRestart
 pub mod Recovered
 pub mod ReleasedLine
 pub mod Timers

@@ -12,10 +12,19 @@
 //! - `OpenLine`, `LoneLine`, `ReleasedLine` and `WantedLine`, kinds of such worlds of which more is
 //!   known; and `FewLosses`, losses that drop no message;
 //! - `Timers`, the timers between two moves; and `Recovered`, worlds that try the moves.
+//!
+//! `QuickRestart` is about another subject: an end restarts, and the frames in transit stay there.
+//! Begin with [`every_run_with_quick_restarts_is_safe`].
 #![tactic(auto)]
 
+mod quick_restarts;
 mod recovery;
 
+pub use quick_restarts::{
+    a_restart_may_drop_all_frames, both_restarts_respond_alike,
+    every_run_with_quick_restarts_is_safe, quick_restart_is_computed,
+    quick_restart_premise_is_needed, quick_restarts_keep_the_invariant,
+};
 pub use recovery::{
     every_agreement_is_kept, every_held_line_stays_up, every_line_comes_back,
     every_line_runs_empty, every_lone_line_comes_up, every_open_line_comes_up,
