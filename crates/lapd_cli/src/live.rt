@@ -6,7 +6,7 @@ use crate::person::Speaker;
 use lapd_cli_console::Script;
 use lapd_cli_io::{ConnectionSetup, Connections, NoTaps, Notes, TapSetup, Taps, connect_side};
 use lapd_cli_live::{
-    Impaired, LiveSide, LiveStop, Printer, Style, Tapped, live_script, live_session,
+    Impaired, LiveSide, LiveStop, Printer, Style, Tapped, frames_of_step, live_script, live_session,
 };
 use lapd_cli_options::{Interface, LiveOptions};
 use lapd_cli_script::ScriptFault;
@@ -44,7 +44,8 @@ pub fn do_live<R: Read, W: Write>(
     let Ok((made, acts)) = made_side(rt, side, config, setup.interface) else {
         return Err(Stop::Script(ScriptFault::Memory));
     };
-    let live = LiveSide::new(rt.alloc(), made, acts, line, printer);
+    let most = frames_of_step(options.terminals);
+    let live = LiveSide::new(rt.alloc(), made, acts, line, printer, most);
     serve(rt, &notes, side, live, script, options.serve).map_err(stop_of)
 }
 

@@ -110,13 +110,14 @@ happen_both xs ys a b c p q = record {
   style = q.style ∙ p.style;
   io_events = subst (Adds a.io_events c.io_events) (sym (io_events_both xs ys)) (adds_both a.io_events b.io_events c.io_events _ _ p.io_events q.io_events);
   impairment = q.impairment ∙ p.impairment;
+  most = q.most ∙ p.most;
   shown = subst (λ (entries : List Entry). Prints a.style (side_of a.side) entries a.shown c.shown) (sym (entries_both xs ys))
       (prints_both a.style (side_of a.side) (entries_in xs) (entries_in ys) a.shown b.shown c.shown p.shown
       (prints_as b.style a.style (side_of b.side) (side_of a.side) (entries_in ys) b.shown c.shown p.style p.own q.shown));
 }
 
 pub happen_none : (a : LiveState) → Happen [] a a
-happen_none a = record { own = refl; style = refl; io_events = adds_none a.io_events; impairment = refl; shown = prints_none a.style (side_of a.side) a.shown }
+happen_none a = record { own = refl; style = refl; io_events = adds_none a.io_events; impairment = refl; shown = prints_none a.style (side_of a.side) a.shown; most = refl }
 
 -- ---- Frames that are sent, and primitives.
 
@@ -191,13 +192,13 @@ next_primitive own primitives at primitive contents p q r within is some now =
     (prints_on_both contents own (map Delivered (take at primitives)) (Delivered primitive ∷ []) p q r some now)
 
 -- a running side, by its parts
-abbrev pub live : {W : Type 0} → EitherSide → Option (List IoEvent) → Option Impairment → (W → Option (List ℕ)) → Printer W → LiveState
-live side io_events impairment contents printer = record { side = side; style = printer.style; io_events = io_events; impairment = impairment; shown = shown contents printer }
+abbrev pub live : {W : Type 0} → ℕ → EitherSide → Option (List IoEvent) → Option Impairment → (W → Option (List ℕ)) → Printer W → LiveState
+live most side io_events impairment contents printer = record { side = side; style = printer.style; io_events = io_events; impairment = impairment; shown = shown contents printer; most = most }
 
-pub carried : {W : Type 0} (contents : W → Option (List ℕ)) (side : EitherSide) (own : Side) (frames : List (List ℕ)) (primitives : List Primitive) (acts : Effects)
+pub carried : {W : Type 0} {most : ℕ} (contents : W → Option (List ℕ)) (side : EitherSide) (own : Side) (frames : List (List ℕ)) (primitives : List Primitive) (acts : Effects)
     (a b : Option (List IoEvent)) (i j : Option Impairment) (p q r : Printer W) → own ≡ side_of side → frames ≡ acts.frames → primitives ≡ acts.primitives
     → SendsAll own frames a b i j contents p q → PrintsOn contents own (map Delivered primitives) q r
-    → IsCarriedOut acts (live side a i contents p) (live side b j contents r)
+    → IsCarriedOut acts (live most side a i contents p) (live most side b j contents r)
 carried contents side own frames primitives acts a b i j p q r is are same sends matched =
     let printed_primitives : PrintsOn contents own (map Delivered acts.primitives) q r =
     subst (λ (x : List Primitive). PrintsOn contents own (map Delivered x) q r) same matched in
@@ -224,6 +225,7 @@ carried contents side own frames primitives acts a b i j p q r is are same sends
           style = prints.style;
           io_events = subst (Adds a b) (sym io_events) sends.io_events;
           impairment = sends.impairment;
+          most = refl;
           shown = subst (λ (xs : List Entry). Prints p.style (side_of side) xs (shown contents p) (shown contents r)) (sym entries)
               (subst (λ (x : Side). Prints p.style x (map outgoing_entry sends.outgoing ++ map Delivered acts.primitives) (shown contents p) (shown contents r)) is prints.prints);
         };

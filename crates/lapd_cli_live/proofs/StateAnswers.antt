@@ -34,13 +34,13 @@ refuses_link id a m b none prints = record {
   prints = subst (λ (x : LiveState). HappenBeside (Shows (refused NoLink) ∷ []) x b) none.same prints;
 }
 
-pub counts_printed : {W : Type 0} (contents : W → Option (List ℕ)) (side : EitherSide) (io_events : Option (List IoEvent)) (impairment : Option Impairment) (p q : Printer W) (discarded : ℕ)
+pub counts_printed : {W : Type 0} {most : ℕ} (contents : W → Option (List ℕ)) (side : EitherSide) (io_events : Option (List IoEvent)) (impairment : Option Impairment) (p q : Printer W) (discarded : ℕ)
     → PrintsOn contents (side_of side) (stats_entries p.stats discarded) p q
-    → HappenBeside (map shown_event (stats_entries p.stats discarded)) (live side io_events impairment contents p) (live side io_events impairment contents q)
+    → HappenBeside (map shown_event (stats_entries p.stats discarded)) (live most side io_events impairment contents p) (live most side io_events impairment contents q)
 counts_printed contents side io_events impairment p q discarded prints = record {
   side = refl;
   moment = prints.prints.now;
-  happen = record { own = refl; style = prints.style; io_events = adds_none io_events; impairment = refl; shown = prints.prints };
+  happen = record { own = refl; style = prints.style; io_events = adds_none io_events; impairment = refl; shown = prints.prints; most = refl };
 }
 
 pub state_more : (ids : List LinkId) (id : LinkId) (matched : Bool) (a b c : LiveState) → StateEach ids a b → PutsState id matched b c → StateEach (ids ++ id ∷ []) a c

@@ -22,7 +22,7 @@ use Rattle.lapd_cli_outside.specs.declared.impairment.Impairment.{Impairment}
 use Rattle.lapd_cli_live.specs.Entries.{Entry, Prints, Received, moment_after}
 use Rattle.lapd_cli_live.specs.Printers.{PrintsOn, shown}
 use Rattle.lapd_cli_live.specs.Log.{Around, CarriesOut, CarriesOutAll, Chain, Happen, HappenBeside, IsCarriedOut, LiveEvent, LiveState, ReadsClock, Shows, is_matched, moment_of, read_at}
-use Rattle.lapd_cli_live.specs.Steps.{CatchesUp, DoesDue, EndsByFrame, Continues, IsReached, HasReceived, IsAsked, IsServed, Looks, LooksInVain, Receives, Step, TakesAndContinues, TakesAt, TakesFrame, WaitsFor, ended_by, most_frames, refusal_events}
+use Rattle.lapd_cli_live.specs.Steps.{CatchesUp, DoesDue, EndsByFrame, Continues, IsReached, HasReceived, IsAsked, IsServed, Looks, LooksInVain, Receives, Step, TakesAndContinues, TakesAt, TakesFrame, WaitsFor, ended_by, refusal_events}
 use Rattle.lapd_cli_outside.proofs.IoEvents.{adds_none, adds_same}
 use Rattle.lapd_cli_live.proofs.Log.{chain_more, happen_both, happen_none, live, prints_none}
 
@@ -34,32 +34,33 @@ true_is_not_false is = cc
 -- a call to the surroundings
 pub io_event_happens : (a : LiveState) (io_events : Option (List IoEvent)) (impairment : Option Impairment) (io_event : IoEvent) → Adds a.io_events io_events (io_event ∷ [])
     → impairment ≡ a.impairment → Happen (Around io_event ∷ []) a (record a { io_events = io_events; impairment = impairment })
-io_event_happens a io_events impairment io_event adds same = record { own = refl; style = refl; io_events = adds; impairment = same; shown = prints_none a.style (side_of a.side) a.shown }
+io_event_happens a io_events impairment io_event adds same = record { own = refl; style = refl; io_events = adds; impairment = same; shown = prints_none a.style (side_of a.side) a.shown; most = refl }
 
 -- an entry is printed, and the side may have changed
-pub entry_happens : {W : Type 0} (contents : W → Option (List ℕ)) (old new : EitherSide) (own : Side) (a b : Option (List IoEvent)) (i j : Option Impairment) (p q : Printer W) (entry : Entry)
+pub entry_happens : {W : Type 0} {most : ℕ} (contents : W → Option (List ℕ)) (old new : EitherSide) (own : Side) (a b : Option (List IoEvent)) (i j : Option Impairment) (p q : Printer W) (entry : Entry)
     → side_of new ≡ side_of old → own ≡ side_of old → b ≡ a → j ≡ i → PrintsOn contents own (entry ∷ []) p q
-    → Happen (Shows entry ∷ []) (live old a i contents p) (live new b j contents q)
+    → Happen (Shows entry ∷ []) (live most old a i contents p) (live most new b j contents q)
 entry_happens contents old new own a b i j p q entry is same stays unchanged prints = record {
   own = is;
   style = prints.style;
   io_events = adds_same a b stays;
   impairment = unchanged;
+  most = refl;
   shown = subst (λ (x : Side). Prints p.style x (entry ∷ []) (shown contents p) (shown contents q)) same prints.prints;
 }
 
 -- ---- Receiving.
 
-pub taken_at : {W : Type 0} (contents : W → Option (List ℕ)) (frame : List ℕ) (now : ℕ) (old new : EitherSide) (own : Side) (a b : Option (List IoEvent)) (i j : Option Impairment) (p q : Printer W)
+pub taken_at : {W : Type 0} {most : ℕ} (contents : W → Option (List ℕ)) (frame : List ℕ) (now : ℕ) (old new : EitherSide) (own : Side) (a b : Option (List IoEvent)) (i j : Option Impairment) (p q : Printer W)
     (acts : Effects) (c : LiveState) → own ≡ side_of old → PrintsOn contents own (Received frame ∷ []) p q → Takes frame now (Ok tt) old new acts
-    → side_of new ≡ side_of old → b ≡ a → j ≡ i → IsCarriedOut acts (live new b j contents q) c → TakesAt frame now (live old a i contents p) c
-taken_at contents frame now old new own a b i j p q acts c is prints takes same stays unchanged carried = record {
+    → side_of new ≡ side_of old → b ≡ a → j ≡ i → IsCarriedOut acts (live most new b j contents q) c → TakesAt frame now (live most old a i contents p) c
+taken_at {most = most} contents frame now old new own a b i j p q acts c is prints takes same stays unchanged carried = record {
   acts = acts;
   takes = subst (λ (x : EitherSide). Takes frame now (Ok tt) old x acts) (sym carried.beside.side) takes;
   given = carried.events;
   carries = carried.carries;
   moment = carried.beside.moment ∙ prints.prints.now;
-  happen = happen_both (Shows (Received frame) ∷ []) carried.events (live old a i contents p) (live new b j contents q) c
+  happen = happen_both (Shows (Received frame) ∷ []) carried.events (live most old a i contents p) (live most new b j contents q) c
       (entry_happens contents old new own a b i j p q (Received frame) same is stays unchanged prints) carried.beside.happen;
 }
 
@@ -98,16 +99,16 @@ more_taken until count a b c some takes continuing = record {
   count_is = length-append some.taken (c ∷ []) ∙ ap (λ (n : ℕ). n + 1) some.count_is;
 }
 
-pub takes_all : (until : Until) (count : ℕ) (a b c : LiveState) → SomeTaken until count a b → count < most_frames → LooksInVain b c → Receives until a c
+pub takes_all : (until : Until) (count : ℕ) (a b c : LiveState) → SomeTaken until count a b → count < a.most → LooksInVain b c → Receives until a c
 takes_all until count a b c some within looks = inl (record {
   taken = some.taken;
-  within = subst (λ (n : ℕ). n < most_frames) (sym some.count_is) within;
+  within = subst (λ (n : ℕ). n < a.most) (sym some.count_is) within;
   last = b;
   are = some.are;
   looks = looks;
 })
 
-pub takes_most : (until : Until) (count : ℕ) (a b : LiveState) → SomeTaken until count a b → count ≡ most_frames → Receives until a b
+pub takes_most : (until : Until) (count : ℕ) (a b : LiveState) → SomeTaken until count a b → count ≡ a.most → Receives until a b
 takes_most until count a b some all = inr (record { taken = some.taken; count = some.count_is ∙ all; are = some.are })
 
 pub ends_by_frame : (until : Until) (count : ℕ) (why : EndReason) (a b c : LiveState) → SomeTaken until count a b → TakesFrame b c
@@ -162,7 +163,7 @@ none_due now a = record { calls = []; are = refl; events = []; carries = refl; m
 
 -- the side changes, and nothing else
 pub side_changes : (a : LiveState) (side : EitherSide) → side_of side ≡ side_of a.side → Happen [] a (record a { side = side })
-side_changes a side is = record { own = is; style = refl; io_events = adds_none a.io_events; impairment = refl; shown = prints_none a.style (side_of a.side) a.shown }
+side_changes a side is = record { own = is; style = refl; io_events = adds_none a.io_events; impairment = refl; shown = prints_none a.style (side_of a.side) a.shown; most = refl }
 
 pub more_due : (now : ℕ) (a b c : LiveState) (side : EitherSide) (acts : Effects) → SomeDue now a b → Expires now b.side side acts → side_of side ≡ side_of b.side
     → IsCarriedOut acts (record b { side = side }) c → SomeDue now a c
@@ -210,9 +211,9 @@ asked request a b c side result acts refusal d caught answers is carried refuses
 pub beside_none : (a : LiveState) → HappenBeside [] a a
 beside_none a = record { side = refl; moment = refl; happen = happen_none a }
 
-pub beside_printed : {W : Type 0} (contents : W → Option (List ℕ)) (side : EitherSide) (io_events : Option (List IoEvent)) (impairment : Option Impairment) (p q : Printer W) (entry : Entry)
+pub beside_printed : {W : Type 0} {most : ℕ} (contents : W → Option (List ℕ)) (side : EitherSide) (io_events : Option (List IoEvent)) (impairment : Option Impairment) (p q : Printer W) (entry : Entry)
     → PrintsOn contents (side_of side) (entry ∷ []) p q → moment_after p.moment entry ≡ p.moment
-    → HappenBeside (Shows entry ∷ []) (live side io_events impairment contents p) (live side io_events impairment contents q)
+    → HappenBeside (Shows entry ∷ []) (live most side io_events impairment contents p) (live most side io_events impairment contents q)
 beside_printed contents side io_events impairment p q entry prints stays = record {
   side = refl;
   moment = prints.prints.now ∙ stays;
@@ -222,13 +223,13 @@ beside_printed contents side io_events impairment p q entry prints stays = recor
 -- ---- Steps.
 
 -- the printed text is passed to the writer, and then the side waits
-pub flushed_and_waited : {W : Type 0} (contents : W → Option (List ℕ)) (side : EitherSide) (a b : Option (List IoEvent)) (i j : Option Impairment) (p q : Printer W) (until : Option ℕ) (woken : Woken)
+pub flushed_and_waited : {W : Type 0} {most : ℕ} (contents : W → Option (List ℕ)) (side : EitherSide) (a b : Option (List IoEvent)) (i j : Option Impairment) (p q : Printer W) (until : Option ℕ) (woken : Woken)
     → PrintsOn contents (side_of side) [] p q → Adds a b (Waits until woken ∷ []) → j ≡ i
-    → HappenBeside (Around (Waits until woken) ∷ []) (live side a i contents p) (live side b j contents q)
+    → HappenBeside (Around (Waits until woken) ∷ []) (live most side a i contents p) (live most side b j contents q)
 flushed_and_waited contents side a b i j p q until woken prints adds same = record {
   side = refl;
   moment = prints.prints.now;
-  happen = record { own = refl; style = prints.style; io_events = adds; impairment = same; shown = prints.prints };
+  happen = record { own = refl; style = prints.style; io_events = adds; impairment = same; shown = prints.prints; most = refl };
 }
 
 pub caught_up : (until : Until) (end_reason : Option EndReason) (a b c : LiveState) → HasReceived until end_reason a b → is_some end_reason ≡ false → DoesDue b c → CatchesUp until a c
@@ -292,10 +293,10 @@ on_err (Ok done) P holds = tt
 on_err (Err fault) P holds = holds
 
 -- the printed text is passed to the writer
-pub flushed : {W : Type 0} (contents : W → Option (List ℕ)) (side : EitherSide) (io_events : Option (List IoEvent)) (impairment : Option Impairment) (p q : Printer W)
-    → PrintsOn contents (side_of side) [] p q → HappenBeside [] (live side io_events impairment contents p) (live side io_events impairment contents q)
+pub flushed : {W : Type 0} {most : ℕ} (contents : W → Option (List ℕ)) (side : EitherSide) (io_events : Option (List IoEvent)) (impairment : Option Impairment) (p q : Printer W)
+    → PrintsOn contents (side_of side) [] p q → HappenBeside [] (live most side io_events impairment contents p) (live most side io_events impairment contents q)
 flushed contents side io_events impairment p q prints = record {
   side = refl;
   moment = prints.prints.now;
-  happen = record { own = refl; style = prints.style; io_events = adds_none io_events; impairment = refl; shown = prints.prints };
+  happen = record { own = refl; style = prints.style; io_events = adds_none io_events; impairment = refl; shown = prints.prints; most = refl };
 }

@@ -29,35 +29,35 @@ shown_awaiting {W = W} contents words p q awaits =
     ∙ ap (λ unseen. record (shown contents p) { awaited = words; matched = false; keeps = unseen.is_retained; kept = recent_lines unseen }) awaits.unseen
 
 -- a side whose printer awaits a line
-pub is_awaiting : {W : Type 0} (contents : W → Option (List ℕ)) (side : EitherSide) (io_events : Option (List IoEvent)) (impairment : Option Impairment) (words : List ℕ) (p q : Printer W)
-    → Awaits words p q → live side io_events impairment contents q ≡ awaiting words (live side io_events impairment contents p)
-is_awaiting contents side io_events impairment words p q awaits =
-    ap (λ style. record { side = side; style = style; io_events = io_events; impairment = impairment; shown = shown contents q }) awaits.style
-    ∙ ap (λ (x : Shown). record { side = side; style = p.style; io_events = io_events; impairment = impairment; shown = x }) (shown_awaiting contents words p q awaits)
+pub is_awaiting : {W : Type 0} {most : ℕ} (contents : W → Option (List ℕ)) (side : EitherSide) (io_events : Option (List IoEvent)) (impairment : Option Impairment) (words : List ℕ) (p q : Printer W)
+    → Awaits words p q → live most side io_events impairment contents q ≡ awaiting words (live most side io_events impairment contents p)
+is_awaiting {most = most} contents side io_events impairment words p q awaits =
+    ap (λ style. record { side = side; style = style; io_events = io_events; impairment = impairment; shown = shown contents q; most = most }) awaits.style
+    ∙ ap (λ (x : Shown). record { side = side; style = p.style; io_events = io_events; impairment = impairment; shown = x; most = most }) (shown_awaiting contents words p q awaits)
 
 -- a side with other kept lines
-other_kept : {W : Type 0} (contents : W → Option (List ℕ)) (side : EitherSide) (io_events : Option (List IoEvent)) (impairment : Option Impairment) (keeps : Bool) (kept : List (List ℕ))
+other_kept : {W : Type 0} {most : ℕ} (contents : W → Option (List ℕ)) (side : EitherSide) (io_events : Option (List IoEvent)) (impairment : Option Impairment) (keeps : Bool) (kept : List (List ℕ))
     (p q : Printer W) → q ≡ record p { unseen = q.unseen } → q.unseen.is_retained ≡ keeps → recent_lines q.unseen ≡ kept
-    → live side io_events impairment contents q ≡ with_kept keeps kept (live side io_events impairment contents p)
-other_kept contents side io_events impairment keeps kept p q same retained lines =
-    ap (λ printer. live side io_events impairment contents printer) same
-    ∙ ap (λ (x : Bool). with_kept x (recent_lines q.unseen) (live side io_events impairment contents p)) retained
-    ∙ ap (λ (xs : List (List ℕ)). with_kept keeps xs (live side io_events impairment contents p)) lines
+    → live most side io_events impairment contents q ≡ with_kept keeps kept (live most side io_events impairment contents p)
+other_kept {most = most} contents side io_events impairment keeps kept p q same retained lines =
+    ap (λ printer. live most side io_events impairment contents printer) same
+    ∙ ap (λ (x : Bool). with_kept x (recent_lines q.unseen) (live most side io_events impairment contents p)) retained
+    ∙ ap (λ (xs : List (List ℕ)). with_kept keeps xs (live most side io_events impairment contents p)) lines
 
-pub is_keeping : {W : Type 0} (contents : W → Option (List ℕ)) (side : EitherSide) (io_events : Option (List IoEvent)) (impairment : Option Impairment) (p q : Printer W)
+pub is_keeping : {W : Type 0} {most : ℕ} (contents : W → Option (List ℕ)) (side : EitherSide) (io_events : Option (List IoEvent)) (impairment : Option Impairment) (p q : Printer W)
     → q ≡ record p { unseen = q.unseen } → q.unseen.is_retained ≡ true → recent_lines q.unseen ≡ recent_lines p.unseen
-    → live side io_events impairment contents q ≡ keeping (live side io_events impairment contents p)
-is_keeping contents side io_events impairment p q same retained lines = other_kept contents side io_events impairment true (recent_lines p.unseen) p q same retained lines
+    → live most side io_events impairment contents q ≡ keeping (live most side io_events impairment contents p)
+is_keeping {most = most} contents side io_events impairment p q same retained lines = other_kept contents side io_events impairment true (recent_lines p.unseen) p q same retained lines
 
-pub is_forgetting : {W : Type 0} (contents : W → Option (List ℕ)) (side : EitherSide) (io_events : Option (List IoEvent)) (impairment : Option Impairment) (p q : Printer W)
+pub is_forgetting : {W : Type 0} {most : ℕ} (contents : W → Option (List ℕ)) (side : EitherSide) (io_events : Option (List IoEvent)) (impairment : Option Impairment) (p q : Printer W)
     → q ≡ record p { unseen = q.unseen } → q.unseen.is_retained ≡ false → recent_lines q.unseen ≡ []
-    → live side io_events impairment contents q ≡ forgetting (live side io_events impairment contents p)
-is_forgetting contents side io_events impairment p q same retained lines = other_kept contents side io_events impairment false [] p q same retained lines
+    → live most side io_events impairment contents q ≡ forgetting (live most side io_events impairment contents p)
+is_forgetting {most = most} contents side io_events impairment p q same retained lines = other_kept contents side io_events impairment false [] p q same retained lines
 
-pub is_behind : {W : Type 0} (contents : W → Option (List ℕ)) (side : EitherSide) (io_events : Option (List IoEvent)) (impairment : Option Impairment) (words : List ℕ) (p q : Printer W)
+pub is_behind : {W : Type 0} {most : ℕ} (contents : W → Option (List ℕ)) (side : EitherSide) (io_events : Option (List IoEvent)) (impairment : Option Impairment) (words : List ℕ) (p q : Printer W)
     → q ≡ record p { unseen = q.unseen } → q.unseen.is_retained ≡ false → recent_lines q.unseen ≡ lines_behind words (recent_lines p.unseen)
-    → live side io_events impairment contents q ≡ behind_line words (live side io_events impairment contents p)
-is_behind contents side io_events impairment words p q same retained lines =
+    → live most side io_events impairment contents q ≡ behind_line words (live most side io_events impairment contents p)
+is_behind {most = most} contents side io_events impairment words p q same retained lines =
     other_kept contents side io_events impairment false (lines_behind words (recent_lines p.unseen)) p q same retained lines
 
 -- `read` prints nothing if a frame was received

@@ -29,14 +29,15 @@ entries_in (Around io_event ∷ events) = entries_in events
 entries_in (Shows entry ∷ events) = entry ∷ entries_in events
 
 -- A running side: its style, its calls to the surroundings, if they are recorded, how its frames
--- are impaired, if that is known, and what it has printed and counted. Its lines have the moment at
--- which the clock was last read.
+-- are impaired, if that is known, what it has printed and counted, and the most frames that a step
+-- of it receives. Its lines have the moment at which the clock was last read.
 pub record LiveState : Type 0 where
   pub side : EitherSide
   pub style : Style
   pub io_events : Option (List IoEvent)
   pub impairment : Option Impairment
   pub shown : Shown
+  pub most : ℕ
 
 abbrev pub state_of : {O W : Type 0} → (O → Option (List IoEvent)) → (O → Option Impairment)
     → (W → Option (List ℕ)) → LiveSide O W → LiveState
@@ -46,6 +47,7 @@ state_of io_events impaired_by contents live = record {
   io_events = io_events live.outside;
   impairment = impaired_by live.outside;
   shown = shown contents live.printer;
+  most = live.most;
 }
 
 abbrev pub moment_of : LiveState → ℕ
@@ -61,13 +63,14 @@ abbrev pub Between : {O W : Type 0} → (O → Option (List IoEvent)) → (O →
 Between io_events impaired_by contents old new R = R (state_of io_events impaired_by contents old)
     (state_of io_events impaired_by contents new)
 
--- exactly these events happen, and frames are impaired as before
+-- exactly these events happen; frames are impaired as before, and a step receives as many
 pub record Happen (events : List LiveEvent) (a b : LiveState) : Type 0 where
   pub own : side_of b.side ≡ side_of a.side
   pub style : b.style ≡ a.style
   pub io_events : Adds a.io_events b.io_events (io_events_in events)
   pub impairment : b.impairment ≡ a.impairment
   pub shown : Prints a.style (side_of a.side) (entries_in events) a.shown b.shown
+  pub most : b.most ≡ a.most
 
 -- they happen, and the side and the moment of its lines are unchanged
 pub record HappenBeside (events : List LiveEvent) (a b : LiveState) : Type 0 where

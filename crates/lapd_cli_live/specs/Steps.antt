@@ -1,6 +1,6 @@
 -- A running side, step by step. A step receives every frame that had arrived, then expires every
 -- timer that is due, and then waits once, until the next deadline.
-use Rattle.std.specs.Prelude.{◌≡◌, ◌⊎◌, ℕ, ◌+◌, ◌-◌, ◌^◌, ◌<◌, ◌≤◌, Bool, true, false, List, [], ◌∷◌, ◌++◌, length, min, Option, None, Some, Result, Ok, Err, ⊤}
+use Rattle.std.specs.Prelude.{◌≡◌, ◌⊎◌, ℕ, ◌+◌, ◌-◌, ◌/◌, ◌^◌, ◌<◌, ◌≤◌, Bool, true, false, List, [], ◌∷◌, ◌++◌, length, max, min, Option, None, Some, Result, Ok, Err, ⊤}
 use Rattle.lapd_timers.specs.Moments.{earlier}
 use Rattle.lapd_sides_links.specs.Effects.{Effects}
 use Rattle.lapd_sides_links.specs.declared.side_fault.SideFault.{SideFault}
@@ -67,14 +67,17 @@ pub record TakesAndContinues (until : Until) (a b : LiveState) : Type 0 where
   pub takes : TakesFrame a b
   pub continuing : ended_by until true (is_matched b) ≡ None
 
--- the most frames of a step, so that timers expire however many frames arrive
-abbrev pub most_frames : ℕ
-most_frames = 4096
+-- The most frames of a step with this many connections, so that timers expire however many frames
+-- arrive. Each frame of the side is written to each connection. With up to 16 connections a step
+-- that answers each frame by one has at most 4,096 writes. However many there are, it receives two
+-- answers of each of 127 terminals.
+abbrev pub most_frames : ℕ → ℕ
+most_frames connections = max (4096 / max connections 1) 256
 
 -- every frame that had arrived by a moment is processed
 pub record TakesAll (until : Until) (a b : LiveState) : Type 0 where
   pub taken : List LiveState
-  pub within : length taken < most_frames
+  pub within : length taken < a.most
   pub last : LiveState
   pub are : Chain (TakesAndContinues until) taken a last
   pub looks : LooksInVain last b
@@ -82,7 +85,7 @@ pub record TakesAll (until : Until) (a b : LiveState) : Type 0 where
 -- or as many as a step receives
 pub record TakesMost (until : Until) (a b : LiveState) : Type 0 where
   pub taken : List LiveState
-  pub count : length taken ≡ most_frames
+  pub count : length taken ≡ a.most
   pub are : Chain (TakesAndContinues until) taken a b
 
 abbrev pub Receives : Until → LiveState → LiveState → Type 0

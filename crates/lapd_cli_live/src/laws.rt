@@ -13,8 +13,9 @@ ghost use Rattle.lapd_cli_live.specs.PromptLine.{Arrival, EndsInTime, ExpiresInT
 
 /// No timer expires early. Before the side expires timers for a moment, it receives every frame
 /// that arrived in an earlier millisecond, if the line passes on all frames that have arrived. So
-/// T200 does not expire if its response has arrived. The only exception is a flood of 4,096 frames
-/// at once.
+/// T200 does not expire if its response has arrived. The only exception is a flood: as many frames
+/// at once as a step of the side receives, 256 to 4,096 by the number of its connections
+/// ([`frames_of_step`](crate::frames_of_step)).
 pub fn no_timer_expires_early()
     ensures { (arrivals : List Arrival) (until : Until) (a b : LiveState) (io_events : List IoEvent)
         → CatchesUp until a b → b.io_events ≡ Some io_events → IsPrompt arrivals io_events
@@ -23,8 +24,8 @@ pub fn no_timer_expires_early()
 
 /// No service of a number of milliseconds, such as `run 300`, ends before frames that arrived
 /// earlier are received. Its last look at the line comes after the clock has shown its end, and
-/// finds no frame that arrived in an earlier millisecond. The only exception is a flood of 4,096
-/// frames at once.
+/// finds no frame that arrived in an earlier millisecond. The only exception is a flood: as many
+/// frames at once as a step of the side receives.
 pub fn no_service_ends_early()
     ensures { (arrivals : List Arrival) (service : Service) (a b : LiveState)
         (io_events : List IoEvent) → IsServed service End a b → b.io_events ≡ Some io_events

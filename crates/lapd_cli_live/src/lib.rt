@@ -33,7 +33,7 @@ pub use laws::{
     expect_finds_what_is_printed, no_service_ends_early, no_timer_expires_early,
     prompt_lines_are_computed,
 };
-pub use live_side::LiveSide;
+pub use live_side::{LiveSide, frames_of_step};
 pub use obeyed::Obeyed;
 pub use printer::Printer;
 pub use service::{EndReason, Service, Until};

@@ -8,7 +8,7 @@ ghost use Rattle.lapd_cli_outside.specs.IoEvents.{SendsFront};
 ghost use Rattle.lapd_cli_live.specs.Entries.{Delivered};
 ghost use Rattle.std.specs.Io.KnownBytes.{Keeps};
 ghost use Rattle.lapd_cli_live.specs.Printers.{PrintsOn, SendsAll, shown};
-ghost use Rattle.lapd_cli_live.specs.Steps.{end_by_wait as end_of_wait, ended_by as ends_by};
+ghost use Rattle.lapd_cli_live.specs.Steps.{end_by_wait as end_of_wait, ended_by as ends_by, most_frames};
 
 use crate::fault::LiveFault;
 use crate::printer::Printer;
@@ -22,8 +22,20 @@ use lapd_timers::earlier;
 use std::alloc::Global;
 use std::io::Write;
 
-/// The most frames that a step receives, so that timers expire however many frames arrive.
-const MOST_FRAMES: u64 = 4096;
+/// The writes of a step that answers each frame by one frame, with up to 16 connections.
+const WRITES: u64 = 4096;
+
+/// The frames of a step with more connections: room for two answers of each of 127 terminals.
+const LEAST_FRAMES: u64 = 256;
+
+/// The most frames that a step receives with this many connections, 256 to 4,096. Each frame of the
+/// side is written to each connection. So a flood of one terminal delays timers and lines of the
+/// others by about the same time with 1 to 16 connections, and by 8 times that with 127.
+pub fn frames_of_step(connections: u8) -> u64
+    ensures { result ≡ most_frames connections }
+{
+    (WRITES / u64::from(connections.max(1))).max(LEAST_FRAMES)
+}
 
 /// A side with its surroundings and its printer.
 #[derive(Drop)]
@@ -33,23 +45,27 @@ pub struct LiveSide<O, W> {
     acts: Acts,
     pub(crate) outside: O,
     pub(crate) printer: Printer<W>,
+    pub(crate) most: u64,
 }
 
 impl<O: Outside, W: Write> LiveSide<O, W> {
     ghost use Rattle.lapd_cli_live.specs.Log.{Between, IsCarriedOut, ReadsClock};
     ghost use Rattle.lapd_cli_live.specs.Steps.{CatchesUp, DoesDue, EndsAfter, HasReceived, IsAsked, IsServed, Looks, Step, TakesAt, WaitsFor};
 
-    /// A side with these surroundings. `acts` is the buffer for the output of its calls.
+    /// A side with these surroundings. `acts` is the buffer for the output of its calls. A step
+    /// receives at most `most` frames, as [`frames_of_step`] returns it for its connections.
     pub fn new(
         alloc: Global,
         side: EitherSide,
         acts: Acts,
         outside: O,
         printer: Printer<W>,
+        most: u64,
     ) -> LiveSide<O, W>
         ensures side { result.side ≡ side }
         ensures outside { result.outside ≡ outside }
         ensures printer { result.printer ≡ printer }
+        ensures most { result.most ≡ most }
     {
         LiveSide {
             alloc,
@@ -57,6 +73,7 @@ impl<O: Outside, W: Write> LiveSide<O, W> {
             acts,
             outside,
             printer,
+            most,
         }
     }
 
@@ -140,14 +157,14 @@ impl<O: Outside, W: Write> LiveSide<O, W> {
         }
     }
 
-    /// Processes the frames that have arrived, at most 4,096 of them, and none behind one that ends
-    /// the service.
+    /// Processes the frames that have arrived, at most as many as a step receives, and none behind
+    /// one that ends the service.
     fn receive_all(&mut self, until: Until) -> Result<Option<EndReason>, LiveFault>
         ensures { IfOk result (λ end_reason.
             Between O.io_events O.impaired_by W.contents self.old self.new
             (HasReceived until end_reason)) }
     {
-        for _frame in 0..MOST_FRAMES {
+        for _frame in 0..self.most {
             if !self.look()? {
                 return Ok(None);
             }

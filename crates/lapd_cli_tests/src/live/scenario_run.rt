@@ -5,8 +5,8 @@
 //! and to a person (`lines_printed` of [`Made`] and [`Reader`]). The last text may be left out. The
 //! words:
 //!
-//! - `net`: the network side, which knows TEI 64, or `user`: a user side without a TEI; both at
-//!   basic access with SAPI 16
+//! - `net`: the network side, which knows TEI 64, `bus`: this side with 127 connections, or `user`:
+//!   a user side without a TEI; all at basic access with SAPI 16
 //! - `file`: a script in a file, `pipe`: a script over a pipe, or `session`: lines that a person
 //!   types
 //! - `quiet`, `json`: the style; each line has its time
@@ -15,7 +15,9 @@
 
 use crate::live::made::{Arrivals, Input, Made, Trouble};
 use crate::live::typed::{Keys, Reader, Reads};
-use lapd_cli_live::{LineStyle, LiveSide, LiveStop, Printer, Style, live_script, live_session};
+use lapd_cli_live::{
+    LineStyle, LiveSide, LiveStop, Printer, Style, frames_of_step, live_script, live_session,
+};
 use lapd_cli_script::ScriptFault;
 use lapd_sides::{Acts, Config, EitherSide, NetSide, Tei, UserSide};
 use std::alloc::{AllocError, Global};
@@ -26,6 +28,8 @@ use std::test::Fail;
 pub(crate) enum Who {
     /// The network side, which knows TEI 64.
     Net,
+    /// The same with 127 connections.
+    Bus,
     /// A user side without a TEI.
     User,
 }
@@ -58,11 +62,19 @@ fn side_of(alloc: Global, who: Who) -> Result<EitherSide, AllocError> {
         ..Config::basic(921)
     };
     match who {
-        Who::Net => {
+        Who::Net | Who::Bus => {
             let known = [Tei::new(64).unwrap_or(Tei::group())];
             Ok(EitherSide::Network(NetSide::new(alloc, config, &known)?))
         }
         Who::User => Ok(EitherSide::User(UserSide::new(alloc, config, None)?)),
+    }
+}
+
+/// The number of this side's connections.
+fn connections_of(who: Who) -> u8 {
+    match who {
+        Who::Bus => 127,
+        Who::Net | Who::User => 1,
     }
 }
 
@@ -76,7 +88,8 @@ fn made_live<'s>(
     let side = side_of(alloc, who)?;
     let acts = Acts::new(alloc)?;
     let printer = Printer::new(alloc, Vec::new(alloc), style);
-    Ok(LiveSide::new(alloc, side, acts, made, printer))
+    let most = frames_of_step(connections_of(who));
+    Ok(LiveSide::new(alloc, side, acts, made, printer, most))
 }
 
 /// Executes a script on this side.
@@ -129,6 +142,8 @@ fn has(words: &str, word: &str) -> bool {
 fn run_row<'s>(alloc: Global, row: &Row, reads: &'s Reads) -> Result<ScenarioRun<'s>, AllocError> {
     let who = if has(row.words, "net") {
         Who::Net
+    } else if has(row.words, "bus") {
+        Who::Bus
     } else {
         Who::User
     };

@@ -178,6 +178,19 @@ stats
 12288 reports
 16384 0 64 report G
 16384 0 64 released
+=== with 127 connections T200 expires after 256 of them at most
+bus file quiet done
+1 flood 000000
+---
+establish 0 64
+run 5000
+stats
+---
+4096 0 64 report G
+4096 0 64 released
+5376 sent frames=4 octets=12 SABME=4 again=0
+5376 received frames=5376 octets=16128 other=5376 discarded=5376
+5376 reports G=1
 "#;
 
 /// The immediate answers of a terminal.
@@ -233,7 +246,7 @@ fn printed(
     trouble: Trouble,
 ) -> Result<Option<(Vec<u8>, u64)>, AllocError> {
     let (input, answers) = match who {
-        Who::Net => (OF_NET, BY_USER),
+        Who::Net | Who::Bus => (OF_NET, BY_USER),
         Who::User => (OF_USER, BY_NET),
     };
     let reads = Reads::new();
