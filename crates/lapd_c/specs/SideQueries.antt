@@ -3,8 +3,9 @@ use Rattle.std.specs.Prelude.{◌≡◌, ℕ, Option, Some, None}
 use Rattle.lapd_link.specs.declared.link.Link.{Link}
 use Rattle.lapd_sides.specs.declared.either_side.EitherSide.{EitherSide}
 use Rattle.lapd_sides.specs.declared.either_side.EitherSide.TheVariants as either
-use Rattle.lapd_sides.specs.ShowsNetwork as network
-use Rattle.lapd_sides.specs.ShowsUser as user
+use Rattle.lapd_sides.specs.Calls.{EachShown}
+use Rattle.lapd_sides.specs.ShowsNetwork.{ShowNetwork}
+use Rattle.lapd_sides.specs.ShowsUser.{ShowUser}
 use Rattle.lapd_sides_links.specs.Links.{of_sapi}
 use Rattle.lapd_table.specs.declared.link_id.LinkId.{LinkId}
 use Rattle.lapd_table.specs.declared.link_table.LinkTable.{LinkTable}
@@ -16,11 +17,13 @@ use Rattle.lapd_tei.specs.declared.phase.Phase.{Phase}
 -- the terminal of a user side; a network side has none
 abbrev pub HasTerminal : EitherSide → Option Phase → Type 0
 HasTerminal (either.Network code) terminal = terminal ≡ None
-HasTerminal (either.User code) terminal = user.EachShown code (λ s. terminal ≡ Some s.terminal)
+HasTerminal (either.User code) terminal =
+    EachShown ShowUser code (λ s. terminal ≡ Some s.management.terminal)
 
 -- the TEI that a network side checks, if a check is in progress; a user side checks none
 abbrev pub HasCheck : EitherSide → Option ℕ → Type 0
-HasCheck (either.Network code) tei = network.EachShown code (λ s. tei ≡ checked s.assigner.check)
+HasCheck (either.Network code) tei =
+    EachShown ShowNetwork code (λ s. tei ≡ checked s.management.check)
 HasCheck (either.User code) tei = tei ≡ None
 
 -- ---- A terminal in numbers.

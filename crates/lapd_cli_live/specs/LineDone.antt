@@ -6,7 +6,8 @@ use Rattle.lapd_tei.specs.Terminal.{tei_of}
 use Rattle.lapd_sides.specs.declared.either_side.EitherSide.{EitherSide}
 use Rattle.lapd_sides.specs.declared.either_side.EitherSide.TheVariants as either
 use Rattle.lapd_sides.specs.Either.{side_of}
-use Rattle.lapd_sides.specs.ShowsUser as user
+use Rattle.lapd_sides.specs.Calls.{EachShown}
+use Rattle.lapd_sides.specs.ShowsUser.{ShowUser}
 use Rattle.lapd_cli_live_text.specs.LiveRequests.{live_request_of, live_request_of_line}
 use Rattle.lapd_cli_live_text.specs.AwaitedLine.{awaited_line}
 use Rattle.lapd_cli_live_text.specs.AwaitedText.{shown_words}
@@ -77,7 +78,7 @@ LineDone (line.Impair impairment) lines a b = b ≡ impaired_as impairment a
 abbrev pub HasOwnTei : EitherSide → ℕ → Type 0
 HasOwnTei (either.Network code) own = own ≡ 127
 HasOwnTei (either.User code) own =
-    user.EachShown code (λ s. own ≡ unwrap_or (tei_of s.terminal) 127)
+    EachShown ShowUser code (λ s. own ≡ unwrap_or (tei_of s.management.terminal) 127)
 
 abbrev pub is_expect : LiveLine → Bool
 is_expect (line.Expect words ms) = true

@@ -8,8 +8,8 @@ use Rattle.lapd_frame.specs.declared.Side.TheVariants.{Network, User}
 use Rattle.lapd_sides_links.specs.declared.config.Config.{Config}
 use Rattle.lapd_sides.specs.declared.either_side.EitherSide.{EitherSide}
 use Rattle.lapd_sides.specs.declared.either_side.EitherSide.TheVariants as either
-use Rattle.lapd_sides.specs.declared.net_side.NetSide.{NetSide}
-use Rattle.lapd_sides.specs.declared.user_side.UserSide.{UserSide}
+use Rattle.lapd_sides.specs.ShowsNetwork.{NetSide}
+use Rattle.lapd_sides.specs.ShowsUser.{UserSide}
 use Rattle.lapd_sides.specs.Network.{new_network}
 use Rattle.lapd_sides.specs.User.{new_user, seeded}
 use Rattle.lapd_sides.specs.ShowsNetwork.{ShowNetwork}

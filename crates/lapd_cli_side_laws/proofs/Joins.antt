@@ -102,7 +102,7 @@ program_of side.User a = a.user.at
 
 abbrev pub meant_by : Side → Interface → LinkId → LinkId
 meant_by side.Network i id = id
-meant_by side.User i id = own_link i.user.terminal id
+meant_by side.User i id = own_link i.user.management.terminal id
 
 -- the primitives that this side delivered, and the messages that it accepted
 abbrev pub delivered_by : Side → Interface → List Primitive

@@ -46,6 +46,7 @@ use Rattle.lapd_sides_links.specs.Links.{Links, Linked, Reaction, acted, of_sapi
 use Rattle.lapd_sides.specs.declared.request.Request.{Request}
 use Rattle.lapd_sides.specs.declared.request.Request.TheVariants as request
 use Rattle.lapd_sides.specs.Management.{carries_message, links_with, removal_primitives, manages}
+use Rattle.lapd_sides.specs.SideState.{link_of}
 use Rattle.lapd_sides.specs.User as user
 use Rattle.lapd_sides.specs.User.{User, nothing_pending, next_reference, drawn, with_links, among_links, link_of_user, or_discarded, establishes, establishes_pending, primitive_of_group, primitive_of_sapi, gives_up_pending, pending_after, terminal_acts, message_received, unit_from_group, for_layer_3, data_received, fault_received, received, user_takes, user_expires, with_tei_or, is_pending, with_pending, wants, forgets, has_tei, user_requested}
 use Rattle.lapd_sides_laws.specs.Interface.{user_behaviour}
@@ -148,7 +149,7 @@ terminal_tells phase other = refl
 -- ---- Kept establishments: the terminal stays unchanged.
 
 record IsOp (s : User) (a : Reaction User) : Type 0 where
-  terminal : a.after.terminal ≡ s.terminal
+  terminal : a.after.management.terminal ≡ s.management.terminal
   silent : AreSilent a.effects.primitives
 
 still_op : (s : User) → IsOp s (user.unmoved s)
@@ -166,11 +167,11 @@ discarded_op s (Ok b) op = links_op s b (op b refl)
 discarded_op s (Err kind) op = record { terminal = refl; silent = λ own. refl }
 
 linked_op : (now : ℕ) (other : LinkId) (input : Input) (octets : List ℕ) (s : User) → IsOp s (user.or_unmoved s (link_of_user now other input octets s))
-unfolding link_of_user
+unfolding link_of
 linked_op now other input octets s = ignored_op s (in_links other (link_acts side.User other now input octets) s.served.links) (λ b is. acts_silently other s.served.links now input octets b is)
 
 received_op : (now : ℕ) (other : LinkId) (input : Input) (octets : List ℕ) (s : User) → IsOp s (or_discarded s (link_of_user now other input octets s))
-unfolding link_of_user
+unfolding link_of
 received_op now other input octets s = discarded_op s (in_links other (link_acts side.User other now input octets) s.served.links) (λ b is. acts_silently other s.served.links now input octets b is)
 
 establishes_op : (on : Bool) (now : ℕ) (other : LinkId) (s : User) → IsOp s (establishes on now other s)
@@ -179,11 +180,11 @@ establishes_op false now other s = still_op s
 
 pending_op : (now own : ℕ) (s : User) → IsOp s (establishes_pending now own s)
 pending_op now own s =
-    let before : User = record s { pending = nothing_pending } in
-    let first = establishes s.pending.call now (of_sapi sapi.Call own) before in
-    let second = establishes s.pending.packet now (of_sapi sapi.Packet own) first.after in
-    let one : IsOp before first = establishes_op s.pending.call now (of_sapi sapi.Call own) before in
-    let two : IsOp first.after second = establishes_op s.pending.packet now (of_sapi sapi.Packet own) first.after in
+    let before : User = record s { management = record s.management { pending = nothing_pending } } in
+    let first = establishes s.management.pending.call now (of_sapi sapi.Call own) before in
+    let second = establishes s.management.pending.packet now (of_sapi sapi.Packet own) first.after in
+    let one : IsOp before first = establishes_op s.management.pending.call now (of_sapi sapi.Call own) before in
+    let two : IsOp first.after second = establishes_op s.management.pending.packet now (of_sapi sapi.Packet own) first.after in
     record { terminal = two.terminal ∙ one.terminal; silent = silent_both first.effects.primitives second.effects.primitives one.silent two.silent }
 
 group_is_silent : (on : Bool) (at : Sapi) (w : What) → AreSilent (primitive_of_sapi on at w)
@@ -193,7 +194,7 @@ group_is_silent false at w own = refl
 giving_up_op : (s : User) → IsOp s (gives_up_pending s)
 giving_up_op s = record {
   terminal = refl;
-  silent = silent_both (primitive_of_sapi s.pending.call sapi.Call what.Released) (primitive_of_sapi s.pending.packet sapi.Packet what.Released) (group_is_silent s.pending.call sapi.Call what.Released) (group_is_silent s.pending.packet sapi.Packet what.Released);
+  silent = silent_both (primitive_of_sapi s.management.pending.call sapi.Call what.Released) (primitive_of_sapi s.management.pending.packet sapi.Packet what.Released) (group_is_silent s.management.pending.call sapi.Call what.Released) (group_is_silent s.management.pending.packet sapi.Packet what.Released);
 }
 
 pending_after_op : (now : ℕ) (outs : List TeiOut) (s : User) → IsOp s (pending_after now outs s)
@@ -212,23 +213,23 @@ pending_after_op now (tei.Stop timer ∷ outs) s = pending_after_op now outs s
 -- ---- A user side.
 
 abbrev States : User → Reaction User → Type 0
-States s a = tei_of a.after.terminal ≡ own_tei (tei_of s.terminal) a.effects.primitives
+States s a = tei_of a.after.management.terminal ≡ own_tei (tei_of s.management.terminal) a.effects.primitives
 
 by_op : (s : User) (a : Reaction User) → IsOp s a → States s a
-by_op s a op = ap tei_of op.terminal ∙ sym (op.silent (tei_of s.terminal))
+by_op s a op = ap tei_of op.terminal ∙ sym (op.silent (tei_of s.management.terminal))
 
 acting : (config : Config) (s : User) (now : ℕ) (e : ℕ → TerminalEvent) → States s (terminal_acts config now e s)
 unfolding terminal_acts manages
 acting config s now e =
-    let done : TerminalStep = terminal_step s.terminal (e (next_reference s.random)) in
+    let done : TerminalStep = terminal_step s.management.terminal (e (next_reference s.management.random)) in
     let m = manages side.User config now done.outs s.served in
-    let middle : User = record s { served = m.after; terminal = done.now; random = drawn done.outs s.random } in
+    let middle : User = record s { served = m.after; management = record s.management { terminal = done.now; random = drawn done.outs s.management.random } } in
     let rest = pending_after now done.outs middle in
     let op : IsOp middle rest = pending_after_op now done.outs middle in
     let outcomes : List Primitive = filter_map outcome_of done.outs in
     let removals : List Primitive = removal_primitives (tei_freed done.outs) (links_with config (tei_given done.outs) s.served.links) in
-    let own : Option ℕ = tei_of s.terminal in
-    ap tei_of op.terminal ∙ terminal_tells s.terminal (e (next_reference s.random))
+    let own : Option ℕ = tei_of s.management.terminal in
+    ap tei_of op.terminal ∙ terminal_tells s.management.terminal (e (next_reference s.management.random))
     ∙ sym (own_of_both own (outcomes ++ removals) rest.effects.primitives ∙ op.silent (own_tei own (outcomes ++ removals))
     ∙ own_of_both own outcomes removals ∙ removals_are_silent (tei_freed done.outs) (links_with config (tei_given done.outs) s.served.links) (own_tei own outcomes))
 
@@ -272,7 +273,7 @@ module _ (config : Config) (s : User) where
   granted_by a (Err kind) op is = cc
 
   link_granted : (now : ℕ) (other : LinkId) (input : Input) (octets : List ℕ) (a : Reaction User) → link_of_user now other input octets s ≡ Ok a → States s a
-  unfolding link_of_user
+  unfolding link_of
   link_granted now other input octets a is = granted_by a (in_links other (link_acts side.User other now input octets) s.served.links) (λ b op. acts_silently other s.served.links now input octets b op) is
 
   with_own : (now : ℕ) (phase : Phase) (at : Sapi) (input : Input) (octets : List ℕ) (otherwise : Result (Reaction User) SideKind) (a : Reaction User) → (otherwise ≡ Ok a → States s a)
@@ -288,8 +289,8 @@ module _ (config : Config) (s : User) where
   refused kind a is = cc
 
   forgetting : (at : Sapi) (a : Reaction User) (pending : Bool)
-      → (if pending then Ok (record { after = record s { pending = with_pending at false s.pending }; effects = record no_effects { primitives = primitive_of_group at what.ReleaseConfirm } }) else Err NoLink) ≡ Ok a → States s a
-  forgetting at a true is = subst (States s) (same_user (record { after = record s { pending = with_pending at false s.pending }; effects = record no_effects { primitives = primitive_of_group at what.ReleaseConfirm } }) a is) refl
+      → (if pending then Ok (record { after = record s { management = record s.management { pending = with_pending at false s.management.pending } }; effects = record no_effects { primitives = primitive_of_group at what.ReleaseConfirm } }) else Err NoLink) ≡ Ok a → States s a
+  forgetting at a true is = subst (States s) (same_user (record { after = record s { management = record s.management { pending = with_pending at false s.management.pending } }; effects = record no_effects { primitives = primitive_of_group at what.ReleaseConfirm } }) a is) refl
   forgetting at a false is = cc
 
   requested : (r : Result (Reaction User) SideKind) → ((a : Reaction User) → r ≡ Ok a → States s a) → States s (or_unmoved s r)
@@ -297,8 +298,8 @@ module _ (config : Config) (s : User) where
   requested (Err kind) each = refl
 
 wanting : (config : Config) (s : User) (now : ℕ) (at : Sapi) (a : Reaction User) (served : Bool)
-    → (if served then Ok (terminal_acts config now event.Want (record s { pending = with_pending at true s.pending })) else Err NoLink) ≡ Ok a → States s a
-wanting config s now at a true is = subst (States s) (same_user config s (terminal_acts config now event.Want (record s { pending = with_pending at true s.pending })) a is) (acting config (record s { pending = with_pending at true s.pending }) now event.Want)
+    → (if served then Ok (terminal_acts config now event.Want (record s { management = record s.management { pending = with_pending at true s.management.pending } })) else Err NoLink) ≡ Ok a → States s a
+wanting config s now at a true is = subst (States s) (same_user config s (terminal_acts config now event.Want (record s { management = record s.management { pending = with_pending at true s.management.pending } })) a is) (acting config (record s { management = record s.management { pending = with_pending at true s.management.pending } }) now event.Want)
 wanting config s now at a false is = cc
 
 giving_up : (config : Config) (s : User) (now : ℕ) (a : Reaction User) (is_its : Bool) → (if is_its then Ok (terminal_acts config now (λ ri. event.Leave) s) else Err NoLink) ≡ Ok a → States s a
@@ -307,15 +308,15 @@ giving_up config s now a false is = cc
 
 granted : (config : Config) (s : User) (request : Request) (now : ℕ) (a : Reaction User) → user_requested config request now s ≡ Ok a → States s a
 unfolding user_requested
-granted config s (request.Establish other) now a is = with_own config s now s.terminal other.sapi Establish [] (wants config now other.sapi s) a (wanting config s now other.sapi a (is_served config other.sapi)) is
-granted config s (request.Release other) now a is = with_own config s now s.terminal other.sapi input.Release [] (forgets other.sapi s) a (forgetting config s other.sapi a (is_pending other.sapi s.pending)) is
-granted config s (request.Unit other octets) now a is = with_own config s now s.terminal other.sapi (UnitData (length octets.items)) octets.items (Err NoLink) a (refused config s NoLink a) is
-granted config s (request.Give other message) now a is = with_own config s now s.terminal other.sapi (Give message.items) [] (Err (Link NotEstablished)) a (refused config s (Link NotEstablished) a) is
-granted config s (request.Busy other true) now a is = with_own config s now s.terminal other.sapi input.BusyOn [] (Err NoLink) a (refused config s NoLink a) is
-granted config s (request.Busy other false) now a is = with_own config s now s.terminal other.sapi input.BusyOff [] (Err NoLink) a (refused config s NoLink a) is
+granted config s (request.Establish other) now a is = with_own config s now s.management.terminal other.sapi Establish [] (wants config now other.sapi s) a (wanting config s now other.sapi a (is_served config other.sapi)) is
+granted config s (request.Release other) now a is = with_own config s now s.management.terminal other.sapi input.Release [] (forgets other.sapi s) a (forgetting config s other.sapi a (is_pending other.sapi s.management.pending)) is
+granted config s (request.Unit other octets) now a is = with_own config s now s.management.terminal other.sapi (UnitData (length octets.items)) octets.items (Err NoLink) a (refused config s NoLink a) is
+granted config s (request.Give other message) now a is = with_own config s now s.management.terminal other.sapi (Give message.items) [] (Err (Link NotEstablished)) a (refused config s (Link NotEstablished) a) is
+granted config s (request.Busy other true) now a is = with_own config s now s.management.terminal other.sapi input.BusyOn [] (Err NoLink) a (refused config s NoLink a) is
+granted config s (request.Busy other false) now a is = with_own config s now s.management.terminal other.sapi input.BusyOff [] (Err NoLink) a (refused config s NoLink a) is
 granted config s request.AskTei now a is = subst (States s) (same_user config s (terminal_acts config now event.Ask s) a is) (acting config s now event.Ask)
 granted config s (request.Check tei) now a is = subst (States s) (same_user config s (user.unmoved s) a is) refl
-granted config s (request.Remove tei) now a is = giving_up config s now a (has_tei tei (tei_of s.terminal)) is
+granted config s (request.Remove tei) now a is = giving_up config s now a (has_tei tei (tei_of s.management.terminal)) is
 
 expires : (config : Config) (s : User) (now : ℕ) (timer : Timer) (of : Option LinkId) → States s (user_expires config now timer of s)
 unfolding user_expires
@@ -334,7 +335,7 @@ reaction_tells config v (Ask request now) = requested config v.now (user_request
 
 -- the side's own TEI is the one that all primitives so far determine
 abbrev pub KnowsTei : Option ℕ → SideView User → Type 0
-KnowsTei fixed v = tei_of v.now.terminal ≡ own_tei fixed v.delivered
+KnowsTei fixed v = tei_of v.now.management.terminal ≡ own_tei fixed v.delivered
 
 pub event_tells : (config : Config) (fixed : Option ℕ) (v : SideView User) (side_event : SideEvent) → KnowsTei fixed v → KnowsTei fixed (does (user_behaviour config) side_event v)
 unfolding does

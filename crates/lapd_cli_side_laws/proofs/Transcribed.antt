@@ -36,7 +36,7 @@ moves_tell : (c : Configs) (fixed : Option ℕ) (s : Side) (events : List SideEv
 moves_tell c fixed side.Network events i known = subst (λ (j : Interface). KnowsTei fixed (by_user j)) (sym (network_moves c events i)) known
 moves_tell c fixed side.User events i known = subst (λ (j : Interface). KnowsTei fixed (by_user j)) (sym (user_moves c events i)) (events_tell c.user fixed events (by_user i) known)
 
-pub new_knows : (config : Config) (fixed : Option ℕ) (random : Lcg) → tei_of (new_user config fixed random).terminal ≡ own_tei fixed []
+pub new_knows : (config : Config) (fixed : Option ℕ) (random : Lcg) → tei_of (new_user config fixed random).management.terminal ≡ own_tei fixed []
 new_knows config None random = refl
 new_knows config (Some tei) random = refl
 
@@ -59,10 +59,10 @@ same_submitted f g (Check tei) refused same = refl
 same_submitted f g (Remove tei) refused same = refl
 
 user_submits : (fixed : Option ℕ) (i : Interface) (line_request : LineRequest) (refused : Bool) → KnowsTei fixed (by_user i)
-    → submitted_in (interface.own_link i.user.terminal) line_request refused ≡ submitted_in (own_link fixed i.delivered_to_user) line_request refused
+    → submitted_in (interface.own_link i.user.management.terminal) line_request refused ≡ submitted_in (own_link fixed i.delivered_to_user) line_request refused
 user_submits fixed i line_request refused known =
-    same_submitted (interface.own_link i.user.terminal) (own_link fixed i.delivered_to_user) line_request refused
-    (λ id. means_own i.user.terminal id ∙ ap (λ (own : Option ℕ). with_own_tei own id) known)
+    same_submitted (interface.own_link i.user.management.terminal) (own_link fixed i.delivered_to_user) line_request refused
+    (λ id. means_own i.user.management.terminal id ∙ ap (λ (own : Option ℕ). with_own_tei own id) known)
 
 -- ---- Transcripts of both programs.
 

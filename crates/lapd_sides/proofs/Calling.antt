@@ -5,15 +5,19 @@ use Rattle.lapd_timers.specs.Due.{Timers}
 use Rattle.lapd_table.specs.declared.link_id.LinkId.{LinkId}
 use Rattle.lapd_sides_links.specs.declared.config.Config.{Config}
 use Rattle.lapd_sides_links.specs.declared.running_timer.RunningTimer.{RunningTimer}
+use Rattle.lapd_sides_links.specs.declared.side_fault.SideFault.{SideFault}
 use Rattle.lapd_sides_links.specs.declared.side_fault.SideKind.{SideKind}
 use Rattle.lapd_sides_links.specs.declared.at_once.AtOnce.{AtOnce}
 use Rattle.lapd_sides_links.specs.declared.at_once.AtOnce.TheVariants as at_once
 use Rattle.lapd_sides_links.specs.Effects.{Adds, Effects, and_then, no_effects}
-use Rattle.lapd_sides_links.specs.Messages.{Message, SendsAtOnce}
+use Rattle.lapd_sides_links.specs.Messages.{IsUnsent, Message, SendsAtOnce}
 use Rattle.lapd_sides_links.specs.Expiries.{IsDue, IsNextDeadline}
 use Rattle.lapd_sides_links.specs.Links.{Reaction, Served}
-use Rattle.lapd_sides.specs.Calls.{HasDone, HasGranted, HasExpired, Expiry, Receives, LacksMemory}
+use Rattle.lapd_sides.specs.declared.request.Request.{Request}
+use Rattle.lapd_sides.specs.Requests.{message_of}
+use Rattle.lapd_sides.specs.Calls.{Answers, HasDone, HasGranted, HasExpired, Expiry, Receives, LacksMemory}
 use Rattle.lapd_sides.specs.Shows.{Step}
+use Rattle.lapd_sides.specs.SideState.{SideState}
 
 -- an executed request has the same result
 pub granted_as : {C S : Type 0} {Show : C → Config → S → Type 0} (code : C) (config : Config) (acts : Effects) (a b : Result (Reaction S) SideKind) → b ≡ a → HasGranted Show code config acts a → HasGranted Show code config acts b
@@ -24,6 +28,17 @@ pub lacks : {C S E : Type 0} {Show : C → Config → S → Type 0} (result : Re
 lacks (Ok u) old after acts tei step is h = absurd (cc)
 lacks (Err e) old after acts tei step is h = h
 
+-- the request is the one that was looked up
+pub answers_for : {C S : Type 0} (Show : C → Config → S → Type 0)
+    (requested : Config → Request → ℕ → S → Result (Reaction S) SideKind)
+    (result : Result (Unit {0}) SideFault) (old after : C) (acts : Effects) (now : ℕ)
+    (r q : Request) → r ≡ q
+    → Answers Show result old after acts (message_of q) (λ config. requested config q now)
+    → Answers Show result old after acts (message_of r) (λ config. requested config r now)
+answers_for Show requested result old after acts now r q is h =
+    subst (λ (x : Request). Answers Show result old after acts (message_of x)
+    (λ config. requested config x now)) (sym is) h
+
 -- ---- The due timer.
 
 pub due_so : (now : ℕ) (s : Served) (timers : Timers) (result e : Option RunningTimer) → timers ≡ s.timers → result ≡ e → IsDue now (record { links = s.links; timers = timers }) result → IsDue now s e
@@ -32,8 +47,11 @@ due_so now s timers result e same is due = subst (λ (t : Timers). IsDue now (re
 pub next_so : (s : Served) (timers : Timers) (deadline : Option ℕ) → timers ≡ s.timers → IsNextDeadline (record { links = s.links; timers = timers }) deadline → IsNextDeadline s deadline
 next_so s timers deadline same next = subst (λ (t : Timers). IsNextDeadline (record { links = s.links; timers = t }) deadline) same next
 
-pub expired_so : {C S : Type 0} {Show : C → Config → S → Type 0} {served : S → Served} {expires : Expiry S} (code : C) (config : Config) (acts : Effects) (now : ℕ) (s : S) (e : RunningTimer) (of : Option LinkId)
-    → IsDue now (served s) (Some e) → e.of ≡ of → HasDone Show code config acts (expires config now e.timer of s) → HasExpired Show served expires code config acts now s
+pub expired_so : {C M : Type 0} {Show : C → Config → SideState M → Type 0}
+    {expires : Expiry (SideState M)} (code : C) (config : Config) (acts : Effects) (now : ℕ)
+    (s : SideState M) (e : RunningTimer) (of : Option LinkId) → IsDue now s.served (Some e)
+    → e.of ≡ of → HasDone Show code config acts (expires config now e.timer of s)
+    → HasExpired Show expires code config acts now s
 expired_so {Show = Show} {expires = expires} code config acts now s e of due is done = record {
   expiry = e;
   due = due;
@@ -79,3 +97,10 @@ sends_so octets before after Does Also Why Because Same Stays (at_once.Unsent me
     (h.0, why h.1, stays h.2)
 sends_so octets before after Does Also Why Because Same Stays at_once.NoMemory so why stays h =
     stays h
+
+-- a copy of a message is not sent, for this reason
+pub unsent_by : (octets : List ℕ) (Sends : Message → Type 0) (Why Same : Type 0) (result : AtOnce)
+    → Why → Same → IsUnsent octets result → SendsAtOnce octets Sends Why Same result
+unsent_by octets Sends Why Same at_once.Sent why same h = absurd h.asks
+unsent_by octets Sends Why Same (at_once.Unsent message) why same h = (h.0, why, same)
+unsent_by octets Sends Why Same at_once.NoMemory why same h = same

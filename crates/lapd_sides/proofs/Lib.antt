@@ -6,6 +6,8 @@ pub mod Networking
 pub mod ReadFrames
 pub mod Receiving
 pub mod Predicted
+pub mod Steps
+pub mod EitherSteps
 pub mod Copied
 pub mod Backlogs
 pub mod Queueing

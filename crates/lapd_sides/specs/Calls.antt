@@ -12,8 +12,9 @@ use Rattle.lapd_sides_links.specs.declared.side_fault.SideFault.{SideFault}
 use Rattle.lapd_sides_links.specs.declared.side_fault.SideKind.{SideKind}
 use Rattle.lapd_sides_links.specs.Effects.{Effects, and_then, no_effects}
 use Rattle.lapd_sides_links.specs.Expiries.{IsDue}
-use Rattle.lapd_sides_links.specs.Links.{Reaction, Served}
+use Rattle.lapd_sides_links.specs.Links.{Reaction, served_with_durations}
 use Rattle.lapd_sides.specs.Shows.{Step, RequestOutcome}
+use Rattle.lapd_sides.specs.SideState.{SideState}
 
 -- ---- The result of a call.
 
@@ -42,11 +43,11 @@ abbrev pub Expiry : Type 0 → Type 0
 Expiry S = Config → ℕ → Timer → Option LinkId → S → Reaction S
 
 -- the first due timer has expired
-pub record HasExpired {C S : Type 0} (Show : C → Config → S → Type 0) (served : S → Served)
-    (expires : Expiry S) (code : C) (config : Config) (acts : Effects) (now : ℕ) (s : S) :
-    Type 0 where
+pub record HasExpired {C M : Type 0} (Show : C → Config → SideState M → Type 0)
+    (expires : Expiry (SideState M)) (code : C) (config : Config) (acts : Effects) (now : ℕ)
+    (s : SideState M) : Type 0 where
   pub expiry : RunningTimer
-  pub due : IsDue now (served s) (Some expiry)
+  pub due : IsDue now s.served (Some expiry)
   pub done : HasDone Show code config acts (expires config now expiry.timer expiry.of s)
 
 -- ---- How calls are specified.
@@ -60,11 +61,14 @@ abbrev pub ShowsSideAsBefore : {C S : Type 0} → (C → Config → S → Type 0
 ShowsSideAsBefore {C} {S} Show old new =
     (config : Config) (s : S) → Show old config s → Show new config s
 
+abbrev pub with_durations : {M : Type 0} → Lengths → SideState M → SideState M
+with_durations durations s = record s { served = served_with_durations durations s.served }
+
 -- The call sets the durations of the side, for timers that are started from then on.
-abbrev pub SetsDurations : {C S : Type 0} → (C → Config → S → Type 0) → (Lengths → S → S)
-    → C → C → Lengths → Type 0
-SetsDurations {C} {S} Show with_durations old new durations =
-    (config : Config) (s : S) → Show old config s
+abbrev pub SetsDurations : {C M : Type 0} → (C → Config → SideState M → Type 0) → C → C → Lengths
+    → Type 0
+SetsDurations {C} {M} Show old new durations =
+    (config : Config) (s : SideState M) → Show old config s
     → Show new (record config { durations = durations }) (with_durations durations s)
 
 -- the call takes this step
@@ -124,15 +128,15 @@ Answers Show (Err fault) old new acts message outcome =
     Refuses Show old new acts message outcome fault
 
 -- the first due timer expires
-abbrev pub Expires : {C S : Type 0} → (C → Config → S → Type 0) → (S → Served) → Expiry S
+abbrev pub Expires : {C M : Type 0} → (C → Config → SideState M → Type 0) → Expiry (SideState M)
     → C → C → Effects → ℕ → Type 0
-Expires {C} {S} Show served expires old new acts now =
-    (config : Config) (s : S) → Show old config s
-    → HasExpired Show served expires new config acts now s
+Expires {C} {M} Show expires old new acts now =
+    (config : Config) (s : SideState M) → Show old config s
+    → HasExpired Show expires new config acts now s
 
 -- nothing is due, and the side represents what it represented before
-abbrev pub SideStaysIdle : {C S : Type 0} → (C → Config → S → Type 0) → (S → Served) → C → C → ℕ
+abbrev pub SideStaysIdle : {C M : Type 0} → (C → Config → SideState M → Type 0) → C → C → ℕ
     → Type 0
-SideStaysIdle {C} {S} Show served old new now =
-    (config : Config) (s : S) → Show old config s
-    → IsDue now (served s) None × Show new config s
+SideStaysIdle {C} {M} Show old new now =
+    (config : Config) (s : SideState M) → Show old config s
+    → IsDue now s.served None × Show new config s

@@ -1,11 +1,14 @@
 pub mod Management
+pub mod SideState
 pub mod Network
 pub mod User
 pub mod Worked
 pub mod Requests
 pub mod Shows
+pub mod ShowsSide
 pub mod Calls
 pub mod ShowsNetwork
 pub mod ShowsUser
+pub mod Meant
 pub mod Either
 pub mod Queued

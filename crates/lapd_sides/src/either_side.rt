@@ -1,16 +1,19 @@
 //! A side of either kind.
 
-ghost use Rattle.std.specs.Prelude.{◌≡◌, true, false, Ok, IfErr, option_copied};
+ghost use Rattle.std.specs.Prelude.{◌≡◌, true, false, Ok, IfErr, Some, None, option_copied};
+ghost use Rattle.std.specs.Borrow.{sem};
 ghost use Rattle.lapd_sides_links.specs.Effects.{no_effects, Adds};
 ghost use Rattle.lapd_sides_links.specs.Messages.{SendsAtOnce};
 ghost use Rattle.lapd_sides_links.specs.Rooms.{HasRoomForPredicted, IsEmpty};
 ghost use Rattle.lapd_sides.specs.Requests.{without_message};
 
+use crate::links_and_timer::{LinksAndTimer, opposite};
 use crate::{Acts, Durations, NetSide, Request, SideFault, SideKind, UserSide};
-use lapd_frame::Side;
+use lapd_frame::{Side, read_predicted};
 use lapd_sides_links::AtOnce;
 use lapd_table::{LinkId, LinkTable};
 use lapd_timers::TimerSet;
+use std::alloc::Global;
 
 /// A network side or a user side, for programs that can be either. Its calls are those of
 /// [`NetSide`] and [`UserSide`].
@@ -23,7 +26,7 @@ pub enum EitherSide {
 }
 
 impl EitherSide {
-    ghost use Rattle.lapd_sides.specs.Either.{side_of, Takes, Answers, Gives, PredictsNone, SendsNone, Expires, StaysIdle, SetsDurations, HasNextDeadline, HasTable, HasTimers, HasDiscarded};
+    ghost use Rattle.lapd_sides.specs.Either.{side_of, meant_by, served_of, LendsServed, Takes, Answers, Gives, PredictsNone, SendsNone, Expires, StaysIdle, SetsDurations, HasNextDeadline, HasTable, HasTimers, HasDiscarded};
 
     /// Whether this is the network side or the user side.
     pub fn side(&self) -> Side
@@ -41,6 +44,7 @@ impl EitherSide {
     /// # Errors
     ///
     /// B3 if the links of a TEI cannot be allocated. The side is unchanged and `acts` is empty.
+    #[tactic(auto, unfolding(crate::specs::Network::network_takes, crate::specs::Network::given_for, crate::specs::User::user_takes, crate::specs::User::got_for))]
     pub fn take(&mut self, bytes: &[u8], now: u64, acts: &mut Acts) -> Result<(), SideFault>
         ensures side { side_of self.new ≡ side_of self.old }
         ensures received { Takes bytes.now now result self.old self.new acts.new }
@@ -55,6 +59,7 @@ impl EitherSide {
     /// Expires the first timer that is due at `now`, in milliseconds. Returns `false` if none is
     /// due; call it until then. Before you expire timers for a moment, pass in every frame that had
     /// arrived by then.
+    #[tactic(auto, unfolding(crate::specs::Network::network_expires, crate::specs::User::user_expires))]
     pub fn tick(&mut self, now: u64, acts: &mut Acts) -> bool
         ensures side { side_of self.new ≡ side_of self.old }
         ensures due { result ≡ true → Expires now self.old self.new acts.new }
@@ -118,9 +123,42 @@ impl EitherSide {
         ensures unchanged { result ≡ false → self.new ≡ self.old }
         ensures nothing { result ≡ false → acts.new ≡ acts.old }
     {
+        // One body for both kinds: two would cost each of them registers.
+        match read_predicted(bytes, opposite(self.side())) {
+            Some(frame) => self.served().receive_predicted(&frame, now, acts),
+            None => false,
+        }
+    }
+
+    /// The links of the side, the timer of TEI management, and the number of discarded frames.
+    #[inline(always)]
+    fn served(&mut self) -> &mut LinksAndTimer
+        ensures* writes_back { sem 𝓛 (LendsServed self.entry result) }
+        ensures value { result.now ≡ served_of self.old }
+    {
         match self {
-            EitherSide::Network(side) => side.take_predicted(bytes, now, acts),
-            EitherSide::User(side) => side.take_predicted(bytes, now, acts),
+            EitherSide::Network(side) => &mut side.served,
+            EitherSide::User(side) => &mut side.served,
+        }
+    }
+
+    /// The link that a caller means who names this one. `None` without a TEI.
+    #[inline(always)]
+    fn meant(&self, id: &LinkId) -> Option<LinkId>
+        ensures { result ≡ meant_by self.now id.now }
+    {
+        match self {
+            EitherSide::Network(_) => Some(*id),
+            EitherSide::User(side) => side.management.own_link(id),
+        }
+    }
+
+    /// Where the side allocates.
+    #[inline(always)]
+    fn alloc(&self) -> Global {
+        match self {
+            EitherSide::Network(side) => side.alloc,
+            EitherSide::User(side) => side.alloc,
         }
     }
 
@@ -129,6 +167,7 @@ impl EitherSide {
     /// # Errors
     ///
     /// B3 as `take`.
+    #[tactic(auto, unfolding(crate::specs::Network::network_takes, crate::specs::Network::given_for, crate::specs::User::user_takes, crate::specs::User::got_for))]
     pub(crate) fn take_any(
         &mut self,
         bytes: &[u8],
@@ -160,9 +199,13 @@ impl EitherSide {
             (SendsNone id.now octets.now self.old)
             ((self.new ≡ self.old) × (acts.new ≡ acts.old)) result }
     {
-        match self {
-            EitherSide::Network(side) => side.send_at_once(id, octets, now, acts),
-            EitherSide::User(side) => side.send_at_once(id, octets, now, acts),
+        let alloc = self.alloc();
+        match self.meant(id) {
+            Some(own) => self
+                .served()
+                .links
+                .send_at_once(alloc, &own, octets, now, acts),
+            None => AtOnce::unsent(alloc, octets),
         }
     }
 

@@ -60,11 +60,14 @@ mod backlog;
 mod either_side;
 mod laws;
 mod links_and_timer;
+mod managed_side;
+mod management;
 mod net_side;
 mod pending_establishments;
 mod queued_side;
 mod references;
 mod request;
+mod terminal_management;
 mod user_side;
 
 pub use either_side::EitherSide;
@@ -79,7 +82,10 @@ pub use laws::{
     pending_establishments_are_done, releases_leave_other_links, removed_teis_lose_their_links,
     vain_requests_are_released,
 };
+pub use managed_side::ManagedSide;
+pub use management::{Management, Represented};
 pub use net_side::NetSide;
 pub use queued_side::QueuedSide;
 pub use request::Request;
+pub use terminal_management::TerminalManagement;
 pub use user_side::UserSide;

@@ -1,8 +1,7 @@
 //! The user side.
 
-ghost use Rattle.std.specs.Prelude.{◌≡◌, ◌⊎◌, ◌≤◌, ◌<◌, ◌+◌, ◌++◌, true, false, length, [], Some, None, Ok, Err, OnOk, OnErr, IfOk, IfErr, IfSome, option_copied};
+ghost use Rattle.std.specs.Prelude.{◌≡◌, ◌≤◌, ◌<◌, ◌+◌, ◌++◌, length, [], Some, None, Err, IfOk, IfSome};
 ghost use Rattle.std.specs.List.{All};
-ghost use Rattle.lapd_frame.specs.Reading.{frame_at};
 ghost use Rattle.lapd_link_definition.specs.Input.{input_of, Establish, Release, UnitData, Give};
 ghost use Rattle.lapd_link_definition.specs.declared.event.LinkFault.TheVariants.{NotEstablished};
 ghost use Rattle.lapd_tei.specs.Out.{IsInRange, tei_given};
@@ -11,47 +10,107 @@ ghost use Rattle.lapd_tei.specs.declared.phase.Phase.{Phase};
 ghost use Rattle.lapd_table.specs.LinkTable.{IsFor};
 ghost use Rattle.lapd_sides_links.specs.declared.side_fault.SideKind.TheVariants.{NoLink, Link};
 ghost use Rattle.lapd_sides_links.specs.declared.acts.TheConstants.{MOST_PRIMITIVES};
-ghost use Rattle.lapd_sides_links.specs.Effects.{no_effects, Adds};
-ghost use Rattle.lapd_sides_links.specs.Messages.{SendsAtOnce, WithMessage};
-ghost use Rattle.lapd_sides_links.specs.Expiries.{IsNextDeadline, of_served};
 ghost use Rattle.lapd_sides_links.specs.Links.{of_sapi};
-ghost use Rattle.lapd_sides_links.specs.Rooms.{HasRoomFor, HasRoomForPredicted, AddsAtMost, IsEmpty};
-ghost use Rattle.lapd_sides.specs.Requests.{LacksMessage, message_of, without_message};
-ghost use Rattle.lapd_sides.specs.Shows.{are_predicted, ShowEnds};
-ghost use Rattle.lapd_sides.specs.User.{User, seeded, sends_message, new_user, user_takes, user_requested, gives_at_once_by_user, terminal_acts, assigned, pending_after, establishes_pending, establishes, gives_up_pending, primitive_of_group, primitive_of_sapi, link_of_user, frame_received, data_received, for_layer_3, got_for, got_for_frame, got_for_message, wants, forgets, gives_up, has_tei, with_tei_or};
+ghost use Rattle.lapd_sides_links.specs.Rooms.{HasRoomFor, AddsAtMost, IsEmpty};
+ghost use Rattle.lapd_sides.specs.Calls.{Answers, EachShown, Follows, SideDoes};
+ghost use Rattle.lapd_sides.specs.Meant.{gives_to_own_link, predicted_is_not_for_layer_3};
+ghost use Rattle.lapd_sides.specs.ShowsUser.{CarriesOut, ShowTerminal, ShowUser};
+ghost use Rattle.lapd_sides.specs.User.{TerminalState, seeded, sends_message, new_user, user_requested, user_rules, terminal_acts, assigned, pending_after, establishes_pending, establishes, gives_up_pending, primitive_of_sapi, wants, forgets, gives_up, has_tei, with_tei_or};
 
-use crate::links_and_timer::{
-    Expired, LinksAndTimer, MOST_TEI_OUTPUTS, carries_message, is_unit_to_group, without_message,
-};
+use crate::links_and_timer::{LinksAndTimer, MOST_TEI_OUTPUTS, is_unit_to_group, without_message};
+use crate::managed_side::deliver_for_sapi;
 use crate::pending_establishments::PendingEstablishments;
 use crate::references::References;
-use crate::{Acts, Config, Durations, Octets, Primitive, Request, SideFault, SideKind, What};
-use lapd_frame::{Frame, N201, Sapi, Side, Tei, read, read_predicted};
+use crate::terminal_management::TerminalManagement;
+use crate::{
+    Acts, Config, ManagedSide, Management, Represented, Request, SideFault, SideKind, What,
+};
+use lapd_frame::{Frame, Sapi, Side, Tei};
 use lapd_link::{Event, LinkFault};
-use lapd_sides_links::{AtOnce, next_deadline, refused};
-use lapd_table::{LinkId, LinkTable};
+use lapd_sides_links::refused;
+use lapd_table::LinkId;
 use lapd_tei::{TeiMessage, TeiOut, Terminal, TerminalEvent};
-use lapd_timers::TimerSet;
 use std::alloc::{AllocError, Global};
 
 /// The user side of an interface: a terminal, the links of its TEI, and their timers.
-///
-/// Each call empties the [`Acts`] that the caller passes, and fills them with its results: the
-/// frames to send and the primitives for the layers above. The side has no clock: the caller passes
-/// the time, in milliseconds.
-#[derive(Drop)]
-pub struct UserSide {
-    alloc: Global,
-    config: Config,
-    served: LinksAndTimer,
-    terminal: Terminal,
-    pending: PendingEstablishments,
-    references: References,
+pub type UserSide = ManagedSide<TerminalManagement>;
+
+impl Represented for TerminalManagement {
+    ghost State = { TerminalState };
+
+    ghost represents = { ShowTerminal };
+
+    ghost rules = { user_rules };
+}
+
+impl Management for TerminalManagement {
+    ghost predicted_is_for_link = { predicted_is_not_for_layer_3 };
+
+    ghost gives_to_meant = { gives_to_own_link };
+
+    #[inline(always)]
+    fn side() -> Side {
+        Side::User
+    }
+
+    fn is_for_layer_3(config: &Config, frame: &Frame<'_>) -> bool {
+        config.serves(frame.address().sapi) && is_unit_to_group(frame)
+    }
+
+    #[inline(always)]
+    fn meant(&self, id: &LinkId) -> Option<LinkId> {
+        self.own_link(id)
+    }
+
+    fn hear(
+        side: &mut UserSide,
+        message: TeiMessage,
+        now: u64,
+        acts: &mut Acts,
+    ) -> Result<(), AllocError> {
+        let event = TerminalEvent::Heard(message, side.management.references.next());
+        let mut terminal = side.management.terminal;
+        let outs = terminal.handle(event);
+        side.served
+            .admit(side.alloc, &side.config, outs.as_slice())?;
+        side.management.terminal = terminal;
+        side.carry_out(outs.as_slice(), now, acts);
+        Ok(())
+    }
+
+    /// Stops T202, which has expired, and processes its expiry.
+    fn time_out(side: &mut UserSide, now: u64, acts: &mut Acts) {
+        let event = TerminalEvent::T202(side.management.references.next());
+        side.manage(event, now, acts);
+    }
+
+    #[tactic(auto, unfolding(crate::specs::User::user_requested))]
+    fn execute(
+        side: &mut UserSide,
+        request: Request,
+        now: u64,
+        acts: &mut Acts,
+    ) -> Result<(), SideFault> {
+        if let Request::AskTei = &request {
+            side.ask(now, acts);
+            return Ok(());
+        }
+        if let Request::Remove(tei) = &request {
+            return side.give_up(*tei, now, acts);
+        }
+        match request {
+            Request::Establish(id) => side.establish(id.sapi, now, acts),
+            Request::Release(id) => side.release(id.sapi, now, acts),
+            Request::Busy(id, true) => side.be_busy(id.sapi, Event::BusyOn, now, acts),
+            Request::Busy(id, false) => side.be_busy(id.sapi, Event::BusyOff, now, acts),
+            Request::Unit(id, octets) => side.send_unit(id.sapi, octets, now, acts),
+            Request::Give(id, message) => side.give_message(id.sapi, message, now, acts),
+            Request::AskTei | Request::Check(_) | Request::Remove(_) => Ok(()),
+        }
+    }
 }
 
 impl UserSide {
-    ghost use Rattle.lapd_sides.specs.ShowsUser.{ShowUser, EachShown, SetsDurations, UserDoes, UserReceives, Answers, Expires, Grants, UserStaysIdle};
-
     /// Creates a user side. With a fixed TEI, 0 to 126, its links exist, in state 4; without one it
     /// has no links yet.
     ///
@@ -67,315 +126,36 @@ impl UserSide {
         if let Some(tei) = fixed {
             served.links.add_tei(alloc, &config, tei)?;
         }
-        Ok(UserSide {
+        Ok(ManagedSide {
             alloc,
             config,
             served,
-            terminal: Terminal::new(fixed),
-            pending: PendingEstablishments::nothing(),
-            references: References::new(config.seed),
-        })
-    }
-
-    /// Processes octets received from the line at the time `now`. A frame is passed to the link
-    /// that it is addressed to, a TEI message to TEI management, and unit data to all terminals to
-    /// layer 3. A frame for no link, and octets with one of the faults F1 to F3, are discarded and
-    /// counted by [`UserSide::discarded`]. Allocates only if the terminal obtains a TEI, for its
-    /// links.
-    ///
-    /// # Errors
-    ///
-    /// B3 if that allocation failed. The side is unchanged and `acts` is empty.
-    pub fn take(&mut self, bytes: &[u8], now: u64, acts: &mut Acts) -> Result<(), SideFault>
-        ensures received { UserReceives result self.old self.new acts.new
-            (λ s. got_for s bytes.now) (λ config. user_takes config bytes.now now) }
-        ensures err { IfErr result (λ fault. fault ≡ without_message SideKind.Memory) }
-    {
-        acts.clear();
-        if self.take_predicted(bytes, now, acts) {
-            return Ok(());
-        }
-        self.take_any(bytes, now, acts)
-    }
-
-    /// Processes octets, if they are a frame that its link predicts: an I frame that is expected
-    /// next, an acknowledgement or a poll, in state 7 ([`lapd_link::Link::predicted_step`]). The
-    /// results are appended to `acts`. Otherwise it returns `false`, and nothing is changed.
-    #[inline(always)]
-    pub(crate) fn take_predicted(&mut self, bytes: &[u8], now: u64, acts: &mut Acts) -> bool
-        requires room { HasRoomForPredicted acts.old }
-        ensures taken { result ≡ true → Adds acts.old acts.new (λ given.
-            UserDoes self.old self.new given (λ config. user_takes config bytes.now now)) }
-        ensures declined { result ≡ false → EachShown self.old (λ s.
-            are_predicted (frame_at Side.Network bytes.now) s.served.links ≡ false) }
-        ensures unchanged { result ≡ false → self.new ≡ self.old }
-        ensures nothing { result ≡ false → acts.new ≡ acts.old }
-    {
-        match read_predicted(bytes, Side::Network) {
-            Some(frame) => self.served.receive_predicted(&frame, now, acts),
-            None => false,
-        }
-    }
-
-    /// Processes any octets, predicted or not.
-    ///
-    /// # Errors
-    ///
-    /// B3 as `take`.
-    // If inlined, it would cost a predicted frame stack and registers.
-    #[inline(never)]
-    pub(crate) fn take_any(
-        &mut self,
-        bytes: &[u8],
-        now: u64,
-        acts: &mut Acts,
-    ) -> Result<(), SideFault>
-        requires empty { IsEmpty acts.old }
-        ensures received { UserReceives result self.old self.new acts.new
-            (λ s. got_for s bytes.now) (λ config. user_takes config bytes.now now) }
-        ensures err { IfErr result (λ fault. fault ≡ without_message SideKind.Memory) }
-    {
-        match read(bytes, Side::Network) {
-            Ok(frame) => match self.receive(&frame, now, acts) {
-                Ok(()) => Ok(()),
-                Err(AllocError) => Err(without_message(SideKind::Memory)),
+            management: TerminalManagement {
+                terminal: Terminal::new(fixed),
+                pending: PendingEstablishments::nothing(),
+                references: References::new(config.seed),
             },
-            Err(fault) => {
-                self.served.receive_fault(&fault, now, acts);
-                Ok(())
-            }
-        }
-    }
-
-    /// Processes a frame, which may be a TEI message.
-    fn receive(&mut self, frame: &Frame<'_>, now: u64, acts: &mut Acts) -> Result<(), AllocError>
-        requires empty { IsEmpty acts.old }
-        requires fits { length frame.now.info ≤ N201 }
-        ensures { UserReceives result self.old self.new acts.new
-            (λ s. got_for_frame s (Ok frame.now)) (λ config. frame_received config now frame.now) }
-    {
-        if carries_message(frame) {
-            match TeiMessage::read(frame.info()) {
-                Ok(message) => self.receive_message(message, now, acts),
-                Err(_) => Ok(()),
-            }
-        } else {
-            self.receive_data(frame, now, acts);
-            Ok(())
-        }
-    }
-
-    /// Processes a frame that is not a TEI message: unit data to all terminals, or a frame for the
-    /// link that it is addressed to.
-    fn receive_data(&mut self, frame: &Frame<'_>, now: u64, acts: &mut Acts)
-        requires empty { IsEmpty acts.old }
-        requires fits { length frame.now.info ≤ N201 }
-        ensures { UserDoes self.old self.new acts.new
-            (λ config. data_received config now frame.now) }
-    {
-        if is_for_layer_3(&self.config, frame) {
-            deliver_unit(frame.address().sapi, frame.info(), acts);
-        } else {
-            self.served.receive_frame(frame, now, acts);
-        }
-    }
-
-    /// Passes a TEI message to the terminal. The links of a TEI that it obtains are added before
-    /// anything else is changed.
-    fn receive_message(
-        &mut self,
-        message: TeiMessage,
-        now: u64,
-        acts: &mut Acts,
-    ) -> Result<(), AllocError>
-        requires empty { IsEmpty acts.old }
-        ensures { UserReceives result self.old self.new acts.new
-            (λ s. got_for_message s (Ok message))
-            (λ config. terminal_acts config now (TerminalEvent.Heard message)) }
-    {
-        let event = TerminalEvent::Heard(message, self.references.next());
-        let mut terminal = self.terminal;
-        let outs = terminal.handle(event);
-        self.served
-            .admit(self.alloc, &self.config, outs.as_slice())?;
-        self.terminal = terminal;
-        self.carry_out(outs.as_slice(), now, acts);
-        Ok(())
-    }
-
-    /// Expires the first timer that is due at `now`, in milliseconds. Returns `false` if none is
-    /// due; call it until then. Before you expire timers for a moment, pass in every frame that had
-    /// arrived by then. Does not allocate.
-    pub fn tick(&mut self, now: u64, acts: &mut Acts) -> bool
-        ensures due { result ≡ true → Expires self.old self.new acts.new now }
-        ensures none { result ≡ false → UserStaysIdle self.old self.new now }
-        ensures nothing { result ≡ false → acts.new ≡ no_effects }
-    {
-        acts.clear();
-        match self.served.expire_first(now, acts) {
-            Expired::Nothing => false,
-            Expired::Link => true,
-            Expired::Management => {
-                self.ask_again(now, acts);
-                true
-            }
-        }
-    }
-
-    /// The next moment at which [`UserSide::tick`] has something to do, in milliseconds; before it,
-    /// `tick` returns `false`. `None` if no timer runs. It changes only in `take`, `tick`,
-    /// `request` and `give`, so a program can sleep until this moment or until octets arrive.
-    pub fn next_deadline(&self) -> Option<u64>
-        ensures { EachShown self.now (λ s. IsNextDeadline s.served result) }
-    {
-        next_deadline(&self.served.timers, &self.served.links)
-    }
-
-    /// Executes a request at the time `now`. Only the SAPI of a link id is used: the TEI is the
-    /// terminal's own. Without a TEI, an establishment is kept until the terminal has one, and a
-    /// TEI is requested. Does not allocate.
-    ///
-    /// # Errors
-    ///
-    /// B1 if the link does not exist, or the TEI to remove is not the terminal's; L1 to L5 if the
-    /// link refuses; L1 for a message without a TEI. The message or unit data is returned in the
-    /// error. The side is unchanged and `acts` is empty.
-    #[tactic(auto, unfolding(crate::specs::User::user_requested))]
-    pub fn request(&mut self, request: Request, now: u64, acts: &mut Acts) -> Result<(), SideFault>
-        ensures { Answers result self.old self.new acts.new (message_of request)
-            (λ config. user_requested config request now) }
-    {
-        acts.clear();
-        if let Request::AskTei = &request {
-            self.ask(now, acts);
-            return Ok(());
-        }
-        if let Request::Remove(tei) = &request {
-            return self.give_up(*tei, now, acts);
-        }
-        match request {
-            Request::Establish(id) => self.establish(id.sapi, now, acts),
-            Request::Release(id) => self.release(id.sapi, now, acts),
-            Request::Busy(id, true) => self.be_busy(id.sapi, Event::BusyOn, now, acts),
-            Request::Busy(id, false) => self.be_busy(id.sapi, Event::BusyOff, now, acts),
-            Request::Unit(id, octets) => self.send_unit(id.sapi, octets, now, acts),
-            Request::Give(id, message) => self.give_message(id.sapi, message, now, acts),
-            Request::AskTei | Request::Check(_) | Request::Remove(_) => Ok(()),
-        }
-    }
-
-    /// Submits a copy of these octets to a link as a layer 3 message, at the time `now`, as
-    /// [`UserSide::request`] does with [`Request::Give`]. The copy is in the room of an acknowledged
-    /// message if the link keeps one: only then nothing is allocated.
-    ///
-    /// # Errors
-    ///
-    /// B3 if the copy cannot be allocated, and L1 to L5, with the copy, as `request`. The side is
-    /// unchanged and `acts` is empty.
-    #[tactic(auto, unfolding(crate::specs::User::user_requested))]
-    pub fn give(
-        &mut self,
-        id: LinkId,
-        octets: &[u8],
-        now: u64,
-        acts: &mut Acts,
-    ) -> Result<(), SideFault>
-        ensures { LacksMessage result self.old self.new acts.new
-            ⊎ WithMessage octets.now (λ message. Answers result self.old self.new acts.new
-            (Some message)
-            (λ config. user_requested config (Request.Give id message) now)) }
-    {
-        acts.clear();
-        match self.send_at_once(&id, octets, now, acts) {
-            AtOnce::Sent => Ok(()),
-            AtOnce::Unsent(message) => self.give_message(id.sapi, message, now, acts),
-            AtOnce::NoMemory => Err(without_message(SideKind::Memory)),
-        }
-    }
-
-    /// Submits a copy of these octets, as `give` does, if the link sends it at once. The results are
-    /// appended to `acts`.
-    #[inline(always)]
-    pub(crate) fn send_at_once(
-        &mut self,
-        id: &LinkId,
-        octets: &[u8],
-        now: u64,
-        acts: &mut Acts,
-    ) -> AtOnce
-        requires room { HasRoomForPredicted acts.old }
-        ensures { SendsAtOnce octets.now (λ message. Adds acts.old acts.new
-            (λ given. Grants self.old self.new given
-            (λ config. user_requested config (Request.Give id.now message) now)))
-            (EachShown self.old (λ s. gives_at_once_by_user id.now.sapi octets.now s ≡ false))
-            ((self.new ≡ self.old) × (acts.new ≡ acts.old)) result }
-    {
-        match self.terminal.tei() {
-            Some(tei) => {
-                let own = name(id.sapi, tei);
-                self.served
-                    .links
-                    .send_at_once(self.alloc, &own, octets, now, acts)
-            }
-            None => AtOnce::unsent(self.alloc, octets),
-        }
-    }
-
-    /// Sets how long timers run when they are started from then on, also those of links that are
-    /// added later. A running timer keeps its deadline.
-    pub fn set_durations(&mut self, durations: Durations)
-        ensures { SetsDurations self.old self.new durations }
-    {
-        self.config.durations = durations;
-        self.served.set_durations(durations);
-    }
-
-    /// The links of the side.
-    pub fn table(&self) -> &LinkTable
-        ensures { EachShown self.now (λ s. ShowEnds Side.User result.now s.served.links) }
-    {
-        &self.served.links.table
-    }
-
-    /// The timers of an existing link; for `None`, T202 of TEI management.
-    pub fn timers(&self, of: Option<LinkId>) -> Option<&TimerSet>
-        ensures { EachShown self.now (λ s. option_copied result ≡ of_served s.served of) }
-    {
-        match of {
-            None => Some(&self.served.timers),
-            Some(id) => self.served.links.timers(&id),
-        }
+        })
     }
 
     /// The terminal's TEI management.
     pub fn terminal(&self) -> &Terminal
-        ensures { EachShown self.now (λ s. result.now ≡ s.terminal) }
+        ensures { EachShown ShowUser self.now (λ s. result.now ≡ s.management.terminal) }
     {
-        &self.terminal
-    }
-
-    /// The number of frames that [`UserSide::take`] has discarded: those with F1 to F3, and those
-    /// for a link that does not exist. It stops at `u64::MAX`. Messages that TEI management ignores
-    /// are not counted.
-    pub fn discarded(&self) -> u64
-        ensures { EachShown self.now (λ s. result ≡ s.discarded) }
-    {
-        self.served.discarded
+        &self.management.terminal
     }
 }
 
 /// Requests.
 impl UserSide {
-    ghost use Rattle.lapd_sides.specs.ShowsUser.{Answers};
-
     /// Establishes the link of this SAPI; without a TEI, the request is kept.
     fn establish(&mut self, sapi: Sapi, now: u64, acts: &mut Acts) -> Result<(), SideFault>
         requires empty { IsEmpty acts.old }
-        ensures { Answers result self.old self.new acts.new None
-            (λ config s. with_tei_or now s.terminal sapi Establish []
+        ensures { Answers ShowUser result self.old self.new acts.new None
+            (λ config s. with_tei_or now s.management.terminal sapi Establish []
             (wants config now sapi s) s) }
     {
-        match self.terminal.tei() {
+        match self.management.terminal.tei() {
             Some(tei) => self.act(name(sapi, tei), Event::Establish, now, acts),
             None => self.want(sapi, now, acts),
         }
@@ -384,13 +164,13 @@ impl UserSide {
     /// Keeps an establishment without a TEI for its SAPI, if that is served, and requests a TEI.
     fn want(&mut self, sapi: Sapi, now: u64, acts: &mut Acts) -> Result<(), SideFault>
         requires empty { IsEmpty acts.old }
-        ensures { Answers result self.old self.new acts.new None (λ config. wants config now sapi) }
+        ensures { Answers ShowUser result self.old self.new acts.new None (λ config. wants config now sapi) }
     {
         if !self.config.serves(sapi) {
             return Err(without_message(SideKind::NoLink));
         }
-        self.pending.set(sapi, true);
-        let event = TerminalEvent::Want(self.references.next());
+        self.management.pending.set(sapi, true);
+        let event = TerminalEvent::Want(self.management.references.next());
         self.manage(event, now, acts);
         Ok(())
     }
@@ -398,10 +178,10 @@ impl UserSide {
     /// Releases the link of this SAPI; without a TEI, forgets a kept establishment.
     fn release(&mut self, sapi: Sapi, now: u64, acts: &mut Acts) -> Result<(), SideFault>
         requires empty { IsEmpty acts.old }
-        ensures { Answers result self.old self.new acts.new None
-            (λ _ s. with_tei_or now s.terminal sapi Release [] (forgets sapi s) s) }
+        ensures { Answers ShowUser result self.old self.new acts.new None
+            (λ _ s. with_tei_or now s.management.terminal sapi Release [] (forgets sapi s) s) }
     {
-        match self.terminal.tei() {
+        match self.management.terminal.tei() {
             Some(tei) => self.act(name(sapi, tei), Event::Release, now, acts),
             None => self.forget(sapi, acts),
         }
@@ -410,12 +190,12 @@ impl UserSide {
     /// Forgets a kept establishment. The terminal continues to request a TEI.
     fn forget(&mut self, sapi: Sapi, acts: &mut Acts) -> Result<(), SideFault>
         requires empty { IsEmpty acts.old }
-        ensures { Answers result self.old self.new acts.new None (λ _. forgets sapi) }
+        ensures { Answers ShowUser result self.old self.new acts.new None (λ _. forgets sapi) }
     {
-        if !self.pending.has(sapi) {
+        if !self.management.pending.has(sapi) {
             return Err(without_message(SideKind::NoLink));
         }
-        self.pending.set(sapi, false);
+        self.management.pending.set(sapi, false);
         deliver_for_sapi(sapi, What::ReleaseConfirm, acts);
         Ok(())
     }
@@ -430,10 +210,10 @@ impl UserSide {
     ) -> Result<(), SideFault>
         requires empty { IsEmpty acts.old }
         requires for_link { (id : LinkId) → IsFor id event }
-        ensures { Answers result self.old self.new acts.new None
-            (λ _ s. with_tei_or now s.terminal sapi (input_of event.entry) [] (Err NoLink) s) }
+        ensures { Answers ShowUser result self.old self.new acts.new None
+            (λ _ s. with_tei_or now s.management.terminal sapi (input_of event.entry) [] (Err NoLink) s) }
     {
-        match self.terminal.tei() {
+        match self.management.terminal.tei() {
             Some(tei) => self.act(name(sapi, tei), event, now, acts),
             None => Err(without_message(SideKind::NoLink)),
         }
@@ -448,11 +228,11 @@ impl UserSide {
         acts: &mut Acts,
     ) -> Result<(), SideFault>
         requires empty { IsEmpty acts.old }
-        ensures { Answers result self.old self.new acts.new (Some octets)
-            (λ _ s. with_tei_or now s.terminal sapi (UnitData (length octets.items)) octets.items
+        ensures { Answers ShowUser result self.old self.new acts.new (Some octets)
+            (λ _ s. with_tei_or now s.management.terminal sapi (UnitData (length octets.items)) octets.items
             (Err NoLink) s) }
     {
-        let Some(tei) = self.terminal.tei() else {
+        let Some(tei) = self.management.terminal.tei() else {
             return Err(refused(SideKind::NoLink, octets));
         };
         let sent = self
@@ -474,11 +254,11 @@ impl UserSide {
         acts: &mut Acts,
     ) -> Result<(), SideFault>
         requires empty { IsEmpty acts.old }
-        ensures { Answers result self.old self.new acts.new (Some message)
-            (λ _ s. with_tei_or now s.terminal sapi (Give message.items) []
+        ensures { Answers ShowUser result self.old self.new acts.new (Some message)
+            (λ _ s. with_tei_or now s.management.terminal sapi (Give message.items) []
             (Err (Link NotEstablished)) s) }
     {
-        match self.terminal.tei() {
+        match self.management.terminal.tei() {
             Some(tei) => self.served.links.give(&name(sapi, tei), message, now, acts),
             None => Err(refused(SideKind::Link(LinkFault::NotEstablished), message)),
         }
@@ -487,71 +267,46 @@ impl UserSide {
     /// Gives up the terminal's TEI, if it is this one (Q.921 5.3.4).
     fn give_up(&mut self, tei: Tei, now: u64, acts: &mut Acts) -> Result<(), SideFault>
         requires empty { IsEmpty acts.old }
-        ensures { Answers result self.old self.new acts.new None
+        ensures { Answers ShowUser result self.old self.new acts.new None
             (λ config. gives_up config now tei) }
     {
-        if !has_tei(self.terminal.tei(), tei) {
+        if !has_tei(self.management.terminal.tei(), tei) {
             return Err(without_message(SideKind::NoLink));
         }
         self.leave(now, acts);
         Ok(())
     }
-
-    /// Passes an event to the link with this id.
-    fn act(&mut self, id: LinkId, event: Event, now: u64, acts: &mut Acts) -> Result<(), SideFault>
-        requires empty { IsEmpty acts.old }
-        requires for_link { IsFor id event }
-        ensures { Answers result self.old self.new acts.new None
-            (λ _. link_of_user now id (input_of event.entry) []) }
-    {
-        match self.served.links.act(&id, event, &[], now, acts) {
-            Ok(()) => Ok(()),
-            Err(kind) => Err(without_message(kind)),
-        }
-    }
 }
 
 /// TEI management.
 impl UserSide {
-    ghost use Rattle.lapd_sides.specs.ShowsUser.{UserDoes, Follows, CarriesOut};
-
     /// Requests a TEI.
     fn ask(&mut self, now: u64, acts: &mut Acts)
         requires { IsEmpty acts.old }
-        ensures { UserDoes self.old self.new acts.new
+        ensures { SideDoes ShowUser self.old self.new acts.new
             (λ config. terminal_acts config now TerminalEvent.Ask) }
     {
-        let event = TerminalEvent::Ask(self.references.next());
+        let event = TerminalEvent::Ask(self.management.references.next());
         self.manage(event, now, acts);
     }
 
     /// Gives up the terminal's TEI.
     fn leave(&mut self, now: u64, acts: &mut Acts)
         requires { IsEmpty acts.old }
-        ensures { UserDoes self.old self.new acts.new
+        ensures { SideDoes ShowUser self.old self.new acts.new
             (λ config. terminal_acts config now (λ _. TerminalEvent.Leave)) }
     {
         self.manage(TerminalEvent::Leave, now, acts);
-    }
-
-    /// Stops T202, which has expired, and processes its expiry.
-    fn ask_again(&mut self, now: u64, acts: &mut Acts)
-        requires { IsEmpty acts.old }
-        ensures { UserDoes self.old self.new acts.new
-            (λ config. terminal_acts config now TerminalEvent.T202) }
-    {
-        let event = TerminalEvent::T202(self.references.next());
-        self.manage(event, now, acts);
     }
 
     /// Passes the terminal an event by which it obtains no TEI.
     fn manage(&mut self, event: TerminalEvent, now: u64, acts: &mut Acts)
         requires empty { IsEmpty acts.old }
         requires gets_none { (phase : Phase) → tei_given (terminal_step phase event).outs ≡ None }
-        ensures { UserDoes self.old self.new acts.new
-            (λ config s. assigned config now (terminal_step s.terminal event) s) }
+        ensures { SideDoes ShowUser self.old self.new acts.new
+            (λ config s. assigned config now (terminal_step s.management.terminal event) s) }
     {
-        let outs = self.terminal.handle(event);
+        let outs = self.management.terminal.handle(event);
         self.carry_out(outs.as_slice(), now, acts);
     }
 
@@ -563,7 +318,7 @@ impl UserSide {
         requires empty { IsEmpty acts.old }
         ensures { CarriesOut self.old self.new acts.new now outs.now }
     {
-        self.references.advance_if(sends_message(outs));
+        self.management.references.advance_if(sends_message(outs));
         self.served.carry_out(Side::User, outs, now, acts);
         self.settle_pending(outs, now, acts);
     }
@@ -573,7 +328,7 @@ impl UserSide {
     fn settle_pending(&mut self, outs: &[TeiOut], now: u64, acts: &mut Acts)
         requires frame_room { length acts.old.frames ≤ MOST_TEI_OUTPUTS + 2 }
         requires primitive_room { length acts.old.primitives ≤ MOST_TEI_OUTPUTS + 2 }
-        ensures { Follows self.old self.new acts.old acts.new (λ _. pending_after now outs.now) }
+        ensures { Follows ShowUser self.old self.new acts.old acts.new (λ _. pending_after now outs.now) }
     {
         for out in outs {
             match out {
@@ -588,10 +343,10 @@ impl UserSide {
     fn establish_pending(&mut self, tei: Tei, now: u64, acts: &mut Acts)
         requires frame_room { length acts.old.frames ≤ MOST_TEI_OUTPUTS + 2 }
         requires primitive_room { length acts.old.primitives ≤ MOST_TEI_OUTPUTS + 2 }
-        ensures { Follows self.old self.new acts.old acts.new (λ _. establishes_pending now tei) }
+        ensures { Follows ShowUser self.old self.new acts.old acts.new (λ _. establishes_pending now tei) }
     {
-        let pending = self.pending;
-        self.pending = PendingEstablishments::nothing();
+        let pending = self.management.pending;
+        self.management.pending = PendingEstablishments::nothing();
         self.establish_if(pending.has(Sapi::Call), name(Sapi::Call, tei), now, acts);
         self.establish_if(
             pending.has(Sapi::Packet),
@@ -605,7 +360,7 @@ impl UserSide {
     /// `acts`.
     fn establish_if(&mut self, pending: bool, id: LinkId, now: u64, acts: &mut Acts)
         requires room { HasRoomFor Establish acts.old }
-        ensures done { Follows self.old self.new acts.old acts.new
+        ensures done { Follows ShowUser self.old self.new acts.old acts.new
             (λ _. establishes pending now id) }
         ensures most { AddsAtMost Establish acts.old acts.new }
     {
@@ -617,20 +372,13 @@ impl UserSide {
     /// Releases the kept establishments, SAPI 0 first, because the terminal obtained no TEI.
     fn give_up_pending(&mut self, acts: &mut Acts)
         requires { length acts.old.primitives ≤ MOST_TEI_OUTPUTS + 2 }
-        ensures { Follows self.old self.new acts.old acts.new (λ _. gives_up_pending) }
+        ensures { Follows ShowUser self.old self.new acts.old acts.new (λ _. gives_up_pending) }
     {
-        let pending = self.pending;
-        self.pending = PendingEstablishments::nothing();
+        let pending = self.management.pending;
+        self.management.pending = PendingEstablishments::nothing();
         release_if(pending.has(Sapi::Call), Sapi::Call, acts);
         release_if(pending.has(Sapi::Packet), Sapi::Packet, acts);
     }
-}
-
-/// Whether a frame is unit data to all terminals, of a SAPI that is served (Q.921 5.2).
-fn is_for_layer_3(config: &Config, frame: &Frame<'_>) -> bool
-    ensures { result ≡ for_layer_3 config.now frame.now }
-{
-    config.serves(frame.address().sapi) && is_unit_to_group(frame)
 }
 
 /// Whether this is the TEI of a terminal that has `own`, if any.
@@ -655,17 +403,6 @@ fn sends_message(outs: &[TeiOut]) -> bool
     false
 }
 
-/// Reports unit data to all terminals, of this SAPI, to layer 3 (Q.921 5.2).
-fn deliver_unit(sapi: Sapi, octets: &[u8], acts: &mut Acts)
-    requires empty { IsEmpty acts.old }
-    requires fits { length octets.now ≤ N201 }
-    ensures { acts.new ≡ record no_effects {
-      primitives = primitive_of_group sapi (What.UnitUp octets.now);
-    } }
-{
-    deliver_for_sapi(sapi, What::UnitUp(Octets::new(octets)), acts);
-}
-
 /// Reports to layer 3 that a SAPI without a TEI is released, if its establishment was kept.
 fn release_if(pending: bool, sapi: Sapi, acts: &mut Acts)
     requires { length acts.old.primitives < MOST_PRIMITIVES }
@@ -676,16 +413,6 @@ fn release_if(pending: bool, sapi: Sapi, acts: &mut Acts)
     if pending {
         deliver_for_sapi(sapi, What::Released, acts);
     }
-}
-
-/// Reports a primitive of a SAPI without a TEI to layer 3; it names the group TEI.
-fn deliver_for_sapi(sapi: Sapi, what: What, acts: &mut Acts)
-    requires { length acts.old.primitives < MOST_PRIMITIVES }
-    ensures { acts.new ≡ record acts.old {
-      primitives = acts.old.primitives ++ primitive_of_group sapi what;
-    } }
-{
-    acts.deliver(Primitive::Of(name(sapi, Tei::group()), what));
 }
 
 /// The id of a link.

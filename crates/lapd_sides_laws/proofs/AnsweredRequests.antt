@@ -14,10 +14,11 @@ use Rattle.lapd_sides_links.specs.declared.config.Config.{Config}
 use Rattle.lapd_sides_links.specs.declared.side_fault.SideKind.{SideKind}
 use Rattle.lapd_sides_links.specs.Expiries.{IsQuietBefore}
 use Rattle.lapd_sides_links.specs.Links.{Linked, Links, Reaction, of_sapi, in_links, link_acts, parameters_for}
+use Rattle.lapd_sides.specs.SideState.{link_of}
 use Rattle.lapd_sides.specs.Network as network
-use Rattle.lapd_sides.specs.Network.{Network, network_requested, link_of_network, new_network}
+use Rattle.lapd_sides.specs.Network.{Network, network_requested, link_of_network}
 use Rattle.lapd_sides.specs.User as user
-use Rattle.lapd_sides.specs.User.{User, user_requested, link_of_user, with_tei_or, new_user, wants, forgets}
+use Rattle.lapd_sides.specs.User.{User, user_requested, link_of_user, with_tei_or, wants, forgets}
 use Rattle.lapd_sides_laws.specs.Answers.{asks, answers, HasAnswer, expiries_of, KeepsRequest, IsBy, IsPunctual, Throughout, most_periods}
 use Rattle.lapd_sides_laws.specs.EndAnswers.{Asked, Establishment, Withdrawal, Clearing, request_of, may_release, most_expiries}
 use Rattle.lapd_sides_laws.specs.ExactTimers.{HaveExactTimers, SideStep, BringsOctets, stepped, stepped_by_all, new_view}
@@ -94,7 +95,7 @@ module _ (config : Config) (known : List ℕ) (before : List SideStep) (asked : 
 
   network_steps : IsStep side.Network id now (request_of asked) [] (λ (t : Timers). t)
       NetworkBefore.served.links a.after.served.links a.effects
-  unfolding link_of_network
+  unfolding link_of
   network_steps =
       network_grants (in_links id (link_acts side.Network id now (request_of asked) [])
       NetworkBefore.served.links) refl (sym (of_link asked) ∙ done)
@@ -144,7 +145,7 @@ module _ (config : Config) (known : List ℕ) (before : List SideStep) (asked : 
 
 module _ (config : Config) (fixed : Option ℕ) (random : Lcg) (before : List SideStep)
     (asked : Asked) (id : LinkId) (now : ℕ) (a : Reaction User) (octets : All BringsOctets before)
-    (own : tei_of (user_after config fixed random before).terminal ≡ Some id.tei)
+    (own : tei_of (user_after config fixed random before).management.terminal ≡ Some id.tei)
     (done : user_requested config (asks asked id) now (user_after config fixed random before)
     ≡ Ok a) (after : List SideStep) (keeps : KeepsRequest asked side.User id after) where
   abbrev UserBefore : User
@@ -177,17 +178,17 @@ module _ (config : Config) (fixed : Option ℕ) (random : Lcg) (before : List Si
       ≡ link_of_user now id (request_of asked) [] UserBefore
   unfolding user_requested
   of_own_link Establishment =
-      with_own_tei UserBefore.terminal (request_of Establishment)
+      with_own_tei UserBefore.management.terminal (request_of Establishment)
       (wants config now id.sapi UserBefore) own
   of_own_link Withdrawal =
-      with_own_tei UserBefore.terminal (request_of Withdrawal)
+      with_own_tei UserBefore.management.terminal (request_of Withdrawal)
       (wants config now id.sapi UserBefore) own
   of_own_link Clearing =
-      with_own_tei UserBefore.terminal (request_of Clearing) (forgets id.sapi UserBefore) own
+      with_own_tei UserBefore.management.terminal (request_of Clearing) (forgets id.sapi UserBefore) own
 
   user_steps : IsStep side.User id now (request_of asked) [] (λ (t : Timers). t)
       UserBefore.served.links a.after.served.links a.effects
-  unfolding link_of_user
+  unfolding link_of
   user_steps =
       user_grants (in_links id (link_acts side.User id now (request_of asked) [])
       UserBefore.served.links) refl (sym (of_own_link asked) ∙ done)

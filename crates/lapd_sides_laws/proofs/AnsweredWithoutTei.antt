@@ -99,19 +99,19 @@ there (Some deadline) h = (deadline, refl)
 there None h = cc
 
 module _ (config : Config) (id : LinkId) (asked : Asked) (clock : Bool) (now : ℕ) (s : User)
-    (usual : HasUsual config clock now s) (none : tei_of s.terminal ≡ None) where
+    (usual : HasUsual config clock now s) (none : tei_of s.management.terminal ≡ None) where
   abbrev Limit202 : ℕ
   Limit202 = now + n202 * config.durations.t202
 
   abbrev Wanting : User
-  Wanting = record s { pending = with_pending id.sapi true s.pending }
+  Wanting = record s { management = record s.management { pending = with_pending id.sapi true s.management.pending } }
 
   abbrev Wanted : Reaction User
   Wanted = terminal_acts config now event.Want Wanting
 
   abbrev Waits : User → Type 0
   Waits x =
-      IsWaiting config id.sapi clock Limit202 n202 0 x.terminal x.pending x.served.timers
+      IsWaiting config id.sapi clock Limit202 n202 0 x.management.terminal x.management.pending x.served.timers
 
   -- one period of T202 and those that are left; there are n202 = 3 at most
   in_limit : (d count : ℕ) → d ≤ now + config.durations.t202 → 1 ≤ count
@@ -123,10 +123,10 @@ module _ (config : Config) (id : LinkId) (asked : Asked) (clock : Bool) (now : �
       let left : n202 - suc (suc (suc count)) ≡ 0 = omega arith in
       rw left (omega (arith, h))
 
-  starts_waiting : (phase : Phase) → s.terminal ≡ phase → tei_of phase ≡ None
+  starts_waiting : (phase : Phase) → s.management.terminal ≡ phase → tei_of phase ≡ None
       → is_served config id.sapi ≡ true
       → Waits (assigned config now
-      (terminal_step phase (event.Want (next_reference s.random))) Wanting).after
+      (terminal_step phase (event.Want (next_reference s.management.random))) Wanting).after
   unfolding manages
   starts_waiting Unassigned is no_tei served =
       let plain = usual.usual.plain in
@@ -135,9 +135,9 @@ module _ (config : Config) (id : LinkId) (asked : Asked) (clock : Bool) (now : �
       record {
         purpose = reason.Establishment;
         count = 1;
-        ri = next_reference s.random;
+        ri = next_reference s.management.random;
         phase = refl;
-        kept = now_kept id.sapi s.pending (has_links config id.sapi served);
+        kept = now_kept id.sapi s.management.pending (has_links config id.sapi served);
         served = served;
         durations = plain.durations;
         deadline = deadline_from now s.served.timers.durations.t202;
@@ -161,7 +161,7 @@ module _ (config : Config) (id : LinkId) (asked : Asked) (clock : Bool) (now : �
         count = count;
         ri = ri;
         phase = refl;
-        kept = now_kept id.sapi s.pending (has_links config id.sapi served);
+        kept = now_kept id.sapi s.management.pending (has_links config id.sapi served);
         served = served;
         durations = plain.durations;
         deadline = t.0;
@@ -179,7 +179,7 @@ module _ (config : Config) (id : LinkId) (asked : Asked) (clock : Bool) (now : �
 
   wanted_waits : is_served config id.sapi ≡ true → Waits Wanted.after
   unfolding terminal_acts
-  wanted_waits served = starts_waiting s.terminal refl none served
+  wanted_waits served = starts_waiting s.management.terminal refl none served
 
   -- an accepted request: kept, or forgotten and confirmed
   wants_by : (test : Bool) (a : Reaction User) → is_served config id.sapi ≡ test
@@ -203,10 +203,10 @@ module _ (config : Config) (id : LinkId) (asked : Asked) (clock : Bool) (now : �
       → user_requested config (asks asked id) now s ≡ wants_or_forgets asked
   unfolding user_requested wants_or_forgets
   requested_as Establishment =
-      without s.terminal (request_of Establishment) (wants config now id.sapi s) none
+      without s.management.terminal (request_of Establishment) (wants config now id.sapi s) none
   requested_as Withdrawal =
-      without s.terminal (request_of Withdrawal) (wants config now id.sapi s) none
-  requested_as Clearing = without s.terminal (request_of Clearing) (forgets id.sapi s) none
+      without s.management.terminal (request_of Withdrawal) (wants config now id.sapi s) none
+  requested_as Clearing = without s.management.terminal (request_of Clearing) (forgets id.sapi s) none
 
   establishes_wanted : (asked : Asked) (a : Reaction User) → Establishes asked
       → user_requested config (asks asked id) now s ≡ Ok a
@@ -220,7 +220,7 @@ module _ (config : Config) (id : LinkId) (asked : Asked) (clock : Bool) (now : �
 
   forgets_by : (test : Bool) (a : Reaction User)
       → (if test then Ok (record {
-        after = record s { pending = with_pending id.sapi false s.pending };
+        after = record s { management = record s.management { pending = with_pending id.sapi false s.management.pending } };
         effects = record no_effects {
           primitives = primitive_of_group id.sapi what.ReleaseConfirm;
         };
@@ -228,7 +228,7 @@ module _ (config : Config) (id : LinkId) (asked : Asked) (clock : Bool) (now : �
       → HasAnswerFor Clearing id.sapi a.effects.primitives
   forgets_by true a done =
       let same : (record {
-        after = record s { pending = with_pending id.sapi false s.pending };
+        after = record s { management = record s.management { pending = with_pending id.sapi false s.management.pending } };
         effects = record no_effects {
           primitives = primitive_of_group id.sapi what.ReleaseConfirm;
         };
@@ -241,7 +241,7 @@ module _ (config : Config) (id : LinkId) (asked : Asked) (clock : Bool) (now : �
       → HasAnswerFor Clearing id.sapi a.effects.primitives
   unfolding wants_or_forgets
   cleared a done =
-      forgets_by (is_pending id.sapi s.pending) a (sym (requested_as Clearing) ∙ done)
+      forgets_by (is_pending id.sapi s.management.pending) a (sym (requested_as Clearing) ∙ done)
 
   module _ (a : Reaction User) (done : user_requested config (asks asked id) now s ≡ Ok a)
     where
@@ -303,9 +303,9 @@ module _ (config : Config) (id : LinkId) (asked : Asked) (clock : Bool) (now : �
         -- reported; then T200 of the TEI's link is counted
         its_tei : (o : ℕ) (x : User) (l : Option Linked)
             → x.served.links (of_sapi id.sapi o) ≡ l → AreOwn x → is_some l ≡ true
-            → tei_of x.terminal ≡ Some o
+            → tei_of x.management.terminal ≡ Some o
         its_tei o x l there own some =
-            of_owner x.terminal o (own (of_sapi id.sapi o)
+            of_owner x.management.terminal o (own (of_sapi id.sapi o)
             (subst (λ (y : Option Linked). is_some y ≡ true) (sym there) some))
 
         none_left : (m since last : ℕ) (o : ℕ) (l : Option Linked) → m ≡ 0
@@ -329,7 +329,7 @@ module _ (config : Config) (id : LinkId) (asked : Asked) (clock : Bool) (now : �
             → Throughout (user_behaviour config)
             (λ event x. clock ≡ true → IsPunctual (user_behaviour config) event x) second v
             → AreOwn v.now
-            → ((own : ℕ) → tei_of v.now.terminal ≡ Some own
+            → ((own : ℕ) → tei_of v.now.management.terminal ≡ Some own
             → most_expiries asked (parameters_for config id.sapi).n200
             ≤ expiries_of (of_sapi id.sapi own) second)
             → Ends m v
@@ -359,7 +359,7 @@ module _ (config : Config) (id : LinkId) (asked : Asked) (clock : Bool) (now : �
             (λ event x. clock ≡ true → IsPunctual (user_behaviour config) event x) second
             (after_request (user_behaviour config) a first)
             → n202 ≤ t202_expiries first
-            → ((own : ℕ) → tei_of (after_request (user_behaviour config) a first).now.terminal
+            → ((own : ℕ) → tei_of (after_request (user_behaviour config) a first).now.management.terminal
             ≡ Some own → most_expiries asked (parameters_for config id.sapi).n200
             ≤ expiries_of (of_sapi id.sapi own) second)
             → IsAnsweredFor asked id.sapi (user_behaviour config) a (first ++ second)
@@ -381,7 +381,7 @@ module _ (config : Config) (id : LinkId) (asked : Asked) (clock : Bool) (now : �
 pub user_without_tei_in_time : (config : Config) (fixed : Option ℕ) (random : Lcg)
     (before after : List SideStep) (asked : Asked) (id : LinkId) (now moment : ℕ)
     (a : Reaction User) → All (λ x. IsBy now x.event) before
-    → tei_of (user_after config fixed random before).terminal ≡ None
+    → tei_of (user_after config fixed random before).management.terminal ≡ None
     → user_requested config (asks asked id) now (user_after config fixed random before) ≡ Ok a
     → KeepsRequest asked side.User id after
     → AreExpiredInTime (user_behaviour config) a after moment
@@ -409,10 +409,10 @@ user_without_tei_in_time config fixed random before after Clearing id now moment
 
 pub user_without_tei : (config : Config) (fixed : Option ℕ) (random : Lcg)
     (before first second : List SideStep) (asked : Asked) (id : LinkId) (now : ℕ)
-    (a : Reaction User) → tei_of (user_after config fixed random before).terminal ≡ None
+    (a : Reaction User) → tei_of (user_after config fixed random before).management.terminal ≡ None
     → user_requested config (asks asked id) now (user_after config fixed random before) ≡ Ok a
     → KeepsRequest asked side.User id (first ++ second) → n202 ≤ t202_expiries first
-    → ((own : ℕ) → tei_of (after_request (user_behaviour config) a first).now.terminal ≡ Some own
+    → ((own : ℕ) → tei_of (after_request (user_behaviour config) a first).now.management.terminal ≡ Some own
     → most_expiries asked (parameters_for config id.sapi).n200
     ≤ expiries_of (of_sapi id.sapi own) second)
     → IsAnsweredFor asked id.sapi (user_behaviour config) a (first ++ second)

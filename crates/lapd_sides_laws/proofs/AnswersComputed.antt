@@ -13,6 +13,7 @@ use Rattle.lapd_link_definition.specs.TeiAssigned.{tei_assigned}
 use Rattle.lapd_link_definition.specs.TimerRecovery.{i_frame_nr_in_recovery, poll, rr_nr_in_recovery, rnr_nr_in_recovery, timer_recovery_t200, timer_recovery}
 use Rattle.lapd_sides_links.specs.Links.{links_below, link_acts, link_expires, in_links, with_tei, without_tei, primitive_of_tei}
 use Rattle.lapd_sides.specs.Management.{manages}
+use Rattle.lapd_sides.specs.SideState.{link_of}
 use Rattle.lapd_sides.specs.Network.{assigner_acts, link_of_network, network_takes, network_expires, network_requested}
 use Rattle.lapd_sides.specs.User.{link_of_user, terminal_acts, user_takes, user_expires, user_requested}
 use Rattle.lapd_sides_laws.specs.SideView.{does}
@@ -71,7 +72,7 @@ pub record AreReached : Type 0 where
 
 pub are_reached : AreReached
 unfolding link_acts link_expires in_links with_tei without_tei primitive_of_tei manages
-    assigner_acts link_of_network network_takes network_expires network_requested begin put
+    assigner_acts link_of network_takes network_expires network_requested begin put
     state_to rc_to increment_rc layer3_initiated_to release_pending_to start stop expired
     clear_exception_conditions zero_state_variables set_peer_busy set_own_busy enquiry_response
     transmit_enquiry queue_up discard_i_queue acknowledge invoke_retransmission i_frame_ns
@@ -85,7 +86,7 @@ unfolding link_acts link_expires in_links with_tei without_tei primitive_of_tei 
     without_exceptions with_zero_counters status_frame acknowledgement without_ack_pending
     poll_response is_accepted is_rejected after_i_frame i_frame_response is_valid_nr with_va
     acknowledged_count acknowledges_all with_vs may_send next_i_frame after_sending with_own_busy
-    with_peer_busy after steps lies_within link_of_user terminal_acts user_takes user_expires
+    with_peer_busy after steps lies_within terminal_acts user_takes user_expires
     user_requested links_below does
 are_reached = record {
   establish_accepted = refl;
@@ -231,7 +232,7 @@ tei = arriving assignment 6000
 pub establish_in_time : AreExpiredInTime (user_behaviour sides.both_sapis) establishing
     three_expiries 4000
 unfolding link_acts link_expires in_links with_tei without_tei primitive_of_tei manages
-    assigner_acts link_of_network network_takes network_expires network_requested begin put
+    assigner_acts link_of network_takes network_expires network_requested begin put
     state_to rc_to increment_rc layer3_initiated_to release_pending_to start stop expired
     clear_exception_conditions zero_state_variables set_peer_busy set_own_busy enquiry_response
     transmit_enquiry queue_up discard_i_queue acknowledge invoke_retransmission i_frame_ns
@@ -245,7 +246,7 @@ unfolding link_acts link_expires in_links with_tei without_tei primitive_of_tei 
     without_exceptions with_zero_counters status_frame acknowledgement without_ack_pending
     poll_response is_accepted is_rejected after_i_frame i_frame_response is_valid_nr with_va
     acknowledged_count acknowledges_all with_vs may_send next_i_frame after_sending with_own_busy
-    with_peer_busy after steps lies_within link_of_user terminal_acts user_takes user_expires
+    with_peer_busy after steps lies_within terminal_acts user_takes user_expires
     user_requested links_below does
 establish_in_time = record {
   at_each = (
@@ -268,7 +269,7 @@ establish_in_time = record {
 
 pub release_in_time : AreExpiredInTime (user_behaviour sides.both_sapis) releasing six_expiries 8000
 unfolding link_acts link_expires in_links with_tei without_tei primitive_of_tei manages
-    assigner_acts link_of_network network_takes network_expires network_requested begin put
+    assigner_acts link_of network_takes network_expires network_requested begin put
     state_to rc_to increment_rc layer3_initiated_to release_pending_to start stop expired
     clear_exception_conditions zero_state_variables set_peer_busy set_own_busy enquiry_response
     transmit_enquiry queue_up discard_i_queue acknowledge invoke_retransmission i_frame_ns
@@ -282,7 +283,7 @@ unfolding link_acts link_expires in_links with_tei without_tei primitive_of_tei 
     without_exceptions with_zero_counters status_frame acknowledgement without_ack_pending
     poll_response is_accepted is_rejected after_i_frame i_frame_response is_valid_nr with_va
     acknowledged_count acknowledges_all with_vs may_send next_i_frame after_sending with_own_busy
-    with_peer_busy after steps lies_within link_of_user terminal_acts user_takes user_expires
+    with_peer_busy after steps lies_within terminal_acts user_takes user_expires
     user_requested links_below does
 release_in_time = record {
   at_each = (
@@ -332,7 +333,7 @@ release_in_time = record {
 pub without_tei_in_time : AreExpiredInTime (user_behaviour sides.both_sapis) seeking
     late_assignment 10000
 unfolding link_acts link_expires in_links with_tei without_tei primitive_of_tei manages
-    assigner_acts link_of_network network_takes network_expires network_requested begin put
+    assigner_acts link_of network_takes network_expires network_requested begin put
     state_to rc_to increment_rc layer3_initiated_to release_pending_to start stop expired
     clear_exception_conditions zero_state_variables set_peer_busy set_own_busy enquiry_response
     transmit_enquiry queue_up discard_i_queue acknowledge invoke_retransmission i_frame_ns
@@ -346,7 +347,7 @@ unfolding link_acts link_expires in_links with_tei without_tei primitive_of_tei 
     without_exceptions with_zero_counters status_frame acknowledgement without_ack_pending
     poll_response is_accepted is_rejected after_i_frame i_frame_response is_valid_nr with_va
     acknowledged_count acknowledges_all with_vs may_send next_i_frame after_sending with_own_busy
-    with_peer_busy after steps lies_within link_of_user terminal_acts user_takes user_expires
+    with_peer_busy after steps lies_within terminal_acts user_takes user_expires
     user_requested links_below does
 without_tei_in_time = record {
   at_each = (
@@ -382,7 +383,7 @@ without_tei_in_time = record {
 
 pub backwards_in_time : AreExpiredInTime (user_behaviour sides.both_sapis) backwards [] 6000
 unfolding link_acts link_expires in_links with_tei without_tei primitive_of_tei manages
-    assigner_acts link_of_network network_takes network_expires network_requested begin put
+    assigner_acts link_of network_takes network_expires network_requested begin put
     state_to rc_to increment_rc layer3_initiated_to release_pending_to start stop expired
     clear_exception_conditions zero_state_variables set_peer_busy set_own_busy enquiry_response
     transmit_enquiry queue_up discard_i_queue acknowledge invoke_retransmission i_frame_ns
@@ -396,7 +397,7 @@ unfolding link_acts link_expires in_links with_tei without_tei primitive_of_tei 
     without_exceptions with_zero_counters status_frame acknowledgement without_ack_pending
     poll_response is_accepted is_rejected after_i_frame i_frame_response is_valid_nr with_va
     acknowledged_count acknowledges_all with_vs may_send next_i_frame after_sending with_own_busy
-    with_peer_busy after steps lies_within link_of_user terminal_acts user_takes user_expires
+    with_peer_busy after steps lies_within terminal_acts user_takes user_expires
     user_requested links_below does
 backwards_in_time = record {
   at_each = tt;

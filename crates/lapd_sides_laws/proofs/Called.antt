@@ -12,13 +12,15 @@ use Rattle.lapd_sides_links.specs.declared.side_fault.SideFault.{SideFault}
 use Rattle.lapd_sides_links.specs.Effects.{Effects}
 use Rattle.lapd_sides_links.specs.Expiries.{IsDue, IsTimerOf, Runs, of_served}
 use Rattle.lapd_sides_links.specs.Links.{Linked, Served, Reaction}
-use Rattle.lapd_sides.specs.declared.net_side.NetSide.{NetSide}
+use Rattle.lapd_sides.specs.ShowsNetwork.{NetSide}
 use Rattle.lapd_sides.specs.declared.request.Request.{Request}
-use Rattle.lapd_sides.specs.declared.user_side.UserSide.{UserSide}
-use Rattle.lapd_sides.specs.Network.{Network, given_for, network_takes, network_requested}
+use Rattle.lapd_sides.specs.ShowsUser.{UserSide}
+use Rattle.lapd_sides.specs.Network.{Network, given_for, network_takes, network_requested, network_expires}
+use Rattle.lapd_sides.specs.Calls as calls
 use Rattle.lapd_sides.specs.ShowsNetwork as net
 use Rattle.lapd_sides.specs.ShowsUser as usr
-use Rattle.lapd_sides.specs.User.{User, got_for, user_takes, user_requested}
+use Rattle.lapd_sides.specs.SideState.{SideState}
+use Rattle.lapd_sides.specs.User.{User, got_for, user_takes, user_requested, user_expires}
 use Rattle.lapd_sides.specs.Calls.{HasDone, HasExpired, Receives, Answers}
 use Rattle.lapd_sides_laws.specs.Calls.{Puts, SideDoes, NetworkDoes, UserDoes, take_of}
 use Rattle.lapd_sides_laws.specs.Interface.{user_behaviour, network_behaviour}
@@ -77,13 +79,20 @@ takes Show w old new acts (Ok u) octets rest now tei h config v shown are =
 takes Show w old new acts (Err fault) octets rest now tei h config v shown are =
     done Show w new config acts (Lose 0) v (unmoved v.now) refl (record { shown = h.unchanged config v.now shown; given = h.nothing })
 
-ticks : {C S : Type 0} (Show : C → Config → S → Type 0) (w : Config → Behaviour S) (old new : C) (acts : Effects) (now : ℕ) (config : Config) (v : SideView S)
-    → HasExpired Show (w config).served (λ k. (w k).expires) new config acts now v.now → (e : RunningTimer) × IsDue now ((w config).served v.now) (Some e) × SideDoes Show w new config acts (Expire e.timer e.of now) v
-ticks Show w old new acts now config v x = (
+ticks : {C M : Type 0} (Show : C → Config → SideState M → Type 0)
+    (w : Config → Behaviour (SideState M)) (old new : C) (acts : Effects) (now : ℕ)
+    (config : Config) (v : SideView (SideState M)) → (w config).served v.now ≡ v.now.served
+    → HasExpired Show (λ k. (w k).expires) new config acts now v.now
+    → (e : RunningTimer) × IsDue now v.now.served (Some e)
+    × SideDoes Show w new config acts (Expire e.timer e.of now) v
+ticks Show w old new acts now config v same x = (
   x.expiry,
   x.due,
-  done Show w new config acts (Expire x.expiry.timer x.expiry.of now) v ((w config).expires now x.expiry.timer x.expiry.of v.now)
-      (expiry_is _ (w config) x.expiry now v (due_may_expire now ((w config).served v.now) x.expiry x.due)) x.done,
+  done Show w new config acts (Expire x.expiry.timer x.expiry.of now) v
+      ((w config).expires now x.expiry.timer x.expiry.of v.now)
+      (expiry_is _ (w config) x.expiry now v
+      (subst (λ (own : Served). may_expire x.expiry.timer x.expiry.of own ≡ true) (sym same)
+      (due_may_expire now v.now.served x.expiry x.due))) x.done,
 )
 
 requests : {C S : Type 0} (Show : C → Config → S → Type 0) (w : Config → Behaviour S) (old new : C) (acts : Effects) (result : Result ⊤ SideFault) (message : Option (Vec ℕ Global)) (request : Request) (now : ℕ)
@@ -96,30 +105,30 @@ requests Show w old new acts (Err fault) message request now h config v shown =
 
 -- ---- A network side.
 
-pub net_takes : (old new : NetSide) (acts : Effects) (result : Result ⊤ SideFault) (octets : List ℕ) (rest : List (List ℕ)) (now : ℕ) → net.NetworkReceives result old new acts (λ s. given_for s.assigner octets) (λ config. network_takes config octets now)
+pub net_takes : (old new : NetSide) (acts : Effects) (result : Result ⊤ SideFault) (octets : List ℕ) (rest : List (List ℕ)) (now : ℕ) → calls.Receives net.ShowNetwork result old new acts (λ s. given_for s.management octets) (λ config. network_takes config octets now)
     → (config : Config) (v : SideView Network) → net.ShowNetwork old config v.now → v.incoming ≡ octets ∷ rest → NetworkDoes new config acts (take_of result now) v
-net_takes old new acts result octets rest now h = takes net.ShowNetwork network_behaviour old new acts result octets rest now (λ s. given_for s.assigner octets) h
+net_takes old new acts result octets rest now h = takes net.ShowNetwork network_behaviour old new acts result octets rest now (λ s. given_for s.management octets) h
 
-pub net_ticks : (old new : NetSide) (acts : Effects) (now : ℕ) → net.Expires old new acts now
+pub net_ticks : (old new : NetSide) (acts : Effects) (now : ℕ) → calls.Expires net.ShowNetwork network_expires old new acts now
     → (config : Config) (v : SideView Network) → net.ShowNetwork old config v.now → (e : RunningTimer) × IsDue now v.now.served (Some e) × NetworkDoes new config acts (Expire e.timer e.of now) v
-net_ticks old new acts now h config v shown = ticks net.ShowNetwork network_behaviour old new acts now config v (h config v.now shown)
+net_ticks old new acts now h config v shown = ticks net.ShowNetwork network_behaviour old new acts now config v refl (h config v.now shown)
 
 pub net_requests : (old new : NetSide) (acts : Effects) (result : Result ⊤ SideFault) (message : Option (Vec ℕ Global)) (request : Request) (now : ℕ)
-    → net.Answers result old new acts message (λ config. network_requested config request now)
+    → calls.Answers net.ShowNetwork result old new acts message (λ config. network_requested config request now)
     → (config : Config) (v : SideView Network) → net.ShowNetwork old config v.now → NetworkDoes new config acts (Ask request now) v
 net_requests old new acts result message request now h = requests net.ShowNetwork network_behaviour old new acts result message request now h
 
 -- ---- A user side.
 
-pub usr_takes : (old new : UserSide) (acts : Effects) (result : Result ⊤ SideFault) (octets : List ℕ) (rest : List (List ℕ)) (now : ℕ) → usr.UserReceives result old new acts (λ s. got_for s octets) (λ config. user_takes config octets now)
+pub usr_takes : (old new : UserSide) (acts : Effects) (result : Result ⊤ SideFault) (octets : List ℕ) (rest : List (List ℕ)) (now : ℕ) → calls.Receives usr.ShowUser result old new acts (λ s. got_for s octets) (λ config. user_takes config octets now)
     → (config : Config) (v : SideView User) → usr.ShowUser old config v.now → v.incoming ≡ octets ∷ rest → UserDoes new config acts (take_of result now) v
 usr_takes old new acts result octets rest now h = takes usr.ShowUser user_behaviour old new acts result octets rest now (λ s. got_for s octets) h
 
-pub usr_ticks : (old new : UserSide) (acts : Effects) (now : ℕ) → usr.Expires old new acts now
+pub usr_ticks : (old new : UserSide) (acts : Effects) (now : ℕ) → calls.Expires usr.ShowUser user_expires old new acts now
     → (config : Config) (v : SideView User) → usr.ShowUser old config v.now → (e : RunningTimer) × IsDue now v.now.served (Some e) × UserDoes new config acts (Expire e.timer e.of now) v
-usr_ticks old new acts now h config v shown = ticks usr.ShowUser user_behaviour old new acts now config v (h config v.now shown)
+usr_ticks old new acts now h config v shown = ticks usr.ShowUser user_behaviour old new acts now config v refl (h config v.now shown)
 
 pub usr_requests : (old new : UserSide) (acts : Effects) (result : Result ⊤ SideFault) (message : Option (Vec ℕ Global)) (request : Request) (now : ℕ)
-    → usr.Answers result old new acts message (λ config. user_requested config request now)
+    → calls.Answers usr.ShowUser result old new acts message (λ config. user_requested config request now)
     → (config : Config) (v : SideView User) → usr.ShowUser old config v.now → UserDoes new config acts (Ask request now) v
 usr_requests old new acts result message request now h = requests usr.ShowUser user_behaviour old new acts result message request now h

@@ -29,10 +29,11 @@ use Rattle.lapd_sides_links.specs.Effects.{Effects, stopped}
 use Rattle.lapd_sides_links.specs.Links.{Links, Linked, Reaction, in_links, link_acts, is_served}
 use Rattle.lapd_sides.specs.declared.request.Request.{Request}
 use Rattle.lapd_sides.specs.Management.{is_management, is_ui, is_unit_to_group}
+use Rattle.lapd_sides.specs.SideState.{link_of}
 use Rattle.lapd_sides.specs.Network as network
 use Rattle.lapd_sides.specs.Network.{Network, link_of_network, network_takes}
 use Rattle.lapd_sides.specs.User as user
-use Rattle.lapd_sides.specs.User.{User, link_of_user, for_layer_3, unit_from_group, data_received, user_takes}
+use Rattle.lapd_sides.specs.User.{User, link_of_user, unit_from_group, data_received, user_takes}
 use Rattle.lapd_sides_laws.specs.Addressed.{is_named, is_for}
 use Rattle.lapd_sides_laws.specs.Interface.{fresh_link}
 use Rattle.lapd_sides_laws.specs.Owed.{PassesBy, IsStep, IsUnmovedBy, ServesLink}
@@ -113,7 +114,7 @@ module _ (config : Config) (id : LinkId) (low : id.tei < 127) (now : ℕ) (s : N
   network_link : (other : LinkId) (input : Input) (octets : List ℕ) → messages_of input ≡ []
       → id_eq id other ≡ true
       → AffectsNetwork (network.or_discarded s (link_of_network now other input octets s))
-  unfolding link_of_network
+  unfolding link_of
   network_link other input octets none same =
       subst (λ (k : LinkId). AffectsNetwork (network.or_discarded s (network.among_links s
       (in_links k (link_acts side.Network k now input octets) s.served.links))))
@@ -164,7 +165,7 @@ module _ (config : Config) (id : LinkId) (low : id.tei < 127) (now : ℕ) (s : U
   user_link : (other : LinkId) (input : Input) (octets : List ℕ) → messages_of input ≡ []
       → id_eq id other ≡ true
       → AffectsUser (user.or_discarded s (link_of_user now other input octets s))
-  unfolding link_of_user
+  unfolding link_of
   user_link other input octets none same =
       subst (λ (k : LinkId). AffectsUser (user.or_discarded s (user.among_links s
       (in_links k (link_acts side.User k now input octets) s.served.links))))

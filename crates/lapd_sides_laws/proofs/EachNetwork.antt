@@ -28,6 +28,7 @@ use Rattle.lapd_sides_links.specs.Links.{Links, Reaction, is_served, in_links, l
 use Rattle.lapd_sides.specs.declared.request.Request.{Request}
 use Rattle.lapd_sides.specs.declared.request.Request.TheVariants as request
 use Rattle.lapd_sides.specs.Management.{carries_message}
+use Rattle.lapd_sides.specs.SideState.{link_of}
 use Rattle.lapd_sides.specs.Network.{Network, unmoved, discards, assigner_acts, message_received, among_links, link_of_network, or_discarded, or_unmoved, fault_received, received, network_takes, network_expires, unit_to_group, network_requested}
 use Rattle.lapd_sides_links.specs.declared.primitive.What.{What}
 use Rattle.lapd_sides_links.specs.Links.{Linked}
@@ -99,7 +100,7 @@ module _ (id : LinkId) (may : Bool) (O : Option Linked → Type 0) (p : What →
     linked : (other : LinkId) (input : Input) (octets : List ℕ) (s : Network) → IsNoExpiry input
         → IsPermitted id may O p other input → Holds s
         → ProceedsIfOk (link_of_network now other input octets s)
-    unfolding link_of_network
+    unfolding link_of
     linked other input octets s plain permits o =
         among s (in_links other (link_acts side.Network other now input octets) s.served.links)
         (λ a done. acts id may O p config now kept side.Network other input octets
@@ -111,7 +112,7 @@ module _ (id : LinkId) (may : Bool) (O : Option Linked → Type 0) (p : What →
         → Proceeds (assigner_acts config now event s)
     unfolding assigner_acts
     assigning event s o =
-        managing id may O p config now kept side.Network (assigner_step s.assigner event).outs
+        managing id may O p config now kept side.Network (assigner_step s.management event).outs
         s.served o
 
     message : (r : Result TeiMessage TeiFault) (s : Network) → Holds s

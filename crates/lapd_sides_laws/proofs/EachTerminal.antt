@@ -31,8 +31,9 @@ use Rattle.lapd_sides_links.specs.Links.{Links, Reaction, of_sapi, in_links, lin
 use Rattle.lapd_sides.specs.declared.request.Request.{Request}
 use Rattle.lapd_sides.specs.declared.request.Request.TheVariants as request
 use Rattle.lapd_sides.specs.Management.{carries_message}
+use Rattle.lapd_sides.specs.SideState.{link_of}
 use Rattle.lapd_sides.specs.User as user
-use Rattle.lapd_sides.specs.User.{User, discards, among_links, link_of_user, or_discarded, terminal_acts, management_expires, message_received, unit_from_group, for_layer_3, data_received, fault_received, received, user_takes, user_expires, with_tei_or, wants, forgets, has_tei, user_requested}
+use Rattle.lapd_sides.specs.User.{User, among_links, link_of_user, or_discarded, terminal_acts, management_expires, message_received, unit_from_group, for_layer_3, data_received, fault_received, received, user_takes, user_expires, with_tei_or, wants, forgets, has_tei, user_requested}
 use Rattle.lapd_sides_laws.specs.Interface.{user_behaviour}
 use Rattle.lapd_sides_laws.specs.SideView.{SideView, SideEvent, Take, Lose, Expire, Ask, unmoved, takes_first, may_expire, or_unmoved, reaction}
 use Rattle.lapd_sides_laws.proofs.ExactLinks.{if_either}
@@ -60,7 +61,7 @@ module _ (config : Config) (now : ℕ) (id : LinkId) (may : Bool) (A : List Prim
     pub expires : (timer : Timer) (s : User) → may_expire timer None s.served ≡ true → P s
         → Goes (management_expires config now timer s)
     pub asks : (s : User) → P s → Goes (terminal_acts config now event.Ask s)
-    pub leaves : (tei : ℕ) (s : User) → has_tei tei (tei_of s.terminal) ≡ true → P s
+    pub leaves : (tei : ℕ) (s : User) → has_tei tei (tei_of s.management.terminal) ≡ true → P s
         → Goes (terminal_acts config now (λ ri. event.Leave) s)
     pub wanted : (at : Sapi) (s : User) → P s → GoesIfOk (wants config now at s)
     pub forgotten : (at : Sapi) (s : User)
@@ -74,7 +75,7 @@ module _ (config : Config) (now : ℕ) (id : LinkId) (may : Bool) (A : List Prim
 
     linked : (other : LinkId) (input : Input) (octets : List ℕ) (s : User) → P s
         → GoesIfOk (link_of_user now other input octets s)
-    unfolding link_of_user
+    unfolding link_of
     linked other input octets s h =
         among s (in_links other (link_acts side.User other now input octets) s.served.links) h
 
@@ -138,7 +139,7 @@ module _ (config : Config) (now : ℕ) (id : LinkId) (may : Bool) (A : List Prim
     with_own Unassigned at input octets otherwise s h other = other
     with_own (Awaiting purpose count ri) at input octets otherwise s h other = other
 
-    leaves_by : (tei : ℕ) (s : User) (test : Bool) → has_tei tei (tei_of s.terminal) ≡ test → P s
+    leaves_by : (tei : ℕ) (s : User) (test : Bool) → has_tei tei (tei_of s.management.terminal) ≡ test → P s
         → GoesIfOk (if test then Ok (terminal_acts config now (λ ri. event.Leave) s)
         else Err NoLink)
     leaves_by tei s true has h = ruled.leaves tei s has h
@@ -149,24 +150,24 @@ module _ (config : Config) (now : ℕ) (id : LinkId) (may : Bool) (A : List Prim
         → GoesIfOk (user_requested config asked now s)
     unfolding user_requested
     asking (request.Establish other) s keeps h =
-        with_own s.terminal other.sapi input.Establish [] (wants config now other.sapi s) s h
+        with_own s.management.terminal other.sapi input.Establish [] (wants config now other.sapi s) s h
         (ruled.wanted other.sapi s h)
     asking (request.Release other) s keeps h =
-        with_own s.terminal other.sapi input.Release [] (forgets other.sapi s) s h
+        with_own s.management.terminal other.sapi input.Release [] (forgets other.sapi s) s h
         (ruled.forgotten other.sapi s keeps h)
     asking (request.Unit other octets) s keeps h =
-        with_own s.terminal other.sapi (UnitData (length octets.items)) octets.items (Err NoLink)
+        with_own s.management.terminal other.sapi (UnitData (length octets.items)) octets.items (Err NoLink)
         s h tt
     asking (request.Give other message) s keeps h =
-        with_own s.terminal other.sapi (input.Give message.items) []
+        with_own s.management.terminal other.sapi (input.Give message.items) []
         (Err (Link NotEstablished)) s h tt
     asking (request.Busy other true) s keeps h =
-        with_own s.terminal other.sapi input.BusyOn [] (Err NoLink) s h tt
+        with_own s.management.terminal other.sapi input.BusyOn [] (Err NoLink) s h tt
     asking (request.Busy other false) s keeps h =
-        with_own s.terminal other.sapi input.BusyOff [] (Err NoLink) s h tt
+        with_own s.management.terminal other.sapi input.BusyOff [] (Err NoLink) s h tt
     asking request.AskTei s keeps h = ruled.asks s h
     asking (request.Check tei) s keeps h = inr (ruled.same s h)
-    asking (request.Remove tei) s keeps h = leaves_by tei s (has_tei tei (tei_of s.terminal)) refl h
+    asking (request.Remove tei) s keeps h = leaves_by tei s (has_tei tei (tei_of s.management.terminal)) refl h
 
     -- ---- Every event.
 

@@ -32,6 +32,7 @@ use Rattle.lapd_sides_links.specs.Links.{Links, Reaction, of_sapi, is_served, in
 use Rattle.lapd_sides.specs.declared.request.Request.{Request}
 use Rattle.lapd_sides.specs.declared.request.Request.TheVariants as request
 use Rattle.lapd_sides.specs.Management.{carries_message, manages}
+use Rattle.lapd_sides.specs.SideState.{link_of}
 use Rattle.lapd_sides.specs.User.{User, nothing_pending, primitive_of_group, unmoved, discards, next, next_reference, drawn, among_links, link_of_user, or_discarded, or_unmoved, establishes, establishes_pending, pending_after, assigned, terminal_acts, message_received, unit_from_group, for_layer_3, data_received, fault_received, received, user_takes, user_expires, with_tei_or, is_pending, with_pending, wants, forgets, has_tei, user_requested}
 use Rattle.lapd_frame.specs.Address.{sapi_value}
 use Rattle.lapd_table.specs.LinkId.{id_eq}
@@ -122,7 +123,7 @@ module _ (id : LinkId) (may : Bool) (O : Option Linked → Type 0) (p : What →
     linked : (other : LinkId) (input : Input) (octets : List ℕ) (s : User) → IsNoExpiry input
         → IsPermitted id may O p other input → Holds s
         → ProceedsIfOk (link_of_user now other input octets s)
-    unfolding link_of_user
+    unfolding link_of
     linked other input octets s plain permits o =
         among s (in_links other (link_acts side.User other now input octets) s.served.links)
         (λ a done. acts id may O p config now kept side.User other input octets s.served.links
@@ -140,11 +141,11 @@ module _ (id : LinkId) (may : Bool) (O : Option Linked → Type 0) (p : What →
     establishing_pending : (own : ℕ) (s : User) → Holds s
         → Proceeds (establishes_pending now own s)
     establishing_pending own s o =
-        let none : User = record s { pending = nothing_pending } in
-        then_proceeds (establishes s.pending.call now (of_sapi sapi.Call own) none)
-        (establishes s.pending.packet now (of_sapi sapi.Packet own))
-        (establishing s.pending.call (of_sapi sapi.Call own) none o)
-        (establishing s.pending.packet (of_sapi sapi.Packet own))
+        let none : User = record s { management = record s.management { pending = nothing_pending } } in
+        then_proceeds (establishes s.management.pending.call now (of_sapi sapi.Call own) none)
+        (establishes s.management.pending.packet now (of_sapi sapi.Packet own))
+        (establishing s.management.pending.call (of_sapi sapi.Call own) none o)
+        (establishing s.management.pending.packet (of_sapi sapi.Packet own))
 
     keeping : (outs : List TeiOut) (s : User) → Holds s → Proceeds (pending_after now outs s)
     keeping [] s o = nothing s o
@@ -167,8 +168,10 @@ module _ (id : LinkId) (may : Bool) (O : Option Linked → Type 0) (p : What →
         then_proceeds (record {
           after = record s {
             served = managed.after;
-            terminal = step.now;
-            random = drawn step.outs s.random;
+            management = record s.management {
+              terminal = step.now;
+              random = drawn step.outs s.management.random;
+            };
           };
           effects = managed.effects;
         }) (pending_after now step.outs)
@@ -178,7 +181,7 @@ module _ (id : LinkId) (may : Bool) (O : Option Linked → Type 0) (p : What →
         → Proceeds (terminal_acts config now event s)
     unfolding terminal_acts
     acting event s o =
-        assigning (terminal_step s.terminal (event (next_reference s.random))) s o
+        assigning (terminal_step s.management.terminal (event (next_reference s.management.random))) s o
 
     message : (r : Result TeiMessage TeiFault) (s : User) → Holds s
         → Proceeds (message_received config now r s)
@@ -243,7 +246,7 @@ module _ (id : LinkId) (may : Bool) (O : Option Linked → Type 0) (p : What →
 
     wanting : (at : Sapi) (s : User) → Holds s → ProceedsIfOk (wants config now at s)
     wanting at s o =
-        let asking : User = record s { pending = with_pending at true s.pending } in
+        let asking : User = record s { management = record s.management { pending = with_pending at true s.management.pending } } in
         if_either ProceedsIfOk (is_served config at)
         (Ok (terminal_acts config now event.Want asking)) (Err NoLink)
         (acting event.Want asking o) tt
@@ -251,8 +254,8 @@ module _ (id : LinkId) (may : Bool) (O : Option Linked → Type 0) (p : What →
     forgetting : (at : Sapi) (s : User) → Holds s → ProceedsIfOk (forgets at s)
     forgetting at s o =
         let confirm = primitive_of_group at what.ReleaseConfirm in
-        if_either ProceedsIfOk (is_pending at s.pending) (Ok (record {
-          after = record s { pending = with_pending at false s.pending };
+        if_either ProceedsIfOk (is_pending at s.management.pending) (Ok (record {
+          after = record s { management = record s.management { pending = with_pending at false s.management.pending } };
           effects = record no_effects { primitives = confirm };
         })) (Err NoLink) (inr o) tt
 
@@ -273,25 +276,25 @@ module _ (id : LinkId) (may : Bool) (O : Option Linked → Type 0) (p : What →
         → ProceedsIfOk (user_requested config asked now s)
     unfolding user_requested
     user_requested_on (request.Establish other) s keeps o =
-        with_own s.terminal other.sapi input.Establish [] (wants config now other.sapi s) s tt
+        with_own s.management.terminal other.sapi input.Establish [] (wants config now other.sapi s) s tt
         (λ own _ _. refl) o (wanting other.sapi s o)
     user_requested_on (request.Release other) s keeps o =
-        with_own s.terminal other.sapi input.Release [] (forgets other.sapi s) s tt
+        with_own s.management.terminal other.sapi input.Release [] (forgets other.sapi s) s tt
         (λ own same may_not. sym (same_sapi other.sapi own same) ∙ keeps may_not) o
         (forgetting other.sapi s o)
     user_requested_on (request.Unit other octets) s keeps o =
-        with_own s.terminal other.sapi (UnitData (length octets.items)) octets.items
+        with_own s.management.terminal other.sapi (UnitData (length octets.items)) octets.items
         (Err NoLink) s tt (λ own _ _. refl) o tt
     user_requested_on (request.Give other message) s keeps o =
-        with_own s.terminal other.sapi (input.Give message.items) []
+        with_own s.management.terminal other.sapi (input.Give message.items) []
         (Err (Link NotEstablished)) s tt (λ own _ _. refl) o tt
     user_requested_on (request.Busy other true) s keeps o =
-        with_own s.terminal other.sapi input.BusyOn [] (Err NoLink) s tt (λ own _ _. refl) o tt
+        with_own s.management.terminal other.sapi input.BusyOn [] (Err NoLink) s tt (λ own _ _. refl) o tt
     user_requested_on (request.Busy other false) s keeps o =
-        with_own s.terminal other.sapi input.BusyOff [] (Err NoLink) s tt (λ own _ _. refl) o tt
+        with_own s.management.terminal other.sapi input.BusyOff [] (Err NoLink) s tt (λ own _ _. refl) o tt
     user_requested_on request.AskTei s keeps o = acting event.Ask s o
     user_requested_on (request.Check tei) s keeps o = nothing s o
     user_requested_on (request.Remove tei) s keeps o =
-        if_either ProceedsIfOk (has_tei tei (tei_of s.terminal))
+        if_either ProceedsIfOk (has_tei tei (tei_of s.management.terminal))
         (Ok (terminal_acts config now (λ ri. event.Leave) s)) (Err NoLink)
         (acting (λ ri. event.Leave) s o) tt

@@ -33,6 +33,7 @@ use Rattle.lapd_sides_links.specs.Links.{Links, Reaction, is_served, in_links, l
 use Rattle.lapd_sides.specs.declared.request.Request.{Request}
 use Rattle.lapd_sides.specs.declared.request.Request.TheVariants as request
 use Rattle.lapd_sides.specs.Management.{carries_message}
+use Rattle.lapd_sides.specs.SideState.{link_of}
 use Rattle.lapd_sides.specs.Network.{Network, new_network, unmoved, discards, assigner_acts, message_received, among_links, link_of_network, or_discarded, or_unmoved, fault_received, received, network_takes, network_expires, group_frame, unit_to_group, network_requested}
 use Rattle.lapd_sides_laws.specs.ExactTimers.{HaveExactTimers}
 use Rattle.lapd_sides_laws.proofs.ExactLinks.{if_either, IsNoExpiry, CarriesTags, spelled_carries_tags, IsExact, IsExactAmong, quietly, acts_exactly, expires_exactly, fresh_or, no_link_is_exact, manages_exactly}
@@ -59,7 +60,7 @@ among s (Ok a) h = h
 among s (Err kind) h = tt
 
 linked : (now : ℕ) (id : LinkId) (input : Input) (octets : List ℕ) (s : Network) → IsNoExpiry input → CarriesNumbers Tagged input → AreExact s → PreservesIfOk (link_of_network now id input octets s)
-unfolding link_of_network
+unfolding link_of
 linked now id input octets s plain numbers all = among s (in_links id (link_acts side.Network id now input octets) s.served.links) (acts_exactly side.Network id now input octets s.served.links plain numbers all)
 
 otherwise_discarded : (s : Network) (r : Result (Reaction Network) SideKind) → AreExact s → PreservesIfOk r → Preserves (or_discarded s r)
@@ -76,7 +77,7 @@ module _ (config : Config) (now : ℕ) where
   assigning : (event : AssignerEvent) (s : Network) → AreExact s → Preserves (assigner_acts config now event s)
   unfolding assigner_acts
   assigning event s all =
-      let managed = manages_exactly side.Network config now (assigner_step s.assigner event).outs s.served all in
+      let managed = manages_exactly side.Network config now (assigner_step s.management event).outs s.served all in
       record { timers = managed.timers; frames = managed.frames }
 
   message : (r : Result TeiMessage TeiFault) (s : Network) → AreExact s → Preserves (message_received config now r s)

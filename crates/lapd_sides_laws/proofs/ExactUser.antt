@@ -38,6 +38,7 @@ use Rattle.lapd_sides_links.specs.Links.{Links, Reaction, of_sapi, is_served, in
 use Rattle.lapd_sides.specs.declared.request.Request.{Request}
 use Rattle.lapd_sides.specs.declared.request.Request.TheVariants as request
 use Rattle.lapd_sides.specs.Management.{carries_message, manages}
+use Rattle.lapd_sides.specs.SideState.{link_of}
 use Rattle.lapd_sides.specs.User.{User, new_user, nothing_pending, unmoved, discards, next, next_reference, drawn, among_links, link_of_user, or_discarded, or_unmoved, establishes, establishes_pending, gives_up_pending, pending_after, assigned, terminal_acts, message_received, unit_from_group, for_layer_3, data_received, fault_received, received, user_takes, user_expires, with_tei_or, is_pending, with_pending, wants, forgets, has_tei, user_requested}
 use Rattle.lapd_sides_laws.specs.ExactTimers.{HaveExactTimers}
 use Rattle.lapd_sides_laws.proofs.ExactLinks.{if_either, IsNoExpiry, CarriesTags, IsExact, IsExactAmong, quietly, acts_exactly, expires_exactly, no_link_is_exact, with_tei_exact, manages_exactly}
@@ -70,7 +71,7 @@ among s (Ok a) h = h
 among s (Err kind) h = tt
 
 linked : (now : ℕ) (id : LinkId) (input : Input) (octets : List ℕ) (s : User) → IsNoExpiry input → CarriesNumbers Tagged input → AreExact s → PreservesIfOk (link_of_user now id input octets s)
-unfolding link_of_user
+unfolding link_of
 linked now id input octets s plain numbers all = among s (in_links id (link_acts side.User id now input octets) s.served.links) (acts_exactly side.User id now input octets s.served.links plain numbers all)
 
 otherwise_discarded : (s : User) (r : Result (Reaction User) SideKind) → AreExact s → PreservesIfOk r → Preserves (or_discarded s r)
@@ -90,8 +91,8 @@ module _ (now : ℕ) where
 
   establishing_pending : (own : ℕ) (s : User) → AreExact s → Preserves (establishes_pending now own s)
   establishing_pending own s all =
-      then_preserves (establishes s.pending.call now (of_sapi sapi.Call own) (record s { pending = nothing_pending })) (establishes s.pending.packet now (of_sapi sapi.Packet own))
-      (establishing s.pending.call (of_sapi sapi.Call own) (record s { pending = nothing_pending }) all) (establishing s.pending.packet (of_sapi sapi.Packet own))
+      then_preserves (establishes s.management.pending.call now (of_sapi sapi.Call own) (record s { management = record s.management { pending = nothing_pending } })) (establishes s.management.pending.packet now (of_sapi sapi.Packet own))
+      (establishing s.management.pending.call (of_sapi sapi.Call own) (record s { management = record s.management { pending = nothing_pending } }) all) (establishing s.management.pending.packet (of_sapi sapi.Packet own))
 
   giving_up : (s : User) → AreExact s → Preserves (gives_up_pending s)
   giving_up s all = quietly side.User s.served.links (gives_up_pending s).effects refl all
@@ -116,12 +117,12 @@ module _ (config : Config) (now : ℕ) where
   assigning step s all =
       let managed = manages side.User config now step.outs s.served in
       let exact = manages_exactly side.User config now step.outs s.served all in
-      then_preserves (record { after = record s { served = managed.after; terminal = step.now; random = drawn step.outs s.random }; effects = managed.effects }) (pending_after now step.outs)
+      then_preserves (record { after = record s { served = managed.after; management = record s.management { terminal = step.now; random = drawn step.outs s.management.random } }; effects = managed.effects }) (pending_after now step.outs)
       (record { timers = exact.timers; frames = exact.frames }) (keeping now step.outs)
 
   acting : (event : ℕ → TerminalEvent) (s : User) → AreExact s → Preserves (terminal_acts config now event s)
   unfolding terminal_acts
-  acting event s all = assigning (terminal_step s.terminal (event (next_reference s.random))) s all
+  acting event s all = assigning (terminal_step s.management.terminal (event (next_reference s.management.random))) s all
 
   message : (r : Result TeiMessage TeiFault) (s : User) → AreExact s → Preserves (message_received config now r s)
   message (Ok m) s all = acting (event.Heard m) s all
@@ -171,22 +172,22 @@ module _ (config : Config) (now : ℕ) where
   with_own (Awaiting purpose count ri) at input octets otherwise s plain numbers all h = h
 
   wanting : (at : Sapi) (s : User) → AreExact s → PreservesIfOk (wants config now at s)
-  wanting at s all = if_either PreservesIfOk (is_served config at) (Ok (terminal_acts config now event.Want (record s { pending = with_pending at true s.pending }))) (Err NoLink) (acting event.Want (record s { pending = with_pending at true s.pending }) all) tt
+  wanting at s all = if_either PreservesIfOk (is_served config at) (Ok (terminal_acts config now event.Want (record s { management = record s.management { pending = with_pending at true s.management.pending } }))) (Err NoLink) (acting event.Want (record s { management = record s.management { pending = with_pending at true s.management.pending } }) all) tt
 
   forgetting : (at : Sapi) (s : User) → AreExact s → PreservesIfOk (forgets at s)
-  forgetting at s all = if_either PreservesIfOk (is_pending at s.pending) _ (Err NoLink) (quietly side.User s.served.links _ refl all) tt
+  forgetting at s all = if_either PreservesIfOk (is_pending at s.management.pending) _ (Err NoLink) (quietly side.User s.served.links _ refl all) tt
 
   pub user_asked : (asked : Request) (s : User) → AreExact s → PreservesIfOk (user_requested config asked now s)
   unfolding user_requested
-  user_asked (request.Establish id) s all = with_own s.terminal id.sapi input.Establish [] (wants config now id.sapi s) s tt tt all (wanting id.sapi s all)
-  user_asked (request.Release id) s all = with_own s.terminal id.sapi input.Release [] (forgets id.sapi s) s tt tt all (forgetting id.sapi s all)
-  user_asked (request.Unit id octets) s all = with_own s.terminal id.sapi (UnitData (length octets.items)) octets.items (Err NoLink) s tt tt all tt
-  user_asked (request.Give id message) s all = with_own s.terminal id.sapi (input.Give message.items) [] (Err (Link NotEstablished)) s tt tt all tt
-  user_asked (request.Busy id true) s all = with_own s.terminal id.sapi input.BusyOn [] (Err NoLink) s tt tt all tt
-  user_asked (request.Busy id false) s all = with_own s.terminal id.sapi input.BusyOff [] (Err NoLink) s tt tt all tt
+  user_asked (request.Establish id) s all = with_own s.management.terminal id.sapi input.Establish [] (wants config now id.sapi s) s tt tt all (wanting id.sapi s all)
+  user_asked (request.Release id) s all = with_own s.management.terminal id.sapi input.Release [] (forgets id.sapi s) s tt tt all (forgetting id.sapi s all)
+  user_asked (request.Unit id octets) s all = with_own s.management.terminal id.sapi (UnitData (length octets.items)) octets.items (Err NoLink) s tt tt all tt
+  user_asked (request.Give id message) s all = with_own s.management.terminal id.sapi (input.Give message.items) [] (Err (Link NotEstablished)) s tt tt all tt
+  user_asked (request.Busy id true) s all = with_own s.management.terminal id.sapi input.BusyOn [] (Err NoLink) s tt tt all tt
+  user_asked (request.Busy id false) s all = with_own s.management.terminal id.sapi input.BusyOff [] (Err NoLink) s tt tt all tt
   user_asked request.AskTei s all = acting event.Ask s all
   user_asked (request.Check tei) s all = nothing s all
-  user_asked (request.Remove tei) s all = if_either PreservesIfOk (has_tei tei (tei_of s.terminal)) (Ok (terminal_acts config now (λ ri. event.Leave) s)) (Err NoLink) (acting (λ ri. event.Leave) s all) tt
+  user_asked (request.Remove tei) s all = if_either PreservesIfOk (has_tei tei (tei_of s.management.terminal)) (Ok (terminal_acts config now (λ ri. event.Leave) s)) (Err NoLink) (acting (λ ri. event.Leave) s all) tt
 
 -- ---- A newly created side.
 

@@ -40,10 +40,11 @@ use Rattle.lapd_sides_links.specs.Links.{Links, Reaction, of_sapi, is_served, in
 use Rattle.lapd_sides.specs.declared.request.Request.{Request}
 use Rattle.lapd_sides.specs.declared.request.Request.TheVariants as request
 use Rattle.lapd_sides.specs.Management.{carries_message, manages, busy_input}
+use Rattle.lapd_sides.specs.SideState.{link_of}
 use Rattle.lapd_sides.specs.Network as net
 use Rattle.lapd_sides.specs.Network.{Network, new_network, assigner_acts, link_of_network, network_takes, network_expires, unit_to_group, network_requested}
 use Rattle.lapd_sides.specs.User as usr
-use Rattle.lapd_sides.specs.User.{User, new_user, nothing_pending, next, next_reference, drawn, link_of_user, establishes, establishes_pending, gives_up_pending, pending_after, terminal_acts, unit_from_group, for_layer_3, user_takes, user_expires, with_tei_or, is_pending, with_pending, wants, forgets, has_tei, user_requested}
+use Rattle.lapd_sides.specs.User.{User, new_user, nothing_pending, next_reference, drawn, link_of_user, establishes, pending_after, terminal_acts, unit_from_group, for_layer_3, user_takes, user_expires, with_tei_or, is_pending, with_pending, wants, forgets, has_tei, user_requested}
 use Rattle.lapd_sides_laws.specs.Interface.{Configs, Interface, Move, user_behaviour, network_behaviour, new_interface, by_user, by_network, side_does, happens, run}
 use Rattle.lapd_sides_laws.specs.ManagementTimers.{RunsAlone, HasTimerOfTerminal, HasTimerOfAssigner, HaveTimersOfManagement}
 use Rattle.lapd_sides_laws.specs.SideView.{Behaviour, SideView, SideEvent, Take, Lose, Expire, Ask, unmoved, takes_first, may_expire, or_unmoved, does}
@@ -103,16 +104,16 @@ module _ (config : Config) (now : ℕ) where
   CheckedIfOk r = IfOk r Checked
 
   network_asks_link : (id : LinkId) (input : Input) (octets : List ℕ) (s : Network) → HasTimerOfAssigner s → CheckedIfOk (link_of_network now id input octets s)
-  unfolding link_of_network
+  unfolding link_of
   network_asks_link id input octets s h = network_among s (in_links id (link_acts side.Network id now input octets) s.served.links) h
 
   network_receives_link : (id : LinkId) (input : Input) (octets : List ℕ) (s : Network) → HasTimerOfAssigner s → Checked (net.or_discarded s (link_of_network now id input octets s))
-  unfolding link_of_network
+  unfolding link_of
   network_receives_link id input octets s h = network_discarded s (in_links id (link_acts side.Network id now input octets) s.served.links) h
 
-  assigning : (event : AssignerEvent) (s : Network) → RunsAlone T201 (checks_before s.assigner event) s.served.timers → Checked (assigner_acts config now event s)
+  assigning : (event : AssignerEvent) (s : Network) → RunsAlone T201 (checks_before s.management event) s.served.timers → Checked (assigner_acts config now event s)
   unfolding assigner_acts manages
-  assigning event s h = assigner_row now s.served.timers s.assigner event h
+  assigning event s h = assigner_row now s.served.timers s.management event h
 
   network_message : (r : Result TeiMessage TeiFault) (s : Network) → HasTimerOfAssigner s → Checked (net.message_received config now r s)
   network_message (Ok m) s h = assigning (assigner.Heard m) s h
@@ -136,7 +137,7 @@ module _ (config : Config) (now : ℕ) where
   network_expiring : (timer : Timer) (of : Option LinkId) (s : Network) → may_expire timer of s.served ≡ true → HasTimerOfAssigner s → Checked (network_expires config now timer of s)
   unfolding network_expires
   network_expiring timer None s may h =
-      assigning assigner.T201 (record s { served = record { links = s.served.links; timers = stopped timer s.served.timers } }) (expired_201 timer (is_some s.assigner.check) s.served.timers h may)
+      assigning assigner.T201 (record s { served = record { links = s.served.links; timers = stopped timer s.served.timers } }) (expired_201 timer (is_some s.management.check) s.served.timers h may)
   network_expiring timer (Some id) s may h = network_unmoved s (in_links id (link_expires side.Network id now timer) s.served.links) h
 
   network_asking : (asked : Request) (s : Network) → HasTimerOfAssigner s → CheckedIfOk (network_requested config asked now s)
@@ -183,23 +184,23 @@ module _ (config : Config) (now : ℕ) where
   AwaitedIfOk r = IfOk r Awaited
 
   user_asks_link : (id : LinkId) (input : Input) (octets : List ℕ) (s : User) → HasTimerOfTerminal s → AwaitedIfOk (link_of_user now id input octets s)
-  unfolding link_of_user
+  unfolding link_of
   user_asks_link id input octets s h = user_among s (in_links id (link_acts side.User id now input octets) s.served.links) h
 
   user_receives_link : (id : LinkId) (input : Input) (octets : List ℕ) (s : User) → HasTimerOfTerminal s → Awaited (usr.or_discarded s (link_of_user now id input octets s))
-  unfolding link_of_user
+  unfolding link_of
   user_receives_link id input octets s h = user_discarded s (in_links id (link_acts side.User id now input octets) s.served.links) h
 
   establishing : (on : Bool) (id : LinkId) (s : User) → HasTimerOfTerminal s → Awaited (establishes on now id s)
-  unfolding link_of_user
+  unfolding link_of
   establishing true id s h = user_unmoved s (in_links id (link_acts side.User id now input.Establish []) s.served.links) h
   establishing false id s h = h
 
   keeping : (outs : List TeiOut) (s : User) → HasTimerOfTerminal s → Awaited (pending_after now outs s)
   keeping [] s h = h
   keeping (outcome.Got own ∷ outs) s h =
-      let first = establishes s.pending.call now (of_sapi sapi.Call own) (record s { pending = nothing_pending }) in
-      establishing s.pending.packet (of_sapi sapi.Packet own) first.after (establishing s.pending.call (of_sapi sapi.Call own) (record s { pending = nothing_pending }) h)
+      let first = establishes s.management.pending.call now (of_sapi sapi.Call own) (record s { management = record s.management { pending = nothing_pending } }) in
+      establishing s.management.pending.packet (of_sapi sapi.Packet own) first.after (establishing s.management.pending.call (of_sapi sapi.Call own) (record s { management = record s.management { pending = nothing_pending } }) h)
   keeping (outcome.Failed ∷ outs) s h = h
   keeping (outcome.Given t ∷ outs) s h = keeping outs s h
   keeping (outcome.Free t ∷ outs) s h = keeping outs s h
@@ -210,12 +211,12 @@ module _ (config : Config) (now : ℕ) where
   keeping (outcome.Start timer ∷ outs) s h = keeping outs s h
   keeping (outcome.Stop timer ∷ outs) s h = keeping outs s h
 
-  terminal_acting : (event : ℕ → TerminalEvent) (s : User) → RunsAlone T202 (awaits_before s.terminal (event (next_reference s.random))) s.served.timers → Awaited (terminal_acts config now event s)
+  terminal_acting : (event : ℕ → TerminalEvent) (s : User) → RunsAlone T202 (awaits_before s.management.terminal (event (next_reference s.management.random))) s.served.timers → Awaited (terminal_acts config now event s)
   unfolding terminal_acts manages
   terminal_acting event s h =
-      let step = terminal_step s.terminal (event (next_reference s.random)) in
-      keeping step.outs (record s { served = (manages side.User config now step.outs s.served).after; terminal = step.now; random = drawn step.outs s.random })
-      (terminal_row now s.served.timers s.terminal (event (next_reference s.random)) h)
+      let step = terminal_step s.management.terminal (event (next_reference s.management.random)) in
+      keeping step.outs (record s { served = (manages side.User config now step.outs s.served).after; management = record s.management { terminal = step.now; random = drawn step.outs s.management.random } })
+      (terminal_row now s.served.timers s.management.terminal (event (next_reference s.management.random)) h)
 
   user_message : (r : Result TeiMessage TeiFault) (s : User) → HasTimerOfTerminal s → Awaited (usr.message_received config now r s)
   user_message (Ok m) s h = terminal_acting (terminal.Heard m) s h
@@ -243,7 +244,7 @@ module _ (config : Config) (now : ℕ) where
   user_expiring : (timer : Timer) (of : Option LinkId) (s : User) → may_expire timer of s.served ≡ true → HasTimerOfTerminal s → Awaited (user_expires config now timer of s)
   unfolding user_expires
   user_expiring timer None s may h =
-      terminal_acting terminal.T202 (record s { served = record { links = s.served.links; timers = stopped timer s.served.timers } }) (expired_202 timer (is_awaiting s.terminal) s.served.timers h may)
+      terminal_acting terminal.T202 (record s { served = record { links = s.served.links; timers = stopped timer s.served.timers } }) (expired_202 timer (is_awaiting s.management.terminal) s.served.timers h may)
   user_expiring timer (Some id) s may h = user_unmoved s (in_links id (link_expires side.User id now timer) s.served.links) h
 
   with_own : (phase : Phase) (at : Sapi) (input : Input) (octets : List ℕ) (otherwise : Result (Reaction User) SideKind) (s : User) → HasTimerOfTerminal s → AwaitedIfOk otherwise → AwaitedIfOk (with_tei_or now phase at input octets otherwise s)
@@ -253,15 +254,15 @@ module _ (config : Config) (now : ℕ) where
 
   user_asking : (asked : Request) (s : User) → HasTimerOfTerminal s → AwaitedIfOk (user_requested config asked now s)
   unfolding user_requested
-  user_asking (request.Establish id) s h = with_own s.terminal id.sapi input.Establish [] (wants config now id.sapi s) s h
-      (if_either AwaitedIfOk (is_served config id.sapi) (Ok (terminal_acts config now terminal.Want (record s { pending = with_pending id.sapi true s.pending }))) (Err NoLink) (terminal_acting terminal.Want (record s { pending = with_pending id.sapi true s.pending }) h) tt)
-  user_asking (request.Release id) s h = with_own s.terminal id.sapi input.Release [] (forgets id.sapi s) s h (if_either AwaitedIfOk (is_pending id.sapi s.pending) _ (Err NoLink) h tt)
-  user_asking (request.Unit id octets) s h = with_own s.terminal id.sapi (UnitData (length octets.items)) octets.items (Err NoLink) s h tt
-  user_asking (request.Give id message) s h = with_own s.terminal id.sapi (input.Give message.items) [] (Err (Link NotEstablished)) s h tt
-  user_asking (request.Busy id on) s h = with_own s.terminal id.sapi (busy_input on) [] (Err NoLink) s h tt
+  user_asking (request.Establish id) s h = with_own s.management.terminal id.sapi input.Establish [] (wants config now id.sapi s) s h
+      (if_either AwaitedIfOk (is_served config id.sapi) (Ok (terminal_acts config now terminal.Want (record s { management = record s.management { pending = with_pending id.sapi true s.management.pending } }))) (Err NoLink) (terminal_acting terminal.Want (record s { management = record s.management { pending = with_pending id.sapi true s.management.pending } }) h) tt)
+  user_asking (request.Release id) s h = with_own s.management.terminal id.sapi input.Release [] (forgets id.sapi s) s h (if_either AwaitedIfOk (is_pending id.sapi s.management.pending) _ (Err NoLink) h tt)
+  user_asking (request.Unit id octets) s h = with_own s.management.terminal id.sapi (UnitData (length octets.items)) octets.items (Err NoLink) s h tt
+  user_asking (request.Give id message) s h = with_own s.management.terminal id.sapi (input.Give message.items) [] (Err (Link NotEstablished)) s h tt
+  user_asking (request.Busy id on) s h = with_own s.management.terminal id.sapi (busy_input on) [] (Err NoLink) s h tt
   user_asking request.AskTei s h = terminal_acting terminal.Ask s h
   user_asking (request.Check tei) s h = h
-  user_asking (request.Remove tei) s h = if_either AwaitedIfOk (has_tei tei (tei_of s.terminal)) (Ok (terminal_acts config now (λ ri. terminal.Leave) s)) (Err NoLink) (terminal_acting (λ ri. terminal.Leave) s h) tt
+  user_asking (request.Remove tei) s h = if_either AwaitedIfOk (has_tei tei (tei_of s.management.terminal)) (Ok (terminal_acts config now (λ ri. terminal.Leave) s)) (Err NoLink) (terminal_acting (λ ri. terminal.Leave) s h) tt
 
 pub user_preserves_its_timer : (config : Config) → PreservedBySide User (user_behaviour config) HasTimerOfTerminal
 user_preserves_its_timer config = record { takes = user_taking config; expires = user_expiring config; requested = user_asking config }

@@ -29,8 +29,9 @@ use Rattle.lapd_sides_links.specs.Links.{Links, Reaction, is_served, in_links, l
 use Rattle.lapd_sides.specs.declared.request.Request.{Request}
 use Rattle.lapd_sides.specs.declared.request.Request.TheVariants as request
 use Rattle.lapd_sides.specs.Management.{carries_message}
+use Rattle.lapd_sides.specs.SideState.{link_of}
 use Rattle.lapd_sides.specs.Network as network
-use Rattle.lapd_sides.specs.Network.{Network, discards, assigner_acts, message_received, with_links, among_links, link_of_network, or_discarded, fault_received, received, network_takes, network_expires, group_frame, unit_to_group, network_requested}
+use Rattle.lapd_sides.specs.Network.{Network, assigner_acts, message_received, with_links, among_links, link_of_network, or_discarded, fault_received, received, network_takes, network_expires, group_frame, unit_to_group, network_requested}
 use Rattle.lapd_sides_laws.specs.Interface.{network_behaviour}
 use Rattle.lapd_sides_laws.specs.Premises.{is_assignment}
 use Rattle.lapd_sides_laws.specs.SideView.{SideEvent, Take, Lose, Expire, Ask, SideView, unmoved, takes_first, may_expire, or_unmoved, reaction}
@@ -39,18 +40,18 @@ use Rattle.lapd_sides_laws.proofs.LinkOps.{IsLinkOp, op_acts, op_expires}
 use Rattle.lapd_sides_laws.proofs.OwnTeis.{AreOf, IsQuietFor, LeavesOwn, managed_are, managed_is_quiet}
 
 abbrev pub AreHeld : Network → Type 0
-AreHeld s = AreOf (λ n. is_held s.assigner.held n ≡ true) s.served.links
+AreHeld s = AreOf (λ n. is_held s.management.held n ≡ true) s.served.links
 
 pub record PreservesHeld (s : Network) (a : Reaction Network) : Type 0 where
   pub after : AreHeld a.after
   pub quiet : IsQuietFor s.served.links a.effects
 
-pub assigner_leaves : (s : Network) (e : AssignerEvent) → LeavesOwn (λ n. is_held s.assigner.held n ≡ true) (λ n. is_held (assigner_step s.assigner e).now.held n ≡ true) (assigner_step s.assigner e).outs
+pub assigner_leaves : (s : Network) (e : AssignerEvent) → LeavesOwn (λ n. is_held s.management.held n ≡ true) (λ n. is_held (assigner_step s.management e).now.held n ≡ true) (assigner_step s.management e).outs
 assigner_leaves s e =
-    let f : GivesFree s.assigner.held (assigner_step s.assigner e) = gives_free s.assigner e in
-    record { given = f.given; stays = f.stays_held; quiet = λ n held. quiet_by n (list_any (is_assignment n) (filter_map outcome_of (assigner_step s.assigner e).outs)) refl f held }
+    let f : GivesFree s.management.held (assigner_step s.management e) = gives_free s.management e in
+    record { given = f.given; stays = f.stays_held; quiet = λ n held. quiet_by n (list_any (is_assignment n) (filter_map outcome_of (assigner_step s.management e).outs)) refl f held }
   where
-    quiet_by : (n : ℕ) (delivered : Bool) → list_any (is_assignment n) (filter_map outcome_of (assigner_step s.assigner e).outs) ≡ delivered → GivesFree s.assigner.held (assigner_step s.assigner e) → is_held s.assigner.held n ≡ true
+    quiet_by : (n : ℕ) (delivered : Bool) → list_any (is_assignment n) (filter_map outcome_of (assigner_step s.management e).outs) ≡ delivered → GivesFree s.management.held (assigner_step s.management e) → is_held s.management.held n ≡ true
         → delivered ≡ false
     quiet_by n false is f held = refl
     quiet_by n true is f held = let no : true ≡ false = sym held ∙ f.free n is in cc
@@ -62,8 +63,8 @@ module _ (config : Config) (s : Network) (held : AreHeld s) where
   assigning : (now : ℕ) (e : AssignerEvent) → PreservesHeld s (assigner_acts config now e s)
   unfolding assigner_acts
   assigning now e = record {
-    after = managed_are side.Network config now (assigner_step s.assigner e).outs s.served _ _ (assigner_leaves s e) held;
-    quiet = managed_is_quiet side.Network config now (assigner_step s.assigner e).outs s.served _ _ (assigner_leaves s e) held;
+    after = managed_are side.Network config now (assigner_step s.management e).outs s.served _ _ (assigner_leaves s e) held;
+    quiet = managed_is_quiet side.Network config now (assigner_step s.management e).outs s.served _ _ (assigner_leaves s e) held;
   }
 
   by_op : (b : Reaction Links) → IsLinkOp s.served.links b → PreservesHeld s (with_links s b)
@@ -78,7 +79,7 @@ module _ (config : Config) (s : Network) (held : AreHeld s) where
   ignored (Err kind) op = still
 
   linked : (now : ℕ) (other : LinkId) (input : Input) (octets : List ℕ) → PreservesHeld s (or_discarded s (link_of_network now other input octets s))
-  unfolding link_of_network
+  unfolding link_of
   linked now other input octets = discarded (in_links other (link_acts side.Network other now input octets) s.served.links) (λ b is. op_acts side.Network other s.served.links now input octets b is)
 
   message : (now : ℕ) (r : Result TeiMessage TeiFault) → PreservesHeld s (message_received config now r s)
@@ -112,7 +113,7 @@ module _ (config : Config) (s : Network) (held : AreHeld s) where
   granted_by a (Err kind) op is = cc
 
   link_granted : (now : ℕ) (other : LinkId) (input : Input) (octets : List ℕ) (a : Reaction Network) → link_of_network now other input octets s ≡ Ok a → PreservesHeld s a
-  unfolding link_of_network
+  unfolding link_of
   link_granted now other input octets a is = granted_by a (in_links other (link_acts side.Network other now input octets) s.served.links) (λ b op. op_acts side.Network other s.served.links now input octets b op) is
 
   group_granted : (at : Sapi) (octets : List ℕ) (a : Reaction Network) (long : Bool)

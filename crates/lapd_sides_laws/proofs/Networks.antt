@@ -34,6 +34,7 @@ use Rattle.lapd_sides_links.specs.declared.side_fault.SideKind.TheVariants.{Link
 use Rattle.lapd_sides_links.specs.Effects.{no_effects, stopped}
 use Rattle.lapd_sides_links.specs.Links.{Links, Linked, Reaction, is_served, in_links, link_acts, link_expires, parameters_for}
 use Rattle.lapd_sides.specs.Management.{carries_message, is_management, is_ui}
+use Rattle.lapd_sides.specs.SideState.{link_of}
 use Rattle.lapd_sides.specs.Network.{Network, unmoved, assigner_acts, message_received, with_links, among_links, link_of_network, or_discarded, or_unmoved, fault_received, received, network_takes, network_expires, group_frame, unit_to_group, network_requested}
 use Rattle.lapd_sides.specs.declared.request.Request.{Request}
 use Rattle.lapd_sides.specs.declared.request.Request.TheVariants as request
@@ -68,7 +69,7 @@ module _ (config : Config) (id : LinkId) (low : id.tei < 127) (removed : Bool) w
 
   assigning : (now : ℕ) (event : AssignerEvent) (s : Network) → Stays s (assigner_acts config now event s) → IsUnmovedByNetwork now s (assigner_acts config now event s)
   unfolding assigner_acts
-  assigning now event s stays = elim (managing side.Network config now (assigner_step s.assigner event).outs s.served id low removed stays) [
+  assigning now event s stays = elim (managing side.Network config now (assigner_step s.management event).outs s.served id low removed stays) [
     | inl passes ↦ inl passes
     | inr (inl arrives) ↦ inr (inl (record { absent = arrives.absent; not_removed = arrives.not_removed; arrives = inl arrives.passes }))
     | inr (inr proceeds) ↦ inr (inr proceeds)
@@ -85,7 +86,7 @@ module _ (config : Config) (id : LinkId) (low : id.tei < 127) (removed : Bool) w
   discarded s (Err kind) each = nothing s
 
   link_other : (now : ℕ) (other : LinkId) (input : Input) (octets : List ℕ) (s : Network) → id_eq id other ≡ false → Passes s (or_discarded s (link_of_network now other input octets s))
-  unfolding link_of_network
+  unfolding link_of
   link_other now other input octets s apart =
       discarded s (in_links other (link_acts side.Network other now input octets) s.served.links) (λ a is. other_acts side.Network id other s.served.links now input octets a apart is)
 
@@ -116,7 +117,7 @@ module _ (config : Config) (id : LinkId) (low : id.tei < 127) (removed : Bool) w
 
   pub takes_own : (frame : Flight) (now : ℕ) (s : Network) (l : Linked) (d : StepState) → content_fault frame.role frame.control (length frame.info) ≡ None → s.served.links id ≡ Some l
       → step Tagged (Heard frame.control frame.role) l.end ≡ Ok d → Steps now (Heard frame.control frame.role) frame.info (λ t. t) s (network_takes config (spelled side.User id frame) now s)
-  unfolding network_takes link_of_network
+  unfolding network_takes link_of
   takes_own frame now s l d proper was done =
       let input = Heard frame.control frame.role in
       let Goal : Reaction Network → Type 0 = Steps now input frame.info (λ t. t) s in
@@ -128,7 +129,7 @@ module _ (config : Config) (id : LinkId) (low : id.tei < 127) (removed : Bool) w
 
   -- the link's octets are discarded if the link does not exist
   pub takes_absent : (frame : Flight) (now : ℕ) (s : Network) → content_fault frame.role frame.control (length frame.info) ≡ None → s.served.links id ≡ None → Passes s (network_takes config (spelled side.User id frame) now s)
-  unfolding network_takes link_of_network
+  unfolding network_takes link_of
   takes_absent frame now s proper none =
       let input = Heard frame.control frame.role in
       let does = in_links id (link_acts side.Network id now input frame.info) s.served.links in
@@ -176,7 +177,7 @@ module _ (config : Config) (id : LinkId) (low : id.tei < 127) (removed : Bool) w
 
   link_asked : (now : ℕ) (other : LinkId) (input : Input) (octets : List ℕ) (s : Network) (a : Reaction Network) (given : List (LinkId × List ℕ)) → IsMoveRequest side.Network input octets
       → given_to id given ≡ (if id_eq id other then messages_of input else []) → link_of_network now other input octets s ≡ Ok a → Asked now s a given
-  unfolding link_of_network
+  unfolding link_of
   link_asked now other input octets s a given line_request given_is is =
       among now s a given (in_links other (link_acts side.Network other now input octets) s.served.links) (λ b granted. granted_part side.Network id (fresh_link config id) removed s.served.links now other input octets b given line_request given_is granted) is
 

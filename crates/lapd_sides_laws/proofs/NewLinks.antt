@@ -97,15 +97,15 @@ either side links false tei h = no_tei side links
 -- ---- A network side.
 
 module _ (s : Network) (held : AreHeld s) where
-  message_to_network : (m : Result TeiMessage TeiFault) → HasNoLinks side.Network s.served.links (given_for_message s.assigner m)
-  message_to_network (Ok m) = free_of_links side.Network s.served.links (assigner_step s.assigner (assigner.Heard m)).outs _ _ (assigner_leaves s (assigner.Heard m)) held
+  message_to_network : (m : Result TeiMessage TeiFault) → HasNoLinks side.Network s.served.links (given_for_message s.management m)
+  message_to_network (Ok m) = free_of_links side.Network s.served.links (assigner_step s.management (assigner.Heard m)).outs _ _ (assigner_leaves s (assigner.Heard m)) held
   message_to_network (Err fault) = no_tei side.Network s.served.links
 
-  frame_to_network : (f : Result Fields FrameFault) → HasNoLinks side.Network s.served.links (given_for_frame s.assigner f)
-  frame_to_network (Ok frame) = either side.Network s.served.links (carries_message frame) (given_for_message s.assigner (message_at frame.info)) (message_to_network (message_at frame.info))
+  frame_to_network : (f : Result Fields FrameFault) → HasNoLinks side.Network s.served.links (given_for_frame s.management f)
+  frame_to_network (Ok frame) = either side.Network s.served.links (carries_message frame) (given_for_message s.management (message_at frame.info)) (message_to_network (message_at frame.info))
   frame_to_network (Err fault) = no_tei side.Network s.served.links
 
-  octets_to_network : (octets : List ℕ) → HasNoLinks side.Network s.served.links (given_for s.assigner octets)
+  octets_to_network : (octets : List ℕ) → HasNoLinks side.Network s.served.links (given_for s.management octets)
   unfolding given_for
   octets_to_network octets = frame_to_network (frame_at side.User octets)
 
@@ -117,7 +117,7 @@ network_steps_held config (side_step ∷ side_steps) v held =
     network_steps_held config side_steps (stepped (network_behaviour config) side_step v) (network_preserves config before side_step.event held).after
 
 pub network_adds_new : (config : Config) (known : List ℕ) (side_steps : List SideStep) (octets : List ℕ)
-    → HasNoLinks side.Network (network_after config known side_steps).served.links (given_for (network_after config known side_steps).assigner octets)
+    → HasNoLinks side.Network (network_after config known side_steps).served.links (given_for (network_after config known side_steps).management octets)
 network_adds_new config known side_steps octets =
     octets_to_network (network_after config known side_steps) (network_steps_held config side_steps (new_view (new_network config known)) (new_are_held config known)) octets
 
@@ -125,7 +125,7 @@ network_adds_new config known side_steps octets =
 
 module _ (s : User) (own : AreOwn s) where
   message_to_user : (m : Result TeiMessage TeiFault) → HasNoLinks side.User s.served.links (got_for_message s m)
-  message_to_user (Ok m) = free_of_links side.User s.served.links (terminal_step s.terminal (terminal.Heard m (next_reference s.random))).outs _ _ (terminal_leaves s.terminal (terminal.Heard m (next_reference s.random))) own
+  message_to_user (Ok m) = free_of_links side.User s.served.links (terminal_step s.management.terminal (terminal.Heard m (next_reference s.management.random))).outs _ _ (terminal_leaves s.management.terminal (terminal.Heard m (next_reference s.management.random))) own
   message_to_user (Err fault) = no_tei side.User s.served.links
 
   frame_to_user : (f : Result Fields FrameFault) → HasNoLinks side.User s.served.links (got_for_frame s f)

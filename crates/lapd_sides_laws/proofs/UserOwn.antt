@@ -35,6 +35,7 @@ use Rattle.lapd_sides_links.specs.Links.{Links, Reaction, of_sapi, is_served, in
 use Rattle.lapd_sides.specs.declared.request.Request.{Request}
 use Rattle.lapd_sides.specs.declared.request.Request.TheVariants as request
 use Rattle.lapd_sides.specs.Management.{carries_message, manages}
+use Rattle.lapd_sides.specs.SideState.{link_of}
 use Rattle.lapd_sides.specs.User as user
 use Rattle.lapd_sides.specs.User.{User, nothing_pending, next_reference, drawn, with_links, among_links, link_of_user, or_discarded, establishes, establishes_pending, primitive_of_group, primitive_of_sapi, gives_up_pending, pending_after, terminal_acts, message_received, unit_from_group, for_layer_3, data_received, fault_received, received, user_takes, user_expires, with_tei_or, is_pending, with_pending, wants, forgets, has_tei, user_requested}
 use Rattle.lapd_sides_laws.specs.Interface.{user_behaviour}
@@ -45,7 +46,7 @@ use Rattle.lapd_sides_laws.proofs.OwnTeis.{AreOf, IsQuietFor, managed_are, manag
 use Rattle.lapd_sides_laws.proofs.TerminalOwn.{Owns, terminal_leaves}
 
 abbrev pub AreOwn : User → Type 0
-AreOwn s = AreOf (Owns s.terminal) s.served.links
+AreOwn s = AreOf (Owns s.management.terminal) s.served.links
 
 pub record PreservesOwn (s : User) (a : Reaction User) : Type 0 where
   pub after : AreOwn a.after
@@ -56,7 +57,7 @@ pub record PreservesOwn (s : User) (a : Reaction User) : Type 0 where
 -- no link joins, the terminal stays unchanged, and no TEI is reported as assigned or obtained
 record IsOp (s : User) (a : Reaction User) : Type 0 where
   pub adds_none : (k : LinkId) → is_some (a.after.served.links k) ≡ true → is_some (s.served.links k) ≡ true
-  pub terminal : a.after.terminal ≡ s.terminal
+  pub terminal : a.after.management.terminal ≡ s.management.terminal
   pub quiet : (n : ℕ) → list_any (is_assignment n) a.effects.primitives ≡ false
 
 still_op : (s : User) → IsOp s (user.unmoved s)
@@ -74,11 +75,11 @@ discarded_op s (Ok b) op = links_op s b (op b refl)
 discarded_op s (Err kind) op = record { adds_none = λ k there. there; terminal = refl; quiet = λ n. refl }
 
 linked_op : (now : ℕ) (other : LinkId) (input : Input) (octets : List ℕ) (s : User) → IsOp s (user.or_unmoved s (link_of_user now other input octets s))
-unfolding link_of_user
+unfolding link_of
 linked_op now other input octets s = ignored_op s (in_links other (link_acts side.User other now input octets) s.served.links) (λ b is. op_acts side.User other s.served.links now input octets b is)
 
 received_op : (now : ℕ) (other : LinkId) (input : Input) (octets : List ℕ) (s : User) → IsOp s (or_discarded s (link_of_user now other input octets s))
-unfolding link_of_user
+unfolding link_of
 received_op now other input octets s = discarded_op s (in_links other (link_acts side.User other now input octets) s.served.links) (λ b is. op_acts side.User other s.served.links now input octets b is)
 
 establishes_op : (on : Bool) (now : ℕ) (other : LinkId) (s : User) → IsOp s (establishes on now other s)
@@ -87,11 +88,11 @@ establishes_op false now other s = still_op s
 
 pending_op : (now own : ℕ) (s : User) → IsOp s (establishes_pending now own s)
 pending_op now own s =
-    let before : User = record s { pending = nothing_pending } in
-    let first = establishes s.pending.call now (of_sapi sapi.Call own) before in
-    let second = establishes s.pending.packet now (of_sapi sapi.Packet own) first.after in
-    let one : IsOp before first = establishes_op s.pending.call now (of_sapi sapi.Call own) before in
-    let two : IsOp first.after second = establishes_op s.pending.packet now (of_sapi sapi.Packet own) first.after in
+    let before : User = record s { management = record s.management { pending = nothing_pending } } in
+    let first = establishes s.management.pending.call now (of_sapi sapi.Call own) before in
+    let second = establishes s.management.pending.packet now (of_sapi sapi.Packet own) first.after in
+    let one : IsOp before first = establishes_op s.management.pending.call now (of_sapi sapi.Call own) before in
+    let two : IsOp first.after second = establishes_op s.management.pending.packet now (of_sapi sapi.Packet own) first.after in
     record {
       adds_none = λ k there. one.adds_none k (two.adds_none k there);
       terminal = two.terminal ∙ one.terminal;
@@ -106,7 +107,7 @@ giving_up_op : (s : User) → IsOp s (gives_up_pending s)
 giving_up_op s = record {
   adds_none = λ k there. there;
   terminal = refl;
-  quiet = λ n. none_of_both (is_assignment n) (primitive_of_sapi s.pending.call sapi.Call what.Released) (primitive_of_sapi s.pending.packet sapi.Packet what.Released) (quiet_group n s.pending.call sapi.Call what.Released) (quiet_group n s.pending.packet sapi.Packet what.Released);
+  quiet = λ n. none_of_both (is_assignment n) (primitive_of_sapi s.management.pending.call sapi.Call what.Released) (primitive_of_sapi s.management.pending.packet sapi.Packet what.Released) (quiet_group n s.management.pending.call sapi.Call what.Released) (quiet_group n s.management.pending.packet sapi.Packet what.Released);
 }
 
 pending_after_op : (now : ℕ) (outs : List TeiOut) (s : User) → IsOp s (pending_after now outs s)
@@ -137,17 +138,17 @@ module _ (config : Config) (s : User) (own : AreOwn s) where
   acting : (now : ℕ) (e : ℕ → TerminalEvent) → PreservesOwn s (terminal_acts config now e s)
   unfolding terminal_acts
   acting now e =
-      let done = terminal_step s.terminal (e (next_reference s.random)) in
-      let leaves = terminal_leaves s.terminal (e (next_reference s.random)) in
+      let done = terminal_step s.management.terminal (e (next_reference s.management.random)) in
+      let leaves = terminal_leaves s.management.terminal (e (next_reference s.management.random)) in
       let m = manages side.User config now done.outs s.served in
-      let middle : User = record s { served = m.after; terminal = done.now; random = drawn done.outs s.random } in
+      let middle : User = record s { served = m.after; management = record s.management { terminal = done.now; random = drawn done.outs s.management.random } } in
       let rest = pending_after now done.outs middle in
       let op : IsOp middle rest = pending_after_op now done.outs middle in
-      let are : AreOwn middle = managed_are side.User config now done.outs s.served (Owns s.terminal) (Owns done.now) leaves own in
+      let are : AreOwn middle = managed_are side.User config now done.outs s.served (Owns s.management.terminal) (Owns done.now) leaves own in
       record {
         after = λ k there. subst (λ (phase : Phase). Owns phase k.tei) (sym op.terminal) (are k (op.adds_none k there));
         quiet = λ k there. none_of_both (is_assignment k.tei) m.effects.primitives rest.effects.primitives
-            (managed_is_quiet side.User config now done.outs s.served (Owns s.terminal) (Owns done.now) leaves own k there) (op.quiet k.tei);
+            (managed_is_quiet side.User config now done.outs s.served (Owns s.management.terminal) (Owns done.now) leaves own k there) (op.quiet k.tei);
       }
 
   message : (now : ℕ) (r : Result TeiMessage TeiFault) → PreservesOwn s (message_received config now r s)
@@ -186,7 +187,7 @@ module _ (config : Config) (s : User) (own : AreOwn s) where
   granted_by a (Err kind) op is = cc
 
   link_granted : (now : ℕ) (other : LinkId) (input : Input) (octets : List ℕ) (a : Reaction User) → link_of_user now other input octets s ≡ Ok a → PreservesOwn s a
-  unfolding link_of_user
+  unfolding link_of
   link_granted now other input octets a is = granted_by a (in_links other (link_acts side.User other now input octets) s.served.links) (λ b op. op_acts side.User other s.served.links now input octets b op) is
 
   with_own : (now : ℕ) (phase : Phase) (at : Sapi) (input : Input) (octets : List ℕ) (otherwise : Result (Reaction User) SideKind) (a : Reaction User) → (otherwise ≡ Ok a → PreservesOwn s a)
@@ -202,7 +203,7 @@ module _ (config : Config) (s : User) (own : AreOwn s) where
   refused kind a is = cc
 
   forgetting : (at : Sapi) (a : Reaction User) (pending : Bool)
-      → (if pending then Ok (record { after = record s { pending = with_pending at false s.pending }; effects = record no_effects { primitives = primitive_of_group at what.ReleaseConfirm } }) else Err NoLink) ≡ Ok a → PreservesOwn s a
+      → (if pending then Ok (record { after = record s { management = record s.management { pending = with_pending at false s.management.pending } }; effects = record no_effects { primitives = primitive_of_group at what.ReleaseConfirm } }) else Err NoLink) ≡ Ok a → PreservesOwn s a
   forgetting at a true is = subst (PreservesOwn s) (same_user _ a is) (record { after = own; quiet = λ k there. refl })
   forgetting at a false is = cc
 
@@ -211,9 +212,9 @@ module _ (config : Config) (s : User) (own : AreOwn s) where
   requested (Err kind) each = still
 
 wanting : (config : Config) (s : User) (own : AreOwn s) (now : ℕ) (at : Sapi) (a : Reaction User) (served : Bool)
-    → (if served then Ok (terminal_acts config now event.Want (record s { pending = with_pending at true s.pending })) else Err NoLink) ≡ Ok a → PreservesOwn s a
+    → (if served then Ok (terminal_acts config now event.Want (record s { management = record s.management { pending = with_pending at true s.management.pending } })) else Err NoLink) ≡ Ok a → PreservesOwn s a
 wanting config s own now at a true is =
-    let k = acting config (record s { pending = with_pending at true s.pending }) own now event.Want in
+    let k = acting config (record s { management = record s.management { pending = with_pending at true s.management.pending } }) own now event.Want in
     subst (PreservesOwn s) (same_user config s own _ a is) (record { after = k.after; quiet = k.quiet })
 wanting config s own now at a false is = cc
 
@@ -223,15 +224,15 @@ giving_up config s own now a false is = cc
 
 granted : (config : Config) (s : User) (own : AreOwn s) (request : Request) (now : ℕ) (a : Reaction User) → user_requested config request now s ≡ Ok a → PreservesOwn s a
 unfolding user_requested
-granted config s own (request.Establish other) now a is = with_own config s own now s.terminal other.sapi Establish [] (wants config now other.sapi s) a (wanting config s own now other.sapi a (is_served config other.sapi)) is
-granted config s own (request.Release other) now a is = with_own config s own now s.terminal other.sapi input.Release [] (forgets other.sapi s) a (forgetting config s own other.sapi a (is_pending other.sapi s.pending)) is
-granted config s own (request.Unit other octets) now a is = with_own config s own now s.terminal other.sapi (UnitData (length octets.items)) octets.items (Err NoLink) a (refused config s own NoLink a) is
-granted config s own (request.Give other message) now a is = with_own config s own now s.terminal other.sapi (Give message.items) [] (Err (Link NotEstablished)) a (refused config s own (Link NotEstablished) a) is
-granted config s own (request.Busy other true) now a is = with_own config s own now s.terminal other.sapi input.BusyOn [] (Err NoLink) a (refused config s own NoLink a) is
-granted config s own (request.Busy other false) now a is = with_own config s own now s.terminal other.sapi input.BusyOff [] (Err NoLink) a (refused config s own NoLink a) is
+granted config s own (request.Establish other) now a is = with_own config s own now s.management.terminal other.sapi Establish [] (wants config now other.sapi s) a (wanting config s own now other.sapi a (is_served config other.sapi)) is
+granted config s own (request.Release other) now a is = with_own config s own now s.management.terminal other.sapi input.Release [] (forgets other.sapi s) a (forgetting config s own other.sapi a (is_pending other.sapi s.management.pending)) is
+granted config s own (request.Unit other octets) now a is = with_own config s own now s.management.terminal other.sapi (UnitData (length octets.items)) octets.items (Err NoLink) a (refused config s own NoLink a) is
+granted config s own (request.Give other message) now a is = with_own config s own now s.management.terminal other.sapi (Give message.items) [] (Err (Link NotEstablished)) a (refused config s own (Link NotEstablished) a) is
+granted config s own (request.Busy other true) now a is = with_own config s own now s.management.terminal other.sapi input.BusyOn [] (Err NoLink) a (refused config s own NoLink a) is
+granted config s own (request.Busy other false) now a is = with_own config s own now s.management.terminal other.sapi input.BusyOff [] (Err NoLink) a (refused config s own NoLink a) is
 granted config s own request.AskTei now a is = subst (PreservesOwn s) (same_user config s own (terminal_acts config now event.Ask s) a is) (acting config s own now event.Ask)
 granted config s own (request.Check tei) now a is = subst (PreservesOwn s) (same_user config s own (user.unmoved s) a is) (still config s own)
-granted config s own (request.Remove tei) now a is = giving_up config s own now a (has_tei tei (tei_of s.terminal)) is
+granted config s own (request.Remove tei) now a is = giving_up config s own now a (has_tei tei (tei_of s.management.terminal)) is
 
 expires : (config : Config) (s : User) (own : AreOwn s) (now : ℕ) (timer : Timer) (of : Option LinkId) → PreservesOwn s (user_expires config now timer of s)
 unfolding user_expires

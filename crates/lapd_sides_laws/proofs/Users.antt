@@ -48,6 +48,7 @@ use Rattle.lapd_sides_links.specs.Links.{Links, Linked, Reaction, of_sapi, is_se
 use Rattle.lapd_sides.specs.declared.request.Request.{Request}
 use Rattle.lapd_sides.specs.declared.request.Request.TheVariants as request
 use Rattle.lapd_sides.specs.Management.{carries_message, is_unit_to_group, is_management, is_ui, manages}
+use Rattle.lapd_sides.specs.SideState.{link_of}
 use Rattle.lapd_sides.specs.User.{User, nothing_pending, unmoved, next_reference, drawn, with_links, among_links, link_of_user, or_discarded, or_unmoved, establishes, establishes_pending, primitive_of_sapi, gives_up_pending, pending_after, assigned, terminal_acts, message_received, unit_from_group, for_layer_3, data_received, fault_received, received, user_takes, user_expires, with_tei_or, is_pending, with_pending, wants, forgets, has_tei, user_requested}
 use Rattle.lapd_sides_laws.specs.Owed.{PassesBy, IsStep, IsUnmovedBy, IsRequest, IsNoRequest, ServesLink}
 use Rattle.lapd_sides_laws.specs.Addressed.{is_named, is_for, parts_of, spelled}
@@ -83,7 +84,7 @@ module _ (config : Config) (id : LinkId) (low : id.tei < 127) (removed : Bool) w
   discarded s (Err kind) each = nothing s
 
   link_other : (now : ℕ) (other : LinkId) (input : Input) (octets : List ℕ) (s : User) → id_eq id other ≡ false → Passes s (or_discarded s (link_of_user now other input octets s))
-  unfolding link_of_user
+  unfolding link_of
   link_other now other input octets s apart =
       discarded s (in_links other (link_acts side.User other now input octets) s.served.links) (λ a is. other_acts side.User id other s.served.links now input octets a apart is)
 
@@ -92,7 +93,7 @@ module _ (config : Config) (id : LinkId) (low : id.tei < 127) (removed : Bool) w
   or_unmoved_passes s (Err kind) each = nothing s
 
   link_wanted : (now : ℕ) (other : LinkId) (input : Input) (octets : List ℕ) (s : User) → id_eq id other ≡ false → Passes s (or_unmoved s (link_of_user now other input octets s))
-  unfolding link_of_user
+  unfolding link_of
   link_wanted now other input octets s apart =
       or_unmoved_passes s (in_links other (link_acts side.User other now input octets) s.served.links) (λ a is. other_acts side.User id other s.served.links now input octets a apart is)
 
@@ -109,18 +110,18 @@ module _ (config : Config) (id : LinkId) (low : id.tei < 127) (removed : Bool) w
 
   establishing_pending : (now own : ℕ) (s : User) → (own == id.tei) ≡ false → Passes s (establishes_pending now own s)
   establishing_pending now own s apart =
-      let first = establishes s.pending.call now (of_sapi sapi.Call own) (record s { pending = nothing_pending }) in
-      let second = establishes s.pending.packet now (of_sapi sapi.Packet own) first.after in
+      let first = establishes s.management.pending.call now (of_sapi sapi.Call own) (record s { management = record s.management { pending = nothing_pending } }) in
+      let second = establishes s.management.pending.packet now (of_sapi sapi.Packet own) first.after in
       passes_by_both side.User id s.served.links first.after.served.links second.after.served.links first.effects second.effects
-      (establishing s.pending.call now (of_sapi sapi.Call own) (record s { pending = nothing_pending }) (other_tei sapi.Call own id apart))
-      (establishing s.pending.packet now (of_sapi sapi.Packet own) first.after (other_tei sapi.Packet own id apart))
+      (establishing s.management.pending.call now (of_sapi sapi.Call own) (record s { management = record s.management { pending = nothing_pending } }) (other_tei sapi.Call own id apart))
+      (establishing s.management.pending.packet now (of_sapi sapi.Packet own) first.after (other_tei sapi.Packet own id apart))
 
   giving_up : (s : User) → Passes s (gives_up_pending s)
   giving_up s = record {
     links = refl;
     frames = refl;
-    delivered = filter_map-append (what_for id) (primitive_of_sapi s.pending.call sapi.Call what.Released) (primitive_of_sapi s.pending.packet sapi.Packet what.Released)
-        ∙ rw (group_is_other s.pending.call sapi.Call what.Released, group_is_other s.pending.packet sapi.Packet what.Released) refl;
+    delivered = filter_map-append (what_for id) (primitive_of_sapi s.management.pending.call sapi.Call what.Released) (primitive_of_sapi s.management.pending.packet sapi.Packet what.Released)
+        ∙ rw (group_is_other s.management.pending.call sapi.Call what.Released, group_is_other s.management.pending.packet sapi.Packet what.Released) refl;
   }
 
   keeping : (now : ℕ) (outs : List TeiOut) (s : User) → list_any (is_assignment id.tei) (filter_map outcome_of outs) ≡ false → Passes s (pending_after now outs s)
@@ -139,7 +140,7 @@ module _ (config : Config) (id : LinkId) (low : id.tei < 127) (removed : Bool) w
   -- ---- If the link does not exist, no establishment is done for it.
 
   link_absent : (now : ℕ) (other : LinkId) (input : Input) (octets : List ℕ) (s : User) → s.served.links id ≡ None → Passes s (or_unmoved s (link_of_user now other input octets s))
-  unfolding link_of_user
+  unfolding link_of
   link_absent now other input octets s none =
       or_unmoved_passes s (in_links other (link_acts side.User other now input octets) s.served.links) (λ a is. absent_acts side.User id other s.served.links now input octets a none is)
 
@@ -149,11 +150,11 @@ module _ (config : Config) (id : LinkId) (low : id.tei < 127) (removed : Bool) w
 
   pending_absent : (now own : ℕ) (s : User) → s.served.links id ≡ None → Passes s (establishes_pending now own s)
   pending_absent now own s none =
-      let first = establishes s.pending.call now (of_sapi sapi.Call own) (record s { pending = nothing_pending }) in
-      let second = establishes s.pending.packet now (of_sapi sapi.Packet own) first.after in
-      let one : Passes s first = establishing_absent s.pending.call now (of_sapi sapi.Call own) (record s { pending = nothing_pending }) none in
+      let first = establishes s.management.pending.call now (of_sapi sapi.Call own) (record s { management = record s.management { pending = nothing_pending } }) in
+      let second = establishes s.management.pending.packet now (of_sapi sapi.Packet own) first.after in
+      let one : Passes s first = establishing_absent s.management.pending.call now (of_sapi sapi.Call own) (record s { management = record s.management { pending = nothing_pending } }) none in
       passes_by_both side.User id s.served.links first.after.served.links second.after.served.links first.effects second.effects
-      one (establishing_absent s.pending.packet now (of_sapi sapi.Packet own) first.after (one.links ∙ none))
+      one (establishing_absent s.management.pending.packet now (of_sapi sapi.Packet own) first.after (one.links ∙ none))
 
   pending_after_absent : (now : ℕ) (outs : List TeiOut) (s : User) → s.served.links id ≡ None → Passes s (pending_after now outs s)
   pending_after_absent now [] s none = nothing s
@@ -179,7 +180,7 @@ module _ (config : Config) (id : LinkId) (low : id.tei < 127) (removed : Bool) w
   own_by now s l (Err kind) there is = inl (nothing s)
 
   own_establishes : (now : ℕ) (s : User) (l : Linked) → s.served.links id ≡ Some l → Passes s (or_unmoved s (link_of_user now id Establish [] s)) ⊎ IsEstablished now s (or_unmoved s (link_of_user now id Establish [] s))
-  unfolding link_of_user
+  unfolding link_of
   own_establishes now s l there = own_by now s l (in_links id (link_acts side.User id now Establish []) s.served.links) there refl
 
   -- an establishment leaves this link unchanged, or is its step
@@ -205,16 +206,16 @@ module _ (config : Config) (id : LinkId) (low : id.tei < 127) (removed : Bool) w
 
   pending_done : (now own : ℕ) (s : User) (l : Linked) → s.served.links id ≡ Some l → Passes s (establishes_pending now own s) ⊎ IsEstablished now s (establishes_pending now own s)
   pending_done now own s l there =
-      let before : User = record s { pending = nothing_pending } in
-      let first = establishes s.pending.call now (of_sapi sapi.Call own) before in
-      let second = establishes s.pending.packet now (of_sapi sapi.Packet own) first.after in
-      elim (done s.pending.call now (of_sapi sapi.Call own) before l there) [
-        | inl one ↦ elim (done s.pending.packet now (of_sapi sapi.Packet own) first.after l (one.links ∙ there)) [
+      let before : User = record s { management = record s.management { pending = nothing_pending } } in
+      let first = establishes s.management.pending.call now (of_sapi sapi.Call own) before in
+      let second = establishes s.management.pending.packet now (of_sapi sapi.Packet own) first.after in
+      elim (done s.management.pending.call now (of_sapi sapi.Call own) before l there) [
+        | inl one ↦ elim (done s.management.pending.packet now (of_sapi sapi.Packet own) first.after l (one.links ∙ there)) [
           | inl two ↦ inl (passes_by_both side.User id s.served.links first.after.served.links second.after.served.links first.effects second.effects one two)
           | inr two ↦ inr (pass_then_step side.User id now Establish [] (λ t. t) s.served.links first.after.served.links second.after.served.links first.effects second.effects one two.1)
         ]
         | inr one ↦ inr (step_then_pass side.User id now Establish [] (λ t. t) s.served.links first.after.served.links second.after.served.links first.effects second.effects one.1
-            (establishing s.pending.packet now (of_sapi sapi.Packet own) first.after (packet_is_other own one.0)))
+            (establishing s.management.pending.packet now (of_sapi sapi.Packet own) first.after (packet_is_other own one.0)))
       ]
 
   pending_after_there : (now : ℕ) (outs : List TeiOut) (s : User) (l : Linked) → s.served.links id ≡ Some l → Passes s (pending_after now outs s) ⊎ IsEstablished now s (pending_after now outs s)
@@ -244,7 +245,7 @@ module _ (config : Config) (id : LinkId) (low : id.tei < 127) (removed : Bool) w
   assigning : (now : ℕ) (step : TerminalStep) (s : User) → Stays s (assigned config now step s) → IsUnmovedByUser now s (assigned config now step s)
   assigning now step s stays =
       let m = manages side.User config now step.outs s.served in
-      let middle : User = record s { served = m.after; terminal = step.now; random = drawn step.outs s.random } in
+      let middle : User = record s { served = m.after; management = record s.management { terminal = step.now; random = drawn step.outs s.management.random } } in
       let rest = pending_after now step.outs middle in
       let fresh = fresh_link config id in
       let come : Links = with_link id (Some fresh) s.served.links in
@@ -265,7 +266,7 @@ module _ (config : Config) (id : LinkId) (low : id.tei < 127) (removed : Bool) w
 
   acting : (now : ℕ) (event : ℕ → TerminalEvent) (s : User) → Stays s (terminal_acts config now event s) → IsUnmovedByUser now s (terminal_acts config now event s)
   unfolding terminal_acts
-  acting now event s stays = assigning now (terminal_step s.terminal (event (next_reference s.random))) s stays
+  acting now event s stays = assigning now (terminal_step s.management.terminal (event (next_reference s.management.random))) s stays
 
   message : (now : ℕ) (r : Result TeiMessage TeiFault) (s : User) → Stays s (message_received config now r s) → IsUnmovedByUser now s (message_received config now r s)
   message now (Ok m) s stays = acting now (event.Heard m) s stays
@@ -310,7 +311,7 @@ module _ (config : Config) (id : LinkId) (low : id.tei < 127) (removed : Bool) w
 
   pub takes_own : (frame : Flight) (now : ℕ) (s : User) (l : Linked) (d : StepState) → content_fault frame.role frame.control (length frame.info) ≡ None → s.served.links id ≡ Some l
       → step Tagged (Heard frame.control frame.role) l.end ≡ Ok d → Steps now (Heard frame.control frame.role) frame.info (λ t. t) s (user_takes config (spelled side.Network id frame) now s)
-  unfolding user_takes link_of_user
+  unfolding user_takes link_of
   takes_own frame now s l d proper was done =
       let input = Heard frame.control frame.role in
       let Goal : Reaction User → Type 0 = Steps now input frame.info (λ t. t) s in
@@ -323,7 +324,7 @@ module _ (config : Config) (id : LinkId) (low : id.tei < 127) (removed : Bool) w
 
   -- the link's octets are discarded if the link does not exist
   pub takes_absent : (frame : Flight) (now : ℕ) (s : User) → content_fault frame.role frame.control (length frame.info) ≡ None → s.served.links id ≡ None → Passes s (user_takes config (spelled side.Network id frame) now s)
-  unfolding user_takes link_of_user
+  unfolding user_takes link_of
   takes_absent frame now s proper none =
       let input = Heard frame.control frame.role in
       let does = in_links id (link_acts side.User id now input frame.info) s.served.links in
@@ -368,7 +369,7 @@ module _ (config : Config) (id : LinkId) (low : id.tei < 127) (removed : Bool) w
 
   link_asked : (now : ℕ) (other : LinkId) (input : Input) (octets : List ℕ) (s : User) (a : Reaction User) (given : List (LinkId × List ℕ)) → IsMoveRequest side.User input octets
       → given_to id given ≡ (if id_eq id other then messages_of input else []) → link_of_user now other input octets s ≡ Ok a → Asked now s a given
-  unfolding link_of_user
+  unfolding link_of
   link_asked now other input octets s a given line_request given_is is =
       among now s a given (in_links other (link_acts side.User other now input octets) s.served.links) (λ b granted. granted_part side.User id (fresh_link config id) removed s.served.links now other input octets b given line_request given_is granted) is
 
@@ -386,14 +387,14 @@ module _ (config : Config) (id : LinkId) (low : id.tei < 127) (removed : Bool) w
   giving now (Awaiting purpose count ri) other message s a is = cc
 
   wanting : (now : ℕ) (at : Sapi) (s : User) (a : Reaction User) (served : Bool) → Stays s a
-      → (if served then Ok (terminal_acts config now event.Want (record s { pending = with_pending at true s.pending })) else Err NoLink) ≡ Ok a → IsUnmovedByUser now s a
+      → (if served then Ok (terminal_acts config now event.Want (record s { management = record s.management { pending = with_pending at true s.management.pending } })) else Err NoLink) ≡ Ok a → IsUnmovedByUser now s a
   wanting now at s a true stays is =
-      let same = same_user (terminal_acts config now event.Want (record s { pending = with_pending at true s.pending })) a is in
-      subst (IsUnmovedByUser now s) same (acting now event.Want (record s { pending = with_pending at true s.pending }) (subst (Stays s) (sym same) stays))
+      let same = same_user (terminal_acts config now event.Want (record s { management = record s.management { pending = with_pending at true s.management.pending } })) a is in
+      subst (IsUnmovedByUser now s) same (acting now event.Want (record s { management = record s.management { pending = with_pending at true s.management.pending } }) (subst (Stays s) (sym same) stays))
   wanting now at s a false stays is = cc
 
   forgetting : (at : Sapi) (s : User) (a : Reaction User) (pending : Bool)
-      → (if pending then Ok (record { after = record s { pending = with_pending at false s.pending }; effects = record no_effects { primitives = Of (of_sapi at group_tei) what.ReleaseConfirm ∷ [] } }) else Err NoLink) ≡ Ok a → Passes s a
+      → (if pending then Ok (record { after = record s { management = record s.management { pending = with_pending at false s.management.pending } }; effects = record no_effects { primitives = Of (of_sapi at group_tei) what.ReleaseConfirm ∷ [] } }) else Err NoLink) ≡ Ok a → Passes s a
   forgetting at s a true is = subst (Passes s) (same_user _ a is) (record { links = refl; frames = refl; delivered = group_is_other true at what.ReleaseConfirm })
   forgetting at s a false is = cc
 
@@ -412,18 +413,18 @@ module _ (config : Config) (id : LinkId) (low : id.tei < 127) (removed : Bool) w
   pub asked : (request : Request) (now : ℕ) (s : User) (a : Reaction User) → user_requested config request now s ≡ Ok a → Stays s a
       → Asked now s a (accepted_by (user_behaviour config) request now s)
   unfolding user_requested
-  asked (request.Establish other) now s a is stays = plainly now s.terminal other.sapi Establish [] (wants config now other.sapi s) s a (establish_request side.User) refl (wanting now other.sapi s a (is_served config other.sapi) stays) is
-  asked (request.Release other) now s a is stays = plainly now s.terminal other.sapi Release [] (forgets other.sapi s) s a (release_request side.User) refl (λ is. inl (forgetting other.sapi s a (is_pending other.sapi s.pending) is)) is
-  asked (request.Unit other octets) now s a is stays = plainly now s.terminal other.sapi (UnitData (length octets.items)) octets.items (Err NoLink) s a (unit_request side.User octets.items) refl (λ is. inl (no_link s a NoLink is)) is
+  asked (request.Establish other) now s a is stays = plainly now s.management.terminal other.sapi Establish [] (wants config now other.sapi s) s a (establish_request side.User) refl (wanting now other.sapi s a (is_served config other.sapi) stays) is
+  asked (request.Release other) now s a is stays = plainly now s.management.terminal other.sapi Release [] (forgets other.sapi s) s a (release_request side.User) refl (λ is. inl (forgetting other.sapi s a (is_pending other.sapi s.management.pending) is)) is
+  asked (request.Unit other octets) now s a is stays = plainly now s.management.terminal other.sapi (UnitData (length octets.items)) octets.items (Err NoLink) s a (unit_request side.User octets.items) refl (λ is. inl (no_link s a NoLink is)) is
   asked (request.Give other message) now s a is stays =
-      subst (λ (given : List (LinkId × List ℕ)). Asked now s a given) (sym (ap (if_granted (own_link s.terminal other) message.items) is)) (giving now s.terminal other message.items s a is)
-  asked (request.Busy other true) now s a is stays = plainly now s.terminal other.sapi input.BusyOn [] (Err NoLink) s a (busy_request side.User) refl (λ is. inl (no_link s a NoLink is)) is
-  asked (request.Busy other false) now s a is stays = plainly now s.terminal other.sapi input.BusyOff [] (Err NoLink) s a (free_request side.User) refl (λ is. inl (no_link s a NoLink is)) is
+      subst (λ (given : List (LinkId × List ℕ)). Asked now s a given) (sym (ap (if_granted (own_link s.management.terminal other) message.items) is)) (giving now s.management.terminal other message.items s a is)
+  asked (request.Busy other true) now s a is stays = plainly now s.management.terminal other.sapi input.BusyOn [] (Err NoLink) s a (busy_request side.User) refl (λ is. inl (no_link s a NoLink is)) is
+  asked (request.Busy other false) now s a is stays = plainly now s.management.terminal other.sapi input.BusyOff [] (Err NoLink) s a (free_request side.User) refl (λ is. inl (no_link s a NoLink is)) is
   asked request.AskTei now s a is stays =
       let same = same_user (terminal_acts config now event.Ask s) a is in
       subst (λ (x : Reaction User). Asked now s x []) same (inl (record { proceeds = acting now event.Ask s (subst (Stays s) (sym same) stays); none_given = refl }))
   asked (request.Check tei) now s a is stays = subst (λ (x : Reaction User). Asked now s x []) (same_user (unmoved s) a is) (inl (record { proceeds = inl (nothing s); none_given = refl }))
-  asked (request.Remove tei) now s a is stays = leaving now s a (has_tei tei (tei_of s.terminal)) stays is
+  asked (request.Remove tei) now s a is stays = leaving now s a (has_tei tei (tei_of s.management.terminal)) stays is
 
   -- ---- A user side.
 

@@ -30,6 +30,7 @@ use Rattle.lapd_sides_links.specs.declared.side_fault.SideKind.TheVariants.{NoLi
 use Rattle.lapd_sides_links.specs.Effects.{managed, managed_by, stopped}
 use Rattle.lapd_sides_links.specs.Links.{Links, Reaction, of_sapi, is_served, in_links, link_acts}
 use Rattle.lapd_sides.specs.Management.{manages}
+use Rattle.lapd_sides.specs.SideState.{link_of}
 use Rattle.lapd_sides.specs.User as user
 use Rattle.lapd_sides.specs.User.{User, new_user, nothing_pending, next_reference, drawn, among_links, link_of_user, establishes, pending_after, terminal_acts, is_pending, with_pending}
 use Rattle.lapd_sides_laws.specs.Answers.{IsBy}
@@ -97,7 +98,7 @@ counts_on (Assigned by tei) event.Leave h = tt
 -- ---- What follows a step of the terminal leaves it and its timer unchanged.
 
 pub record IsLeft (before : User) (after : User) : Type 0 where
-  pub terminal : after.terminal ≡ before.terminal
+  pub terminal : after.management.terminal ≡ before.management.terminal
   pub timers : after.served.timers ≡ before.served.timers
 
 left_by : (s : User) (r : Result (Reaction Links) SideKind)
@@ -107,7 +108,7 @@ left_by s (Err kind) = record { terminal = refl; timers = refl }
 
 left_after : (now : ℕ) (on : Bool) (id : LinkId) (s : User)
     → IsLeft s (establishes on now id s).after
-unfolding link_of_user
+unfolding link_of
 left_after now false id s = record { terminal = refl; timers = refl }
 left_after now true id s =
     left_by s (in_links id (link_acts side.User id now input.Establish []) s.served.links)
@@ -122,11 +123,11 @@ left_pending : (now : ℕ) (outs : List TeiOut) (s : User)
     → IsLeft s (pending_after now outs s).after
 left_pending now [] s = record { terminal = refl; timers = refl }
 left_pending now (outcome.Got own ∷ outs) s =
-    let none : User = record s { pending = nothing_pending } in
-    let first = (establishes s.pending.call now (of_sapi sapi.Call own) none).after in
-    let one = left_after now s.pending.call (of_sapi sapi.Call own) none in
+    let none : User = record s { management = record s.management { pending = nothing_pending } } in
+    let first = (establishes s.management.pending.call now (of_sapi sapi.Call own) none).after in
+    let one = left_after now s.management.pending.call (of_sapi sapi.Call own) none in
     left_both s first _ (record { terminal = one.terminal; timers = one.timers })
-    (left_after now s.pending.packet (of_sapi sapi.Packet own) first)
+    (left_after now s.management.pending.packet (of_sapi sapi.Packet own) first)
 left_pending now (outcome.Failed ∷ outs) s = record { terminal = refl; timers = refl }
 left_pending now (outcome.Given t ∷ outs) s = left_pending now outs s
 left_pending now (outcome.Free t ∷ outs) s = left_pending now outs s
@@ -153,7 +154,7 @@ module _ (config : Config) (clock : Bool) (bound : ℕ) where
     pub plain : IsPlain t
 
   abbrev pub UsualUser : User → Type 0
-  UsualUser s = IsUsualTerminal s.terminal s.served.timers
+  UsualUser s = IsUsualTerminal s.management.terminal s.served.timers
 
   plain_by : (now : ℕ) (o : TeiOut) (t : Timers) → (clock ≡ true → now ≤ bound) → IsPlain t
       → IsPlain (managed_by now o t)
@@ -192,16 +193,18 @@ module _ (config : Config) (clock : Bool) (bound : ℕ) where
       → UsualUser (terminal_acts config now e s).after
   unfolding terminal_acts manages
   acts_usual now e s by u =
-      let step = terminal_step s.terminal (e (next_reference s.random)) in
+      let step = terminal_step s.management.terminal (e (next_reference s.management.random)) in
       let middle : User = record s {
         served = (manages side.User config now step.outs s.served).after;
-        terminal = step.now;
-        random = drawn step.outs s.random;
+        management = record s.management {
+          terminal = step.now;
+          random = drawn step.outs s.management.random;
+        };
       } in
       let left = left_pending now step.outs middle in
       record {
         counted = subst IsCounted (sym left.terminal)
-            (counts_on s.terminal (e (next_reference s.random)) u.counted);
+            (counts_on s.management.terminal (e (next_reference s.management.random)) u.counted);
         plain = subst IsPlain (sym left.timers)
             (plain_after now step.outs s.served.timers by u.plain);
       }
@@ -236,11 +239,11 @@ module _ (config : Config) (clock : Bool) (bound : ℕ) where
     asks = λ s u. inr (acts_usual now event.Ask s by u);
     leaves = λ tei s has u. inr (acts_usual now (λ ri. event.Leave) s by u);
     wanted = λ at s u.
-        let more : User = record s { pending = with_pending at true s.pending } in
+        let more : User = record s { management = record s.management { pending = with_pending at true s.management.pending } } in
         if_either OrNeverIfOk (is_served config at) (Ok (terminal_acts config now event.Want more))
         (Err NoLink) (inr (acts_usual now event.Want more by u)) tt;
     forgotten = λ at s keeps u.
-        if_either OrNeverIfOk (is_pending at s.pending) _ (Err NoLink) (inr u) tt;
+        if_either OrNeverIfOk (is_pending at s.management.pending) _ (Err NoLink) (inr u) tt;
   }
 
   moment_is_by : (e : SideEvent) → IsBy bound e → moment_or 0 e ≤ bound

@@ -118,31 +118,31 @@ module _ (config : Config) (id : LinkId) (asked : Asked) (clock : Bool) (limit :
   unfolding terminal_acts
   hears m s h =
       subst (λ phase. Next (assigned config now
-      (terminal_step phase (event.Heard m (next_reference s.random))) s)) (sym h.waits.phase)
+      (terminal_step phase (event.Heard m (next_reference s.management.random))) s)) (sym h.waits.phase)
       (message_goes m.kind m.ri m.ai s h)
 
   asks : (s : User) → Ready s → Next (terminal_acts config now event.Ask s)
   unfolding terminal_acts
   asks s h =
       subst (λ phase. Next (assigned config now
-      (terminal_step phase (event.Ask (next_reference s.random))) s)) (sym h.waits.phase)
+      (terminal_step phase (event.Ask (next_reference s.management.random))) s)) (sym h.waits.phase)
       (awaits config id asked clock limit m now h.waits.purpose s h.waits)
 
   wanting : (other : Sapi) (s : User) → Ready s
       → Next (terminal_acts config now event.Want
-      (record s { pending = with_pending other true s.pending }))
+      (record s { management = record s.management { pending = with_pending other true s.management.pending } }))
   unfolding terminal_acts
   wanting other s h =
       let w = h.waits in
-      let more : User = record s { pending = with_pending other true s.pending } in
+      let more : User = record s { management = record s.management { pending = with_pending other true s.management.pending } } in
       subst (λ phase. Next (assigned config now
-      (terminal_step phase (event.Want (next_reference s.random))) more)) (sym w.phase)
+      (terminal_step phase (event.Want (next_reference s.management.random))) more)) (sym w.phase)
       (awaits config id asked clock limit m now reason.Establishment more (record {
         purpose = w.purpose;
         count = w.count;
         ri = w.ri;
         phase = w.phase;
-        kept = kept_with id.sapi other s.pending w.kept;
+        kept = kept_with id.sapi other s.management.pending w.kept;
         served = w.served;
         durations = w.durations;
         deadline = w.deadline;
@@ -151,7 +151,7 @@ module _ (config : Config) (id : LinkId) (asked : Asked) (clock : Bool) (limit :
         in_time = w.in_time;
       }))
 
-  leaving : (tei : ℕ) (s : User) → has_tei tei (tei_of s.terminal) ≡ true → Ready s → ⊥
+  leaving : (tei : ℕ) (s : User) → has_tei tei (tei_of s.management.terminal) ≡ true → Ready s → ⊥
   leaving tei s has h =
       not_both (subst (λ phase. has_tei tei (tei_of phase) ≡ true) h.waits.phase has)
 
@@ -164,13 +164,13 @@ module _ (config : Config) (id : LinkId) (asked : Asked) (clock : Bool) (limit :
         served = record { links = s.served.links; timers = stopped T202 s.served.timers };
       } in
       subst (λ phase. NextWith (m - 1) (assigned config now
-      (terminal_step phase (event.T202 (next_reference s.random))) off)) (sym w.phase)
+      (terminal_step phase (event.T202 (next_reference s.management.random))) off)) (sym w.phase)
       (if_tested (λ step. NextWith (m - 1) (Acts config id asked clock limit m now step off))
       (nat_lt w.count n202)
-      (moves_to (Awaiting w.purpose (w.count + 1) (next_reference s.random))
-      (outcome.Send (request (next_reference s.random)) ∷ outcome.Start T202 ∷ []))
+      (moves_to (Awaiting w.purpose (w.count + 1) (next_reference s.management.random))
+      (outcome.Send (request (next_reference s.management.random)) ∷ outcome.Start T202 ∷ []))
       (moves_to Unassigned (outcome.Failed ∷ []))
-      (λ more. again config id asked clock limit m now (next_reference s.random) s w
+      (λ more. again config id asked clock limit m now (next_reference s.management.random) s w
       (below w.count n202 more))
       (λ last. fails config id asked clock limit m now off is w.kept))
 
@@ -205,14 +205,14 @@ module _ (config : Config) (id : LinkId) (asked : Asked) (clock : Bool) (limit :
   wanted other s h =
       if_either NextIfOk (is_served config other)
       (Ok (terminal_acts config now event.Want
-      (record s { pending = with_pending other true s.pending }))) (Err NoLink)
+      (record s { management = record s.management { pending = with_pending other true s.management.pending } }))) (Err NoLink)
       (wanting other s h) tt
 
   forgot : (other : Sapi) (s : User) (test : Bool)
       → (sapi_value id.sapi == sapi_value other) ≡ test
       → (may_release asked ≡ false → test ≡ false) → Ready s
       → Next (record {
-        after = record s { pending = with_pending other false s.pending };
+        after = record s { management = record s.management { pending = with_pending other false s.management.pending } };
         effects = record no_effects {
           primitives = primitive_of_group other what.ReleaseConfirm;
         };
@@ -226,7 +226,7 @@ module _ (config : Config) (id : LinkId) (asked : Asked) (clock : Bool) (limit :
         count = w.count;
         ri = w.ri;
         phase = w.phase;
-        kept = kept_without id.sapi other s.pending apart w.kept;
+        kept = kept_without id.sapi other s.management.pending apart w.kept;
         served = w.served;
         durations = w.durations;
         deadline = w.deadline;
@@ -239,8 +239,8 @@ module _ (config : Config) (id : LinkId) (asked : Asked) (clock : Bool) (limit :
       → (may_release asked ≡ false → (sapi_value id.sapi == sapi_value other) ≡ false) → Ready s
       → NextIfOk (forgets other s)
   forgotten other s keeps h =
-      if_either NextIfOk (is_pending other s.pending) (Ok (record {
-        after = record s { pending = with_pending other false s.pending };
+      if_either NextIfOk (is_pending other s.management.pending) (Ok (record {
+        after = record s { management = record s.management { pending = with_pending other false s.management.pending } };
         effects = record no_effects {
           primitives = primitive_of_group other what.ReleaseConfirm;
         };

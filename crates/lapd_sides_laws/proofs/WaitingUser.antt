@@ -33,6 +33,7 @@ use Rattle.lapd_tei.specs.Terminal.{TerminalStep, moves_to, n202}
 use Rattle.lapd_sides_links.specs.declared.primitive.Primitive.{Primitive}
 use Rattle.lapd_sides_links.specs.Effects.{stopped}
 use Rattle.lapd_sides.specs.Management.{manages}
+use Rattle.lapd_sides.specs.SideState.{link_of}
 use Rattle.lapd_sides.specs.User as user
 use Rattle.lapd_sides.specs.User.{User, PendingEstablishments, nothing_pending, is_pending, drawn, among_links, link_of_user, establishes, establishes_pending, primitive_of_group, primitive_of_sapi, assigned}
 use Rattle.lapd_sides_links.specs.declared.primitive.What.TheVariants as what
@@ -166,7 +167,7 @@ fresh config id = new_linked (parameters_for config id.sapi) config.durations
 begun_by : (config : Config) (now : ℕ) (id : LinkId) (s : User)
     → s.served.links id ≡ Some (fresh config id)
     → (establishes true now id s).after.served.links id ≡ Some (begun_link config id now)
-unfolding link_of_user
+unfolding link_of
 begun_by config now id s was =
     let p = parameters_for config id.sapi in
     let done = own_acts side.User id s.served.links now input.Establish [] (fresh config id)
@@ -176,7 +177,7 @@ begun_by config now id s was =
 
 others_stay : (now : ℕ) (on : Bool) (id other : LinkId) (s : User) → id_eq id other ≡ false
     → (establishes on now other s).after.served.links id ≡ s.served.links id
-unfolding link_of_user
+unfolding link_of
 others_stay now false id other s apart = refl
 others_stay now true id other s apart =
     by_result (in_links other (link_acts side.User other now input.Establish []) s.served.links)
@@ -190,23 +191,23 @@ others_stay now true id other s apart =
     by_result (Err kind) err = refl
 
 begun_in : (config : Config) (now own : ℕ) (at : Sapi) (s : User)
-    → is_pending at s.pending ≡ true
+    → is_pending at s.management.pending ≡ true
     → s.served.links (of_sapi at own) ≡ Some (fresh config (of_sapi at own))
     → (establishes_pending now own s).after.served.links (of_sapi at own)
     ≡ Some (begun_link config (of_sapi at own) now)
 begun_in config now own sapi.Call s kept was =
-    let none : User = record s { pending = nothing_pending } in
+    let none : User = record s { management = record s.management { pending = nothing_pending } } in
     let id = of_sapi sapi.Call own in
-    others_stay now s.pending.packet id (of_sapi sapi.Packet own)
-    (establishes s.pending.call now id none).after refl
+    others_stay now s.management.pending.packet id (of_sapi sapi.Packet own)
+    (establishes s.management.pending.call now id none).after refl
     ∙ subst (λ on. (establishes on now id none).after.served.links id
     ≡ Some (begun_link config id now)) (sym kept) (begun_by config now id none was)
 begun_in config now own sapi.Packet s kept was =
-    let none : User = record s { pending = nothing_pending } in
+    let none : User = record s { management = record s.management { pending = nothing_pending } } in
     let id = of_sapi sapi.Packet own in
-    let first = (establishes s.pending.call now (of_sapi sapi.Call own) none).after in
+    let first = (establishes s.management.pending.call now (of_sapi sapi.Call own) none).after in
     let still : first.served.links id ≡ Some (fresh config id) =
-    others_stay now s.pending.call id (of_sapi sapi.Call own) none refl ∙ was in
+    others_stay now s.management.pending.call id (of_sapi sapi.Call own) none refl ∙ was in
     subst (λ on. (establishes on now id first).after.served.links id
     ≡ Some (begun_link config id now)) (sym kept) (begun_by config now id first still)
 begun_in config now own sapi.Management s kept was = cc
@@ -228,7 +229,7 @@ module _ (config : Config) (id : LinkId) (asked : Asked) (clock : Bool) (limit :
         (links (with_tei_of own))
 
   abbrev pub Waits : ℕ → ℕ → User → Type 0
-  Waits m now s = IsWaiting config id.sapi clock limit m now s.terminal s.pending s.served.timers
+  Waits m now s = IsWaiting config id.sapi clock limit m now s.management.terminal s.management.pending s.served.timers
 
   abbrev pub Continues : ℕ → ℕ → User → Type 0
   Continues m now s = Waits m now s ⊎ HasBegun now s.served.links
@@ -308,10 +309,10 @@ module _ (config : Config) (id : LinkId) (asked : Asked) (clock : Bool) (limit :
         }))
 
     -- no TEI was obtained
-    pub fails : (s : User) → Establishes asked → is_pending id.sapi s.pending ≡ true
+    pub fails : (s : User) → Establishes asked → is_pending id.sapi s.management.pending ≡ true
         → GoesWith (m - 1) (Acts (moves_to Unassigned (outcome.Failed ∷ [])) s)
     unfolding manages
-    fails s is kept = inl (released_for asked id.sapi s.pending is kept)
+    fails s is kept = inl (released_for asked id.sapi s.management.pending is kept)
 
     joins : (own : ℕ) (links : Links) → is_served config id.sapi ≡ true
         → links (with_tei_of own) ≡ None
@@ -331,8 +332,10 @@ module _ (config : Config) (id : LinkId) (asked : Asked) (clock : Bool) (limit :
         let step = moves_to (Assigned by own) (outcome.Stop T202 ∷ outcome.Got own ∷ []) in
         let middle : User = record s {
           served = (manages side.User config now step.outs s.served).after;
-          terminal = step.now;
-          random = drawn step.outs s.random;
+          management = record s.management {
+            terminal = step.now;
+            random = drawn step.outs s.management.random;
+          };
         } in
         let new = joins own s.served.links w.served (none (with_tei_of own)) in
         let now_begun = begun_in config now own id.sapi middle w.kept new in

@@ -72,8 +72,8 @@ module _ (s : Served) (next : Option ℕ) (h : IsNextDeadline s next) where
 pub link_is_woken : (s : Served) (id : LinkId) (linked : Linked) (next : Option ℕ) → HaveExactTimers s.links → s.links id ≡ Some linked → (linked.end.state ≡ TeiAssigned → ⊥) → IsNextDeadline s next → IsWoken linked next
 link_is_woken s id linked next all is_there open_link h = woken_by s next h id linked is_there all open_link
 
-pub terminal_is_woken : (s : User) (next : Option ℕ) → HasTimerOfTerminal s → is_awaiting s.terminal ≡ true → IsNextDeadline s.served next → IsAwaited T202 s.served.timers next
+pub terminal_is_woken : (s : User) (next : Option ℕ) → HasTimerOfTerminal s → is_awaiting s.management.terminal ≡ true → IsNextDeadline s.served next → IsAwaited T202 s.served.timers next
 terminal_is_woken s next exact awaits h = awaited_by s.served next h T202 (exact T202 ∙ awaits)
 
-pub assigner_is_woken : (s : Network) (next : Option ℕ) → HasTimerOfAssigner s → is_some s.assigner.check ≡ true → IsNextDeadline s.served next → IsAwaited T201 s.served.timers next
+pub assigner_is_woken : (s : Network) (next : Option ℕ) → HasTimerOfAssigner s → is_some s.management.check ≡ true → IsNextDeadline s.served next → IsAwaited T201 s.served.timers next
 assigner_is_woken s next exact checks h = awaited_by s.served next h T201 (exact T201 ∙ checks)

@@ -40,7 +40,7 @@ user_behaviour config = record {
   takes = user_takes config;
   expires = user_expires config;
   requested = user_requested config;
-  means = λ s id. own_link s.terminal id;
+  means = λ s id. own_link s.management.terminal id;
   served = λ s. s.served;
   fresh = fresh_link config;
 }

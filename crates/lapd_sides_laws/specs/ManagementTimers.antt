@@ -18,11 +18,11 @@ RunsAlone its runs t = (timer : Timer) → is_some (deadline_of timer t)
 
 -- T202 runs while the terminal awaits a TEI (Q.921 5.3.2, 5.9.7)
 abbrev pub HasTimerOfTerminal : User → Type 0
-HasTimerOfTerminal s = RunsAlone T202 (is_awaiting s.terminal) s.served.timers
+HasTimerOfTerminal s = RunsAlone T202 (is_awaiting s.management.terminal) s.served.timers
 
 -- T201 runs while a TEI check is in progress (Q.921 5.3.3, 5.9.6)
 abbrev pub HasTimerOfAssigner : Network → Type 0
-HasTimerOfAssigner s = RunsAlone T201 (is_some s.assigner.check) s.served.timers
+HasTimerOfAssigner s = RunsAlone T201 (is_some s.management.check) s.served.timers
 
 -- on both sides
 abbrev pub HaveTimersOfManagement : Interface → Type 0

@@ -85,7 +85,7 @@ pub fn every_request_is_answered()
     ensures user { (config : Config) (fixed : Option ℕ) (random : Lcg)
         (before after : List SideStep) (asked : Asked) (id : LinkId) (now : ℕ) (a : Reaction User)
         → All BringsOctets before
-        → tei_of (user_after config fixed random before).terminal ≡ Some id.tei
+        → tei_of (user_after config fixed random before).management.terminal ≡ Some id.tei
         → user_requested config (asks asked id) now (user_after config fixed random before) ≡ Ok a
         → KeepsRequest asked side.User id after
         → most_expiries asked (parameters_for config id.sapi).n200 ≤ expiries_of id after
@@ -103,7 +103,7 @@ pub fn every_request_is_answered()
         (before after : List SideStep) (asked : Asked) (id : LinkId) (now moment : ℕ)
         (a : Reaction User)
         → All BringsOctets before → All (λ side_step. IsBy now side_step.event) before
-        → tei_of (user_after config fixed random before).terminal ≡ Some id.tei
+        → tei_of (user_after config fixed random before).management.terminal ≡ Some id.tei
         → user_requested config (asks asked id) now (user_after config fixed random before) ≡ Ok a
         → KeepsRequest asked side.User id after
         → AreExpiredInTime (user_behaviour config) a after moment
@@ -113,12 +113,12 @@ pub fn every_request_is_answered()
     ensures user_without_tei { (config : Config) (fixed : Option ℕ) (random : Lcg)
         (before first second : List SideStep) (asked : Asked) (id : LinkId) (now : ℕ)
         (a : Reaction User)
-        → tei_of (user_after config fixed random before).terminal ≡ None
+        → tei_of (user_after config fixed random before).management.terminal ≡ None
         → user_requested config (asks asked id) now (user_after config fixed random before) ≡ Ok a
         → KeepsRequest asked side.User id (first ++ second)
         → n202 ≤ t202_expiries first
         → ((own : ℕ)
-        → tei_of (after_request (user_behaviour config) a first).now.terminal ≡ Some own
+        → tei_of (after_request (user_behaviour config) a first).now.management.terminal ≡ Some own
         → most_expiries asked (parameters_for config id.sapi).n200
         ≤ expiries_of (of_sapi id.sapi own) second)
         → IsAnsweredFor asked id.sapi (user_behaviour config) a (first ++ second) }
@@ -126,7 +126,7 @@ pub fn every_request_is_answered()
         (before after : List SideStep) (asked : Asked) (id : LinkId) (now moment : ℕ)
         (a : Reaction User)
         → All (λ side_step. IsBy now side_step.event) before
-        → tei_of (user_after config fixed random before).terminal ≡ None
+        → tei_of (user_after config fixed random before).management.terminal ≡ None
         → user_requested config (asks asked id) now (user_after config fixed random before) ≡ Ok a
         → KeepsRequest asked side.User id after
         → AreExpiredInTime (user_behaviour config) a after moment

@@ -18,13 +18,14 @@ ghost use Rattle.lapd_sides_links.specs.declared.side_fault.SideFault.{SideFault
 ghost use Rattle.lapd_sides_links.specs.Effects.{Effects};
 ghost use Rattle.lapd_sides_links.specs.Expiries.{IsDue, IsNextDeadline};
 ghost use Rattle.lapd_sides_links.specs.Links.{Linked, Served, new_linked, parameters_for};
-ghost use Rattle.lapd_sides.specs.declared.net_side.NetSide.{NetSide};
+ghost use Rattle.lapd_sides.specs.ShowsNetwork.{NetSide};
 ghost use Rattle.lapd_sides.specs.declared.request.Request.{Request};
-ghost use Rattle.lapd_sides.specs.declared.user_side.UserSide.{UserSide};
-ghost use Rattle.lapd_sides.specs.Network.{Network, new_network, given_for, network_takes, network_requested};
+ghost use Rattle.lapd_sides.specs.ShowsUser.{UserSide};
+ghost use Rattle.lapd_sides.specs.Network.{Network, new_network, given_for, network_takes, network_requested, network_expires};
+ghost use Rattle.lapd_sides.specs.Calls as calls;
 ghost use Rattle.lapd_sides.specs.ShowsNetwork as net;
 ghost use Rattle.lapd_sides.specs.ShowsUser as usr;
-ghost use Rattle.lapd_sides.specs.User.{User, new_user, got_for, user_takes, user_requested};
+ghost use Rattle.lapd_sides.specs.User.{User, new_user, got_for, user_takes, user_requested, user_expires};
 ghost use Rattle.lapd_sides_laws.specs.Addressed.{those_for};
 ghost use Rattle.lapd_sides_laws.specs.Calls.{NetworkDoes, UserDoes, take_of};
 ghost use Rattle.lapd_sides_laws.specs.Establishments.{records_of};
@@ -108,34 +109,36 @@ pub fn each_link_gets_its_own()
 pub fn calls_are_events()
     ensures network_takes { (old new : NetSide) (acts : Effects) (result : Result ⊤ SideFault)
         (octets : List ℕ) (rest : List (List ℕ)) (now : ℕ)
-        → net.NetworkReceives result old new acts (λ s. given_for s.assigner octets)
+        → calls.Receives net.ShowNetwork result old new acts (λ s. given_for s.management octets)
         (λ config. network_takes config octets now)
         → (config : Config) (v : SideView Network) → net.ShowNetwork old config v.now
         → v.incoming ≡ octets ∷ rest → NetworkDoes new config acts (take_of result now) v }
     ensures network_ticks { (old new : NetSide) (acts : Effects) (now : ℕ)
-        → net.Expires old new acts now
+        → calls.Expires net.ShowNetwork network_expires old new acts now
         → (config : Config) (v : SideView Network) → net.ShowNetwork old config v.now
         → (e : RunningTimer) × IsDue now v.now.served (Some e)
         × NetworkDoes new config acts (Expire e.timer e.of now) v }
     ensures network_requests { (old new : NetSide) (acts : Effects) (result : Result ⊤ SideFault)
         (message : Option (Vec ℕ Global)) (request : Request) (now : ℕ)
-        → net.Answers result old new acts message (λ config. network_requested config request now)
+        → calls.Answers net.ShowNetwork result old new acts message
+        (λ config. network_requested config request now)
         → (config : Config) (v : SideView Network) → net.ShowNetwork old config v.now
         → NetworkDoes new config acts (Ask request now) v }
     ensures user_takes { (old new : UserSide) (acts : Effects) (result : Result ⊤ SideFault)
         (octets : List ℕ) (rest : List (List ℕ)) (now : ℕ)
-        → usr.UserReceives result old new acts (λ s. got_for s octets)
+        → calls.Receives usr.ShowUser result old new acts (λ s. got_for s octets)
         (λ config. user_takes config octets now)
         → (config : Config) (v : SideView User) → usr.ShowUser old config v.now
         → v.incoming ≡ octets ∷ rest → UserDoes new config acts (take_of result now) v }
     ensures user_ticks { (old new : UserSide) (acts : Effects) (now : ℕ)
-        → usr.Expires old new acts now
+        → calls.Expires usr.ShowUser user_expires old new acts now
         → (config : Config) (v : SideView User) → usr.ShowUser old config v.now
         → (e : RunningTimer) × IsDue now v.now.served (Some e)
         × UserDoes new config acts (Expire e.timer e.of now) v }
     ensures user_requests { (old new : UserSide) (acts : Effects) (result : Result ⊤ SideFault)
         (message : Option (Vec ℕ Global)) (request : Request) (now : ℕ)
-        → usr.Answers result old new acts message (λ config. user_requested config request now)
+        → calls.Answers usr.ShowUser result old new acts message
+        (λ config. user_requested config request now)
         → (config : Config) (v : SideView User) → usr.ShowUser old config v.now
         → UserDoes new config acts (Ask request now) v }
 {}
@@ -305,10 +308,10 @@ pub fn management_timers_run_while_it_waits()
         → HaveTimersOfManagement (run c moves
         (new_interface (new_user c.user fixed random) (new_network c.network known))) }
     ensures terminal_is_woken { (s : User) (next : Option ℕ) → HasTimerOfTerminal s
-        → is_awaiting s.terminal ≡ true → IsNextDeadline s.served next
+        → is_awaiting s.management.terminal ≡ true → IsNextDeadline s.served next
         → IsAwaited T202 s.served.timers next }
     ensures assigner_is_woken { (s : Network) (next : Option ℕ) → HasTimerOfAssigner s
-        → is_some s.assigner.check ≡ true → IsNextDeadline s.served next
+        → is_some s.management.check ≡ true → IsNextDeadline s.served next
         → IsAwaited T201 s.served.timers next }
 {}
 
@@ -322,7 +325,7 @@ pub fn added_links_are_new()
     ensures network { (config : Config) (known : List ℕ) (side_steps : List SideStep)
         (octets : List ℕ)
         → HasNoLinks side.Network (network_after config known side_steps).served.links
-        (given_for (network_after config known side_steps).assigner octets) }
+        (given_for (network_after config known side_steps).management octets) }
     ensures user { (config : Config) (fixed : Option ℕ) (random : Lcg)
         (side_steps : List SideStep) (octets : List ℕ)
         → HasNoLinks side.User (user_after config fixed random side_steps).served.links

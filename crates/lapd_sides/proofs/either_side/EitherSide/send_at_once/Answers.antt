@@ -1,29 +1,16 @@
-use Rattle.std.proofs.Common.{Ok, sym, ap, subst, ◌∙◌}
-use Rattle.lapd_sides.specs.declared.either_side.EitherSide.{EitherSide}
-use Rattle.lapd_sides.specs.declared.either_side.EitherSide.TheVariants.{Network, User}
-use Rattle.lapd_sides.specs.declared.net_side.NetSide.{NetSide}
-use Rattle.lapd_sides.specs.declared.request.Request.TheVariants.{Give}
-use Rattle.lapd_sides.specs.declared.user_side.UserSide.{UserSide}
-use Rattle.lapd_sides.specs.Either.{Answers, SendsNone}
-use Rattle.lapd_sides.proofs.Calling.{sends_so}
+use Rattle.std.proofs.Common.{refl, sym, ◌∙◌}
+use Rattle.lapd_sides.proofs.Calling.{unsent_by}
+use Rattle.lapd_sides.proofs.EitherSteps.{means_none, sends_or_not}
 use Rattle.lapd_sides.proofs.either_side.EitherSide.send_at_once.Goals as goal
 
-pub returns-in-Network : goal.returns-in-Network
-returns-in-Network c =
-    let sent = c.send_at_once in
-    let is = sym c.in-Network.is in
-    sends_so c.args.octets.now c.args.acts.now sent.new.acts _ _ _ _ _ _ sent.result
-    (λ message given grants. subst (λ (x : EitherSide).
-    Answers (Give c.args.id.now message) c.args.now (Ok tt) x (Network sent.new.self) given) is grants)
-    (subst (λ (x : EitherSide). SendsNone c.args.id.now c.args.octets.now x) is)
-    (λ same. (ap (λ (s : NetSide). Network s) same.0 ∙ is, same.1)) sent.ensures
+pub returns-in-Some : goal.returns-in-Some
+returns-in-Some c =
+    sends_or_not c.args.self.now c.served.result.now c.send_at_once.new.self c.args.id.now
+    c.in-Some.own c.args.octets.now c.args.now c.args.acts.now c.send_at_once.new.acts
+    c.send_at_once.result c.served.ensures.value (sym c.meant.ensures ∙ c.in-Some.is)
+    c.send_at_once.ensures
 
-pub returns-in-User : goal.returns-in-User
-returns-in-User c =
-    let sent = c.send_at_once-in-User in
-    let is = sym c.in-User.is in
-    sends_so c.args.octets.now c.args.acts.now sent.new.acts _ _ _ _ _ _ sent.result
-    (λ message given grants. subst (λ (x : EitherSide).
-    Answers (Give c.args.id.now message) c.args.now (Ok tt) x (User sent.new.self) given) is grants)
-    (subst (λ (x : EitherSide). SendsNone c.args.id.now c.args.octets.now x) is)
-    (λ same. (ap (λ (s : UserSide). User s) same.0 ∙ is, same.1)) sent.ensures
+pub returns-in-None : goal.returns-in-None
+returns-in-None c = unsent_by c.args.octets.now _ _ _ c.unsent.result
+    (means_none c.args.self.now c.args.id.now c.args.octets.now
+    (sym c.meant.ensures ∙ c.in-None.is)) (refl, refl) c.unsent.ensures

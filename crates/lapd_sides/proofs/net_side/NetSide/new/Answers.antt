@@ -13,6 +13,6 @@ returns c = record {
         (c.in_ok-add_held.ensures side.Network c.in_ok-served.ensures.shown.links);
     timers = c.in_ok-served.ensures.shown.timers;
   };
-  assigner = c.new-assigner.ensures;
+  management = c.new-assigner.ensures;
   discarded = c.in_ok-served.ensures.none;
 }

@@ -22,4 +22,4 @@ returns c =
       | in-Some+in_ok-add_tei w ↦ ap (λ (k : LinksAndTimer). k.discarded) w.served-is ∙ c.in_ok-served.ensures.none
       | in_default w ↦ ap (λ (k : LinksAndTimer). k.discarded) w.served-is ∙ c.in_ok-served.ensures.none
     ] in
-    record { configured = refl; served = served; terminal = c.new-2.ensures ∙ ap new_terminal fixed; pending = c.nothing.ensures; random = c.new-3.ensures; discarded = none }
+    record { configured = refl; served = served; management = record { terminal = c.new-2.ensures ∙ ap new_terminal fixed; pending = c.nothing.ensures; random = c.new-3.ensures }; discarded = none }
