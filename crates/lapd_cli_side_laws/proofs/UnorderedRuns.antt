@@ -22,8 +22,8 @@ use Rattle.lapd_link_definition.specs.TimerRecovery.{i_frame_nr_in_recovery, pol
 use Rattle.lapd_sides_links.specs.Links.{links_below, link_acts, link_expires, in_links, with_tei, without_tei, primitive_of_tei}
 use Rattle.lapd_sides.specs.Management.{manages}
 use Rattle.lapd_sides.specs.SideState.{link_of}
-use Rattle.lapd_sides.specs.Network.{Network, new_network, assigner_acts, link_of_network, network_takes, network_expires, network_requested}
-use Rattle.lapd_sides.specs.User.{User, new_user, seeded, link_of_user, terminal_acts, user_takes, user_expires, user_requested}
+use Rattle.lapd_sides.specs.Network.{Network, new_network, assigner_acts, network_takes, network_expires, network_requested}
+use Rattle.lapd_sides.specs.User.{User, new_user, seeded, terminal_acts, user_takes, user_expires, user_requested}
 use Rattle.lapd_link_definition.specs.declared.out.Letter.TheVariants as letter
 use Rattle.lapd_sides_links.specs.declared.primitive.Primitive.{Primitive}
 use Rattle.lapd_sides_links.specs.declared.primitive.Primitive.TheVariants.{Of}

@@ -98,10 +98,10 @@ module _ (user network : Parameters) (user_window : user.k ≤ 127) (network_win
   begins : IsInvariant (new_world user network)
   begins = new_holds user network user_window network_window
 
-  reached : IsInvariant (run_keeping Whole moves (new_world user network))
+  pub reached : IsInvariant (run_keeping Whole moves (new_world user network))
   reached = keeping_run_preserves moves (new_world user network) begins
 
-  world_on_tags : run_keeping Tagged moves (new_world user network) ≡ tag_world (run_keeping Whole moves (new_world user network))
+  pub world_on_tags : run_keeping Tagged moves (new_world user network) ≡ tag_world (run_keeping Whole moves (new_world user network))
   world_on_tags = ap (λ w. run_keeping Tagged moves w) (sym (new_world_on_tags user network)) ∙ keeping_run_on_tags moves (new_world user network) begins
 
   reports_same : outcomes_keeping Tagged moves (new_world user network) ≡ map tag_outcome (outcomes_keeping Whole moves (new_world user network))

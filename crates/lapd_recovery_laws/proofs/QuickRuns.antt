@@ -33,7 +33,7 @@ use Rattle.lapd_recovery_laws.proofs.UnreadNumbers.{with_numbers, reads, StepAli
 
 -- ---- Two views, of which the second has other numbers at the side itself.
 
-abbrev numbered : ℕ → ℕ → ℕ → Station → Station
+abbrev pub numbered : ℕ → ℕ → ℕ → Station → Station
 numbered vs va vr s = record s { end = with_numbers vs va vr s.end }
 
 abbrev seen : ℕ → ℕ → ℕ → View → View
@@ -279,3 +279,16 @@ every_quick_run_is_due r user network u n moves = due_alike r _ _ (reached r use
 
 pub every_quick_run_is_fresh : (r : Reading) (user network : Parameters) → user.k ≤ 127 → network.k ≤ 127 → (moves : List Move) → AllAreFresh (run_quickly r moves (new_world user network))
 every_quick_run_is_fresh r user network u n moves = fresh_alike _ _ (reached r user network moves) (keeping_run_is_fresh r user network u n moves)
+
+-- ---- A property of a station that reads none of the three numbers.
+
+module _ (P : Station → Type 0) (unread : (vs va vr : ℕ) (s : Station) → P s → P (numbered vs va vr s)) where
+  station_so : (s t : Station) → StationAlike s t → P s → P t
+  station_so s t (equal is) h = subst P (sym is) h
+  station_so s t (renumbered vs va vr closed is) h = subst P (sym is) (unread vs va vr s h)
+
+  pub quick_user_so : (r : Reading) (user network : Parameters) (moves : List Move) → P (run_keeping r moves (new_world user network)).user → P (run_quickly r moves (new_world user network)).user
+  quick_user_so r user network moves h = station_so _ _ (reached r user network moves).user h
+
+  pub quick_network_so : (r : Reading) (user network : Parameters) (moves : List Move) → P (run_keeping r moves (new_world user network)).network → P (run_quickly r moves (new_world user network)).network
+  quick_network_so r user network moves h = station_so _ _ (reached r user network moves).network h

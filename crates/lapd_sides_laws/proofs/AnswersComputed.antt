@@ -14,8 +14,8 @@ use Rattle.lapd_link_definition.specs.TimerRecovery.{i_frame_nr_in_recovery, pol
 use Rattle.lapd_sides_links.specs.Links.{links_below, link_acts, link_expires, in_links, with_tei, without_tei, primitive_of_tei}
 use Rattle.lapd_sides.specs.Management.{manages}
 use Rattle.lapd_sides.specs.SideState.{link_of}
-use Rattle.lapd_sides.specs.Network.{assigner_acts, link_of_network, network_takes, network_expires, network_requested}
-use Rattle.lapd_sides.specs.User.{link_of_user, terminal_acts, user_takes, user_expires, user_requested}
+use Rattle.lapd_sides.specs.Network.{assigner_acts, network_takes, network_expires, network_requested}
+use Rattle.lapd_sides.specs.User.{terminal_acts, user_takes, user_expires, user_requested}
 use Rattle.lapd_sides_laws.specs.SideView.{does}
 use Rattle.lapd_frame.specs.declared.Sapi.TheVariants.{Call}
 use Rattle.lapd_link_definition.specs.declared.out.Letter.TheVariants as letter

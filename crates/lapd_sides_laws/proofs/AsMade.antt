@@ -55,12 +55,12 @@ module _ (c : Configs) (id : LinkId) where
   move_once side.Network event i own held taken = λ h.
       either_way (is_some (i.network.served.links id)) (list_any (is_removal id.tei) i.delivered_to_network) _ ((network_preserves c.network (by_network i) event held).quiet id) taken h
 
-  preserves_own : (who : Side) (event : SideEvent) (i : Interface) → AreOwn i.user → AreOwn (side_does c who event i).user
+  pub preserves_own : (who : Side) (event : SideEvent) (i : Interface) → AreOwn i.user → AreOwn (side_does c who event i).user
   unfolding does
   preserves_own side.User event i own = (user_preserves c.user (by_user i) event own).after
   preserves_own side.Network event i own = own
 
-  preserves_held : (who : Side) (event : SideEvent) (i : Interface) → AreHeld i.network → AreHeld (side_does c who event i).network
+  pub preserves_held : (who : Side) (event : SideEvent) (i : Interface) → AreHeld i.network → AreHeld (side_does c who event i).network
   unfolding does
   preserves_held side.User event i held = held
   preserves_held side.Network event i held = (network_preserves c.network (by_network i) event held).after
@@ -78,12 +78,12 @@ new_by : (config : Config) (id : LinkId) (links : Links) (test : Bool) → links
 new_by config id links true is = inl (record { linked = fresh_link config id; there = is; end = refl; timed = new_is_timed (parameters_for config id.sapi) config.durations })
 new_by config id links false is = inr (record { absent = is; end = refl })
 
-new_of_user : (config : Config) (id : LinkId) (fixed : Option ℕ) (random : Lcg) → IsNew (fresh_link config id) (new_user config fixed random).served.links id (parameters_for config id.sapi)
+pub new_of_user : (config : Config) (id : LinkId) (fixed : Option ℕ) (random : Lcg) → IsNew (fresh_link config id) (new_user config fixed random).served.links id (parameters_for config id.sapi)
 unfolding with_tei
 new_of_user config id None random = inr (record { absent = refl; end = refl })
 new_of_user config id (Some tei) random = new_by config id _ (is_link_of config tei id) refl
 
-new_of_network : (config : Config) (id : LinkId) (known : List ℕ) → IsNew (fresh_link config id) (new_network config known).served.links id (parameters_for config id.sapi)
+pub new_of_network : (config : Config) (id : LinkId) (known : List ℕ) → IsNew (fresh_link config id) (new_network config known).served.links id (parameters_for config id.sapi)
 unfolding links_below
 new_of_network config id known = new_by config id _ (is_served config id.sapi && is_held_below (known_held known).held 127 id.tei) refl
 

@@ -19,8 +19,8 @@ use Rattle.lapd_sides_links.specs.declared.primitive.What.TheVariants as what
 use Rattle.lapd_sides_links.specs.Links.{links_below, link_acts, link_expires, in_links, with_tei, without_tei, primitive_of_tei}
 use Rattle.lapd_sides.specs.Management.{manages}
 use Rattle.lapd_sides.specs.SideState.{link_of}
-use Rattle.lapd_sides.specs.Network.{assigner_acts, link_of_network, network_takes, network_expires, network_requested}
-use Rattle.lapd_sides.specs.User.{link_of_user, terminal_acts, user_takes, user_expires, user_requested}
+use Rattle.lapd_sides.specs.Network.{assigner_acts, network_takes, network_expires, network_requested}
+use Rattle.lapd_sides.specs.User.{terminal_acts, user_takes, user_expires, user_requested}
 use Rattle.lapd_sides_laws.specs.Establishments.{records_of, AreNeighbours, IsReceivedUnskipped}
 use Rattle.lapd_sides_laws.specs.Interface.{run}
 use Rattle.lapd_sides_laws.specs.Premises.{AreTimely, GiveTeiOnce, SatisfyPremises}
@@ -243,11 +243,16 @@ regained_holds v w x y = record {
 pub regained_so : (first second : Vec ℕ Global) → IsMessage 1 first → IsMessage 2 second → Regained first second
 regained_so = with_both Regained (1 ∷ []) (2 ∷ []) regained_holds
 
+-- the second message alone is received, and the first counts as acknowledged
+pub second_for_first : (given : List (List ℕ)) (acked : List ℕ) (received : List (List ℕ)) → given ≡ two_messages → acked ≡ 0 ∷ [] → received ≡ (2 ∷ []) ∷ [] → IsReceived given acked received → ⊥
+second_for_first given acked received g a r right =
+    let plain : IsReceived two_messages (0 ∷ []) ((2 ∷ []) ∷ []) = received_as _ two_messages _ (0 ∷ []) _ ((2 ∷ []) ∷ []) (sym g) (sym a) (sym r) right in
+    differ (one_of (λ place. slice_get two_messages place) (Some (2 ∷ [])) plain.places 0 plain.same (plain.acknowledged 0 (inl refl)))
+
 pub regained_is_not_right : (first second : Vec ℕ Global) → IsMessage 1 first → IsMessage 2 second → IsReceivedByNetwork call (run configs (regained first second) at_first) → ⊥
 regained_is_not_right first second one two right =
     let h = regained_so first second one two in
-    let plain : IsReceived two_messages (0 ∷ []) ((2 ∷ []) ∷ []) = received_as _ two_messages _ (0 ∷ []) _ ((2 ∷ []) ∷ []) (sym h.given) (sym h.acked) (sym h.received) right in
-    differ (one_of (λ place. slice_get two_messages place) (Some (2 ∷ [])) plain.places 0 plain.same (plain.acknowledged 0 (inl refl)))
+    second_for_first _ _ _ h.given h.acked h.received right
 
 -- ---- The premise on the TEI again: a message is skipped.
 

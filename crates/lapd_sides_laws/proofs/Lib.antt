@@ -10,6 +10,7 @@ pub mod Recorded
 pub mod SideEvents
 pub mod Unskipped
 pub mod Asked
+pub mod OneMove
 pub mod Whole
 pub mod Called
 pub mod Computed

@@ -66,7 +66,7 @@ first_of from id octets rest (frame ∷ frames) h = let two = heads octets (spel
 -- ---- Frames that poll or answer a poll.
 
 -- among the elements that pass one test, those that pass another pass both
-any_among : {X : Type 0} (p q : X → Bool) (xs : List X) → list_any q (filter p xs) ≡ list_any (λ x. p x && q x) xs
+pub any_among : {X : Type 0} (p q : X → Bool) (xs : List X) → list_any q (filter p xs) ≡ list_any (λ x. p x && q x) xs
 any_among p q [] = refl
 any_among p q (x ∷ xs) = by_test p q x xs (p x) refl (any_among p q xs)
   where
@@ -74,7 +74,7 @@ any_among p q (x ∷ xs) = by_test p q x xs (p x) refl (any_among p q xs)
     by_test p q x xs true is h = rw is (ap (λ b. q x || b) h)
     by_test p q x xs false is h = rw is h
 
-any_read : (from : Side) (id : LinkId) (test : Result Fields FrameFault → Bool) (of_frame : Flight → Bool) → ((frame : Flight) → test (Ok (parts_of id frame)) ≡ of_frame frame) → (frames : List Flight) → AreProper frames
+pub any_read : (from : Side) (id : LinkId) (test : Result Fields FrameFault → Bool) (of_frame : Flight → Bool) → ((frame : Flight) → test (Ok (parts_of id frame)) ≡ of_frame frame) → (frames : List Flight) → AreProper frames
     → list_any (λ octets. test (frame_at from octets)) (all_spelled from id frames) ≡ list_any of_frame frames
 any_read from id test of_frame same [] proper = refl
 any_read from id test of_frame same (frame ∷ frames) proper = rw (frame_again from (parts_of id frame) proper.0, same frame, any_read from id test of_frame same frames proper.1) refl

@@ -225,11 +225,11 @@ within_of e place is =
 abbrev pub AreSentNow : Station → Type 0
 AreSentNow s = (place : ℕ) → is_outstanding s.end place ≡ true → s.history.sent_in place ≡ Some s.end.establishments
 
-user_by_invariant : (w : World) → IsInvariant w → AreSentNow w.user
+pub user_by_invariant : (w : World) → IsInvariant w → AreSentNow w.user
 user_by_invariant w i place is = let h = within_of w.user.end place is in
     by_numbering w.user.end.state w.user.end.layer3_initiated w.user.end.release_pending (party i.user_base w.user).sends place i.both.mine.preserved h.0 h.1 h.2
 
-network_by_invariant : (w : World) → IsInvariant w → AreSentNow w.network
+pub network_by_invariant : (w : World) → IsInvariant w → AreSentNow w.network
 network_by_invariant w i place is = let h = within_of w.network.end place is in
     by_numbering w.network.end.state w.network.end.layer3_initiated w.network.end.release_pending (party i.network_base w.network).sends place i.both.its.preserved h.0 h.1 h.2
 

@@ -32,7 +32,7 @@ use Rattle.lapd_sides_links.specs.Links.{Links, Reaction, of_sapi, is_served, in
 use Rattle.lapd_sides.specs.Management.{manages}
 use Rattle.lapd_sides.specs.SideState.{link_of}
 use Rattle.lapd_sides.specs.User as user
-use Rattle.lapd_sides.specs.User.{User, new_user, nothing_pending, next_reference, drawn, among_links, link_of_user, establishes, pending_after, terminal_acts, is_pending, with_pending}
+use Rattle.lapd_sides.specs.User.{User, new_user, nothing_pending, next_reference, drawn, among_links, establishes, pending_after, terminal_acts, is_pending, with_pending}
 use Rattle.lapd_sides_laws.specs.Answers.{IsBy}
 use Rattle.lapd_sides_laws.specs.ExactTimers.{SideStep, stepped, stepped_by_all, new_view}
 use Rattle.lapd_sides_laws.specs.Interface.{user_behaviour}

@@ -35,7 +35,7 @@ use Rattle.lapd_sides_links.specs.Effects.{stopped}
 use Rattle.lapd_sides.specs.Management.{manages}
 use Rattle.lapd_sides.specs.SideState.{link_of}
 use Rattle.lapd_sides.specs.User as user
-use Rattle.lapd_sides.specs.User.{User, PendingEstablishments, nothing_pending, is_pending, drawn, among_links, link_of_user, establishes, establishes_pending, primitive_of_group, primitive_of_sapi, assigned}
+use Rattle.lapd_sides.specs.User.{User, PendingEstablishments, nothing_pending, is_pending, drawn, among_links, establishes, establishes_pending, primitive_of_group, primitive_of_sapi, assigned}
 use Rattle.lapd_sides_links.specs.declared.primitive.What.TheVariants as what
 use Rattle.lapd_sides_links.specs.declared.side_fault.SideKind.{SideKind}
 use Rattle.std.proofs.lemmas.Bool.Decides.{nat_tests}
