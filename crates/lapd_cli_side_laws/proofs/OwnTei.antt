@@ -50,7 +50,7 @@ use Rattle.lapd_sides.specs.SideState.{link_of}
 use Rattle.lapd_sides.specs.User as user
 use Rattle.lapd_sides.specs.User.{User, nothing_pending, next_reference, drawn, with_links, among_links, link_of_user, or_discarded, establishes, establishes_pending, primitive_of_group, primitive_of_sapi, gives_up_pending, pending_after, terminal_acts, message_received, unit_from_group, for_layer_3, data_received, fault_received, received, user_takes, user_expires, with_tei_or, is_pending, with_pending, wants, forgets, has_tei, user_requested}
 use Rattle.lapd_sides_laws.specs.Interface.{user_behaviour}
-use Rattle.lapd_sides_laws.specs.SideView.{SideEvent, Take, Lose, Expire, Ask, SideView, unmoved, takes_first, may_expire, or_unmoved, reaction, does}
+use Rattle.lapd_sides_laws.specs.SideView.{SideEvent, Take, Lose, Expire, Ask, Overhear, SideView, unmoved, takes_first, may_expire, or_unmoved, reaction, does}
 use Rattle.lapd_cli_side_laws.specs.Transcripts.{own_tei, tei_after}
 
 -- ---- Primitives that change no TEI.
@@ -331,6 +331,7 @@ reaction_tells config v (Take now) = first v.incoming
     first (octets ∷ rest) = takes config v.now octets now
 reaction_tells config v (Lose at) = refl
 reaction_tells config v (Expire timer of now) = either config v.now (may_expire timer of v.now.served) (user_expires config now timer of v.now) (unmoved v.now) (expires config v.now now timer of) refl
+reaction_tells config v (Overhear octets now) = takes config v.now octets now
 reaction_tells config v (Ask request now) = requested config v.now (user_requested config request now v.now) (λ a is. granted config v.now request now a is)
 
 -- the side's own TEI is the one that all primitives so far determine

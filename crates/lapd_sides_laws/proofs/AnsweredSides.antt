@@ -22,7 +22,7 @@ use Rattle.lapd_sides_laws.specs.Answers.{answers, HasAnswer, expiries_of, Keeps
 use Rattle.lapd_sides_laws.specs.EndAnswers.{Asked, Establishment, Withdrawal, Clearing, request_of, may_release, most_expiries}
 use Rattle.lapd_sides_laws.specs.ExactTimers.{HaveExactTimers, SideStep, stepped_by_all, new_view}
 use Rattle.lapd_sides_laws.specs.Owed.{IsStep}
-use Rattle.lapd_sides_laws.specs.SideView.{Behaviour, SideEvent, Take, Lose, Expire, Ask, SideView, runs_on}
+use Rattle.lapd_sides_laws.specs.SideView.{Behaviour, SideEvent, Take, Lose, Expire, Ask, Overhear, SideView, runs_on}
 use Rattle.lapd_sides_laws.proofs.EachEvent.{IsClosed, Ways, moment_or, more_answers, answers_behind, all_go}
 use Rattle.lapd_sides_laws.proofs.EachLink.{HasLinks, after_step}
 use Rattle.lapd_sides_laws.proofs.EndAnswers.{Situation, Establishing, Leaving, Releasing, periods, some_left, at_most, runs_t200, IsOwing, starts}
@@ -166,6 +166,8 @@ module _ (config : Config) (id : LinkId) (asked : Asked) (clock : Bool) (now : â
     advance m last (Expire timer of moment) s ready o =
         at_moment m last moment s (Link s) refl ready o
     advance m last (Ask request moment) s ready o =
+        at_moment m last moment s (Link s) refl ready o
+    advance m last (Overhear octets moment) s ready o =
         at_moment m last moment s (Link s) refl ready o
 
     module _ (side : Side) (ways : (HasLinks id.sapi) â†’ Ways id (may_release asked)

@@ -39,7 +39,7 @@ use Rattle.lapd_sides_laws.specs.Interface.{fresh_link}
 use Rattle.lapd_sides_laws.specs.Owed.{PassesBy, IsStep, IsUnmovedBy, ServesLink}
 use Rattle.lapd_sides_laws.specs.Premises.{IsGivenOnce}
 use Rattle.lapd_sides_laws.specs.Primitives.{given_to}
-use Rattle.lapd_sides_laws.specs.SideView.{Behaviour, SideView, SideEvent, Take, Lose, Expire, Ask, unmoved, takes_first, runs_on, may_expire, or_unmoved, accepted_by, accepted, reaction}
+use Rattle.lapd_sides_laws.specs.SideView.{Behaviour, SideView, SideEvent, Take, Lose, Expire, Ask, Overhear, unmoved, takes_first, runs_on, may_expire, or_unmoved, accepted_by, accepted, reaction}
 use Rattle.lapd_sides_laws.proofs.LinkParts.{absent_acts, own_granted, passes_by_nothing}
 use Rattle.lapd_sides_laws.proofs.Managed.{and_not}
 use Rattle.lapd_sides_laws.proofs.SideEvents.{none_accepted}
@@ -324,3 +324,5 @@ module _ (S : Type 0) (w : Behaviour S) (side : Side) (id : LinkId)
       (λ runs once. expires_of now timer of v.now runs once) once
   each_effect (Ask request now) v once =
       asks request now v.now (w.requested request now v.now) refl once
+  each_effect (Overhear octets now) v once =
+      takes_by now octets v.now (is_for (other_side side) id octets) refl once

@@ -29,7 +29,7 @@ use Rattle.lapd_sides_laws.specs.Answers.{is_t200_of, expiries_of, requests_rele
 use Rattle.lapd_sides_laws.specs.ExactTimers.{SideStep, stepped, stepped_by_all}
 use Rattle.lapd_sides_laws.specs.Interface.{network_behaviour, user_behaviour}
 use Rattle.lapd_sides_laws.specs.Primitives.{what_for, link_primitives}
-use Rattle.lapd_sides_laws.specs.SideView.{Behaviour, SideView, SideEvent, Take, Lose, Expire, Ask, unmoved, takes_first, runs_on, may_expire, or_unmoved, reaction, does}
+use Rattle.lapd_sides_laws.specs.SideView.{Behaviour, SideView, SideEvent, Take, Lose, Expire, Ask, Overhear, unmoved, takes_first, runs_on, may_expire, or_unmoved, reaction, does}
 use Rattle.lapd_sides_laws.proofs.EachLink.{IsKept, after_step}
 use Rattle.lapd_sides_laws.proofs.EachNetwork.{network_expired, network_takes_on, network_managed, network_requested_on}
 use Rattle.lapd_sides_laws.proofs.EachUser.{user_expired, user_takes_on, user_managed, user_requested_on}
@@ -42,6 +42,7 @@ moment_or last (Take now) = now
 moment_or last (Lose at) = last
 moment_or last (Expire timer of now) = now
 moment_or last (Ask request now) = now
+moment_or last (Overhear octets now) = now
 
 -- one if T200 of the link expires
 abbrev pub one_of : LinkId → SideEvent → ℕ
@@ -183,6 +184,9 @@ module _ (id : LinkId) (may : Bool) (p : What → Bool) (O : ℕ → ℕ → Opt
           (or_unmoved v.now (w.requested request now v.now)) refl
           (otherwise_unmoved m now v.now (w.requested request now v.now) o
           (ways.requested m now request v.now keeps o))
+      reacts (Overhear octets now) v m last keeps o =
+          less_or_same m now (Overhear octets now) (w.takes octets now v.now) refl
+          (ways.takes m now octets v.now o)
 
       -- ---- Any list of events.
 

@@ -35,7 +35,7 @@ use Rattle.lapd_sides.specs.SideState.{link_of}
 use Rattle.lapd_sides.specs.User as user
 use Rattle.lapd_sides.specs.User.{User, among_links, link_of_user, or_discarded, terminal_acts, management_expires, message_received, unit_from_group, for_layer_3, data_received, fault_received, received, user_takes, user_expires, with_tei_or, wants, forgets, has_tei, user_requested}
 use Rattle.lapd_sides_laws.specs.Interface.{user_behaviour}
-use Rattle.lapd_sides_laws.specs.SideView.{SideView, SideEvent, Take, Lose, Expire, Ask, unmoved, takes_first, may_expire, or_unmoved, reaction}
+use Rattle.lapd_sides_laws.specs.SideView.{SideView, SideEvent, Take, Lose, Expire, Ask, Overhear, unmoved, takes_first, may_expire, or_unmoved, reaction}
 use Rattle.lapd_sides_laws.proofs.ExactLinks.{if_either}
 
 -- the same side with other links
@@ -193,6 +193,7 @@ module _ (config : Config) (now : ℕ) (id : LinkId) (may : Bool) (A : List Prim
     IsNow (Lose at) = Unit {0}
     IsNow (Expire timer of moment) = moment ≡ now
     IsNow (Ask asked moment) = moment ≡ now
+    IsNow (Overhear octets moment) = moment ≡ now
 
     pub user_reacts : (side_event : SideEvent) (v : SideView User) → IsNow side_event
         → (may ≡ false → requests_release side.User id side_event ≡ false) → P v.now
@@ -209,3 +210,5 @@ module _ (config : Config) (now : ℕ) (id : LinkId) (may : Bool) (A : List Prim
         subst (λ t. Goes (or_unmoved v.now (user_requested config asked t v.now))) (sym is)
         (or_none v.now (user_requested config asked now v.now) h (asking asked v.now (subst
         (λ t. may ≡ false → requests_release side.User id (Ask asked t) ≡ false) is keeps) h))
+    user_reacts (Overhear octets moment) v is keeps h =
+        subst (λ t. Goes (user_takes config octets t v.now)) (sym is) (taking octets v.now h)

@@ -17,9 +17,9 @@ use Rattle.lapd_sides_links.specs.Links.{Reaction}
 use Rattle.lapd_sides.specs.declared.request.Request.{Request}
 use Rattle.lapd_sides.specs.Network.{Network, new_network}
 use Rattle.lapd_sides.specs.User.{User, new_user}
-use Rattle.lapd_sides_laws.specs.ExactTimers.{HaveExactTimers, BothHaveExactTimers, AreOctets, SideStep, BringsOctets, stepped, stepped_by_all, new_view}
+use Rattle.lapd_sides_laws.specs.ExactTimers.{HaveExactTimers, BothHaveExactTimers, AreOctets, SideStep, BringsOctets, stepped, stepped_by_all, new_view, OverhearsOctets, OverhearOctets}
 use Rattle.lapd_sides_laws.specs.Interface.{Configs, Interface, Move, user_behaviour, network_behaviour, new_interface, by_user, by_network, side_does, happens, run}
-use Rattle.lapd_sides_laws.specs.SideView.{Behaviour, SideView, SideEvent, Take, Lose, Expire, Ask, unmoved, takes_first, may_expire, or_unmoved, reaction, left, does}
+use Rattle.lapd_sides_laws.specs.SideView.{Behaviour, SideView, SideEvent, Take, Lose, Expire, Ask, Overhear, unmoved, takes_first, may_expire, or_unmoved, reaction, left, does}
 use Rattle.lapd_sides_laws.proofs.ExactLinks.{if_either, CarriesTags, octets_carry_tags, IsExact, quietly}
 use Rattle.lapd_sides_laws.proofs.ExactNetwork.{network_taking, network_expiring, network_asked, new_network_exact}
 use Rattle.lapd_sides_laws.proofs.ExactUser.{user_taking, user_expiring, user_asked, new_user_exact}
@@ -41,6 +41,7 @@ all_left P (Take now) line h = All-drop P 1 line h
 all_left P (Lose at) line h = all_but_one P line at h
 all_left P (Expire timer of now) line h = h
 all_left P (Ask request now) line h = h
+all_left P (Overhear octets now) line h = h
 
 module _ (S : Type 0) (w : Behaviour S) (side : Side) where
   abbrev AreExact : S → Type 0
@@ -73,16 +74,17 @@ module _ (S : Type 0) (w : Behaviour S) (side : Side) where
     otherwise_unmoved s (Ok a) all h = h
     otherwise_unmoved s (Err kind) all h = nothing s all
 
-    reacts : (event : SideEvent) (v : SideView S) → All (CarriesTags (other_side side)) v.incoming → AreExact v.now → Preserves (reaction w event v)
-    reacts (Take now) v tags all = first_taken now v.incoming v.now tags all
-    reacts (Lose at) v tags all = nothing v.now all
-    reacts (Expire timer of now) v tags all = if_either Preserves (may_expire timer of (w.served v.now)) (w.expires now timer of v.now) (unmoved v.now) (ways.expires now timer of v.now all) (nothing v.now all)
-    reacts (Ask request now) v tags all = otherwise_unmoved v.now (w.requested request now v.now) all (ways.requested now request v.now all)
+    reacts : (event : SideEvent) (v : SideView S) → All (CarriesTags (other_side side)) v.incoming → OverhearsOctets event → AreExact v.now → Preserves (reaction w event v)
+    reacts (Take now) v tags heard all = first_taken now v.incoming v.now tags all
+    reacts (Lose at) v tags heard all = nothing v.now all
+    reacts (Expire timer of now) v tags heard all = if_either Preserves (may_expire timer of (w.served v.now)) (w.expires now timer of v.now) (unmoved v.now) (ways.expires now timer of v.now all) (nothing v.now all)
+    reacts (Ask request now) v tags heard all = otherwise_unmoved v.now (w.requested request now v.now) all (ways.requested now request v.now all)
+    reacts (Overhear octets now) v tags heard all = ways.takes now octets v.now (octets_carry_tags (other_side side) octets heard) all
 
-    pub event_preserves : (event : SideEvent) (v : SideView S) → IsExactView v → IsExactView (does w event v)
+    pub event_preserves : (event : SideEvent) (v : SideView S) → OverhearsOctets event → IsExactView v → IsExactView (does w event v)
     unfolding does
-    event_preserves event v h =
-        let after = reacts event v h.incoming h.timers in
+    event_preserves event v heard h =
+        let after = reacts event v h.incoming heard h.timers in
         record {
           timers = after.timers;
           incoming = all_left (CarriesTags (other_side side)) event v.incoming h.incoming;
@@ -90,16 +92,16 @@ module _ (S : Type 0) (w : Behaviour S) (side : Side) where
         }
 
     -- one event alone, if only octets are in transit to the side
-    pub event_exact : (event : SideEvent) (v : SideView S) → All AreOctets v.incoming → AreExact v.now → AreExact (does w event v).now
+    pub event_exact : (event : SideEvent) (v : SideView S) → All AreOctets v.incoming → OverhearsOctets event → AreExact v.now → AreExact (does w event v).now
     unfolding does
-    event_exact event v octets all = (reacts event v (all_carry_tags (other_side side) v.incoming octets) all).timers
+    event_exact event v octets heard all = (reacts event v (all_carry_tags (other_side side) v.incoming octets) heard all).timers
 
     -- ---- Every run of one side.
 
     step_preserves : (side_step : SideStep) (v : SideView S) → BringsOctets side_step → IsExactView v → IsExactView (stepped w side_step v)
-    step_preserves side_step v octets h = event_preserves side_step.event (record v { incoming = v.incoming ++ side_step.arrives }) (record {
+    step_preserves side_step v octets h = event_preserves side_step.event (record v { incoming = v.incoming ++ side_step.arrives }) octets.1 (record {
       timers = h.timers;
-      incoming = All-append (CarriesTags (other_side side)) v.incoming side_step.arrives h.incoming (all_carry_tags (other_side side) side_step.arrives octets);
+      incoming = All-append (CarriesTags (other_side side)) v.incoming side_step.arrives h.incoming (all_carry_tags (other_side side) side_step.arrives octets.0);
       outgoing = h.outgoing;
     })
 
@@ -131,17 +133,17 @@ module _ (c : Configs) where
     pub user : IsExactView User (user_behaviour c.user) side.User (by_user i)
     pub network : IsExactView Network (network_behaviour c.network) side.Network (by_network i)
 
-  move_preserves : (who : Side) (event : SideEvent) (i : Interface) → IsExactInterface i → IsExactInterface (side_does c who event i)
-  move_preserves side.User event i h =
-      let after = event_preserves User (user_behaviour c.user) side.User (of_user c.user) event (by_user i) h.user in
+  move_preserves : (who : Side) (event : SideEvent) (i : Interface) → OverhearsOctets event → IsExactInterface i → IsExactInterface (side_does c who event i)
+  move_preserves side.User event i heard h =
+      let after = event_preserves User (user_behaviour c.user) side.User (of_user c.user) event (by_user i) heard h.user in
       record { user = after; network = record { timers = h.network.timers; incoming = after.outgoing; outgoing = after.incoming } }
-  move_preserves side.Network event i h =
-      let after = event_preserves Network (network_behaviour c.network) side.Network (of_network c.network) event (by_network i) h.network in
+  move_preserves side.Network event i heard h =
+      let after = event_preserves Network (network_behaviour c.network) side.Network (of_network c.network) event (by_network i) heard h.network in
       record { user = record { timers = h.user.timers; incoming = after.outgoing; outgoing = after.incoming }; network = after }
 
-  run_preserves : (moves : List Move) (i : Interface) → IsExactInterface i → IsExactInterface (run c moves i)
-  run_preserves [] i h = h
-  run_preserves (move ∷ moves) i h = run_preserves moves (happens c move i) (move_preserves move.side move.event i h)
+  run_preserves : (moves : List Move) (i : Interface) → OverhearOctets moves → IsExactInterface i → IsExactInterface (run c moves i)
+  run_preserves [] i heard h = h
+  run_preserves (move ∷ moves) i heard h = run_preserves moves (happens c move i) heard.1 (move_preserves move.side move.event i heard.0 h)
 
   made_is_exact : (fixed : Option ℕ) (random : Lcg) (known : List ℕ) → IsExactInterface (new_interface (new_user c.user fixed random) (new_network c.network known))
   made_is_exact fixed random known = record {
@@ -149,8 +151,8 @@ module _ (c : Configs) where
     network = record { timers = new_network_exact c.network known; incoming = All-nil (CarriesTags side.User); outgoing = All-nil (CarriesTags side.Network) };
   }
 
-  pub run_is_exact : (fixed : Option ℕ) (random : Lcg) (known : List ℕ) (moves : List Move)
+  pub run_is_exact : (fixed : Option ℕ) (random : Lcg) (known : List ℕ) (moves : List Move) → OverhearOctets moves
       → BothHaveExactTimers (run c moves (new_interface (new_user c.user fixed random) (new_network c.network known)))
-  run_is_exact fixed random known moves =
-      let h = run_preserves moves (new_interface (new_user c.user fixed random) (new_network c.network known)) (made_is_exact fixed random known) in
+  run_is_exact fixed random known moves heard =
+      let h = run_preserves moves (new_interface (new_user c.user fixed random) (new_network c.network known)) heard (made_is_exact fixed random known) in
       (h.user.timers, h.network.timers)

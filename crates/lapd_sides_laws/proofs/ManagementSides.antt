@@ -47,7 +47,7 @@ use Rattle.lapd_sides.specs.User as usr
 use Rattle.lapd_sides.specs.User.{User, new_user, nothing_pending, next_reference, drawn, link_of_user, establishes, pending_after, terminal_acts, unit_from_group, for_layer_3, user_takes, user_expires, with_tei_or, is_pending, with_pending, wants, forgets, has_tei, user_requested}
 use Rattle.lapd_sides_laws.specs.Interface.{Configs, Interface, Move, user_behaviour, network_behaviour, new_interface, by_user, by_network, side_does, happens, run}
 use Rattle.lapd_sides_laws.specs.ManagementTimers.{RunsAlone, HasTimerOfTerminal, HasTimerOfAssigner, HaveTimersOfManagement}
-use Rattle.lapd_sides_laws.specs.SideView.{Behaviour, SideView, SideEvent, Take, Lose, Expire, Ask, unmoved, takes_first, may_expire, or_unmoved, does}
+use Rattle.lapd_sides_laws.specs.SideView.{Behaviour, SideView, SideEvent, Take, Lose, Expire, Ask, Overhear, unmoved, takes_first, may_expire, or_unmoved, does}
 use Rattle.lapd_sides_laws.proofs.ExactLinks.{if_either}
 use Rattle.lapd_sides_laws.proofs.ManagementTimers.{awaits_before, checks_before, terminal_row, assigner_row, expired_201, expired_202}
 
@@ -79,6 +79,7 @@ module _ (S : Type 0) (w : Behaviour S) (P : S → Type 0) where
     unfolding does
     preserved_by_event (Take now) v h = first_taken now v.incoming v.now h
     preserved_by_event (Lose at) v h = h
+    preserved_by_event (Overhear octets now) v h = ways.takes now octets v.now h
     preserved_by_event (Expire timer of now) v h = where_it_may now timer of v.now (may_expire timer of (w.served v.now)) refl h
     preserved_by_event (Ask asked now) v h = granted v.now (w.requested asked now v.now) h (ways.requested now asked v.now h)
 

@@ -34,7 +34,7 @@ use Rattle.lapd_sides.specs.Network as network
 use Rattle.lapd_sides.specs.Network.{Network, assigner_acts, message_received, with_links, among_links, link_of_network, or_discarded, fault_received, received, network_takes, network_expires, group_frame, unit_to_group, network_requested}
 use Rattle.lapd_sides_laws.specs.Interface.{network_behaviour}
 use Rattle.lapd_sides_laws.specs.Premises.{is_assignment}
-use Rattle.lapd_sides_laws.specs.SideView.{SideEvent, Take, Lose, Expire, Ask, SideView, unmoved, takes_first, may_expire, or_unmoved, reaction}
+use Rattle.lapd_sides_laws.specs.SideView.{SideEvent, Take, Lose, Expire, Ask, Overhear, SideView, unmoved, takes_first, may_expire, or_unmoved, reaction}
 use Rattle.lapd_sides_laws.proofs.HeldTeis.{GivesFree, gives_free}
 use Rattle.lapd_sides_laws.proofs.LinkOps.{IsLinkOp, op_acts, op_expires}
 use Rattle.lapd_sides_laws.proofs.OwnTeis.{AreOf, IsQuietFor, LeavesOwn, managed_are, managed_is_quiet}
@@ -155,5 +155,6 @@ network_preserves config v (Take now) held = first v.incoming
     first [] = still config v.now held
     first (octets ∷ rest) = takes config v.now held octets now
 network_preserves config v (Lose at) held = still config v.now held
+network_preserves config v (Overhear octets now) held = takes config v.now held octets now
 network_preserves config v (Expire timer of now) held = either config v.now held (may_expire timer of v.now.served) (network_expires config now timer of v.now) (unmoved v.now) (expires config v.now held now timer of) (still config v.now held)
 network_preserves config v (Ask request now) held = requested config v.now held (network_requested config request now v.now) (λ a is. granted config v.now held request now a is)

@@ -37,7 +37,7 @@ use Rattle.lapd_sides_laws.specs.Establishments.{establishments_of, number_each}
 use Rattle.lapd_sides_laws.specs.Addressed.{is_for, those_for, spelled, all_spelled}
 use Rattle.lapd_sides_laws.specs.Primitives.{nothing_known, learns_all, what_for, link_primitives, message_for, given_to, known_of, AreExpectedOfLink}
 use Rattle.lapd_sides_laws.specs.Premises.{is_removal, IsTimely, IsGivenOnce, GivesTeiOnce}
-use Rattle.lapd_sides_laws.specs.SideView.{Behaviour, SideEvent, Take, Lose, Expire, Ask, SideView, unmoved, takes_first, runs_on, or_unmoved, if_granted, accepted_by, reaction, does}
+use Rattle.lapd_sides_laws.specs.SideView.{Behaviour, SideEvent, Take, Lose, Expire, Ask, Overhear, SideView, unmoved, takes_first, runs_on, or_unmoved, if_granted, accepted_by, reaction, does}
 use Rattle.lapd_sides_laws.specs.Projects.{IsTimed, HasLink, ShowsEnd, Projects}
 use Rattle.lapd_sides_laws.proofs.Frames.{delivered_frames, delivered_is_known}
 use Rattle.lapd_sides_laws.specs.Owed.{PassesBy, IsStep, IsRemoval, IsUnmovedBy, IsRequest, ServesLink}
@@ -517,3 +517,5 @@ module _ (S : Type 0) (w : Behaviour S) (side : Side) (id : LinkId) where
   each_event ways v view (Lose at) timely stays p preserved = loses_one v view at p
   each_event ways v view (Expire timer of now) timely stays p preserved = expires ways v view timer of now timely p preserved stays
   each_event ways v view (Ask request now) timely stays p preserved = asks_by ways v view request now (w.requested request now v.now) refl p preserved stays
+  each_event ways v view (Overhear octets now) timely stays p preserved =
+      proceeding ways v view (w.takes octets now v.now) [] v.incoming now p preserved.station ((ways (was_removed v)).takes_other octets now v.now timely stays) refl refl

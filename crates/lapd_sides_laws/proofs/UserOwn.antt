@@ -40,7 +40,7 @@ use Rattle.lapd_sides.specs.User as user
 use Rattle.lapd_sides.specs.User.{User, nothing_pending, next_reference, drawn, with_links, among_links, link_of_user, or_discarded, establishes, establishes_pending, primitive_of_group, primitive_of_sapi, gives_up_pending, pending_after, terminal_acts, message_received, unit_from_group, for_layer_3, data_received, fault_received, received, user_takes, user_expires, with_tei_or, is_pending, with_pending, wants, forgets, has_tei, user_requested}
 use Rattle.lapd_sides_laws.specs.Interface.{user_behaviour}
 use Rattle.lapd_sides_laws.specs.Premises.{is_assignment}
-use Rattle.lapd_sides_laws.specs.SideView.{SideEvent, Take, Lose, Expire, Ask, SideView, unmoved, takes_first, may_expire, or_unmoved, reaction}
+use Rattle.lapd_sides_laws.specs.SideView.{SideEvent, Take, Lose, Expire, Ask, Overhear, SideView, unmoved, takes_first, may_expire, or_unmoved, reaction}
 use Rattle.lapd_sides_laws.proofs.LinkOps.{IsLinkOp, none_of_both, op_acts, op_expires}
 use Rattle.lapd_sides_laws.proofs.OwnTeis.{AreOf, IsQuietFor, managed_are, managed_is_quiet}
 use Rattle.lapd_sides_laws.proofs.TerminalOwn.{Owns, terminal_leaves}
@@ -248,5 +248,6 @@ user_preserves config v (Take now) own = first v.incoming
     first [] = still config v.now own
     first (octets ∷ rest) = takes config v.now own octets now
 user_preserves config v (Lose at) own = still config v.now own
+user_preserves config v (Overhear octets now) own = takes config v.now own octets now
 user_preserves config v (Expire timer of now) own = either config v.now own (may_expire timer of v.now.served) (user_expires config now timer of v.now) (unmoved v.now) (expires config v.now own now timer of) (still config v.now own)
 user_preserves config v (Ask request now) own = requested config v.now own (user_requested config request now v.now) (λ a is. granted config v.now own request now a is)

@@ -33,7 +33,7 @@ use Rattle.lapd_sides_laws.specs.ExactTimers.{SideStep, stepped, stepped_by_all,
 use Rattle.lapd_sides_laws.specs.Interface.{network_behaviour, user_behaviour}
 use Rattle.lapd_sides_laws.specs.NewLinks.{network_after, user_after}
 use Rattle.lapd_sides_laws.specs.Primitives.{link_primitives}
-use Rattle.lapd_sides_laws.specs.SideView.{Behaviour, SideEvent, Take, Lose, Expire, Ask, SideView}
+use Rattle.lapd_sides_laws.specs.SideView.{Behaviour, SideEvent, Take, Lose, Expire, Ask, Overhear, SideView}
 use Rattle.lapd_sides_laws.proofs.EachEvent.{IsClosed, GoesAt, moment_or, network_ways, user_ways, Ways, all_go}
 use Rattle.lapd_sides_laws.proofs.EachLink.{after_step, IsKept}
 use Rattle.lapd_sides_laws.proofs.OwedAnswers.{durations_stay, stopped_durations}
@@ -168,6 +168,7 @@ module _ (config : Config) (id : LinkId) (clock : Bool) (bound : ℕ) where
     comes m last (Lose at) s by u = u
     comes m last (Expire timer of now) s by u = later m last now ((w.served s).links id) by u
     comes m last (Ask request now) s by u = later m last now ((w.served s).links id) by u
+    comes m last (Overhear octets now) s by u = later m last now ((w.served s).links id) by u
 
     throughout : (side_steps : List SideStep) (v : SideView S)
         → (clock ≡ true → All (λ x. IsBy bound x.event) side_steps)

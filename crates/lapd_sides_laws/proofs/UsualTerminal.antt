@@ -38,7 +38,7 @@ use Rattle.lapd_sides_laws.specs.ExactTimers.{SideStep, stepped, stepped_by_all,
 use Rattle.lapd_sides_laws.specs.Interface.{user_behaviour}
 use Rattle.lapd_sides_laws.specs.ManagementTimers.{HasTimerOfTerminal}
 use Rattle.lapd_sides_laws.specs.NewLinks.{user_after}
-use Rattle.lapd_sides_laws.specs.SideView.{SideView, SideEvent, Take, Lose, Expire, Ask, does}
+use Rattle.lapd_sides_laws.specs.SideView.{SideView, SideEvent, Take, Lose, Expire, Ask, Overhear, does}
 use Rattle.lapd_sides_laws.proofs.AsMade.{new_are_own}
 use Rattle.lapd_sides_laws.proofs.EachEvent.{moment_or}
 use Rattle.lapd_sides_laws.proofs.EachTerminal.{IsRuled, IsNow, user_reacts}
@@ -251,6 +251,7 @@ module _ (config : Config) (clock : Bool) (bound : ℕ) where
   moment_is_by (Lose at) by = omega arith
   moment_is_by (Expire timer of now) by = by
   moment_is_by (Ask request now) by = by
+  moment_is_by (Overhear octets now) by = by
 
   its_moment : (id : LinkId) (e : SideEvent) (by : clock ≡ true → moment_or 0 e ≤ bound)
       → IsNow config (moment_or 0 e) id true Never UsualUser UsualUser
@@ -259,6 +260,7 @@ module _ (config : Config) (clock : Bool) (bound : ℕ) where
   its_moment id (Lose at) by = tt
   its_moment id (Expire timer of now) by = refl
   its_moment id (Ask request now) by = refl
+  its_moment id (Overhear octets now) by = refl
 
   -- what holds of a user side after any events
   pub record HasUsual (s : User) : Type 0 where

@@ -33,7 +33,7 @@ use Rattle.lapd_sides_laws.specs.ExactTimers.{SideStep, stepped, stepped_by_all}
 use Rattle.lapd_sides_laws.specs.Interface.{user_behaviour}
 use Rattle.lapd_sides_laws.specs.ManagementTimers.{HasTimerOfTerminal}
 use Rattle.lapd_sides_laws.specs.Primitives.{link_primitives}
-use Rattle.lapd_sides_laws.specs.SideView.{SideView, SideEvent, Take, Lose, Expire, Ask, reaction, does}
+use Rattle.lapd_sides_laws.specs.SideView.{SideView, SideEvent, Take, Lose, Expire, Ask, Overhear, reaction, does}
 use Rattle.lapd_sides_laws.proofs.AnsweredSides.{Debt, debt_closed, advance, Ready, quiet_until}
 use Rattle.lapd_sides_laws.proofs.EachEvent.{moment_or, user_ways, all_go}
 use Rattle.lapd_sides_laws.proofs.EachLink.{HasLinks}
@@ -164,6 +164,7 @@ module _ (config : Config) (id : LinkId) (asked : Asked) (clock : Bool) (limit :
   at_event (Lose at) m last s quiet h = h
   at_event (Expire timer of moment) m last s quiet h = later m last moment s h quiet
   at_event (Ask request moment) m last s quiet h = later m last moment s h quiet
+  at_event (Overhear octets moment) m last s quiet h = later m last moment s h quiet
 
   abbrev Happens : ℕ → ℕ → SideEvent → Type 0
   Happens m now event = IsNow config now id (may_release asked)
@@ -176,6 +177,7 @@ module _ (config : Config) (id : LinkId) (asked : Asked) (clock : Bool) (limit :
   at_its_moment (Lose at) m last = tt
   at_its_moment (Expire timer of moment) m last = refl
   at_its_moment (Ask request moment) m last = refl
+  at_its_moment (Overhear octets moment) m last = refl
 
   abbrev GoesTo : ℕ → ℕ → Reaction User → Type 0
   GoesTo m now a = GoesWith config id asked clock limit m now m a

@@ -20,7 +20,7 @@ use Rattle.lapd_sides.specs.declared.request.Request.TheVariants as request
 use Rattle.lapd_sides_laws.specs.EndAnswers.{Asked, Establishment, Withdrawal, Clearing, may_release}
 use Rattle.lapd_sides_laws.specs.ExactTimers.{SideStep, stepped, stepped_by_all, new_view}
 use Rattle.lapd_sides_laws.specs.Primitives.{link_primitives}
-use Rattle.lapd_sides_laws.specs.SideView.{Behaviour, SideView, SideEvent, Take, Lose, Expire, Ask}
+use Rattle.lapd_sides_laws.specs.SideView.{Behaviour, SideView, SideEvent, Take, Lose, Expire, Ask, Overhear}
 
 -- the first request
 abbrev pub asks : Asked → LinkId → Request
@@ -97,6 +97,7 @@ IsBy moment (Take now) = now ≤ moment
 IsBy moment (Lose at) = Unit {0}
 IsBy moment (Expire timer of now) = now ≤ moment
 IsBy moment (Ask request now) = now ≤ moment
+IsBy moment (Overhear octets now) = now ≤ moment
 
 -- no timer of the side is overdue at the moment of the event
 abbrev pub IsPunctual : {S : Type 0} → Behaviour S → SideEvent → S → Type 0
@@ -104,6 +105,7 @@ IsPunctual w (Take now) s = IsQuietBefore (w.served s) now
 IsPunctual w (Lose at) s = Unit {0}
 IsPunctual w (Expire timer of now) s = IsQuietBefore (w.served s) now
 IsPunctual w (Ask request now) s = IsQuietBefore (w.served s) now
+IsPunctual w (Overhear octets now) s = IsQuietBefore (w.served s) now
 
 -- The most periods of T200 until the answer: one for each SABME and each DISC. T200 is started anew
 -- if the DISC is sent.

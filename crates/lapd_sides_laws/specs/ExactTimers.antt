@@ -10,8 +10,8 @@ use Rattle.lapd_link_definition.specs.End.{runs}
 use Rattle.lapd_link_definition.specs.RunningTimers.{AreTimersOf, HasTimersOfState}
 use Rattle.lapd_table.specs.declared.link_id.LinkId.{LinkId}
 use Rattle.lapd_sides_links.specs.Links.{Linked, Links}
-use Rattle.lapd_sides_laws.specs.Interface.{Interface}
-use Rattle.lapd_sides_laws.specs.SideView.{Behaviour, SideView, SideEvent, does}
+use Rattle.lapd_sides_laws.specs.Interface.{Interface, Move}
+use Rattle.lapd_sides_laws.specs.SideView.{Behaviour, SideView, SideEvent, Overhear, does}
 
 -- A timer has a deadline exactly when it runs at the link's end: T200 and T203 by the state, T201
 -- and T202 never. V(S), V(A) and V(R) are tags.
@@ -61,13 +61,22 @@ IsOctet octet = octet < 256
 abbrev pub AreOctets : List ℕ → Type 0
 AreOctets octets = All IsOctet octets
 
+-- a side overhears nothing but octets; so do both, in these moves
+abbrev pub OverhearsOctets : SideEvent → Type 0
+OverhearsOctets (Overhear octets now) = AreOctets octets
+OverhearsOctets event = Unit {0}
+
+abbrev pub OverhearOctets : List Move → Type 0
+OverhearOctets [] = Unit {0}
+OverhearOctets (move ∷ moves) = OverhearsOctets move.event × OverhearOctets moves
+
 -- octets arrive from anyone, behind those in transit to the side; then an event of the side follows
 pub record SideStep : Type 0 where
   pub arrives : List (List ℕ)
   pub event : SideEvent
 
 abbrev pub BringsOctets : SideStep → Type 0
-BringsOctets side_step = All AreOctets side_step.arrives
+BringsOctets side_step = All AreOctets side_step.arrives × OverhearsOctets side_step.event
 
 abbrev pub stepped : {S : Type 0} → Behaviour S → SideStep → SideView S → SideView S
 stepped w side_step v = does w side_step.event

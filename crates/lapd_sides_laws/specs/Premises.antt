@@ -1,4 +1,5 @@
--- The premises of one link: its T200 is timely, and its TEI is assigned once.
+-- The premises of one link: its T200 is timely, nobody else sends octets for it, and its TEI is
+-- assigned once.
 use Rattle.std.specs.Prelude.{◌≡◌, ℕ, ◌==◌, ◌||◌, Bool, true, false, List, [], ◌∷◌, Some, is_some}
 use Rattle.std.specs.List.{list_any}
 use Rattle.lapd_timers.specs.declared.timer.Timer.TheVariants.{T200}
@@ -11,18 +12,19 @@ use Rattle.lapd_sides_links.specs.declared.primitive.Primitive.{Primitive}
 use Rattle.lapd_sides_links.specs.declared.primitive.Primitive.TheVariants.{Management}
 use Rattle.lapd_sides_links.specs.Effects.{Effects}
 use Rattle.lapd_sides_links.specs.Links.{Links}
-use Rattle.lapd_sides_laws.specs.Addressed.{is_poll_for, is_final_for}
+use Rattle.lapd_sides_laws.specs.Addressed.{is_for, is_poll_for, is_final_for}
 use Rattle.lapd_sides_laws.specs.Interface.{Configs, Interface, Move, user_behaviour, network_behaviour, by_user, by_network, happens}
-use Rattle.lapd_sides_laws.specs.SideView.{Behaviour, SideView, SideEvent, Expire, reaction}
+use Rattle.lapd_sides_laws.specs.SideView.{Behaviour, SideView, SideEvent, Expire, Overhear, reaction}
 
 -- ---- Of one event.
 
 -- T200 of the link does not expire while a command with P=1 from this side, or a response with F=1
--- to it, is in transit.
+-- to it, is in transit. Octets that the side overhears do not belong to the link.
 abbrev pub IsTimely : {S : Type 0} → Side → LinkId → SideEvent → SideView S → Type 0
 IsTimely side id (Expire timer of now) v = timer ≡ T200 → of ≡ Some id
     → (list_any (is_poll_for side id) v.outgoing ≡ false)
     × (list_any (is_final_for (other_side side) id) v.incoming ≡ false)
+IsTimely side id (Overhear octets now) v = is_for (other_side side) id octets ≡ false
 IsTimely side id event v = Unit {0}
 
 -- a primitive reports that the TEI is freed, removed or given up

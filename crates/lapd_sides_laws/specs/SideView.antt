@@ -1,5 +1,5 @@
 -- A side as a program sees it, and its events: it takes the first octets in transit to it, some of
--- these are lost, a timer expires, or it executes a request.
+-- these are lost, a timer expires, it executes a request, or it takes octets of someone else.
 use Rattle.std.specs.Prelude.{ℕ, Bool, false, if◌then◌else◌, List, [], ◌∷◌, ◌++◌, drop, Option, Some, None, is_some, Result, Ok, Err}
 use Rattle.std.specs.List.{remove}
 use Rattle.lapd_timers.specs.declared.timer.Timer.{Timer}
@@ -32,12 +32,14 @@ pub record SideView (S : Type 0) : Type 0 where
   pub incoming : List (List ℕ)
   pub outgoing : List (List ℕ)
 
--- `now` is in milliseconds; octets are lost by their position, counted from 0
+-- `now` is in milliseconds; octets are lost by their position, counted from 0. A side overhears
+-- octets that are not in transit to it here: on a bus those of another terminal.
 pub data SideEvent : Type 0 where
   Take : (now : ℕ) → SideEvent
   Lose : (at : ℕ) → SideEvent
   Expire : (timer : Timer) → (of : Option LinkId) → (now : ℕ) → SideEvent
   Ask : (request : Request) → (now : ℕ) → SideEvent
+  Overhear : (octets : List ℕ) → (now : ℕ) → SideEvent
 
 -- ---- How the side reacts.
 
@@ -69,6 +71,7 @@ or_unmoved s (Err kind) = unmoved s
 abbrev pub reaction : {S : Type 0} → Behaviour S → SideEvent → SideView S → Reaction S
 reaction w (Take now) v = takes_first w now v.incoming v.now
 reaction w (Lose at) v = unmoved v.now
+reaction w (Overhear octets now) v = w.takes octets now v.now
 reaction w (Expire timer of now) v =
     if may_expire timer of (w.served v.now) then w.expires now timer of v.now else unmoved v.now
 reaction w (Ask request now) v = or_unmoved v.now (w.requested request now v.now)

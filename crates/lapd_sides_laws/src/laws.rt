@@ -29,7 +29,7 @@ ghost use Rattle.lapd_sides.specs.User.{User, new_user, got_for, user_takes, use
 ghost use Rattle.lapd_sides_laws.specs.Addressed.{those_for};
 ghost use Rattle.lapd_sides_laws.specs.Calls.{NetworkDoes, UserDoes, take_of};
 ghost use Rattle.lapd_sides_laws.specs.Establishments.{records_of};
-ghost use Rattle.lapd_sides_laws.specs.ExactTimers.{HasExactTimers, HaveExactTimers, BothHaveExactTimers, RunByState, IsWoken, AreOctets, BringsOctets, SideStep, stepped_by_all, new_view};
+ghost use Rattle.lapd_sides_laws.specs.ExactTimers.{HasExactTimers, HaveExactTimers, BothHaveExactTimers, RunByState, IsWoken, AreOctets, BringsOctets, OverhearsOctets, OverhearOctets, SideStep, stepped_by_all, new_view};
 ghost use Rattle.lapd_sides_laws.specs.Interface.{user_behaviour, network_behaviour, Configs, Move, Interface, new_interface, from_here, run};
 ghost use Rattle.lapd_sides_laws.specs.ManagementTimers.{HasTimerOfTerminal, HasTimerOfAssigner, HaveTimersOfManagement, IsAwaited};
 ghost use Rattle.lapd_sides_laws.specs.NewLinks.{HasNoLinks, network_after, user_after};
@@ -41,7 +41,8 @@ ghost use Rattle.lapd_sides_laws.specs.SideView.{SideView, SideEvent, Expire, As
 ghost use Rattle.lapd_sides_laws.specs.Primitives.{link_primitives};
 
 /// Every link between two sides is safe after every run, in both directions, if its T200 never
-/// expires while an awaited answer is in transit and its TEI is assigned once (`Premises`).
+/// expires while an awaited answer is in transit, nobody else sends octets for it, and its TEI is
+/// assigned once (`Premises`).
 ///
 /// Safe means: layer 3 at one end receives messages that layer 3 at the other end submitted, in
 /// order and once each. Within one establishment no message is skipped. Every message that counts
@@ -240,7 +241,8 @@ pub fn each_premise_is_needed()
 ///
 /// T200 and T203 have a deadline exactly when the state requires it; T201 and T202 of a link never
 /// have one. This holds for all links at once and needs no premise: a TEI may be removed and
-/// assigned again, and any octets may arrive (Q.921 5.9.1, 5.9.8, 5.10.3).
+/// assigned again, and any octets may arrive or be overheard, numbers below 256 (Q.921 5.9.1,
+/// 5.9.8, 5.10.3).
 ///
 /// - `new_network`, `new_user`: newly created sides have this property.
 /// - `network_event`, `user_event`: each event keeps it, from any side whose links have it, if only
@@ -257,10 +259,10 @@ pub fn timers_run_as_ends_require()
     ensures new_user { (config : Config) (fixed : Option ℕ) (random : Lcg)
         → HaveExactTimers (new_user config fixed random).served.links }
     ensures network_event { (config : Config) (event : SideEvent) (v : SideView Network)
-        → All AreOctets v.incoming → HaveExactTimers v.now.served.links
+        → All AreOctets v.incoming → OverhearsOctets event → HaveExactTimers v.now.served.links
         → HaveExactTimers (does (network_behaviour config) event v).now.served.links }
     ensures user_event { (config : Config) (event : SideEvent) (v : SideView User)
-        → All AreOctets v.incoming → HaveExactTimers v.now.served.links
+        → All AreOctets v.incoming → OverhearsOctets event → HaveExactTimers v.now.served.links
         → HaveExactTimers (does (user_behaviour config) event v).now.served.links }
     ensures network_steps { (config : Config) (known : List ℕ) (side_steps : List SideStep)
         → All BringsOctets side_steps → HaveExactTimers
@@ -272,7 +274,7 @@ pub fn timers_run_as_ends_require()
         (stepped_by_all (user_behaviour config) side_steps
         (new_view (new_user config fixed random))).now.served.links }
     ensures interface { (c : Configs) (fixed : Option ℕ) (random : Lcg) (known : List ℕ)
-        (moves : List Move)
+        (moves : List Move) → OverhearOctets moves
         → BothHaveExactTimers (run c moves
         (new_interface (new_user c.user fixed random) (new_network c.network known))) }
     ensures by_state { (linked : Linked) → HasExactTimers linked → RunByState linked }

@@ -11,20 +11,22 @@
 //!   `IsReceived` says when this is right: the messages received are, in order and once each, among
 //!   the messages submitted, and each message that counts as acknowledged was received.
 //! - `SideView`: a side as a program sees it: the primitives that it delivered, the messages that
-//!   it accepted, and the octets in transit to it and from it. An event of a side is one of four:
+//!   it accepted, and the octets in transit to it and from it. An event of a side is one of five:
 //!   it takes the first octets in transit to it, some of these are lost, a running timer expires
-//!   (due or not), or it executes a request.
+//!   (due or not), it executes a request, or it overhears octets of someone else, which are not in
+//!   transit to it here. The network side of a bus so takes octets of other terminals.
 //! - `Interface`: both sides with the octets between them. A move is an event of one of them, and a
-//!   run is a list of moves. The line keeps order, and repeats and alters nothing; nobody else
-//!   sends on it. All else is open: which octets are lost, when timers expire, and which requests
-//!   are made when.
+//!   run is a list of moves. The line keeps order, and repeats and alters nothing. All else is
+//!   open: which octets are lost, when timers expire, which requests are made when, and what a side
+//!   overhears.
 //! - `Establishments`: in which establishment each message of a link was received and last sent, by
 //!   the link's end after each event, and when no message is skipped within one
 //!   (`IsReceivedUnskipped`). Neither the primitives nor the frames of a side show these numbers.
 //! - `Premises`, for one link. Its T200 does not expire while a command with P=1 from that side, or
-//!   a response with F=1 to it, is in transit. Its TEI is assigned once: not while the link exists,
-//!   and not after it was removed. For newly created sides it is enough that the TEI is not
-//!   assigned again, since they assign no TEI whose links exist. Other links may do anything.
+//!   a response with F=1 to it, is in transit. A side overhears no octets that belong to the link.
+//!   Its TEI is assigned once: not while the link exists, and not after it was removed. For newly
+//!   created sides it is enough that the TEI is not assigned again, since they assign no TEI whose
+//!   links exist. Other links may do anything.
 //! - `Projects`: what both sides show of one link, which may not exist yet or no longer, represents
 //!   a world of two ends that some moves lead to (`ProjectsTo`). That world is safe, and the link's
 //!   primitives are right (`IsRight`, `IsSafeAt`).
