@@ -1,0 +1,25 @@
+//! A bus of sides, after ITU-T Q.921 (09/97): one network side and any number of terminals.
+//!
+//! The laws of two sides (`lapd_sides_laws`) are applied here to a passive bus: a [`NetSide`] and a
+//! [`UserSide`] for each terminal. Nothing here runs. The definitions, in the order of specs/:
+//!
+//! - `Bus`: the network side, and the terminals with their lines. Each frame of the network goes to
+//!   all terminals. Each terminal has a line of its own in each direction, which keeps order, and
+//!   repeats and alters nothing; each terminal may lose octets that others receive. An event of a
+//!   bus is an event of a terminal, or of the network with the line of a terminal. A terminal may
+//!   also be replaced by a new one, and the network may restart. `interface_of` is what the network
+//!   and one terminal see of the bus, and `moves_along` are the moves of this interface that events
+//!   of the bus are.
+//!
+//! The laws:
+//!
+//! - [`each_run_is_a_run_of_two_sides`]: the network and one terminal of a bus are two sides, where
+//!   the network overhears octets of the other terminals.
+//!
+//! [`NetSide`]: lapd_sides::NetSide
+//! [`UserSide`]: lapd_sides::UserSide
+#![tactic(auto)]
+
+mod laws;
+
+pub use laws::each_run_is_a_run_of_two_sides;
