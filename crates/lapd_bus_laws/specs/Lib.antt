@@ -1,1 +1,3 @@
 pub mod Bus
+pub mod Assignments
+pub mod Links

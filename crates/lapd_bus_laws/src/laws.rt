@@ -1,11 +1,15 @@
 //! Laws of a bus. A call of a law does nothing.
 
-ghost use Rattle.std.specs.Prelude.{◌≡◌, ℕ, List, slice_get, Some};
+ghost use Rattle.std.specs.Prelude.{◌≡◌, ◌<◌, ◌≤◌, ℕ, List, slice_get, Some};
 ghost use Rattle.std.specs.List.{AllByRecursion};
+ghost use Rattle.lapd_link_definition.specs.Parameters.{Parameters};
+ghost use Rattle.lapd_table.specs.declared.link_id.LinkId.{LinkId};
 ghost use Rattle.lapd_sides.specs.User.{User};
-ghost use Rattle.lapd_sides_laws.specs.Interface.{Configs};
+ghost use Rattle.lapd_sides_laws.specs.Interface.{Configs, from_here};
+ghost use Rattle.lapd_sides_laws.specs.Projects.{IsSafeAt};
 ghost use Rattle.lapd_sides_laws.specs.SideView.{SideView, SideEvent};
-ghost use Rattle.lapd_bus_laws.specs.Bus.{Bus, BusEvent, IsOfSides, IsOverheard, Follows};
+ghost use Rattle.lapd_bus_laws.specs.Bus.{Bus, BusEvent, IsOfSides, IsOverheard, Follows, interface_of, moves_along, from_now, after_events};
+ghost use Rattle.lapd_bus_laws.specs.Links.{Throughout, IsTimelyFor, AssignsOthers, ObtainsOnce, IsSole, IsNewHere, IsNobodyElses};
 
 /// Each run of a bus is a run of the network and one terminal, for each of the terminals.
 ///
@@ -19,4 +23,30 @@ pub fn each_run_is_a_run_of_two_sides()
     ensures runs { (c : Configs) (i : ℕ) (events : List BusEvent) (t : SideView User) (b : Bus)
         → AllByRecursion IsOfSides events → slice_get b.terminals i ≡ Some t
         → Follows c i events t b }
+{}
+
+/// The link between the network and one terminal of a bus is safe from any moment at which it is
+/// new, whatever all terminals do, if
+///
+/// - no other terminal has the link then, or octets of it on its line to the network (`IsSole`),
+/// - T200 of the link never expires while an awaited answer is in transit (`IsTimelyFor`),
+/// - the network does not assign the TEI (`AssignsOthers`), and
+/// - this terminal obtains it once at most, and no other obtains it (`ObtainsOnce`).
+///
+/// `safe`: safe is said as for two sides (`each_link_is_safe` of `lapd_sides_laws`), of primitives
+/// and messages from that moment on. `nobody_elses`: no other terminal delivers anything about the
+/// link.
+pub fn each_terminals_link_is_safe()
+    ensures safe { (c : Configs) (id : LinkId) (i : ℕ) (p q : Parameters) (events : List BusEvent)
+        (t : SideView User) (b : Bus) → id.tei < 127 → p.k ≤ 127 → q.k ≤ 127
+        → AllByRecursion IsOfSides events → slice_get b.terminals i ≡ Some t
+        → IsNewHere c id p q t b → IsSole id i b
+        → Throughout c (IsTimelyFor id i) events (from_now b)
+        → Throughout c (AssignsOthers c id.tei) events (from_now b)
+        → Throughout c (ObtainsOnce c id i) events (from_now b)
+        → IsSafeAt c id (moves_along c i events (from_now b)) (from_here (interface_of t b)) }
+    ensures nobody_elses { (c : Configs) (id : LinkId) (i : ℕ) (events : List BusEvent) (b : Bus)
+        → id.tei < 127 → AllByRecursion IsOfSides events → IsSole id i b
+        → Throughout c (ObtainsOnce c id i) events (from_now b)
+        → IsNobodyElses id i (after_events c events (from_now b)) }
 {}

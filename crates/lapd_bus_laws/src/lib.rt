@@ -10,11 +10,16 @@
 //!   also be replaced by a new one, and the network may restart. `interface_of` is what the network
 //!   and one terminal see of the bus, and `moves_along` are the moves of this interface that events
 //!   of the bus are.
+//! - `Assignments`: the assignments in transit to a terminal, and the terminals that hold a TEI,
+//!   await one, or may still take one (`claims`).
+//! - `Links`: the premises on one link between the network and one terminal.
 //!
 //! The laws:
 //!
 //! - [`each_run_is_a_run_of_two_sides`]: the network and one terminal of a bus are two sides, where
 //!   the network overhears octets of the other terminals.
+//! - [`each_terminals_link_is_safe`]: so the link of each terminal is safe, from any moment at
+//!   which it is new.
 //!
 //! [`NetSide`]: lapd_sides::NetSide
 //! [`UserSide`]: lapd_sides::UserSide
@@ -22,4 +27,4 @@
 
 mod laws;
 
-pub use laws::each_run_is_a_run_of_two_sides;
+pub use laws::{each_run_is_a_run_of_two_sides, each_terminals_link_is_safe};

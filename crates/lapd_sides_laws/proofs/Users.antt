@@ -333,6 +333,27 @@ module _ (config : Config) (id : LinkId) (low : id.tei < 127) (removed : Bool) w
       (subst (λ (b : Bool). Passes s (if b then unit_from_group id.sapi frame.info s else or_discarded s (among_links s does))) (sym (not_for_all frame))
       (subst (λ (o : Result (Reaction Links) SideKind). Passes s (or_discarded s (among_links s o))) (sym (absent_refuses side.User id s.served.links now input frame.info none)) (nothing s))))
 
+  -- any octets leave a link that does not exist unmoved, but if its TEI is obtained
+  link_gone : (now : ℕ) (other : LinkId) (input : Input) (octets : List ℕ) (s : User) → s.served.links id ≡ None → Passes s (or_discarded s (link_of_user now other input octets s))
+  unfolding link_of
+  link_gone now other input octets s none =
+      discarded s (in_links other (link_acts side.User other now input octets) s.served.links) (λ a is. absent_acts side.User id other s.served.links now input octets a none is)
+
+  fault_without : (now : ℕ) (kind : FaultKind) (address : Option Address) (s : User) → s.served.links id ≡ None → Passes s (fault_received now kind address s)
+  fault_without now kind None s none = nothing s
+  fault_without now kind (Some address) s none = link_gone now (of_sapi address.sapi address.tei) (Faulty kind) [] s none
+
+  received_without : (now : ℕ) (r : Result Fields FrameFault) (s : User) → s.served.links id ≡ None → Stays s (received config now r s) → IsUnmovedByUser now s (received config now r s)
+  received_without now (Ok frame) s none stays =
+      chosen now (carries_message frame) (message_received config now (message_at frame.info) s) (data_received config now frame s) s (message now (message_at frame.info) s)
+      (either (for_layer_3 config frame) (unit_from_group frame.address.sapi frame.info s) _ s (unit_to_all frame.address.sapi frame.info s)
+      (link_gone now (of_sapi frame.address.sapi frame.address.tei) (Heard frame.control frame.address.role) frame.info s none)) stays
+  received_without now (Err fault) s none stays = inl (fault_without now fault.kind fault.address s none)
+
+  pub takes_without : (octets : List ℕ) (now : ℕ) (s : User) → s.served.links id ≡ None → Stays s (user_takes config octets now s) → IsUnmovedByUser now s (user_takes config octets now s)
+  unfolding user_takes
+  takes_without octets now s none stays = received_without now (frame_at side.Network octets) s none stays
+
   -- ---- A timer expires.
 
   pub expires_other : (now : ℕ) (timer : Timer) (of : Option LinkId) (s : User) → ((other : LinkId) → of ≡ Some other → id_eq id other ≡ false)
