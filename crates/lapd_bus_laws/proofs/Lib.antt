@@ -5,3 +5,8 @@ pub mod Silent
 pub mod Overheard
 pub mod Followed
 pub mod Sole
+pub mod Messages
+pub mod Assigns
+pub mod Claims
+pub mod Single
+pub mod Holding

@@ -1,3 +1,4 @@
 pub mod Bus
 pub mod Assignments
 pub mod Links
+pub mod Holdings

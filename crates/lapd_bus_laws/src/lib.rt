@@ -13,6 +13,8 @@
 //! - `Assignments`: the assignments in transit to a terminal, and the terminals that hold a TEI,
 //!   await one, or may still take one (`claims`).
 //! - `Links`: the premises on one link between the network and one terminal.
+//! - `Holdings`: the premises on TEIs (`KeepsTeisApart`), and the holding of a TEI, from its
+//!   assignment to the next (`KeepsHolding`).
 //!
 //! The laws:
 //!
@@ -20,11 +22,16 @@
 //!   the network overhears octets of the other terminals.
 //! - [`each_terminals_link_is_safe`]: so the link of each terminal is safe, from any moment at
 //!   which it is new.
+//! - [`every_bus_is_single`]: no two terminals hold the same TEI.
+//! - [`every_holding_is_safe`]: the links of a TEI are safe from its assignment to the next, and
+//!   nobody else delivers anything about them.
 //!
 //! [`NetSide`]: lapd_sides::NetSide
 //! [`UserSide`]: lapd_sides::UserSide
 #![tactic(auto)]
 
+mod holdings;
 mod laws;
 
+pub use holdings::{every_bus_is_single, every_holding_is_safe};
 pub use laws::{each_run_is_a_run_of_two_sides, each_terminals_link_is_safe};

@@ -91,7 +91,7 @@ or_so : (a b : Bool) → a ≡ true → (a || b) ≡ true
 or_so true b h = refl
 or_so false b h = cc
 
-freed_is_reported : (tei : ℕ) (outs : List TeiOut) → freed_here tei (tei_freed outs) ≡ true → list_any (is_removal tei) (filter_map outcome_of outs) ≡ true
+pub freed_is_reported : (tei : ℕ) (outs : List TeiOut) → freed_here tei (tei_freed outs) ≡ true → list_any (is_removal tei) (filter_map outcome_of outs) ≡ true
 freed_is_reported tei [] h = cc
 freed_is_reported tei (outcome.Given u ∷ outs) h = freed_is_reported tei outs h
 freed_is_reported tei (outcome.Got u ∷ outs) h = freed_is_reported tei outs h

@@ -1,0 +1,74 @@
+//! Laws of the TEIs of a bus. A call of a law does nothing.
+
+ghost use Rattle.std.specs.Prelude.{◌≡◌, ◌<◌, ◌≤◌, ℕ, List, slice_get, Some, true};
+ghost use Rattle.lapd_table.specs.declared.link_id.LinkId.{LinkId};
+ghost use Rattle.lapd_sides.specs.User.{User};
+ghost use Rattle.lapd_sides_links.specs.Links.{parameters_for};
+ghost use Rattle.lapd_sides_laws.specs.Interface.{Configs, from_here};
+ghost use Rattle.lapd_sides_laws.specs.Projects.{IsSafeAt};
+ghost use Rattle.lapd_sides_laws.specs.SideView.{SideView};
+ghost use Rattle.lapd_bus_laws.specs.Assignments.{claims, IsSingle};
+ghost use Rattle.lapd_bus_laws.specs.Bus.{Bus, BusEvent, NewTerminal, new_bus, bus_step, after_events, from_now, interface_of, moves_along};
+ghost use Rattle.lapd_bus_laws.specs.Holdings.{KeepsTeisApart, IsReached, Assigns, IsOnlyClaimant, IsClear, KeepsHolding};
+ghost use Rattle.lapd_bus_laws.specs.Links.{Throughout, IsNobodyElses};
+
+/// On a bus no two terminals ever hold the same TEI.
+///
+/// The premises are of each event (`KeepsTeisApart`):
+///
+/// - The network assigns a TEI only while no terminal holds it and no assignment of it is in
+///   transit.
+/// - A terminal requests a TEI only by a reference by which no other terminal awaits one, and of
+///   which no assignment is in transit to this terminal.
+/// - A terminal joins with a fixed TEI only if no other terminal holds it, and no assignment of it
+///   is in transit to another terminal.
+///
+/// Nothing is said of when a TEI is freed, nor of what a network side knows that restarts.
+/// Terminals may join and give up their TEIs at any moment, octets may be lost for each terminal,
+/// and timers may expire at any moment.
+pub fn every_bus_is_single()
+    ensures single { (c : Configs) (known : List ℕ) (terminals : List NewTerminal)
+        (events : List BusEvent) → IsSingle (new_bus c known terminals)
+        → Throughout c (KeepsTeisApart c) events (new_bus c known terminals)
+        → IsSingle (after_events c events (new_bus c known terminals)) }
+{}
+
+/// Each holding of a TEI is safe: from the moment at which the network assigns the TEI, for as long
+/// as it does not assign it again.
+///
+/// Take a bus that events lead to from a new one, while the premises of [`every_bus_is_single`]
+/// hold, and an event in which the network assigns the TEI. At that moment no octets of the link
+/// are in transit to the network, nor to the terminal that may take the TEI (`IsClear`). Then, for
+/// any events of terminals and of the network in which T200 of the link waits for its answer, the
+/// network does not assign the TEI again, and terminals request by references of their own
+/// (`KeepsHolding`):
+///
+/// - `one`: at most one terminal holds the TEI or may still take it.
+/// - `safe`: the link between the network and that terminal is safe, in both directions, as for two
+///   sides (`each_link_is_safe` of `lapd_sides_laws`). Primitives and messages count from the
+///   assignment on.
+/// - `nobody_elses`: no other terminal delivers anything about the link.
+///
+/// The TEI may be freed, checked and removed meanwhile, and given up by its terminal. Other TEIs
+/// may be assigned.
+pub fn every_holding_is_safe()
+    ensures one { (c : Configs) (b : Bus) (e : BusEvent) (tei i : ℕ) (t : SideView User)
+        → IsReached c b → KeepsTeisApart c e b
+        → slice_get (bus_step c e b).terminals i ≡ Some t → claims tei t ≡ true
+        → IsOnlyClaimant tei i (bus_step c e b) }
+    ensures safe { (c : Configs) (id : LinkId) (i : ℕ) (b : Bus) (e : BusEvent)
+        (after : List BusEvent) (t : SideView User) → id.tei < 127
+        → (parameters_for c.user id.sapi).k ≤ 127 → (parameters_for c.network id.sapi).k ≤ 127
+        → IsReached c b → KeepsTeisApart c e b → Assigns c id.tei e b
+        → slice_get (bus_step c e b).terminals i ≡ Some t
+        → IsOnlyClaimant id.tei i (bus_step c e b) → IsClear id i (bus_step c e b)
+        → Throughout c (KeepsHolding c id i) after (from_now (bus_step c e b))
+        → IsSafeAt c id (moves_along c i after (from_now (bus_step c e b)))
+        (from_here (interface_of t (bus_step c e b))) }
+    ensures nobody_elses { (c : Configs) (id : LinkId) (i : ℕ) (b : Bus) (e : BusEvent)
+        (after : List BusEvent) → id.tei < 127 → IsReached c b → KeepsTeisApart c e b
+        → Assigns c id.tei e b → IsOnlyClaimant id.tei i (bus_step c e b)
+        → IsClear id i (bus_step c e b)
+        → Throughout c (KeepsHolding c id i) after (from_now (bus_step c e b))
+        → IsNobodyElses id i (after_events c after (from_now (bus_step c e b))) }
+{}
