@@ -10,3 +10,5 @@ pub mod Assigns
 pub mod Claims
 pub mod Single
 pub mod Holding
+pub mod Checks
+pub mod RunsComputed

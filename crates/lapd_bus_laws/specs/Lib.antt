@@ -2,3 +2,4 @@ pub mod Bus
 pub mod Assignments
 pub mod Links
 pub mod Holdings
+pub mod Runs

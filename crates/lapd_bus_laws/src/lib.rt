@@ -15,6 +15,7 @@
 //! - `Links`: the premises on one link between the network and one terminal.
 //! - `Holdings`: the premises on TEIs (`KeepsTeisApart`), and the holding of a TEI, from its
 //!   assignment to the next (`KeepsHolding`).
+//! - `Runs`: worked runs.
 //!
 //! The laws:
 //!
@@ -25,6 +26,7 @@
 //! - [`every_bus_is_single`]: no two terminals hold the same TEI.
 //! - [`every_holding_is_safe`]: the links of a TEI are safe from its assignment to the next, and
 //!   nobody else delivers anything about them.
+//! - [`bus_premises_can_be_met`], [`each_bus_premise_is_needed`]: worked runs.
 //!
 //! [`NetSide`]: lapd_sides::NetSide
 //! [`UserSide`]: lapd_sides::UserSide
@@ -32,6 +34,8 @@
 
 mod holdings;
 mod laws;
+mod runs;
 
 pub use holdings::{every_bus_is_single, every_holding_is_safe};
 pub use laws::{each_run_is_a_run_of_two_sides, each_terminals_link_is_safe};
+pub use runs::{bus_premises_can_be_met, each_bus_premise_is_needed};

@@ -1,0 +1,70 @@
+//! Worked runs of a bus. A call of a law does nothing.
+
+ghost use Rattle.std.specs.Prelude.{◌≡◌, ℕ, List, [], ◌∷◌, Vec, map, true, false};
+ghost use Rattle.std.specs.declared.alloc.Global.{Global};
+ghost use Rattle.lapd_sides.specs.User.{User};
+ghost use Rattle.lapd_sides_links.specs.declared.primitive.What.TheVariants as what;
+ghost use Rattle.lapd_sides_laws.specs.Primitives.{link_primitives};
+ghost use Rattle.lapd_sides_laws.specs.Schedule.{configs, call, IsMessage};
+ghost use Rattle.lapd_sides_laws.specs.SideView.{SideView};
+ghost use Rattle.lapd_bus_laws.specs.Assignments.{holds, IsSingle};
+ghost use Rattle.lapd_bus_laws.specs.Bus.{Bus, BusEvent, bus_step, after_events};
+ghost use Rattle.lapd_bus_laws.specs.Holdings.{KeepsTeisApart, IsReached, Assigns, IsOnlyClaimant, IsClear, KeepsHolding};
+ghost use Rattle.lapd_bus_laws.specs.Links.{Throughout};
+ghost use Rattle.lapd_bus_laws.specs.Runs.{two_terminals, second_call, assigns_first, requested_bus, from_assignment, talking, moved, KeepsAllButAssignment, KeepsAllButReference, KeepsAllButJoining, assigned_while_held, assigned_in_transit, twins, same_reference, answered_before, joins_with_held, same_fixed};
+
+/// The premises of a bus can be met.
+///
+/// In the first run two terminals request a TEI, come up and talk. The network assigns TEI 64 to
+/// the first: then all premises of its holding are met, and the messages of both terminals are
+/// received and acknowledged. In the second run the network removes the TEI of the first terminal,
+/// and the second obtains the same TEI.
+pub fn bus_premises_can_be_met()
+    ensures reached { IsReached configs requested_bus }
+    ensures apart { KeepsTeisApart configs assigns_first requested_bus }
+    ensures assigns { Assigns configs 64 assigns_first requested_bus }
+    ensures only { IsOnlyClaimant 64 0 (bus_step configs assigns_first requested_bus) }
+    ensures clear { IsClear call 0 (bus_step configs assigns_first requested_bus) }
+    ensures keeps { (message other : Vec ℕ Global) → IsMessage 1 message → IsMessage 2 other
+        → Throughout configs (KeepsHolding configs call 0) (talking message other)
+        from_assignment }
+    ensures to_network { (message other : Vec ℕ Global) → IsMessage 1 message → IsMessage 2 other
+        → link_primitives call (after_events configs (talking message other)
+        from_assignment).delivered ≡ what.Established ∷ what.Up (1 ∷ []) ∷ [] }
+    ensures second_to_network { (message other : Vec ℕ Global) → IsMessage 1 message
+        → IsMessage 2 other
+        → link_primitives second_call (after_events configs (talking message other)
+        from_assignment).delivered ≡ what.Established ∷ what.Up (2 ∷ []) ∷ [] }
+    ensures to_terminals { (message other : Vec ℕ Global) → IsMessage 1 message
+        → IsMessage 2 other
+        → map (λ (t : SideView User). link_primitives call t.delivered)
+        (after_events configs (talking message other) from_assignment).terminals
+        ≡ (what.Confirmed ∷ what.Acknowledged 1 ∷ []) ∷ [] ∷ [] }
+    ensures moved_apart { Throughout configs (KeepsTeisApart configs) moved two_terminals }
+    ensures moved_holders { map (holds 64) (after_events configs moved two_terminals).terminals
+        ≡ false ∷ true ∷ [] }
+{}
+
+/// No premise on TEIs can be dropped. Each run keeps all others, and ends with two terminals that
+/// hold the same TEI.
+///
+/// - `while_held`: the network removes a TEI, and both removals are lost at the terminal that holds
+///   it. The network assigns it to another terminal.
+/// - `in_transit`: the same, while the first assignment is still in transit.
+/// - `references`: two terminals request by the same reference, and both take the assignment.
+/// - `answered`: a terminal requests by a reference of which an assignment is in transit to it.
+/// - `joining`: a terminal joins with a fixed TEI that another one holds.
+/// - `fixed`: two terminals begin with the same fixed TEI.
+pub fn each_bus_premise_is_needed()
+    ensures while_held { KeepsAllButAssignment assigned_while_held two_terminals
+        × (IsSingle (after_events configs assigned_while_held two_terminals) → ⊥) }
+    ensures in_transit { KeepsAllButAssignment assigned_in_transit two_terminals
+        × (IsSingle (after_events configs assigned_in_transit two_terminals) → ⊥) }
+    ensures references { KeepsAllButReference same_reference twins
+        × (IsSingle (after_events configs same_reference twins) → ⊥) }
+    ensures answered { KeepsAllButReference answered_before twins
+        × (IsSingle (after_events configs answered_before twins) → ⊥) }
+    ensures joining { KeepsAllButJoining joins_with_held two_terminals
+        × (IsSingle (after_events configs joins_with_held two_terminals) → ⊥) }
+    ensures fixed { IsSingle same_fixed → ⊥ }
+{}
