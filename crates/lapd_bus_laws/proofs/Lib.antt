@@ -10,5 +10,6 @@ pub mod Assigns
 pub mod Claims
 pub mod Single
 pub mod Holding
+pub mod Freeing
 pub mod Checks
 pub mod RunsComputed

@@ -2,4 +2,5 @@ pub mod Bus
 pub mod Assignments
 pub mod Links
 pub mod Holdings
+pub mod Freeing
 pub mod Runs

@@ -9,7 +9,8 @@ ghost use Rattle.lapd_sides_laws.specs.Projects.{IsSafeAt};
 ghost use Rattle.lapd_sides_laws.specs.SideView.{SideView};
 ghost use Rattle.lapd_bus_laws.specs.Assignments.{claims, IsSingle};
 ghost use Rattle.lapd_bus_laws.specs.Bus.{Bus, BusEvent, NewTerminal, new_bus, bus_step, after_events, from_now, interface_of, moves_along};
-ghost use Rattle.lapd_bus_laws.specs.Holdings.{KeepsTeisApart, IsReached, Assigns, IsOnlyClaimant, IsClear, KeepsHolding};
+ghost use Rattle.lapd_bus_laws.specs.Freeing.{KnowsTeisInUse, LosesNone};
+ghost use Rattle.lapd_bus_laws.specs.Holdings.{AssignsFree, KeepsTeisApart, IsReached, Assigns, IsOnlyClaimant, IsClear, KeepsHolding};
 ghost use Rattle.lapd_bus_laws.specs.Links.{Throughout, IsNobodyElses};
 
 /// On a bus no two terminals ever hold the same TEI.
@@ -71,4 +72,19 @@ pub fn every_holding_is_safe()
         → IsClear id i (bus_step c e b)
         → Throughout c (KeepsHolding c id i) after (from_now (bus_step c e b))
         → IsNobodyElses id i (after_events c after (from_now (bus_step c e b))) }
+{}
+
+/// One way to keep the premise on assignments: a TEI is freed only while it is not in use, a
+/// network that restarts knows the TEIs in use, and the network knows the fixed TEI of a terminal
+/// that joins (`LosesNone`).
+///
+/// A TEI is in use while a terminal holds it or an assignment of it is in transit. The premises are
+/// of TEIs from 64 on, which the network assigns. They exclude each removal that takes its TEI from
+/// a terminal, since the terminal still holds the TEI when it is freed; the premise on assignments
+/// does not.
+pub fn freeing_keeps_assignments()
+    ensures assigns { (c : Configs) (known : List ℕ) (terminals : List NewTerminal)
+        (events : List BusEvent) → KnowsTeisInUse (new_bus c known terminals)
+        → Throughout c (LosesNone c) events (new_bus c known terminals)
+        → Throughout c (AssignsFree c) events (new_bus c known terminals) }
 {}
