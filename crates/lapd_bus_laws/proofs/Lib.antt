@@ -11,5 +11,6 @@ pub mod Claims
 pub mod Single
 pub mod Holding
 pub mod Freeing
+pub mod SideCalls
 pub mod Checks
 pub mod RunsComputed

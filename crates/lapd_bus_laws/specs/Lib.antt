@@ -3,4 +3,5 @@ pub mod Assignments
 pub mod Links
 pub mod Holdings
 pub mod Freeing
+pub mod Calls
 pub mod Runs
