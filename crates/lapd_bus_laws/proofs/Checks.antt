@@ -84,7 +84,7 @@ of_sides (OfTerminal j event) b = overhears_nothing event
 of_sides (OfNetwork j event) b = overhears_nothing event
 of_sides other b = false
 
-of_sides_so : (e : BusEvent) (b : Bus) → of_sides e b ≡ true → IsOfSides e
+pub of_sides_so : (e : BusEvent) (b : Bus) → of_sides e b ≡ true → IsOfSides e
 of_sides_so (OfTerminal j event) b h = overhears_nothing_so event h
 of_sides_so (OfNetwork j event) b h = overhears_nothing_so event h
 of_sides_so (Join j new) b h = cc
@@ -156,7 +156,7 @@ module _ (c : Configs) where
       (λ t. not (list_any (is_assignment tei) (delivered_by event b t))) (slice_get b.terminals j)
   assigns_others tei other b = true
 
-  assigns_others_so : (tei : ℕ) (e : BusEvent) (b : Bus) → assigns_others tei e b ≡ true
+  pub assigns_others_so : (tei : ℕ) (e : BusEvent) (b : Bus) → assigns_others tei e b ≡ true
       → AssignsOthers c tei e b
   assigns_others_so tei (OfNetwork j event) b h = λ t at.
       not_so _ (there_so (λ u.
@@ -276,7 +276,7 @@ module _ (c : Configs) where
       is_timely side.Network id event (on_line_of t b)) (slice_get b.terminals i)
   timely_for id i other b = true
 
-  timely_for_so : (id : LinkId) (i : ℕ) (e : BusEvent) (b : Bus) → timely_for id i e b ≡ true
+  pub timely_for_so : (id : LinkId) (i : ℕ) (e : BusEvent) (b : Bus) → timely_for id i e b ≡ true
       → IsTimelyFor id i e b
   timely_for_so id i (OfTerminal j event) b h = λ same t at.
       is_timely_so side.User id event t (there_so (λ u.

@@ -14,3 +14,4 @@ pub mod Freeing
 pub mod SideCalls
 pub mod Checks
 pub mod RunsComputed
+pub mod HoldingRunsComputed

@@ -5,3 +5,4 @@ pub mod Holdings
 pub mod Freeing
 pub mod Calls
 pub mod Runs
+pub mod HoldingRuns

@@ -16,7 +16,7 @@
 //! - `Holdings`: the premises on TEIs (`KeepsTeisApart`), and the holding of a TEI, from its
 //!   assignment to the next (`KeepsHolding`).
 //! - `Freeing`: another premise, on when a TEI is freed (`LosesNone`). `Calls`: which event a call
-//!   of a side in code is. `Runs`: worked runs.
+//!   of a side in code is. `Runs`, `HoldingRuns`: worked runs.
 //!
 //! The laws:
 //!
@@ -29,7 +29,8 @@
 //!   nobody else delivers anything about them.
 //! - [`freeing_keeps_assignments`]: a premise on freeing TEIs implies that on assigning them.
 //! - [`calls_are_bus_events`]: the calls of n + 1 sides in code are events of the bus.
-//! - [`bus_premises_can_be_met`], [`each_bus_premise_is_needed`]: worked runs.
+//! - [`bus_premises_can_be_met`], [`each_bus_premise_is_needed`],
+//!   [`each_holding_premise_is_needed`]: worked runs.
 //!
 //! [`NetSide`]: lapd_sides::NetSide
 //! [`UserSide`]: lapd_sides::UserSide
@@ -43,4 +44,6 @@ mod runs;
 pub use calls::calls_are_bus_events;
 pub use holdings::{every_bus_is_single, every_holding_is_safe, freeing_keeps_assignments};
 pub use laws::{each_run_is_a_run_of_two_sides, each_terminals_link_is_safe};
-pub use runs::{bus_premises_can_be_met, each_bus_premise_is_needed};
+pub use runs::{
+    bus_premises_can_be_met, each_bus_premise_is_needed, each_holding_premise_is_needed,
+};

@@ -1,16 +1,17 @@
 //! Worked runs of a bus. A call of a law does nothing.
 
-ghost use Rattle.std.specs.Prelude.{◌≡◌, ℕ, List, [], ◌∷◌, Vec, map, true, false};
+ghost use Rattle.std.specs.Prelude.{◌≡◌, ℕ, List, [], ◌∷◌, Vec, map, slice_get, Some, true, false};
 ghost use Rattle.std.specs.declared.alloc.Global.{Global};
 ghost use Rattle.lapd_sides.specs.User.{User};
 ghost use Rattle.lapd_sides_links.specs.declared.primitive.What.TheVariants as what;
-ghost use Rattle.lapd_sides_laws.specs.Primitives.{link_primitives};
+ghost use Rattle.lapd_sides_laws.specs.Primitives.{link_primitives, AreExpectedOfLink};
 ghost use Rattle.lapd_sides_laws.specs.Schedule.{configs, call, IsMessage};
 ghost use Rattle.lapd_sides_laws.specs.SideView.{SideView};
 ghost use Rattle.lapd_bus_laws.specs.Assignments.{holds, IsSingle};
-ghost use Rattle.lapd_bus_laws.specs.Bus.{Bus, BusEvent, bus_step, after_events};
+ghost use Rattle.lapd_bus_laws.specs.Bus.{Bus, BusEvent, bus_step, from_now, after_events};
+ghost use Rattle.lapd_bus_laws.specs.HoldingRuns.{IsReceivedByTerminal, IsReceivedByNetwork, KeepsAllButT200, KeepsAllButAssigning, KeepsAllButRequesting, from_first, hasty, regained, assigns_second, with_old_sabme, answers_old, from_twins, taken_twice};
 ghost use Rattle.lapd_bus_laws.specs.Holdings.{KeepsTeisApart, IsReached, Assigns, IsOnlyClaimant, IsClear, KeepsHolding};
-ghost use Rattle.lapd_bus_laws.specs.Links.{Throughout};
+ghost use Rattle.lapd_bus_laws.specs.Links.{Throughout, IsNobodyElses};
 ghost use Rattle.lapd_bus_laws.specs.Runs.{two_terminals, second_call, assigns_first, requested_bus, from_assignment, talking, moved, KeepsAllButAssignment, KeepsAllButReference, KeepsAllButJoining, assigned_while_held, assigned_in_transit, twins, same_reference, answered_before, joins_with_held, same_fixed};
 
 /// The premises of a bus can be met.
@@ -67,4 +68,37 @@ pub fn each_bus_premise_is_needed()
     ensures joining { KeepsAllButJoining joins_with_held two_terminals
         × (IsSingle (after_events configs joins_with_held two_terminals) → ⊥) }
     ensures fixed { IsSingle same_fixed → ⊥ }
+{}
+
+/// No premise of a holding can be dropped, but that no octets of the link are in transit to the
+/// terminal: no run is known that needs it. Each run keeps all others.
+///
+/// - `t200`: T200 of the link expires while the answer to a SABME is in transit. A message counts
+///   as acknowledged but never arrived.
+/// - `again`: the TEI is removed and assigned again. A message counts as acknowledged but never
+///   arrived.
+/// - `line`: a SABME of the TEI's former terminal is in transit to the network. The new one
+///   receives its answer, and reports error C.
+/// - `references`: a second terminal requests by the reference of the assignment, and takes it. It
+///   receives the answer to the first one's SABME.
+pub fn each_holding_premise_is_needed()
+    ensures t200 { (first second : Vec ℕ Global) → IsMessage 1 first → IsMessage 2 second
+        → KeepsAllButT200 call (hasty first second) from_first
+        × (IsReceivedByTerminal call 0 (after_events configs (hasty first second) from_first)
+        → ⊥) }
+    ensures again { (first second : Vec ℕ Global) → IsMessage 1 first → IsMessage 2 second
+        → KeepsAllButAssigning call 0 (regained first second) from_first
+        × (IsReceivedByNetwork call 0 (after_events configs (regained first second) from_first)
+        → ⊥) }
+    ensures line_reached { IsReached configs with_old_sabme }
+    ensures line_apart { KeepsTeisApart configs assigns_second with_old_sabme }
+    ensures line_assigns { Assigns configs 64 assigns_second with_old_sabme }
+    ensures line_only { IsOnlyClaimant 64 1 (bus_step configs assigns_second with_old_sabme) }
+    ensures line_keeps { Throughout configs (KeepsHolding configs call 1) answers_old
+        (from_now (bus_step configs assigns_second with_old_sabme)) }
+    ensures line { (t : SideView User) → slice_get (after_events configs answers_old
+        (from_now (bus_step configs assigns_second with_old_sabme))).terminals 1 ≡ Some t
+        → AreExpectedOfLink (link_primitives call t.delivered) → ⊥ }
+    ensures references { KeepsAllButRequesting call 0 taken_twice from_twins
+        × (IsNobodyElses call 0 (after_events configs taken_twice from_twins) → ⊥) }
 {}

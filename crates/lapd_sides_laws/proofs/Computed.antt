@@ -108,7 +108,7 @@ removed_so = with_octets Removed (1 ∷ []) removed_holds
 
 -- ---- A position that counts as acknowledged but was not received.
 
-one_of : {Y : Type 0} (f : ℕ → Y) (y : Y) (places : List ℕ) (at : ℕ) → map f places ≡ y ∷ [] → IsAmong at places → f at ≡ y
+pub one_of : {Y : Type 0} (f : ℕ → Y) (y : Y) (places : List ℕ) (at : ℕ) → map f places ≡ y ∷ [] → IsAmong at places → f at ≡ y
 one_of f y [] at same among = absurd among
 one_of f y (place ∷ []) at same (inl here) = subst (λ (p : ℕ). f p ≡ y) here cc
 one_of f y (place ∷ []) at same (inr never) = absurd never
@@ -118,7 +118,7 @@ none_of : {Y : Type 0} (f : ℕ → Y) (places : List ℕ) (at : ℕ) → map f 
 none_of f [] at same among = among
 none_of f (place ∷ places) at same among = cc
 
-received_as : (given given_now : List (List ℕ)) (acked acked_now : List ℕ) (received received_now : List (List ℕ)) → given_now ≡ given → acked_now ≡ acked → received_now ≡ received → IsReceived given acked received → IsReceived given_now acked_now received_now
+pub received_as : (given given_now : List (List ℕ)) (acked acked_now : List ℕ) (received received_now : List (List ℕ)) → given_now ≡ given → acked_now ≡ acked → received_now ≡ received → IsReceived given acked received → IsReceived given_now acked_now received_now
 received_as given given_now acked acked_now received received_now g a r h =
     subst (λ x. IsReceived x acked_now received_now) (sym g) (subst (λ x. IsReceived given x received_now) (sym a) (subst (λ x. IsReceived given acked x) (sym r) h))
 
@@ -133,7 +133,7 @@ Octet octet = Some (octet ∷ [])
 same_octet : (a b : ℕ) → Octet a ≡ Octet b → a ≡ b
 same_octet a b same = ap first_octet same
 
-differ : Octet 1 ≡ Octet 2 → ⊥
+pub differ : Octet 1 ≡ Octet 2 → ⊥
 differ same = omega (arith, same_octet 1 2 same)
 
 -- ---- The premise on T200, of that link.

@@ -1,0 +1,443 @@
+-- The worked runs of a holding, computed. Each ends in a state that is not right.
+use Rattle.std.proofs.Common.{◌≡◌, inl, inr, ℕ, List, [], ◌∷◌, Bool, true, false, Option, Some, None, refl, sym, subst, arith}
+use Rattle.std.specs.Prelude.{Vec, slice_get}
+use Rattle.std.specs.List.{list_any}
+use Rattle.std.specs.declared.alloc.Global.{Global}
+use Rattle.lapd_mod128.specs.Counting.{after, steps, lies_within}
+use Rattle.lapd_supervision.specs.StateVariables.{initial_variables, without_exceptions, with_zero_counters, status_frame, acknowledgement, without_ack_pending, poll_response, is_accepted, is_rejected, after_i_frame, i_frame_response, is_valid_nr, with_va, acknowledged_count, acknowledges_all, with_vs, may_send, next_i_frame, after_sending, with_own_busy, with_peer_busy}
+use Rattle.lapd_link_definition.specs.AwaitingEstablishment.{end_establishment, confirm_or_indicate, ua_final, awaiting_establishment_t200, awaiting_establishment}
+use Rattle.lapd_link_definition.specs.AwaitingRelease.{confirm_release, awaiting_release_t200, awaiting_release}
+use Rattle.lapd_link_definition.specs.EndOfStep.{send_all, acknowledge_pending, end_step}
+use Rattle.lapd_link_definition.specs.End.{begin}
+use Rattle.lapd_link_definition.specs.Established.{established_t200, acknowledge_with_timers, i_frame_nr, poll_or_final, rr_nr, rej_nr, rnr_nr, busy_on, busy_off, in_7_and_8, multiple_frame_established}
+use Rattle.lapd_link_definition.specs.Procedures.{put, state_to, rc_to, increment_rc, layer3_initiated_to, release_pending_to, start, stop, expired, clear_exception_conditions, zero_state_variables, set_peer_busy, set_own_busy, enquiry_response, transmit_enquiry, queue_up, discard_i_queue, acknowledge, invoke_retransmission, i_frame_ns, discard_unacknowledged, transmit_i_frame, ensure_t200, transmit_rr, establish_data_link, reestablish_data_link, nr_error_recovery}
+use Rattle.lapd_link_definition.specs.Table.{by_state, report_fault, row, step}
+use Rattle.lapd_link_definition.specs.TeiAssigned.{tei_assigned}
+use Rattle.lapd_link_definition.specs.TimerRecovery.{i_frame_nr_in_recovery, poll, rr_nr_in_recovery, rnr_nr_in_recovery, timer_recovery_t200, timer_recovery}
+use Rattle.lapd_sides_links.specs.Links.{links_below, link_acts, link_expires, in_links, with_tei, without_tei, primitive_of_tei}
+use Rattle.lapd_sides.specs.Management.{manages}
+use Rattle.lapd_sides.specs.SideState.{link_of}
+use Rattle.lapd_sides.specs.Network.{assigner_acts, network_takes, network_expires, network_requested}
+use Rattle.lapd_sides.specs.User.{User, terminal_acts, user_takes, user_expires, user_requested}
+use Rattle.lapd_link_definition.specs.declared.out.Letter.{Letter}
+use Rattle.lapd_link_definition.specs.declared.out.Letter.TheVariants as letter
+use Rattle.lapd_link_definition.specs.Reports.{IsExpected}
+use Rattle.lapd_pair_laws.specs.Schedule.{one_message, two_messages}
+use Rattle.lapd_sides_links.specs.declared.primitive.What.{What}
+use Rattle.lapd_sides_links.specs.declared.primitive.What.TheVariants as what
+use Rattle.lapd_sides_laws.specs.Primitives.{link_primitives, given_to, known_of, IsReceived, IsExpectedOfLink, AreExpectedOfLink}
+use Rattle.lapd_sides_laws.specs.Schedule.{configs, call, IsMessage}
+use Rattle.lapd_sides_laws.specs.SideView.{SideView, does}
+use Rattle.lapd_sides_laws.proofs.Computed.{Fits, holding, with_both, one_of, differ, received_as}
+use Rattle.lapd_bus_laws.specs.Bus.{Bus, IsOfSides, from_now, bus_step, after_events}
+use Rattle.lapd_bus_laws.specs.HoldingRuns.{IsReceivedByTerminal, IsReceivedByNetwork, KeepsAllButT200, KeepsAllButAssigning, KeepsAllButRequesting, from_first, hasty, regained, leaves_sabme, assigns_second, with_old_sabme, answers_old, from_twins, taken_twice}
+use Rattle.lapd_bus_laws.specs.Holdings.{RequestsByItsOwn, KeepsTeisApart, IsReached, Assigns, IsOnlyClaimant, KeepsHolding}
+use Rattle.lapd_bus_laws.specs.Links.{Throughout, IsTimelyFor, AssignsOthers, IsNobodyElses}
+use Rattle.lapd_bus_laws.specs.Runs.{two_terminals, waiting_terminal, other_random}
+use Rattle.lapd_bus_laws.proofs.Checks.{throughout_by, of_sides, of_sides_so, timely_for, timely_for_so, assigns_others, assigns_others_so, requests_by_its_own, requests_by_its_own_so, keeps_teis_apart, keeps_teis_apart_so, keeps_holding, keeps_holding_so, no_fixed_is_single, assigns_now_so, only_claimant_so}
+use Rattle.lapd_bus_laws.proofs.Lists.{either_some}
+use Rattle.lapd_sides.specs.Worked as sides
+
+-- ---- What a terminal received, submitted and knows, if it exists.
+
+abbrev received_at : Option (SideView User) → List (List ℕ)
+received_at None = []
+received_at (Some t) = (known_of call t.delivered).received
+
+abbrev given_at : Option (SideView User) → List (List ℕ)
+given_at None = []
+given_at (Some t) = given_to call t.given
+
+abbrev acked_at : Option (SideView User) → List ℕ
+acked_at None = []
+acked_at (Some t) = (known_of call t.delivered).acked
+
+abbrev delivered_at : Option (SideView User) → List What
+delivered_at None = []
+delivered_at (Some t) = link_primitives call t.delivered
+
+-- the second message counts as acknowledged, and the first alone was received
+not_by_terminal : (b : Bus) → given_to call b.given ≡ two_messages
+    → (known_of call b.delivered).acked ≡ 1 ∷ [] → received_at (slice_get b.terminals 0)
+    ≡ one_message → IsReceivedByTerminal call 0 b → ⊥
+not_by_terminal b given acked received h = by (slice_get b.terminals 0) refl received
+  where
+    by : (o : Option (SideView User)) → slice_get b.terminals 0 ≡ o → received_at o ≡ one_message
+        → ⊥
+    by None at is = cc
+    by (Some t) at is =
+        let plain : IsReceived two_messages (1 ∷ []) one_message =
+        received_as _ two_messages _ (1 ∷ []) _ one_message (sym given) (sym acked) (sym is)
+        (h t at) in
+        differ (sym (one_of (λ place.
+        slice_get two_messages place) (Some (1 ∷ [])) plain.places 1 plain.same
+        (plain.acknowledged 1 (inl refl))))
+
+-- the first message counts as acknowledged, and the second alone was received
+not_by_network : (b : Bus) → given_at (slice_get b.terminals 0) ≡ two_messages
+    → acked_at (slice_get b.terminals 0) ≡ 0 ∷ [] → (known_of call b.delivered).received
+    ≡ (2 ∷ []) ∷ [] → IsReceivedByNetwork call 0 b → ⊥
+not_by_network b given acked received h = by (slice_get b.terminals 0) refl given acked
+  where
+    by : (o : Option (SideView User)) → slice_get b.terminals 0 ≡ o → given_at o ≡ two_messages
+        → acked_at o ≡ 0 ∷ [] → ⊥
+    by None at is acks = cc
+    by (Some t) at is acks =
+        let plain : IsReceived two_messages (0 ∷ []) ((2 ∷ []) ∷ []) =
+        received_as _ two_messages _ (0 ∷ []) _ ((2 ∷ []) ∷ []) (sym is) (sym acks)
+        (sym received) (h t at) in
+        differ (one_of (λ place.
+        slice_get two_messages place) (Some (2 ∷ [])) plain.places 0 plain.same
+        (plain.acknowledged 0 (inl refl)))
+
+-- an error that no lost frame leads to
+abbrev is_unexpected_letter : Letter → Bool
+is_unexpected_letter letter.F = false
+is_unexpected_letter letter.G = false
+is_unexpected_letter letter.H = false
+is_unexpected_letter letter.I = false
+is_unexpected_letter other = true
+
+abbrev is_unexpected : What → Bool
+is_unexpected (what.Report l) = is_unexpected_letter l
+is_unexpected other = false
+
+letter_unexpected : (l : Letter) → is_unexpected_letter l ≡ true → IsExpected l → ⊥
+letter_unexpected letter.F h e = cc
+letter_unexpected letter.G h e = cc
+letter_unexpected letter.H h e = cc
+letter_unexpected letter.I h e = cc
+letter_unexpected other h e = e
+
+report_unexpected : (w : What) → is_unexpected w ≡ true → IsExpectedOfLink w → ⊥
+report_unexpected (what.Report l) h e = letter_unexpected l h e
+report_unexpected other h e = cc
+
+unexpected : (ws : List What) → list_any is_unexpected ws ≡ true → AreExpectedOfLink ws → ⊥
+unexpected [] h e = cc
+unexpected (w ∷ ws) h e = elim (either_some (is_unexpected w) (list_any is_unexpected ws) h) [
+  | inl it ↦ report_unexpected w it e.0
+  | inr rest ↦ unexpected ws rest e.1
+]
+
+unexpected_at : (b : Bus) → list_any is_unexpected (delivered_at (slice_get b.terminals 1)) ≡ true
+    → (t : SideView User) → slice_get b.terminals 1 ≡ Some t
+    → AreExpectedOfLink (link_primitives call t.delivered) → ⊥
+unexpected_at b h t at = unexpected (link_primitives call t.delivered)
+    (subst (λ (o : Option (SideView User)). list_any is_unexpected (delivered_at o) ≡ true) at h)
+
+someone_elses : (b : Bus) → list_any is_unexpected (delivered_at (slice_get b.terminals 1)) ≡ true
+    → IsNobodyElses call 0 b → ⊥
+someone_elses b h nobody = by (slice_get b.terminals 1) refl h
+  where
+    apart : (n m : ℕ) → n ≡ 1 → m ≡ 0 → n ≡ m → ⊥
+    apart n m one none same = omega (arith, one, none, same)
+
+    by : (o : Option (SideView User)) → slice_get b.terminals 1 ≡ o
+        → list_any is_unexpected (delivered_at o) ≡ true → ⊥
+    by None at is = cc
+    by (Some t) at is = (let none : link_primitives call t.delivered ≡ [] =
+        nobody 1 t at (apart 1 0 refl refl) in
+        let empty : list_any is_unexpected [] ≡ true = subst (λ ws.
+        list_any is_unexpected ws ≡ true) none is in cc)
+
+-- ---- T200 expires too early.
+
+pub record Hasty (first second : Vec ℕ Global) : Type 0 where
+  pub keeps : KeepsAllButT200 call (hasty first second) from_first
+  pub given : given_to call (after_events configs (hasty first second) from_first).given
+      ≡ two_messages
+  pub acked : (known_of call (after_events configs (hasty first second) from_first).delivered).acked
+      ≡ 1 ∷ []
+  pub received : received_at (slice_get (after_events configs (hasty first second)
+      from_first).terminals 0) ≡ one_message
+
+hasty_holds : (v w : Vec ℕ Global) (x : Fits v (1 ∷ [])) (y : Fits w (2 ∷ []))
+    → Hasty (holding v (1 ∷ []) x) (holding w (2 ∷ []) y)
+unfolding link_acts link_expires in_links with_tei without_tei primitive_of_tei manages
+    assigner_acts link_of network_takes network_expires network_requested begin put state_to
+    rc_to increment_rc layer3_initiated_to release_pending_to start stop expired
+    clear_exception_conditions zero_state_variables set_peer_busy set_own_busy enquiry_response
+    transmit_enquiry queue_up discard_i_queue acknowledge invoke_retransmission i_frame_ns
+    discard_unacknowledged transmit_i_frame ensure_t200 transmit_rr establish_data_link
+    reestablish_data_link end_establishment tei_assigned confirm_or_indicate ua_final
+    awaiting_establishment_t200 awaiting_establishment confirm_release awaiting_release_t200
+    awaiting_release acknowledge_with_timers nr_error_recovery i_frame_nr i_frame_nr_in_recovery
+    poll_or_final poll rr_nr rej_nr rnr_nr rr_nr_in_recovery rnr_nr_in_recovery timer_recovery_t200
+    busy_on busy_off in_7_and_8 established_t200 multiple_frame_established timer_recovery by_state
+    report_fault row send_all acknowledge_pending end_step step initial_variables without_exceptions
+    with_zero_counters status_frame acknowledgement without_ack_pending poll_response is_accepted
+    is_rejected after_i_frame i_frame_response is_valid_nr with_va acknowledged_count
+    acknowledges_all with_vs may_send next_i_frame after_sending with_own_busy with_peer_busy after
+    steps lies_within terminal_acts user_takes user_expires user_requested links_below
+    does
+hasty_holds v w x y =
+    let run = hasty (holding v (1 ∷ []) x) (holding w (2 ∷ []) y) in
+    record {
+      keeps = (
+        throughout_by configs (λ e b. IsOfSides e) of_sides of_sides_so run from_first refl,
+        throughout_by configs (AssignsOthers configs 64) (assigns_others configs 64)
+            (assigns_others_so configs 64) run from_first refl,
+        throughout_by configs (RequestsByItsOwn configs) (requests_by_its_own configs)
+            (requests_by_its_own_so configs) run from_first refl,
+      );
+      given = refl;
+      acked = refl;
+      received = refl;
+    }
+
+pub hasty_so : (first second : Vec ℕ Global) → IsMessage 1 first → IsMessage 2 second
+    → Hasty first second
+hasty_so = with_both Hasty (1 ∷ []) (2 ∷ []) hasty_holds
+
+pub hasty_is_not_right : (first second : Vec ℕ Global) → IsMessage 1 first → IsMessage 2 second
+    → IsReceivedByTerminal call 0 (after_events configs (hasty first second) from_first) → ⊥
+hasty_is_not_right first second one two =
+    let h = hasty_so first second one two in
+    not_by_terminal (after_events configs (hasty first second) from_first) h.given h.acked
+    h.received
+
+-- ---- The TEI is assigned again.
+
+pub record Regained (first second : Vec ℕ Global) : Type 0 where
+  pub keeps : KeepsAllButAssigning call 0 (regained first second) from_first
+  pub given : given_at (slice_get (after_events configs (regained first second)
+      from_first).terminals 0) ≡ two_messages
+  pub acked : acked_at (slice_get (after_events configs (regained first second)
+      from_first).terminals 0) ≡ 0 ∷ []
+  pub received : (known_of call (after_events configs (regained first second)
+      from_first).delivered).received ≡ (2 ∷ []) ∷ []
+
+regained_holds : (v w : Vec ℕ Global) (x : Fits v (1 ∷ [])) (y : Fits w (2 ∷ []))
+    → Regained (holding v (1 ∷ []) x) (holding w (2 ∷ []) y)
+unfolding link_acts link_expires in_links with_tei without_tei primitive_of_tei manages
+    assigner_acts link_of network_takes network_expires network_requested begin put state_to
+    rc_to increment_rc layer3_initiated_to release_pending_to start stop expired
+    clear_exception_conditions zero_state_variables set_peer_busy set_own_busy enquiry_response
+    transmit_enquiry queue_up discard_i_queue acknowledge invoke_retransmission i_frame_ns
+    discard_unacknowledged transmit_i_frame ensure_t200 transmit_rr establish_data_link
+    reestablish_data_link end_establishment tei_assigned confirm_or_indicate ua_final
+    awaiting_establishment_t200 awaiting_establishment confirm_release awaiting_release_t200
+    awaiting_release acknowledge_with_timers nr_error_recovery i_frame_nr i_frame_nr_in_recovery
+    poll_or_final poll rr_nr rej_nr rnr_nr rr_nr_in_recovery rnr_nr_in_recovery timer_recovery_t200
+    busy_on busy_off in_7_and_8 established_t200 multiple_frame_established timer_recovery by_state
+    report_fault row send_all acknowledge_pending end_step step initial_variables without_exceptions
+    with_zero_counters status_frame acknowledgement without_ack_pending poll_response is_accepted
+    is_rejected after_i_frame i_frame_response is_valid_nr with_va acknowledged_count
+    acknowledges_all with_vs may_send next_i_frame after_sending with_own_busy with_peer_busy after
+    steps lies_within terminal_acts user_takes user_expires user_requested links_below
+    does
+regained_holds v w x y =
+    let run = regained (holding v (1 ∷ []) x) (holding w (2 ∷ []) y) in
+    record {
+      keeps = (
+        throughout_by configs (λ e b. IsOfSides e) of_sides of_sides_so run from_first refl,
+        throughout_by configs (IsTimelyFor call 0) (timely_for configs call 0)
+            (timely_for_so configs call 0) run from_first refl,
+        throughout_by configs (RequestsByItsOwn configs) (requests_by_its_own configs)
+            (requests_by_its_own_so configs) run from_first refl,
+      );
+      given = refl;
+      acked = refl;
+      received = refl;
+    }
+
+pub regained_so : (first second : Vec ℕ Global) → IsMessage 1 first → IsMessage 2 second
+    → Regained first second
+regained_so = with_both Regained (1 ∷ []) (2 ∷ []) regained_holds
+
+pub regained_is_not_right : (first second : Vec ℕ Global) → IsMessage 1 first → IsMessage 2 second
+    → IsReceivedByNetwork call 0 (after_events configs (regained first second) from_first) → ⊥
+regained_is_not_right first second one two =
+    let h = regained_so first second one two in
+    not_by_network (after_events configs (regained first second) from_first) h.given h.acked
+    h.received
+
+-- ---- Octets of the link are in transit to the network.
+
+old_apart : Throughout configs (KeepsTeisApart configs) leaves_sabme two_terminals
+unfolding link_acts link_expires in_links with_tei without_tei primitive_of_tei manages
+    assigner_acts link_of network_takes network_expires network_requested begin put state_to
+    rc_to increment_rc layer3_initiated_to release_pending_to start stop expired
+    clear_exception_conditions zero_state_variables set_peer_busy set_own_busy enquiry_response
+    transmit_enquiry queue_up discard_i_queue acknowledge invoke_retransmission i_frame_ns
+    discard_unacknowledged transmit_i_frame ensure_t200 transmit_rr establish_data_link
+    reestablish_data_link end_establishment tei_assigned confirm_or_indicate ua_final
+    awaiting_establishment_t200 awaiting_establishment confirm_release awaiting_release_t200
+    awaiting_release acknowledge_with_timers nr_error_recovery i_frame_nr i_frame_nr_in_recovery
+    poll_or_final poll rr_nr rej_nr rnr_nr rr_nr_in_recovery rnr_nr_in_recovery timer_recovery_t200
+    busy_on busy_off in_7_and_8 established_t200 multiple_frame_established timer_recovery by_state
+    report_fault row send_all acknowledge_pending end_step step initial_variables without_exceptions
+    with_zero_counters status_frame acknowledgement without_ack_pending poll_response is_accepted
+    is_rejected after_i_frame i_frame_response is_valid_nr with_va acknowledged_count
+    acknowledges_all with_vs may_send next_i_frame after_sending with_own_busy with_peer_busy after
+    steps lies_within terminal_acts user_takes user_expires user_requested links_below
+    does
+old_apart = throughout_by configs (KeepsTeisApart configs) (keeps_teis_apart configs)
+    (keeps_teis_apart_so configs) leaves_sabme two_terminals refl
+
+pub old_is_reached : IsReached configs with_old_sabme
+old_is_reached = record {
+  known = [];
+  terminals = waiting_terminal sides.random ∷ waiting_terminal other_random ∷ [];
+  events = leaves_sabme;
+  single = no_fixed_is_single configs [] (waiting_terminal sides.random ∷ waiting_terminal
+      other_random ∷ []) refl;
+  apart = old_apart;
+  reached = refl;
+}
+
+pub old_assigns_apart : KeepsTeisApart configs assigns_second with_old_sabme
+unfolding link_acts link_expires in_links with_tei without_tei primitive_of_tei manages
+    assigner_acts link_of network_takes network_expires network_requested begin put state_to
+    rc_to increment_rc layer3_initiated_to release_pending_to start stop expired
+    clear_exception_conditions zero_state_variables set_peer_busy set_own_busy enquiry_response
+    transmit_enquiry queue_up discard_i_queue acknowledge invoke_retransmission i_frame_ns
+    discard_unacknowledged transmit_i_frame ensure_t200 transmit_rr establish_data_link
+    reestablish_data_link end_establishment tei_assigned confirm_or_indicate ua_final
+    awaiting_establishment_t200 awaiting_establishment confirm_release awaiting_release_t200
+    awaiting_release acknowledge_with_timers nr_error_recovery i_frame_nr i_frame_nr_in_recovery
+    poll_or_final poll rr_nr rej_nr rnr_nr rr_nr_in_recovery rnr_nr_in_recovery timer_recovery_t200
+    busy_on busy_off in_7_and_8 established_t200 multiple_frame_established timer_recovery by_state
+    report_fault row send_all acknowledge_pending end_step step initial_variables without_exceptions
+    with_zero_counters status_frame acknowledgement without_ack_pending poll_response is_accepted
+    is_rejected after_i_frame i_frame_response is_valid_nr with_va acknowledged_count
+    acknowledges_all with_vs may_send next_i_frame after_sending with_own_busy with_peer_busy after
+    steps lies_within terminal_acts user_takes user_expires user_requested links_below
+    does
+old_assigns_apart = keeps_teis_apart_so configs assigns_second with_old_sabme refl
+
+pub old_assigns : Assigns configs 64 assigns_second with_old_sabme
+unfolding link_acts link_expires in_links with_tei without_tei primitive_of_tei manages
+    assigner_acts link_of network_takes network_expires network_requested begin put state_to
+    rc_to increment_rc layer3_initiated_to release_pending_to start stop expired
+    clear_exception_conditions zero_state_variables set_peer_busy set_own_busy enquiry_response
+    transmit_enquiry queue_up discard_i_queue acknowledge invoke_retransmission i_frame_ns
+    discard_unacknowledged transmit_i_frame ensure_t200 transmit_rr establish_data_link
+    reestablish_data_link end_establishment tei_assigned confirm_or_indicate ua_final
+    awaiting_establishment_t200 awaiting_establishment confirm_release awaiting_release_t200
+    awaiting_release acknowledge_with_timers nr_error_recovery i_frame_nr i_frame_nr_in_recovery
+    poll_or_final poll rr_nr rej_nr rnr_nr rr_nr_in_recovery rnr_nr_in_recovery timer_recovery_t200
+    busy_on busy_off in_7_and_8 established_t200 multiple_frame_established timer_recovery by_state
+    report_fault row send_all acknowledge_pending end_step step initial_variables without_exceptions
+    with_zero_counters status_frame acknowledgement without_ack_pending poll_response is_accepted
+    is_rejected after_i_frame i_frame_response is_valid_nr with_va acknowledged_count
+    acknowledges_all with_vs may_send next_i_frame after_sending with_own_busy with_peer_busy after
+    steps lies_within terminal_acts user_takes user_expires user_requested links_below
+    does
+old_assigns = assigns_now_so configs 64 assigns_second with_old_sabme refl
+
+pub old_claims : IsOnlyClaimant 64 1 (bus_step configs assigns_second with_old_sabme)
+unfolding link_acts link_expires in_links with_tei without_tei primitive_of_tei manages
+    assigner_acts link_of network_takes network_expires network_requested begin put state_to
+    rc_to increment_rc layer3_initiated_to release_pending_to start stop expired
+    clear_exception_conditions zero_state_variables set_peer_busy set_own_busy enquiry_response
+    transmit_enquiry queue_up discard_i_queue acknowledge invoke_retransmission i_frame_ns
+    discard_unacknowledged transmit_i_frame ensure_t200 transmit_rr establish_data_link
+    reestablish_data_link end_establishment tei_assigned confirm_or_indicate ua_final
+    awaiting_establishment_t200 awaiting_establishment confirm_release awaiting_release_t200
+    awaiting_release acknowledge_with_timers nr_error_recovery i_frame_nr i_frame_nr_in_recovery
+    poll_or_final poll rr_nr rej_nr rnr_nr rr_nr_in_recovery rnr_nr_in_recovery timer_recovery_t200
+    busy_on busy_off in_7_and_8 established_t200 multiple_frame_established timer_recovery by_state
+    report_fault row send_all acknowledge_pending end_step step initial_variables without_exceptions
+    with_zero_counters status_frame acknowledgement without_ack_pending poll_response is_accepted
+    is_rejected after_i_frame i_frame_response is_valid_nr with_va acknowledged_count
+    acknowledges_all with_vs may_send next_i_frame after_sending with_own_busy with_peer_busy after
+    steps lies_within terminal_acts user_takes user_expires user_requested links_below
+    does
+old_claims = only_claimant_so 64 1 (bus_step configs assigns_second with_old_sabme) refl
+
+pub old_keeps : Throughout configs (KeepsHolding configs call 1) answers_old
+    (from_now (bus_step configs assigns_second with_old_sabme))
+unfolding link_acts link_expires in_links with_tei without_tei primitive_of_tei manages
+    assigner_acts link_of network_takes network_expires network_requested begin put state_to
+    rc_to increment_rc layer3_initiated_to release_pending_to start stop expired
+    clear_exception_conditions zero_state_variables set_peer_busy set_own_busy enquiry_response
+    transmit_enquiry queue_up discard_i_queue acknowledge invoke_retransmission i_frame_ns
+    discard_unacknowledged transmit_i_frame ensure_t200 transmit_rr establish_data_link
+    reestablish_data_link end_establishment tei_assigned confirm_or_indicate ua_final
+    awaiting_establishment_t200 awaiting_establishment confirm_release awaiting_release_t200
+    awaiting_release acknowledge_with_timers nr_error_recovery i_frame_nr i_frame_nr_in_recovery
+    poll_or_final poll rr_nr rej_nr rnr_nr rr_nr_in_recovery rnr_nr_in_recovery timer_recovery_t200
+    busy_on busy_off in_7_and_8 established_t200 multiple_frame_established timer_recovery by_state
+    report_fault row send_all acknowledge_pending end_step step initial_variables without_exceptions
+    with_zero_counters status_frame acknowledgement without_ack_pending poll_response is_accepted
+    is_rejected after_i_frame i_frame_response is_valid_nr with_va acknowledged_count
+    acknowledges_all with_vs may_send next_i_frame after_sending with_own_busy with_peer_busy after
+    steps lies_within terminal_acts user_takes user_expires user_requested links_below
+    does
+old_keeps = throughout_by configs (KeepsHolding configs call 1) (keeps_holding configs call 1)
+    (keeps_holding_so configs call 1) answers_old (from_now
+    (bus_step configs assigns_second with_old_sabme)) refl
+
+pub old_is_not_expected : (t : SideView User) → slice_get
+    (after_events configs answers_old (from_now (bus_step configs assigns_second
+    with_old_sabme))).terminals 1 ≡ Some t → AreExpectedOfLink (link_primitives call t.delivered)
+    → ⊥
+unfolding link_acts link_expires in_links with_tei without_tei primitive_of_tei manages
+    assigner_acts link_of network_takes network_expires network_requested begin put state_to
+    rc_to increment_rc layer3_initiated_to release_pending_to start stop expired
+    clear_exception_conditions zero_state_variables set_peer_busy set_own_busy enquiry_response
+    transmit_enquiry queue_up discard_i_queue acknowledge invoke_retransmission i_frame_ns
+    discard_unacknowledged transmit_i_frame ensure_t200 transmit_rr establish_data_link
+    reestablish_data_link end_establishment tei_assigned confirm_or_indicate ua_final
+    awaiting_establishment_t200 awaiting_establishment confirm_release awaiting_release_t200
+    awaiting_release acknowledge_with_timers nr_error_recovery i_frame_nr i_frame_nr_in_recovery
+    poll_or_final poll rr_nr rej_nr rnr_nr rr_nr_in_recovery rnr_nr_in_recovery timer_recovery_t200
+    busy_on busy_off in_7_and_8 established_t200 multiple_frame_established timer_recovery by_state
+    report_fault row send_all acknowledge_pending end_step step initial_variables without_exceptions
+    with_zero_counters status_frame acknowledgement without_ack_pending poll_response is_accepted
+    is_rejected after_i_frame i_frame_response is_valid_nr with_va acknowledged_count
+    acknowledges_all with_vs may_send next_i_frame after_sending with_own_busy with_peer_busy after
+    steps lies_within terminal_acts user_takes user_expires user_requested links_below
+    does
+old_is_not_expected = unexpected_at (after_events configs answers_old
+    (from_now (bus_step configs assigns_second with_old_sabme))) refl
+
+-- ---- A terminal requests by a reference of which an assignment is in transit.
+
+pub twice_keeps : KeepsAllButRequesting call 0 taken_twice from_twins
+unfolding link_acts link_expires in_links with_tei without_tei primitive_of_tei manages
+    assigner_acts link_of network_takes network_expires network_requested begin put state_to
+    rc_to increment_rc layer3_initiated_to release_pending_to start stop expired
+    clear_exception_conditions zero_state_variables set_peer_busy set_own_busy enquiry_response
+    transmit_enquiry queue_up discard_i_queue acknowledge invoke_retransmission i_frame_ns
+    discard_unacknowledged transmit_i_frame ensure_t200 transmit_rr establish_data_link
+    reestablish_data_link end_establishment tei_assigned confirm_or_indicate ua_final
+    awaiting_establishment_t200 awaiting_establishment confirm_release awaiting_release_t200
+    awaiting_release acknowledge_with_timers nr_error_recovery i_frame_nr i_frame_nr_in_recovery
+    poll_or_final poll rr_nr rej_nr rnr_nr rr_nr_in_recovery rnr_nr_in_recovery timer_recovery_t200
+    busy_on busy_off in_7_and_8 established_t200 multiple_frame_established timer_recovery by_state
+    report_fault row send_all acknowledge_pending end_step step initial_variables without_exceptions
+    with_zero_counters status_frame acknowledgement without_ack_pending poll_response is_accepted
+    is_rejected after_i_frame i_frame_response is_valid_nr with_va acknowledged_count
+    acknowledges_all with_vs may_send next_i_frame after_sending with_own_busy with_peer_busy after
+    steps lies_within terminal_acts user_takes user_expires user_requested links_below
+    does
+twice_keeps = (
+  throughout_by configs (λ e b. IsOfSides e) of_sides of_sides_so taken_twice from_twins refl,
+  throughout_by configs (IsTimelyFor call 0) (timely_for configs call 0)
+      (timely_for_so configs call 0) taken_twice from_twins refl,
+  throughout_by configs (AssignsOthers configs 64) (assigns_others configs 64)
+      (assigns_others_so configs 64) taken_twice from_twins refl,
+)
+
+pub twice_is_someone_elses : IsNobodyElses call 0 (after_events configs taken_twice from_twins) → ⊥
+unfolding link_acts link_expires in_links with_tei without_tei primitive_of_tei manages
+    assigner_acts link_of network_takes network_expires network_requested begin put state_to
+    rc_to increment_rc layer3_initiated_to release_pending_to start stop expired
+    clear_exception_conditions zero_state_variables set_peer_busy set_own_busy enquiry_response
+    transmit_enquiry queue_up discard_i_queue acknowledge invoke_retransmission i_frame_ns
+    discard_unacknowledged transmit_i_frame ensure_t200 transmit_rr establish_data_link
+    reestablish_data_link end_establishment tei_assigned confirm_or_indicate ua_final
+    awaiting_establishment_t200 awaiting_establishment confirm_release awaiting_release_t200
+    awaiting_release acknowledge_with_timers nr_error_recovery i_frame_nr i_frame_nr_in_recovery
+    poll_or_final poll rr_nr rej_nr rnr_nr rr_nr_in_recovery rnr_nr_in_recovery timer_recovery_t200
+    busy_on busy_off in_7_and_8 established_t200 multiple_frame_established timer_recovery by_state
+    report_fault row send_all acknowledge_pending end_step step initial_variables without_exceptions
+    with_zero_counters status_frame acknowledgement without_ack_pending poll_response is_accepted
+    is_rejected after_i_frame i_frame_response is_valid_nr with_va acknowledged_count
+    acknowledges_all with_vs may_send next_i_frame after_sending with_own_busy with_peer_busy after
+    steps lies_within terminal_acts user_takes user_expires user_requested links_below
+    does
+twice_is_someone_elses = someone_elses (after_events configs taken_twice from_twins) refl
