@@ -33,7 +33,7 @@ const MOST_NOTES: usize = 110;
 
 /// The beginning of a picture, before the parts of its frames.
 pub const PICTURE_BEGIN: &str =
-    "<svg xmlns=\"http://www.w3.org/2000/svg\" width=\"940\">\n<style>@page{size:940px 1000px;margin:0}text{font:12px monospace;white-space:pre}.end{text-anchor:end}.middle{text-anchor:middle}.note{font-size:10px}path{fill:none;stroke:black}.page{fill:white;stroke:silver}.violation{fill:red}#head path{fill:black}</style>\n<marker id=\"head\" viewBox=\"0 0 10 10\" refX=\"10\" refY=\"5\" markerWidth=\"10\" markerHeight=\"10\" orient=\"auto\"><path d=\"M0 1 10 5 0 9z\"/></marker>\n";
+    "<svg xmlns=\"http://www.w3.org/2000/svg\" width=\"940\" height=\"1000\">\n<style>@page{size:940px 1000px;margin:0}text{font:12px monospace;white-space:pre}.end{text-anchor:end}.middle{text-anchor:middle}.note{font-size:10px}path{fill:none;stroke:black}.page{fill:white;stroke:silver}.violation{fill:red}#head path{fill:black}</style>\n<marker id=\"head\" viewBox=\"0 0 10 10\" refX=\"10\" refY=\"5\" markerWidth=\"10\" markerHeight=\"10\" orient=\"auto\"><path d=\"M0 1 10 5 0 9z\"/></marker>\n";
 
 /// The end of a picture, after the parts of its frames.
 pub const PICTURE_END: &str = "</svg>\n";
