@@ -18,11 +18,11 @@ use Rattle.lapd_sides_laws.specs.Premises.{is_assignment, IsTimely}
 use Rattle.lapd_sides_laws.specs.SideView.{SideView, SideEvent, Take, Lose, Expire, Ask, Overhear, reaction, does}
 use Rattle.lapd_sides_laws.proofs.Managed.{neither}
 use Rattle.lapd_bus_laws.specs.Assignments.{holds, awaited, awaits, is_answered, claims, is_taken, IsSingle}
-use Rattle.lapd_bus_laws.specs.Bus.{Bus, BusEvent, OfTerminal, OfNetwork, Join, Restart, NewTerminal, connected, new_bus, OverhearsNothing, IsOfSides, on_line_of, bus_step}
-use Rattle.lapd_bus_laws.specs.Holdings.{AssignsFree, IsOwnReference, RequestsByItsOwn, JoinsWithFree, IsOfBus, KeepsTeisApart, Assigns, IsOnlyClaimant, IsClear, KeepsHolding}
+use Rattle.lapd_bus_laws.specs.Bus.{Bus, BusEvent, OfTerminal, OfNetwork, Join, Restart, NewTerminal, connected, new_bus, OverhearsNothing, on_line_of, bus_step}
+use Rattle.lapd_bus_laws.specs.Holdings.{AssignsFree, IsOwnReference, RequestsByItsOwn, JoinsWithFree, IsOfBus, KeepsTeisApart, Assigns, IsOnlyClaimant, IsClear, LeavesAlone, KeepsHolding}
 use Rattle.lapd_bus_laws.specs.Links.{Throughout, IsTimelyFor, AssignsOthers}
-use Rattle.lapd_bus_laws.proofs.Lists.{map_back, any_at, any_other, either_some}
-use Rattle.lapd_bus_laws.proofs.Sole.{has_so}
+use Rattle.lapd_bus_laws.proofs.Lists.{apart_index, map_back, any_at, any_other, either_some}
+use Rattle.lapd_bus_laws.proofs.Sole.{has_not, has_so}
 
 both_so : (a b : Bool) → (a && b) ≡ true → (a ≡ true) × (b ≡ true)
 both_so true b h = (refl, h)
@@ -79,16 +79,20 @@ of_bus_so (OfNetwork j event) b h = overhears_nothing_so event h
 of_bus_so (Join j new) b h = tt
 of_bus_so (Restart known) b h = tt
 
-abbrev pub of_sides : BusEvent → Bus → Bool
-of_sides (OfTerminal j event) b = overhears_nothing event
-of_sides (OfNetwork j event) b = overhears_nothing event
-of_sides other b = false
+abbrev pub leaves_alone : ℕ → ℕ → BusEvent → Bus → Bool
+leaves_alone tei i (OfTerminal j event) b = overhears_nothing event
+leaves_alone tei i (OfNetwork j event) b = overhears_nothing event
+leaves_alone tei i (Join j new) b = not (j == i) && not (has_tei tei new.fixed)
+leaves_alone tei i (Restart known) b = false
 
-pub of_sides_so : (e : BusEvent) (b : Bus) → of_sides e b ≡ true → IsOfSides e
-of_sides_so (OfTerminal j event) b h = overhears_nothing_so event h
-of_sides_so (OfNetwork j event) b h = overhears_nothing_so event h
-of_sides_so (Join j new) b h = cc
-of_sides_so (Restart known) b h = cc
+pub leaves_alone_so : (tei i : ℕ) (e : BusEvent) (b : Bus) → leaves_alone tei i e b ≡ true
+    → LeavesAlone tei i e
+leaves_alone_so tei i (OfTerminal j event) b h = overhears_nothing_so event h
+leaves_alone_so tei i (OfNetwork j event) b h = overhears_nothing_so event h
+leaves_alone_so tei i (Join j new) b h =
+    let two = both_so (not (j == i)) (not (has_tei tei new.fixed)) h in
+    (apart_index j i (not_so (j == i) two.0), has_not tei new.fixed (not_so _ two.1))
+leaves_alone_so tei i (Restart known) b h = cc
 
 -- ---- Assignments.
 
@@ -288,17 +292,17 @@ module _ (c : Configs) where
   timely_for_so id i (Restart known) b h = tt
 
   abbrev pub keeps_holding : LinkId → ℕ → BusEvent → Bus → Bool
-  keeps_holding id i e b = of_sides e b && (timely_for id i e b &&
+  keeps_holding id i e b = leaves_alone id.tei i e b && (timely_for id i e b &&
       (assigns_others id.tei e b && requests_by_its_own e b))
 
   pub keeps_holding_so : (id : LinkId) (i : ℕ) (e : BusEvent) (b : Bus) → keeps_holding id i e b
       ≡ true → KeepsHolding c id i e b
   keeps_holding_so id i e b h =
-      let one = both_so (of_sides e b) _ h in
+      let one = both_so (leaves_alone id.tei i e b) _ h in
       let two = both_so (timely_for id i e b) _ one.1 in
       let three = both_so (assigns_others id.tei e b) (requests_by_its_own e b) two.1 in
       record {
-        of_sides = of_sides_so e b one.0;
+        leaves = leaves_alone_so id.tei i e b one.0;
         timely = timely_for_so id i e b two.0;
         assigns = assigns_others_so id.tei e b three.0;
         requests = requests_by_its_own_so e b three.1;

@@ -3,10 +3,10 @@ use Rattle.std.proofs.Common.{◌≡◌, ℕ, ◌==◌, Bool, true, false, List,
 use Rattle.std.specs.Prelude.{slice_get}
 use Rattle.std.specs.List.{AllByRecursion}
 use Rattle.std.proofs.lemmas.Option.{slice_get-map}
-use Rattle.lapd_sides.specs.User.{User}
+use Rattle.lapd_sides.specs.User.{User, new_user}
 use Rattle.lapd_sides_laws.specs.SideView.{SideView, SideEvent, reaction, does}
 use Rattle.lapd_sides_laws.specs.Interface.{Configs, Interface, Move, happens, run, user_behaviour, network_behaviour}
-use Rattle.lapd_bus_laws.specs.Bus.{Bus, BusEvent, OfTerminal, OfNetwork, Join, Restart, IsOfSides, Follows, reached_by, left_of, on_line_of, bus_step, interface_of, moves_of, moves_along}
+use Rattle.lapd_bus_laws.specs.Bus.{Bus, BusEvent, OfTerminal, OfNetwork, Join, Restart, NewTerminal, KeepsTerminal, Follows, reached_by, left_of, on_line_of, bus_step, interface_of, moves_of, moves_along}
 use Rattle.lapd_bus_laws.proofs.Lists.{set_here, set_there, same_index, equal_index, apart_index}
 use Rattle.lapd_bus_laws.proofs.Overheard.{overhears}
 
@@ -83,17 +83,34 @@ module _ (c : Configs) (i : ℕ) (event : SideEvent) (t : SideView User) (b : Bu
       FollowsOne c i (OfNetwork k event) t b) (sym (equal_index j i is)) own_network
   of_network j false is = other_network j (slice_get b.terminals j) is refl
 
-pub one_event : (c : Configs) (i : ℕ) (e : BusEvent) (t : SideView User) (b : Bus) → IsOfSides e
-    → slice_get b.terminals i ≡ Some t → FollowsOne c i e t b
+-- another terminal joins
+other_joins : (c : Configs) (i j : ℕ) (new : NewTerminal) (t : SideView User) (b : Bus)
+    (o : Option (SideView User)) → (j ≡ i → ⊥) → slice_get b.terminals j ≡ o
+    → slice_get b.terminals i ≡ Some t → FollowsOne c i (Join j new) t b
+other_joins c i j new t b None apart is at = record {
+  terminal = t;
+  there = rw is at;
+  moved = rw is refl;
+}
+other_joins c i j new t b (Some u) apart is at = record {
+  terminal = t;
+  there = rw is (set_there b.terminals j i (record u {
+    now = new_user c.user new.fixed new.random;
+  }) apart ∙ at);
+  moved = rw is refl;
+}
+
+pub one_event : (c : Configs) (i : ℕ) (e : BusEvent) (t : SideView User) (b : Bus)
+    → KeepsTerminal i e → slice_get b.terminals i ≡ Some t → FollowsOne c i e t b
 one_event c i (OfTerminal j event) t b ok at = of_terminal c i event t b at j (j == i) refl
 one_event c i (OfNetwork j event) t b ok at = of_network c i event t b at j (j == i) refl
-one_event c i (Join j new) t b ok at = absurd ok
+one_event c i (Join j new) t b ok at = other_joins c i j new t b (slice_get b.terminals j) ok refl at
 one_event c i (Restart known) t b ok at = absurd ok
 
 -- ---- Every run.
 
 pub follows : (c : Configs) (i : ℕ) (events : List BusEvent) (t : SideView User) (b : Bus)
-    → AllByRecursion IsOfSides events → slice_get b.terminals i ≡ Some t → Follows c i events t b
+    → AllByRecursion (KeepsTerminal i) events → slice_get b.terminals i ≡ Some t → Follows c i events t b
 follows c i [] t b ok at = record { terminal = t; there = at; moved = refl }
 follows c i (e ∷ es) t b ok at =
     let first = one_event c i e t b ok.0 at in

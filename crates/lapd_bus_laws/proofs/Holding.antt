@@ -13,7 +13,7 @@ use Rattle.lapd_tei.proofs.PreservedByBus.{get_after_set}
 use Rattle.lapd_table.specs.declared.link_id.LinkId.{LinkId}
 use Rattle.lapd_sides_links.specs.Links.{Links, Linked, Reaction, is_link_of, or_new, with_tei, parameters_for}
 use Rattle.lapd_sides.specs.Network.{Network}
-use Rattle.lapd_sides.specs.User.{User}
+use Rattle.lapd_sides.specs.User.{User, new_user}
 use Rattle.lapd_sides_laws.specs.Interface.{Configs, fresh_link, from_here, user_behaviour, network_behaviour}
 use Rattle.lapd_sides_laws.specs.Premises.{is_removal, is_assignment, GivesTeiOnce}
 use Rattle.lapd_sides_laws.specs.Projects.{HasLink, AwaitsLink, IsSafeAt}
@@ -23,14 +23,14 @@ use Rattle.lapd_sides_laws.proofs.TerminalOwn.{Owns}
 use Rattle.lapd_sides_laws.proofs.Timed.{new_is_timed}
 use Rattle.lapd_sides_laws.proofs.UserOwn.{AreOwn, user_preserves}
 use Rattle.lapd_bus_laws.specs.Assignments.{Assignment, assignment_in, assignments, holds, is_of_tei, is_sent, awaited, claims, is_taken}
-use Rattle.lapd_bus_laws.specs.Bus.{Bus, BusEvent, OfTerminal, OfNetwork, Join, Restart, new_bus, OverhearsNothing, IsOfSides, recorded_anew, from_now, reached_by, left_of, on_line_of, terminal_does, network_does, bus_step, after_events, interface_of, moves_along}
-use Rattle.lapd_bus_laws.specs.Holdings.{RequestsByItsOwn, KeepsTeisApart, IsReached, AssignsTei, Assigns, IsOnlyClaimant, IsClear, KeepsHolding}
+use Rattle.lapd_bus_laws.specs.Bus.{Bus, BusEvent, OfTerminal, OfNetwork, Join, Restart, NewTerminal, KeepsTerminal, new_bus, OverhearsNothing, recorded_anew, from_now, reached_by, left_of, on_line_of, terminal_does, network_does, terminal_joins, bus_step, after_events, interface_of, moves_along}
+use Rattle.lapd_bus_laws.specs.Holdings.{RequestsByItsOwn, KeepsTeisApart, IsReached, AssignsTei, Assigns, IsOnlyClaimant, IsClear, LeavesAlone, KeepsHolding}
 use Rattle.lapd_bus_laws.specs.Links.{Throughout, IsTimelyFor, IsNotAssigned, AssignsOthers, ObtainsOnce, IsSole, IsNobodyElses}
 use Rattle.lapd_bus_laws.proofs.Assigns.{HasNoManagementLink, AssignsOne, AssignsAtMostOne, event_assigns}
 use Rattle.lapd_bus_laws.proofs.Claims.{any_left, same_tei, claims_before, obtains_claimed, reached_by_none, reached_by_one, reached_without, reached_by_assignment}
 use Rattle.lapd_bus_laws.proofs.Lists.{Each, Others, AtMostOne, each_set, each_map, others_set, others_map, map_back, any_at, one_more, one_dropped, one_removed, either_some, some_first, not_both, false_by}
 use Rattle.lapd_bus_laws.proofs.Obtains.{TakesAnswer, event_obtains}
-use Rattle.lapd_bus_laws.proofs.Single.{KeepsApart, event_keeps, all_keep, new_keeps}
+use Rattle.lapd_bus_laws.proofs.Single.{fixed_of, KeepsApart, event_keeps, all_keep, new_keeps}
 use Rattle.lapd_bus_laws.proofs.Sole.{has_so, has_not, safe_here, nobody_elses}
 use Rattle.lapd_sides_laws.proofs.Managed.{neither}
 
@@ -290,40 +290,71 @@ module _ (c : Configs) (id : LinkId) (i : ℕ) where
   network_holds b j event None ok at quiet h = h
   network_holds b j event (Some t) ok at quiet h = network_did_hold b j event t ok at h (quiet t at)
 
+  -- ---- Another terminal joins, without the TEI.
+
+  join_unclaimed : (new : NewTerminal) (t : SideView User) → (new.fixed ≡ Some id.tei → ⊥)
+      → IsUnclaimed (record t { now = new_user c.user new.fixed new.random })
+  join_unclaimed new t other = false_by _ (λ claim. other (fixed_of id.tei new.fixed _ claim))
+
+  join_holds : (b : Bus) (j : ℕ) (new : NewTerminal) (o : Option (SideView User))
+      → LeavesAlone id.tei i (Join j new) → slice_get b.terminals j ≡ o → IsHeld b
+      → IsHeld (terminal_joins c j new o b)
+  join_holds b j new None leaves at h = h
+  join_holds b j new (Some t) leaves at h =
+      let after : SideView User = record t { now = new_user c.user new.fixed new.random } in
+      record {
+        others = others_set IsUnclaimed i b.terminals j after h.others
+            (λ apart. join_unclaimed new t leaves.1);
+        mine = λ u there. elim (get_after_set b.terminals j i after u there) [
+          | inl e ↦ absurd (leaves.0 (sym e.0))
+          | inr before ↦ h.mine u before
+        ];
+        management = h.management;
+      }
+
   -- ---- Every event of a holding.
 
   event_holds : (e : BusEvent) (b : Bus) → KeepsHolding c id i e b → IsHeld b
       → IsHeld (bus_step c e b)
   event_holds (OfTerminal j event) b is h = terminal_holds b j event (slice_get b.terminals j)
-      is.of_sides refl is.requests h
+      is.leaves refl is.requests h
   event_holds (OfNetwork j event) b is h = network_holds b j event (slice_get b.terminals j)
-      is.of_sides refl is.assigns h
-  event_holds (Join j new) b is h = absurd is.of_sides
-  event_holds (Restart known) b is h = absurd is.of_sides
+      is.leaves refl is.assigns h
+  event_holds (Join j new) b is h = join_holds b j new (slice_get b.terminals j) is.leaves refl h
+  event_holds (Restart known) b is h = absurd is.leaves
 
-  obtains_here : (e : BusEvent) (b : Bus) → IsOfSides e → IsHeld b → ObtainsOnce c id i e b
+  obtains_here : (e : BusEvent) (b : Bus) → LeavesAlone id.tei i e → IsHeld b → ObtainsOnce c id i e b
   obtains_here (OfTerminal j event) b ok h = λ t at. (
     (λ same. gives_once event t ok (h.mine t (subst (λ (k : ℕ).
         slice_get b.terminals k ≡ Some t) same at))),
     (λ apart. not_obtained event t ok (h.others j t at apart)),
   )
   obtains_here (OfNetwork j event) b ok h = tt
-  obtains_here (Join j new) b ok h = tt
+  obtains_here (Join j new) b ok h = ok.1
   obtains_here (Restart known) b ok h = tt
 
   obtains_once : (events : List BusEvent) (b : Bus) → Throughout c (KeepsHolding c id i) events b
       → IsHeld b → Throughout c (ObtainsOnce c id i) events b
   obtains_once [] b is h = tt
   obtains_once (e ∷ es) b is h = (
-    obtains_here e b is.0.of_sides h,
+    obtains_here e b is.0.leaves h,
     obtains_once es (bus_step c e b)
         is.1 (event_holds e b is.0 h),
   )
 
-  all_of_sides : (events : List BusEvent) (b : Bus) → Throughout c (KeepsHolding c id i) events b
-      → AllByRecursion IsOfSides events
-  all_of_sides [] b is = tt
-  all_of_sides (e ∷ es) b is = (is.0.of_sides, all_of_sides es (bus_step c e b) is.1)
+  keeps_terminal : (e : BusEvent) → LeavesAlone id.tei i e → KeepsTerminal i e
+  keeps_terminal (OfTerminal j event) is = is
+  keeps_terminal (OfNetwork j event) is = is
+  keeps_terminal (Join j new) is = is.0
+  keeps_terminal (Restart known) is = is
+
+  all_keep_terminal : (events : List BusEvent) (b : Bus)
+      → Throughout c (KeepsHolding c id i) events b → AllByRecursion (KeepsTerminal i) events
+  all_keep_terminal [] b is = tt
+  all_keep_terminal (e ∷ es) b is = (
+    keeps_terminal e is.0.leaves,
+    all_keep_terminal es (bus_step c e b) is.1,
+  )
 
   all_timely : (events : List BusEvent) (b : Bus) → Throughout c (KeepsHolding c id i) events b
       → Throughout c (IsTimelyFor id i) events b
@@ -508,7 +539,7 @@ module _ (c : Configs) (id : LinkId) (low : id.tei < 127) (i : ℕ) (b : Bus) (e
       → IsSafeAt c id (moves_along c i after (from_now Now)) (from_here (interface_of t Now))
   holding_is_safe t small_p small_q at = safe_here c id low i (parameters_for c.user id.sapi)
       (parameters_for c.network id.sapi) after t Now small_p small_q
-      (all_of_sides c id i after (from_now Now) keeps) at
+      (all_keep_terminal c id i after (from_now Now) keeps) at
       (record {
         user = inr (record {
           absent = absent_of c id i Now Left.apart Left.offered i t at;
@@ -525,5 +556,5 @@ module _ (c : Configs) (id : LinkId) (low : id.tei < 127) (i : ℕ) (b : Bus) (e
 
   pub holding_is_nobody_elses : IsNobodyElses id i (after_events c after (from_now Now))
   holding_is_nobody_elses = nobody_elses c id low i after Now
-      (all_of_sides c id i after (from_now Now) keeps) (sole_now c id i Now Left.apart Left.offered
+      (all_keep_terminal c id i after (from_now Now) keeps) (sole_now c id i Now Left.apart Left.offered
       clear) once

@@ -29,12 +29,12 @@ use Rattle.lapd_sides_laws.specs.Primitives.{link_primitives, given_to, known_of
 use Rattle.lapd_sides_laws.specs.Schedule.{configs, call, IsMessage}
 use Rattle.lapd_sides_laws.specs.SideView.{SideView, does}
 use Rattle.lapd_sides_laws.proofs.Computed.{Fits, holding, with_both, one_of, differ, received_as}
-use Rattle.lapd_bus_laws.specs.Bus.{Bus, IsOfSides, from_now, bus_step, after_events}
-use Rattle.lapd_bus_laws.specs.HoldingRuns.{IsReceivedByTerminal, IsReceivedByNetwork, KeepsAllButT200, KeepsAllButAssigning, KeepsAllButRequesting, from_first, hasty, regained, leaves_sabme, assigns_second, with_old_sabme, answers_old, from_twins, taken_twice}
-use Rattle.lapd_bus_laws.specs.Holdings.{RequestsByItsOwn, KeepsTeisApart, IsReached, Assigns, IsOnlyClaimant, KeepsHolding}
+use Rattle.lapd_bus_laws.specs.Bus.{Bus, from_now, bus_step, after_events}
+use Rattle.lapd_bus_laws.specs.HoldingRuns.{IsReceivedByTerminal, IsReceivedByNetwork, KeepsAllButT200, KeepsAllButAssigning, KeepsAllButRequesting, KeepsAllButLeaving, joined, replaced, restarted, from_first, hasty, regained, leaves_sabme, assigns_second, with_old_sabme, answers_old, from_twins, taken_twice}
+use Rattle.lapd_bus_laws.specs.Holdings.{RequestsByItsOwn, KeepsTeisApart, IsReached, Assigns, IsOnlyClaimant, LeavesAlone, KeepsHolding}
 use Rattle.lapd_bus_laws.specs.Links.{Throughout, IsTimelyFor, AssignsOthers, IsNobodyElses}
 use Rattle.lapd_bus_laws.specs.Runs.{two_terminals, waiting_terminal, other_random}
-use Rattle.lapd_bus_laws.proofs.Checks.{throughout_by, of_sides, of_sides_so, timely_for, timely_for_so, assigns_others, assigns_others_so, requests_by_its_own, requests_by_its_own_so, keeps_teis_apart, keeps_teis_apart_so, keeps_holding, keeps_holding_so, no_fixed_is_single, assigns_now_so, only_claimant_so}
+use Rattle.lapd_bus_laws.proofs.Checks.{throughout_by, leaves_alone, leaves_alone_so, timely_for, timely_for_so, assigns_others, assigns_others_so, requests_by_its_own, requests_by_its_own_so, keeps_teis_apart, keeps_teis_apart_so, keeps_holding, keeps_holding_so, no_fixed_is_single, assigns_now_so, only_claimant_so}
 use Rattle.lapd_bus_laws.proofs.Lists.{either_some}
 use Rattle.lapd_sides.specs.Worked as sides
 
@@ -86,6 +86,23 @@ not_by_network b given acked received h = by (slice_get b.terminals 0) refl give
         let plain : IsReceived two_messages (0 ∷ []) ((2 ∷ []) ∷ []) =
         received_as _ two_messages _ (0 ∷ []) _ ((2 ∷ []) ∷ []) (sym is) (sym acks)
         (sym received) (h t at) in
+        differ (one_of (λ place.
+        slice_get two_messages place) (Some (2 ∷ [])) plain.places 0 plain.same
+        (plain.acknowledged 0 (inl refl)))
+
+-- the same in the other direction
+first_not_by_terminal : (b : Bus) → given_to call b.given ≡ two_messages
+    → (known_of call b.delivered).acked ≡ 0 ∷ [] → received_at (slice_get b.terminals 0)
+    ≡ (2 ∷ []) ∷ [] → IsReceivedByTerminal call 0 b → ⊥
+first_not_by_terminal b given acked received h = by (slice_get b.terminals 0) refl received
+  where
+    by : (o : Option (SideView User)) → slice_get b.terminals 0 ≡ o → received_at o ≡ (2 ∷ []) ∷ []
+        → ⊥
+    by None at is = cc
+    by (Some t) at is =
+        let plain : IsReceived two_messages (0 ∷ []) ((2 ∷ []) ∷ []) =
+        received_as _ two_messages _ (0 ∷ []) _ ((2 ∷ []) ∷ []) (sym given) (sym acked) (sym is)
+        (h t at) in
         differ (one_of (λ place.
         slice_get two_messages place) (Some (2 ∷ [])) plain.places 0 plain.same
         (plain.acknowledged 0 (inl refl)))
@@ -144,7 +161,7 @@ someone_elses b h nobody = by (slice_get b.terminals 1) refl h
 -- ---- T200 expires too early.
 
 pub record Hasty (first second : Vec ℕ Global) : Type 0 where
-  pub keeps : KeepsAllButT200 call (hasty first second) from_first
+  pub keeps : KeepsAllButT200 call 0 (hasty first second) from_first
   pub given : given_to call (after_events configs (hasty first second) from_first).given
       ≡ two_messages
   pub acked : (known_of call (after_events configs (hasty first second) from_first).delivered).acked
@@ -175,7 +192,8 @@ hasty_holds v w x y =
     let run = hasty (holding v (1 ∷ []) x) (holding w (2 ∷ []) y) in
     record {
       keeps = (
-        throughout_by configs (λ e b. IsOfSides e) of_sides of_sides_so run from_first refl,
+        throughout_by configs (λ e b.
+            LeavesAlone 64 0 e) (leaves_alone 64 0) (leaves_alone_so 64 0) run from_first refl,
         throughout_by configs (AssignsOthers configs 64) (assigns_others configs 64)
             (assigns_others_so configs 64) run from_first refl,
         throughout_by configs (RequestsByItsOwn configs) (requests_by_its_own configs)
@@ -231,7 +249,8 @@ regained_holds v w x y =
     let run = regained (holding v (1 ∷ []) x) (holding w (2 ∷ []) y) in
     record {
       keeps = (
-        throughout_by configs (λ e b. IsOfSides e) of_sides of_sides_so run from_first refl,
+        throughout_by configs (λ e b.
+            LeavesAlone 64 0 e) (leaves_alone 64 0) (leaves_alone_so 64 0) run from_first refl,
         throughout_by configs (IsTimelyFor call 0) (timely_for configs call 0)
             (timely_for_so configs call 0) run from_first refl,
         throughout_by configs (RequestsByItsOwn configs) (requests_by_its_own configs)
@@ -415,7 +434,8 @@ unfolding link_acts link_expires in_links with_tei without_tei primitive_of_tei 
     steps lies_within terminal_acts user_takes user_expires user_requested links_below
     does
 twice_keeps = (
-  throughout_by configs (λ e b. IsOfSides e) of_sides of_sides_so taken_twice from_twins refl,
+  throughout_by configs (λ e b.
+      LeavesAlone 64 0 e) (leaves_alone 64 0) (leaves_alone_so 64 0) taken_twice from_twins refl,
   throughout_by configs (IsTimelyFor call 0) (timely_for configs call 0)
       (timely_for_so configs call 0) taken_twice from_twins refl,
   throughout_by configs (AssignsOthers configs 64) (assigns_others configs 64)
@@ -441,3 +461,162 @@ unfolding link_acts link_expires in_links with_tei without_tei primitive_of_tei 
     steps lies_within terminal_acts user_takes user_expires user_requested links_below
     does
 twice_is_someone_elses = someone_elses (after_events configs taken_twice from_twins) refl
+
+-- ---- A terminal joins, or the network restarts.
+
+pub joined_keeps : KeepsAllButLeaving call 0 joined from_first
+unfolding link_acts link_expires in_links with_tei without_tei primitive_of_tei manages
+    assigner_acts link_of network_takes network_expires network_requested begin put state_to
+    rc_to increment_rc layer3_initiated_to release_pending_to start stop expired
+    clear_exception_conditions zero_state_variables set_peer_busy set_own_busy enquiry_response
+    transmit_enquiry queue_up discard_i_queue acknowledge invoke_retransmission i_frame_ns
+    discard_unacknowledged transmit_i_frame ensure_t200 transmit_rr establish_data_link
+    reestablish_data_link end_establishment tei_assigned confirm_or_indicate ua_final
+    awaiting_establishment_t200 awaiting_establishment confirm_release awaiting_release_t200
+    awaiting_release acknowledge_with_timers nr_error_recovery i_frame_nr i_frame_nr_in_recovery
+    poll_or_final poll rr_nr rej_nr rnr_nr rr_nr_in_recovery rnr_nr_in_recovery timer_recovery_t200
+    busy_on busy_off in_7_and_8 established_t200 multiple_frame_established timer_recovery by_state
+    report_fault row send_all acknowledge_pending end_step step initial_variables without_exceptions
+    with_zero_counters status_frame acknowledgement without_ack_pending poll_response is_accepted
+    is_rejected after_i_frame i_frame_response is_valid_nr with_va acknowledged_count
+    acknowledges_all with_vs may_send next_i_frame after_sending with_own_busy with_peer_busy after
+    steps lies_within terminal_acts user_takes user_expires user_requested links_below
+    does
+joined_keeps = (
+  throughout_by configs (IsTimelyFor call 0) (timely_for configs call 0)
+      (timely_for_so configs call 0) joined from_first refl,
+  throughout_by configs (AssignsOthers configs 64) (assigns_others configs 64)
+      (assigns_others_so configs 64) joined from_first refl,
+  throughout_by configs (RequestsByItsOwn configs) (requests_by_its_own configs)
+      (requests_by_its_own_so configs) joined from_first refl,
+)
+
+pub joined_is_someone_elses : IsNobodyElses call 0 (after_events configs joined from_first) → ⊥
+unfolding link_acts link_expires in_links with_tei without_tei primitive_of_tei manages
+    assigner_acts link_of network_takes network_expires network_requested begin put state_to
+    rc_to increment_rc layer3_initiated_to release_pending_to start stop expired
+    clear_exception_conditions zero_state_variables set_peer_busy set_own_busy enquiry_response
+    transmit_enquiry queue_up discard_i_queue acknowledge invoke_retransmission i_frame_ns
+    discard_unacknowledged transmit_i_frame ensure_t200 transmit_rr establish_data_link
+    reestablish_data_link end_establishment tei_assigned confirm_or_indicate ua_final
+    awaiting_establishment_t200 awaiting_establishment confirm_release awaiting_release_t200
+    awaiting_release acknowledge_with_timers nr_error_recovery i_frame_nr i_frame_nr_in_recovery
+    poll_or_final poll rr_nr rej_nr rnr_nr rr_nr_in_recovery rnr_nr_in_recovery timer_recovery_t200
+    busy_on busy_off in_7_and_8 established_t200 multiple_frame_established timer_recovery by_state
+    report_fault row send_all acknowledge_pending end_step step initial_variables without_exceptions
+    with_zero_counters status_frame acknowledgement without_ack_pending poll_response is_accepted
+    is_rejected after_i_frame i_frame_response is_valid_nr with_va acknowledged_count
+    acknowledges_all with_vs may_send next_i_frame after_sending with_own_busy with_peer_busy after
+    steps lies_within terminal_acts user_takes user_expires user_requested links_below
+    does
+joined_is_someone_elses = someone_elses (after_events configs joined from_first) refl
+
+pub record Replaced (first second : Vec ℕ Global) : Type 0 where
+  pub keeps : KeepsAllButLeaving call 0 (replaced first second) from_first
+  pub given : given_at (slice_get (after_events configs (replaced first second)
+      from_first).terminals 0) ≡ two_messages
+  pub acked : acked_at (slice_get (after_events configs (replaced first second)
+      from_first).terminals 0) ≡ 0 ∷ []
+  pub received : (known_of call (after_events configs (replaced first second)
+      from_first).delivered).received ≡ (2 ∷ []) ∷ []
+
+replaced_holds : (v w : Vec ℕ Global) (x : Fits v (1 ∷ [])) (y : Fits w (2 ∷ []))
+    → Replaced (holding v (1 ∷ []) x) (holding w (2 ∷ []) y)
+unfolding link_acts link_expires in_links with_tei without_tei primitive_of_tei manages
+    assigner_acts link_of network_takes network_expires network_requested begin put state_to
+    rc_to increment_rc layer3_initiated_to release_pending_to start stop expired
+    clear_exception_conditions zero_state_variables set_peer_busy set_own_busy enquiry_response
+    transmit_enquiry queue_up discard_i_queue acknowledge invoke_retransmission i_frame_ns
+    discard_unacknowledged transmit_i_frame ensure_t200 transmit_rr establish_data_link
+    reestablish_data_link end_establishment tei_assigned confirm_or_indicate ua_final
+    awaiting_establishment_t200 awaiting_establishment confirm_release awaiting_release_t200
+    awaiting_release acknowledge_with_timers nr_error_recovery i_frame_nr i_frame_nr_in_recovery
+    poll_or_final poll rr_nr rej_nr rnr_nr rr_nr_in_recovery rnr_nr_in_recovery timer_recovery_t200
+    busy_on busy_off in_7_and_8 established_t200 multiple_frame_established timer_recovery by_state
+    report_fault row send_all acknowledge_pending end_step step initial_variables without_exceptions
+    with_zero_counters status_frame acknowledgement without_ack_pending poll_response is_accepted
+    is_rejected after_i_frame i_frame_response is_valid_nr with_va acknowledged_count
+    acknowledges_all with_vs may_send next_i_frame after_sending with_own_busy with_peer_busy after
+    steps lies_within terminal_acts user_takes user_expires user_requested links_below
+    does
+replaced_holds v w x y =
+    let run = replaced (holding v (1 ∷ []) x) (holding w (2 ∷ []) y) in
+    record {
+      keeps = (
+        throughout_by configs (IsTimelyFor call 0) (timely_for configs call 0)
+            (timely_for_so configs call 0) run from_first refl,
+        throughout_by configs (AssignsOthers configs 64) (assigns_others configs 64)
+            (assigns_others_so configs 64) run from_first refl,
+        throughout_by configs (RequestsByItsOwn configs) (requests_by_its_own configs)
+            (requests_by_its_own_so configs) run from_first refl,
+      );
+      given = refl;
+      acked = refl;
+      received = refl;
+    }
+
+pub replaced_so : (first second : Vec ℕ Global) → IsMessage 1 first → IsMessage 2 second
+    → Replaced first second
+replaced_so = with_both Replaced (1 ∷ []) (2 ∷ []) replaced_holds
+
+pub replaced_is_not_right : (first second : Vec ℕ Global) → IsMessage 1 first → IsMessage 2 second
+    → IsReceivedByNetwork call 0 (after_events configs (replaced first second) from_first) → ⊥
+replaced_is_not_right first second one two =
+    let h = replaced_so first second one two in
+    not_by_network (after_events configs (replaced first second) from_first) h.given h.acked
+    h.received
+
+pub record Restarted (first second : Vec ℕ Global) : Type 0 where
+  pub keeps : KeepsAllButLeaving call 0 (restarted first second) from_first
+  pub given : given_to call (after_events configs (restarted first second) from_first).given
+      ≡ two_messages
+  pub acked : (known_of call (after_events configs (restarted first second)
+      from_first).delivered).acked ≡ 0 ∷ []
+  pub received : received_at (slice_get (after_events configs (restarted first second)
+      from_first).terminals 0) ≡ (2 ∷ []) ∷ []
+
+restarted_holds : (v w : Vec ℕ Global) (x : Fits v (1 ∷ [])) (y : Fits w (2 ∷ []))
+    → Restarted (holding v (1 ∷ []) x) (holding w (2 ∷ []) y)
+unfolding link_acts link_expires in_links with_tei without_tei primitive_of_tei manages
+    assigner_acts link_of network_takes network_expires network_requested begin put state_to
+    rc_to increment_rc layer3_initiated_to release_pending_to start stop expired
+    clear_exception_conditions zero_state_variables set_peer_busy set_own_busy enquiry_response
+    transmit_enquiry queue_up discard_i_queue acknowledge invoke_retransmission i_frame_ns
+    discard_unacknowledged transmit_i_frame ensure_t200 transmit_rr establish_data_link
+    reestablish_data_link end_establishment tei_assigned confirm_or_indicate ua_final
+    awaiting_establishment_t200 awaiting_establishment confirm_release awaiting_release_t200
+    awaiting_release acknowledge_with_timers nr_error_recovery i_frame_nr i_frame_nr_in_recovery
+    poll_or_final poll rr_nr rej_nr rnr_nr rr_nr_in_recovery rnr_nr_in_recovery timer_recovery_t200
+    busy_on busy_off in_7_and_8 established_t200 multiple_frame_established timer_recovery by_state
+    report_fault row send_all acknowledge_pending end_step step initial_variables without_exceptions
+    with_zero_counters status_frame acknowledgement without_ack_pending poll_response is_accepted
+    is_rejected after_i_frame i_frame_response is_valid_nr with_va acknowledged_count
+    acknowledges_all with_vs may_send next_i_frame after_sending with_own_busy with_peer_busy after
+    steps lies_within terminal_acts user_takes user_expires user_requested links_below
+    does
+restarted_holds v w x y =
+    let run = restarted (holding v (1 ∷ []) x) (holding w (2 ∷ []) y) in
+    record {
+      keeps = (
+        throughout_by configs (IsTimelyFor call 0) (timely_for configs call 0)
+            (timely_for_so configs call 0) run from_first refl,
+        throughout_by configs (AssignsOthers configs 64) (assigns_others configs 64)
+            (assigns_others_so configs 64) run from_first refl,
+        throughout_by configs (RequestsByItsOwn configs) (requests_by_its_own configs)
+            (requests_by_its_own_so configs) run from_first refl,
+      );
+      given = refl;
+      acked = refl;
+      received = refl;
+    }
+
+pub restarted_so : (first second : Vec ℕ Global) → IsMessage 1 first → IsMessage 2 second
+    → Restarted first second
+restarted_so = with_both Restarted (1 ∷ []) (2 ∷ []) restarted_holds
+
+pub restarted_is_not_right : (first second : Vec ℕ Global) → IsMessage 1 first → IsMessage 2 second
+    → IsReceivedByTerminal call 0 (after_events configs (restarted first second) from_first) → ⊥
+restarted_is_not_right first second one two =
+    let h = restarted_so first second one two in
+    first_not_by_terminal (after_events configs (restarted first second) from_first) h.given h.acked
+    h.received

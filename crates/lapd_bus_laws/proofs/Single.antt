@@ -44,7 +44,7 @@ awaits_none : (fixed : Option ℕ) → awaited (new_terminal fixed) ≡ None
 awaits_none None = refl
 awaits_none (Some tei) = refl
 
-fixed_of : (tei : ℕ) (fixed : Option ℕ) (line : List Assignment)
+pub fixed_of : (tei : ℕ) (fixed : Option ℕ) (line : List Assignment)
     → (has_tei tei (tei_of (new_terminal fixed)) || list_any (is_offer tei (new_terminal fixed))
     line) ≡ true → fixed ≡ Some tei
 fixed_of tei fixed line h = elim (either_some (has_tei tei (tei_of (new_terminal fixed)))

@@ -1,26 +1,28 @@
 -- The premises of one link on a bus imply those of its interface, and the other terminals stay
 -- without it.
-use Rattle.std.proofs.Common.{◌≡◌, inl, inr, ℕ, ◌==◌, ◌<◌, ◌≤◌, Bool, true, false, List, [], ◌∷◌, ◌++◌, map, set, Option, Some, None, refl, sym, ap, subst, ◌∙◌, arith}
+use Rattle.std.proofs.Common.{◌≡◌, inl, inr, ℕ, ◌==◌, ◌<◌, ◌≤◌, if◌then◌else◌, Bool, true, false, List, [], ◌∷◌, ◌++◌, map, set, Option, Some, None, refl, sym, ap, subst, ◌∙◌, arith}
 use Rattle.std.specs.Prelude.{slice_get, option_map}
 use Rattle.std.specs.List.{AllByRecursion}
 use Rattle.std.proofs.lemmas.Bool.Decides.{nat_tests}
 use Rattle.std.proofs.lemmas.Option.{slice_get-map}
 use Rattle.lapd_frame.specs.declared.Side.TheVariants as side
 use Rattle.lapd_link_definition.specs.Parameters.{Parameters}
-use Rattle.lapd_tei.specs.Terminal.{tei_of}
+use Rattle.lapd_tei.specs.Terminal.{tei_of, new_terminal}
 use Rattle.lapd_table.specs.declared.link_id.LinkId.{LinkId}
-use Rattle.lapd_sides.specs.User.{User, has_tei}
+use Rattle.lapd_sides_links.specs.Links.{is_served, new_linked, or_new, parameters_for, with_tei}
+use Rattle.lapd_sides.specs.User.{User, new_user, links_of_fixed, has_tei}
 use Rattle.lapd_sides_laws.specs.Addressed.{is_for, those_for}
 use Rattle.lapd_sides_laws.specs.Interface.{Configs, Interface, Move, happens, run, from_here, user_behaviour, network_behaviour}
 use Rattle.lapd_sides_laws.specs.Premises.{AreTimely, GiveTeiOnce, SatisfyPremises}
 use Rattle.lapd_sides_laws.specs.Projects.{IsSafeAt}
 use Rattle.lapd_sides_laws.specs.SideView.{SideView, SideEvent, Take, Lose, Expire, Ask, Overhear, reaction, left, does}
+use Rattle.lapd_sides_laws.proofs.Managed.{and_not}
 use Rattle.lapd_sides_laws.proofs.Whole.{link_safe_as}
 use Rattle.lapd_bus_laws.specs.Assignments.{holds}
-use Rattle.lapd_bus_laws.specs.Bus.{Bus, BusEvent, OfTerminal, OfNetwork, Join, Restart, IsOfSides, OverhearsNothing, recorded_anew, from_now, reached_by, left_of, on_line_of, terminal_does, network_does, bus_step, after_events, interface_of, overheard, by_network_of, network_moves, terminal_moves, moves_of, moves_along}
+use Rattle.lapd_bus_laws.specs.Bus.{Bus, BusEvent, OfTerminal, OfNetwork, Join, Restart, NewTerminal, KeepsTerminal, OverhearsNothing, recorded_anew, from_now, reached_by, left_of, on_line_of, terminal_does, network_does, terminal_joins, bus_step, after_events, interface_of, overheard, by_network_of, network_moves, terminal_moves, moves_of, moves_along}
 use Rattle.lapd_bus_laws.specs.Links.{Throughout, IsTimelyFor, IsNotAssigned, AssignsOthers, ObtainsOnce, IsAside, IsSole, IsNewHere, IsNobodyElses}
 use Rattle.lapd_bus_laws.proofs.Followed.{one_event}
-use Rattle.lapd_bus_laws.proofs.Lists.{Others, others_set, others_map, none_first, none_dropped, none_removed, equal_index, apart_index}
+use Rattle.lapd_bus_laws.proofs.Lists.{Others, others_set, others_map, false_by, none_first, none_dropped, none_removed, equal_index, apart_index}
 use Rattle.lapd_bus_laws.proofs.Obtains.{event_obtains}
 use Rattle.lapd_bus_laws.proofs.Silent.{StaysSilent, stays_silent}
 
@@ -120,16 +122,51 @@ module _ (c : Configs) (id : LinkId) (low : id.tei < 127) (i : ℕ) where
       (others_set StaysAside i b.terminals j (left_of event t) h
       (λ apart. aside_left event t (h j t at apart)))
 
-  aside_after : (e : BusEvent) (b : Bus) → IsOfSides e → OthersAside b → ObtainsOnce c id i e b
+  -- a terminal that joins without the TEI
+  no_link : (fixed : Option ℕ) → (fixed ≡ Some id.tei → ⊥) → links_of_fixed c.user fixed id ≡ None
+  unfolding with_tei
+  no_link None apart = refl
+  no_link (Some tei) apart =
+      let other : (id.tei == tei) ≡ false = false_by (id.tei == tei) (λ same.
+      apart (let e : tei ≡ id.tei = grind (arith, nat_tests, same) in ap Some e)) in
+      ap (λ (b : Bool). if b then or_new (new_linked (parameters_for c.user id.sapi)
+      c.user.durations) None else None) (and_not (is_served c.user id.sapi) (id.tei == tei) other)
+
+  fixed_tei : (fixed : Option ℕ) (tei : ℕ) → tei_of (new_terminal fixed) ≡ Some tei
+      → fixed ≡ Some tei
+  fixed_tei None tei is = is
+  fixed_tei (Some t) tei is = is
+
+  aside_joins : (new : NewTerminal) (t : SideView User) → (new.fixed ≡ Some id.tei → ⊥)
+      → StaysAside t → StaysAside (record t { now = new_user c.user new.fixed new.random })
+  aside_joins new t apart h = record {
+    unheld = has_none id.tei (tei_of (new_terminal new.fixed)) (λ is.
+        apart (fixed_tei new.fixed id.tei is));
+    silent = record {
+      links = no_link new.fixed apart;
+      line = h.silent.line;
+      delivered = h.silent.delivered;
+    };
+  }
+
+  join_aside : (b : Bus) (j : ℕ) (new : NewTerminal) (o : Option (SideView User)) → (j ≡ i → ⊥)
+      → slice_get b.terminals j ≡ o → OthersAside b → (new.fixed ≡ Some id.tei → ⊥)
+      → OthersAside (terminal_joins c j new o b)
+  join_aside b j new None apart at h other = h
+  join_aside b j new (Some t) apart at h other = others_set StaysAside i b.terminals j (record t {
+    now = new_user c.user new.fixed new.random;
+  }) h (λ elsewhere. aside_joins new t other (h j t at apart))
+
+  aside_after : (e : BusEvent) (b : Bus) → KeepsTerminal i e → OthersAside b → ObtainsOnce c id i e b
       → OthersAside (bus_step c e b)
   aside_after (OfTerminal j event) b ok h once = terminal_aside b j event (slice_get b.terminals j)
       ok refl h once
   aside_after (OfNetwork j event) b ok h once = network_aside b j event (slice_get b.terminals j)
       refl h
-  aside_after (Join j new) b ok h once = absurd ok
+  aside_after (Join j new) b ok h once = join_aside b j new (slice_get b.terminals j) ok refl h once
   aside_after (Restart known) b ok h once = absurd ok
 
-  all_aside : (events : List BusEvent) (b : Bus) → AllByRecursion IsOfSides events → OthersAside b
+  all_aside : (events : List BusEvent) (b : Bus) → AllByRecursion (KeepsTerminal i) events → OthersAside b
       → Throughout c (ObtainsOnce c id i) events b → OthersAside (after_events c events b)
   all_aside [] b ok h once = h
   all_aside (e ∷ es) b ok h once = all_aside es (bus_step c e b) ok.1
@@ -148,7 +185,7 @@ module _ (c : Configs) (id : LinkId) (low : id.tei < 127) (i : ℕ) where
         };
       }) sole
 
-  pub nobody_elses : (events : List BusEvent) (b : Bus) → AllByRecursion IsOfSides events
+  pub nobody_elses : (events : List BusEvent) (b : Bus) → AllByRecursion (KeepsTerminal i) events
       → IsSole id i b → Throughout c (ObtainsOnce c id i) events (from_now b)
       → IsNobodyElses id i (after_events c events (from_now b))
   nobody_elses events b ok sole once = λ j t there apart.
@@ -208,17 +245,17 @@ module _ (c : Configs) (id : LinkId) (low : id.tei < 127) (i : ℕ) where
         overhears_meet event u u.outgoing ok (h j u there (apart_index j i is)).silent.line timely
         (quiet u there)
 
-    one_meets : (e : BusEvent) → IsOfSides e → OthersAside b → IsTimelyFor id i e b
+    one_meets : (e : BusEvent) → KeepsTerminal i e → OthersAside b → IsTimelyFor id i e b
         → AssignsOthers c id.tei e b → ObtainsOnce c id i e b
         → Meets (moves_of i e b) (interface_of t b)
     one_meets (OfTerminal j event) ok h timely quiet once = terminal_meets j event (j == i) refl
         timely once
     one_meets (OfNetwork j event) ok h timely quiet once =
         network_meets j event (j == i) (slice_get b.terminals j) refl refl ok h timely quiet
-    one_meets (Join j new) ok h timely quiet once = absurd ok
+    one_meets (Join j new) ok h timely quiet once = (tt, tt)
     one_meets (Restart known) ok h timely quiet once = absurd ok
 
-  meets : (events : List BusEvent) (t : SideView User) (b : Bus) → AllByRecursion IsOfSides events
+  meets : (events : List BusEvent) (t : SideView User) (b : Bus) → AllByRecursion (KeepsTerminal i) events
       → slice_get b.terminals i ≡ Some t → OthersAside b
       → Throughout c (IsTimelyFor id i) events b → Throughout c (AssignsOthers c id.tei) events b
       → Throughout c (ObtainsOnce c id i) events b
@@ -235,7 +272,7 @@ module _ (c : Configs) (id : LinkId) (low : id.tei < 127) (i : ℕ) where
   -- ---- The link is safe.
 
   pub safe_here : (p q : Parameters) (events : List BusEvent) (t : SideView User) (b : Bus)
-      → p.k ≤ 127 → q.k ≤ 127 → AllByRecursion IsOfSides events → slice_get b.terminals i ≡ Some t
+      → p.k ≤ 127 → q.k ≤ 127 → AllByRecursion (KeepsTerminal i) events → slice_get b.terminals i ≡ Some t
       → IsNewHere c id p q t b → IsSole id i b
       → Throughout c (IsTimelyFor id i) events (from_now b) → Throughout c (AssignsOthers c id.tei)
       events (from_now b) → Throughout c (ObtainsOnce c id i) events (from_now b)

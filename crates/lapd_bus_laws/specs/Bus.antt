@@ -186,17 +186,18 @@ abbrev pub moves_along : Configs → ℕ → List BusEvent → Bus → List Move
 moves_along c i [] b = []
 moves_along c i (e ∷ es) b = moves_of i e b ++ moves_along c i es (bus_step c e b)
 
--- An event of a terminal or of the network. On a bus a side overhears only what the bus brings
--- about, so no event says so.
+-- on a bus a side overhears only what the bus brings about, so no event says so
 abbrev pub OverhearsNothing : SideEvent → Type 0
 OverhearsNothing (Overhear octets now) = ⊥
 OverhearsNothing event = Unit {0}
 
-abbrev pub IsOfSides : BusEvent → Type 0
-IsOfSides (OfTerminal j event) = OverhearsNothing event
-IsOfSides (OfNetwork j event) = OverhearsNothing event
-IsOfSides (Join j new) = ⊥
-IsOfSides (Restart known) = ⊥
+-- The event leaves the terminal at this index and the network as they are, but for what they do
+-- themselves: another terminal may join, and the network does not restart.
+abbrev pub KeepsTerminal : ℕ → BusEvent → Type 0
+KeepsTerminal i (OfTerminal j event) = OverhearsNothing event
+KeepsTerminal i (OfNetwork j event) = OverhearsNothing event
+KeepsTerminal i (Join j new) = j ≡ i → ⊥
+KeepsTerminal i (Restart known) = ⊥
 
 -- After these events a terminal still exists at this index, and its interface is the one that the
 -- moves lead to.

@@ -5,11 +5,12 @@ use Rattle.lapd_timers.specs.declared.timer.Timer.TheVariants.{T200}
 use Rattle.lapd_table.specs.declared.link_id.LinkId.{LinkId}
 use Rattle.lapd_sides.specs.declared.request.Request.TheVariants as request
 use Rattle.lapd_sides.specs.User.{User}
+use Rattle.lapd_sides.specs.Worked as sides
 use Rattle.lapd_sides_laws.specs.Primitives.{given_to, known_of, IsReceived}
 use Rattle.lapd_sides_laws.specs.Schedule.{configs, call}
 use Rattle.lapd_sides_laws.specs.SideView.{SideView, Take, Lose, Expire, Ask}
-use Rattle.lapd_bus_laws.specs.Bus.{Bus, BusEvent, OfTerminal, OfNetwork, IsOfSides, from_now, bus_step, after_events}
-use Rattle.lapd_bus_laws.specs.Holdings.{RequestsByItsOwn}
+use Rattle.lapd_bus_laws.specs.Bus.{Bus, BusEvent, OfTerminal, OfNetwork, Join, Restart, from_now, bus_step, after_events}
+use Rattle.lapd_bus_laws.specs.Holdings.{RequestsByItsOwn, LeavesAlone}
 use Rattle.lapd_bus_laws.specs.Links.{Throughout, IsTimelyFor, AssignsOthers}
 use Rattle.lapd_bus_laws.specs.Runs.{two_terminals, twins, first_alone, assigns_first}
 
@@ -27,20 +28,25 @@ IsReceivedByNetwork id i b = (t : SideView User) → slice_get b.terminals i ≡
 
 -- ---- The premises but one.
 
-abbrev pub KeepsAllButT200 : LinkId → List BusEvent → Bus → Type 0
-KeepsAllButT200 id events b = Throughout configs (λ e b. IsOfSides e) events b
+abbrev pub KeepsAllButT200 : LinkId → ℕ → List BusEvent → Bus → Type 0
+KeepsAllButT200 id i events b = Throughout configs (λ e b. LeavesAlone id.tei i e) events b
     × Throughout configs (AssignsOthers configs id.tei) events b
     × Throughout configs (RequestsByItsOwn configs) events b
 
 abbrev pub KeepsAllButAssigning : LinkId → ℕ → List BusEvent → Bus → Type 0
-KeepsAllButAssigning id i events b = Throughout configs (λ e b. IsOfSides e) events b
+KeepsAllButAssigning id i events b = Throughout configs (λ e b. LeavesAlone id.tei i e) events b
     × Throughout configs (IsTimelyFor id i) events b
     × Throughout configs (RequestsByItsOwn configs) events b
 
 abbrev pub KeepsAllButRequesting : LinkId → ℕ → List BusEvent → Bus → Type 0
-KeepsAllButRequesting id i events b = Throughout configs (λ e b. IsOfSides e) events b
+KeepsAllButRequesting id i events b = Throughout configs (λ e b. LeavesAlone id.tei i e) events b
     × Throughout configs (IsTimelyFor id i) events b
     × Throughout configs (AssignsOthers configs id.tei) events b
+
+abbrev pub KeepsAllButLeaving : LinkId → ℕ → List BusEvent → Bus → Type 0
+KeepsAllButLeaving id i events b = Throughout configs (IsTimelyFor id i) events b
+    × Throughout configs (AssignsOthers configs id.tei) events b
+    × Throughout configs (RequestsByItsOwn configs) events b
 
 -- ---- T200 expires too early.
 
@@ -104,3 +110,34 @@ abbrev pub taken_twice : List BusEvent
 taken_twice = OfTerminal 0 (Take 0) ∷ OfTerminal 1 (Ask request.AskTei 0) ∷ OfTerminal 1 (Take 0)
     ∷ OfTerminal 0 (Ask (request.Establish call) 0) ∷ OfNetwork 0 (Take 0)
     ∷ OfTerminal 1 (Take 0) ∷ []
+
+-- ---- A terminal joins, or the network restarts.
+
+abbrev pub with_fixed : ℕ → BusEvent
+with_fixed i = Join i (record { fixed = Some 64; random = sides.random })
+
+-- Another terminal joins with the TEI, and receives the answer to the first one's SABME.
+abbrev pub joined : List BusEvent
+joined = OfTerminal 0 (Take 0) ∷ OfTerminal 1 (Take 0) ∷ with_fixed 1
+    ∷ OfTerminal 0 (Ask (request.Establish call) 0) ∷ OfNetwork 0 (Take 0)
+    ∷ OfTerminal 1 (Take 0) ∷ []
+
+-- The terminal is replaced after its first message is lost. The second message is acknowledged, and
+-- counts as the first.
+abbrev pub replaced : Vec ℕ Global → Vec ℕ Global → List BusEvent
+replaced first second = OfTerminal 0 (Take 0) ∷ OfTerminal 0 (Ask (request.Establish call) 0)
+    ∷ OfNetwork 0 (Take 0) ∷ OfTerminal 0 (Take 0)
+    ∷ OfTerminal 0 (Ask (request.Give call first) 0) ∷ OfNetwork 0 (Lose 0) ∷ with_fixed 0
+    ∷ OfTerminal 0 (Ask (request.Establish call) 0) ∷ OfNetwork 0 (Take 0)
+    ∷ OfTerminal 0 (Take 0) ∷ OfTerminal 0 (Ask (request.Give call second) 0)
+    ∷ OfNetwork 0 (Take 0) ∷ OfTerminal 0 (Take 0) ∷ []
+
+-- The same of the network, which restarts with the TEI after its first message is lost.
+abbrev pub restarted : Vec ℕ Global → Vec ℕ Global → List BusEvent
+restarted first second = OfTerminal 0 (Take 0) ∷ OfTerminal 0 (Ask (request.Establish call) 0)
+    ∷ OfNetwork 0 (Take 0) ∷ OfTerminal 0 (Take 0)
+    ∷ OfNetwork 0 (Ask (request.Give call first) 0) ∷ OfTerminal 0 (Lose 0)
+    ∷ Restart (64 ∷ []) ∷ OfNetwork 0 (Ask (request.Establish call) 0)
+    ∷ OfTerminal 0 (Take 0) ∷ OfNetwork 0 (Take 0)
+    ∷ OfNetwork 0 (Ask (request.Give call second) 0) ∷ OfTerminal 0 (Take 0)
+    ∷ OfNetwork 0 (Take 0) ∷ []

@@ -11,7 +11,7 @@ use Rattle.lapd_sides_laws.specs.Interface.{Configs, user_behaviour, network_beh
 use Rattle.lapd_sides_laws.specs.Premises.{is_assignment}
 use Rattle.lapd_sides_laws.specs.SideView.{SideView, reaction, does}
 use Rattle.lapd_bus_laws.specs.Assignments.{is_taken, awaits, is_answered, claims, IsSingle}
-use Rattle.lapd_bus_laws.specs.Bus.{Bus, BusEvent, OfTerminal, OfNetwork, Join, NewTerminal, new_bus, OverhearsNothing, IsOfSides, on_line_of, after_events}
+use Rattle.lapd_bus_laws.specs.Bus.{Bus, BusEvent, OfTerminal, OfNetwork, Join, NewTerminal, new_bus, OverhearsNothing, KeepsTerminal, on_line_of, after_events}
 use Rattle.lapd_bus_laws.specs.Links.{Throughout, OfOthers, IsTimelyFor, AssignsOthers}
 
 -- ---- The premises on TEIs, of one event.
@@ -88,10 +88,16 @@ pub record IsClear (id : LinkId) (i : ℕ) (b : Bus) : Type 0 where
   pub to_terminal : (t : SideView User) → slice_get b.terminals i ≡ Some t
       → those_for side.Network id t.incoming ≡ []
 
--- The premises of one event in a holding of the TEI: T200 waits, the TEI is not assigned again, and
--- terminals request by references of their own.
+-- The event leaves the terminal at this index and the network as they are, and no terminal joins
+-- with the TEI as a fixed one.
+abbrev pub LeavesAlone : ℕ → ℕ → BusEvent → Type 0
+LeavesAlone tei i (Join j new) = (j ≡ i → ⊥) × (new.fixed ≡ Some tei → ⊥)
+LeavesAlone tei i other = KeepsTerminal i other
+
+-- The premises of one event in a holding of the TEI. Besides, T200 waits, the TEI is not assigned
+-- again, and terminals request by references of their own.
 pub record KeepsHolding (c : Configs) (id : LinkId) (i : ℕ) (e : BusEvent) (b : Bus) : Type 0 where
-  pub of_sides : IsOfSides e
+  pub leaves : LeavesAlone id.tei i e
   pub timely : IsTimelyFor id i e b
   pub assigns : AssignsOthers c id.tei e b
   pub requests : RequestsByItsOwn c e b

@@ -41,12 +41,15 @@ AssignsOthers c tei (OfNetwork j event) b = (t : SideView User)
     → IsNotAssigned tei (reaction (network_behaviour c.network) event (on_line_of t b)).effects
 AssignsOthers c tei other b = Unit {0}
 
--- the terminal at this index obtains the TEI once, and no other terminal obtains it
+-- The terminal at this index obtains the TEI once, no other terminal obtains it, and none joins with
+-- it.
 abbrev pub ObtainsOnce : Configs → LinkId → ℕ → BusEvent → Bus → Type 0
 ObtainsOnce c id i (OfTerminal j event) b = (t : SideView User) → slice_get b.terminals j ≡ Some t
     → (j ≡ i → GivesTeiOnce (user_behaviour c.user) id event t)
     × ((j ≡ i → ⊥) → IsNotAssigned id.tei (reaction (user_behaviour c.user) event t).effects)
-ObtainsOnce c id i other b = Unit {0}
+ObtainsOnce c id i (OfNetwork j event) b = Unit {0}
+ObtainsOnce c id i (Join j new) b = new.fixed ≡ Some id.tei → ⊥
+ObtainsOnce c id i (Restart known) b = Unit {0}
 
 -- every terminal but the one at this index has this property
 abbrev pub OfOthers : (SideView User → Type 0) → ℕ → Bus → Type 0

@@ -55,12 +55,14 @@ both_come_up = OfTerminal 0 (Take 0) ∷ OfTerminal 1 (Take 0) ∷ OfNetwork 1 (
     ∷ OfTerminal 1 (Take 0) ∷ []
 
 -- The first terminal submits one message, and the second another one. The network receives both and
--- acknowledges them, and each terminal takes what is on its line.
+-- acknowledges them, and each terminal takes what is on its line. Then another terminal, with the
+-- fixed TEI 5, replaces the second one.
 abbrev pub both_talk : Vec ℕ Global → Vec ℕ Global → List BusEvent
 both_talk message other = OfTerminal 0 (Ask (request.Give call message) 0)
     ∷ OfTerminal 1 (Ask (request.Give second_call other) 0)
     ∷ OfNetwork 0 (Take 0) ∷ OfNetwork 1 (Take 0) ∷ OfTerminal 0 (Take 0) ∷ OfTerminal 0 (Take 0)
-    ∷ OfTerminal 1 (Take 0) ∷ OfTerminal 1 (Take 0) ∷ []
+    ∷ OfTerminal 1 (Take 0) ∷ OfTerminal 1 (Take 0)
+    ∷ Join 1 (record { fixed = Some 5; random = other_random }) ∷ []
 
 abbrev pub talking : Vec ℕ Global → Vec ℕ Global → List BusEvent
 talking message other = both_come_up ++ both_talk message other

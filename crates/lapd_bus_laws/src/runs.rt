@@ -9,7 +9,7 @@ ghost use Rattle.lapd_sides_laws.specs.Schedule.{configs, call, IsMessage};
 ghost use Rattle.lapd_sides_laws.specs.SideView.{SideView};
 ghost use Rattle.lapd_bus_laws.specs.Assignments.{holds, IsSingle};
 ghost use Rattle.lapd_bus_laws.specs.Bus.{Bus, BusEvent, bus_step, from_now, after_events};
-ghost use Rattle.lapd_bus_laws.specs.HoldingRuns.{IsReceivedByTerminal, IsReceivedByNetwork, KeepsAllButT200, KeepsAllButAssigning, KeepsAllButRequesting, from_first, hasty, regained, assigns_second, with_old_sabme, answers_old, from_twins, taken_twice};
+ghost use Rattle.lapd_bus_laws.specs.HoldingRuns.{IsReceivedByTerminal, IsReceivedByNetwork, KeepsAllButT200, KeepsAllButAssigning, KeepsAllButRequesting, KeepsAllButLeaving, joined, replaced, restarted, from_first, hasty, regained, assigns_second, with_old_sabme, answers_old, from_twins, taken_twice};
 ghost use Rattle.lapd_bus_laws.specs.Holdings.{KeepsTeisApart, IsReached, Assigns, IsOnlyClaimant, IsClear, KeepsHolding};
 ghost use Rattle.lapd_bus_laws.specs.Links.{Throughout, IsNobodyElses};
 ghost use Rattle.lapd_bus_laws.specs.Runs.{two_terminals, second_call, assigns_first, requested_bus, from_assignment, talking, moved, KeepsAllButAssignment, KeepsAllButReference, KeepsAllButJoining, assigned_while_held, assigned_in_transit, twins, same_reference, answered_before, joins_with_held, same_fixed};
@@ -81,9 +81,12 @@ pub fn each_bus_premise_is_needed()
 ///   receives its answer, and reports error C.
 /// - `references`: a second terminal requests by the reference of the assignment, and takes it. It
 ///   receives the answer to the first one's SABME.
+/// - `joining`: another terminal joins with the TEI as a fixed one, and receives that answer.
+/// - `replacing`, `restarting`: the terminal is replaced, or the network restarts, after a message
+///   is lost. The next message is acknowledged, and counts as the lost one.
 pub fn each_holding_premise_is_needed()
     ensures t200 { (first second : Vec ℕ Global) → IsMessage 1 first → IsMessage 2 second
-        → KeepsAllButT200 call (hasty first second) from_first
+        → KeepsAllButT200 call 0 (hasty first second) from_first
         × (IsReceivedByTerminal call 0 (after_events configs (hasty first second) from_first)
         → ⊥) }
     ensures again { (first second : Vec ℕ Global) → IsMessage 1 first → IsMessage 2 second
@@ -101,4 +104,14 @@ pub fn each_holding_premise_is_needed()
         → AreExpectedOfLink (link_primitives call t.delivered) → ⊥ }
     ensures references { KeepsAllButRequesting call 0 taken_twice from_twins
         × (IsNobodyElses call 0 (after_events configs taken_twice from_twins) → ⊥) }
+    ensures joining { KeepsAllButLeaving call 0 joined from_first
+        × (IsNobodyElses call 0 (after_events configs joined from_first) → ⊥) }
+    ensures replacing { (first second : Vec ℕ Global) → IsMessage 1 first → IsMessage 2 second
+        → KeepsAllButLeaving call 0 (replaced first second) from_first
+        × (IsReceivedByNetwork call 0 (after_events configs (replaced first second) from_first)
+        → ⊥) }
+    ensures restarting { (first second : Vec ℕ Global) → IsMessage 1 first → IsMessage 2 second
+        → KeepsAllButLeaving call 0 (restarted first second) from_first
+        × (IsReceivedByTerminal call 0 (after_events configs (restarted first second) from_first)
+        → ⊥) }
 {}
