@@ -128,6 +128,7 @@ impl LinkTimers {
     }
 
     /// Starts and stops the timers of one link according to an N(R) of a predicted step.
+    #[inline(always)]
     pub fn apply_nr(&mut self, id: &LinkId, nr: NrEffect, now: u64)
         ensures own { timers_of self.new id.now
             ≡ option_map (timed now (nr_outs nr)) (timers_of self.old id.now) }
@@ -146,6 +147,7 @@ impl LinkTimers {
     }
 
     /// Starts and stops the timers of one link after an I frame that was sent at once.
+    #[inline(always)]
     pub fn apply_send(&mut self, id: &LinkId, effect: SendEffect, now: u64)
         ensures own { timers_of self.new id.now
             ≡ option_map (timed now (send_outs effect)) (timers_of self.old id.now) }

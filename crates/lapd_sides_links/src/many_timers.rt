@@ -145,7 +145,8 @@ impl ManyTimers {
     }
 
     /// Starts a timer of one link, and stops another one first if `stops`.
-    #[inline(always)]
+    // A call of its own: inlined, it would cost the step of an only link registers.
+    #[inline(never)]
     pub fn restart(&mut self, id: &LinkId, stops: bool, stop: Timer, start: Timer, now: u64)
         ensures own { placed self.new id.now
             ≡ option_map (timed now (restart_outs stops stop start)) (placed self.old id.now) }
