@@ -28,7 +28,7 @@ use crate::link_timers::LinkTimers;
 use crate::predicted::{deliver_acknowledged, deliver_message, put_message_frame, put_response};
 use crate::side_fault::refused;
 use crate::{Acts, AtOnce, Config, Primitive, RunningTimer, SideFault, SideKind, What};
-use lapd_frame::{N201, PredictedFrame};
+use lapd_frame::{N201, Number, PredictedFrame, PredictedKind};
 use lapd_link::{
     Event, GivenOuts, Link, LinkFault, Outs, Params, PredictedOuts, Sapi, Side, State, Tei,
 };
@@ -384,6 +384,7 @@ impl LinkSet {
     /// Processes a frame in the link with this id, at the time `now`, if the link predicts it
     /// ([`Link::predicted_step`]). The results are appended to `acts`. Otherwise it returns `false`,
     /// and nothing is changed.
+    // Each kind has an inlined call of its own, so that none tests for the outputs of the others.
     #[inline(always)]
     pub fn act_predicted(
         &mut self,
@@ -405,38 +406,75 @@ impl LinkSet {
         ensures unchanged { result ≡ false → self.new ≡ self.old }
         ensures nothing { result ≡ false → acts.new ≡ acts.old }
     {
+        let nr = frame.nr;
+        let info = frame.info;
+        match frame.kind {
+            PredictedKind::Message(ns) => {
+                self.act_predicted_kind(id, PredictedKind::Message(ns), nr, info, now, acts)
+            }
+            PredictedKind::Acknowledgement => {
+                self.act_predicted_kind(id, PredictedKind::Acknowledgement, nr, info, now, acts)
+            }
+            PredictedKind::Poll => {
+                self.act_predicted_kind(id, PredictedKind::Poll, nr, info, now, acts)
+            }
+        }
+    }
+
+    /// Like `act_predicted`, for a frame of this kind with this N(R) and information.
+    #[inline(always)]
+    fn act_predicted_kind(
+        &mut self,
+        id: &LinkId,
+        kind: PredictedKind,
+        nr: Number,
+        info: &[u8],
+        now: u64,
+        acts: &mut Acts,
+    ) -> bool
+        requires fits { length info.now ≤ N201 }
+        requires room { HasRoomForPredicted acts.old }
+        ensures ok { result ≡ true → Adds acts.old acts.new (λ given.
+            LinksDo self.old self.new no_effects given
+            (λ side. in_links id.now (link_acts side id.now now
+            (Heard (predicted_control kind nr) (predicted_role kind)) info.now))) }
+        ensures declined { result ≡ false → LinksHaveNone self.old (λ links. predicts
+            (predicted_control kind nr) (predicted_role kind) (links id.now)) }
+        ensures unchanged { result ≡ false → self.new ≡ self.old }
+        ensures nothing { result ≡ false → acts.new ≡ acts.old }
+    {
         match self.table.find(id) {
-            Some(key) => self.act_predicted_at(&key, frame, now, acts),
+            Some(key) => self.act_predicted_at(&key, kind, nr, info, now, acts),
             None => false,
         }
     }
 
-    /// Like `act_predicted`, for a link that has been found.
+    /// Like `act_predicted_kind`, for a link that has been found.
     #[inline(always)]
     fn act_predicted_at(
         &mut self,
         key: &LinkKey,
-        frame: &PredictedFrame<'_>,
+        kind: PredictedKind,
+        nr: Number,
+        info: &[u8],
         now: u64,
         acts: &mut Acts,
     ) -> bool
         requires key { IsKey self.old.table key.now }
-        requires fits { length frame.now.info.now ≤ N201 }
+        requires fits { length info.now ≤ N201 }
         requires room { HasRoomForPredicted acts.old }
         ensures ok { result ≡ true → LinksDo self.old self.new acts.old acts.new
             (λ side. in_links key.now.id (link_acts side key.now.id now
-            (Heard (predicted_control frame.now.kind frame.now.nr) (predicted_role frame.now.kind))
-            frame.now.info.now)) }
+            (Heard (predicted_control kind nr) (predicted_role kind)) info.now)) }
         ensures appended { result ≡ true → Appends acts.old acts.new }
         ensures declined { result ≡ false → LinksHaveNone self.old (λ links. predicts
-            (predicted_control frame.now.kind frame.now.nr) (predicted_role frame.now.kind)
-            (links key.now.id)) }
+            (predicted_control kind nr) (predicted_role kind) (links key.now.id)) }
         ensures unchanged { result ≡ false → self.new ≡ self.old }
         ensures nothing { result ≡ false → acts.new ≡ acts.old }
     {
-        match self.table.predicted_step_at(key, frame.kind, frame.nr) {
+        match self.table.predicted_step_at(key, kind, nr) {
             Some(outs) => {
-                self.carry_out_predicted(key, &outs, frame.info, now, acts);
+                self.carry_out_predicted(key, &outs, info, now, acts);
                 true
             }
             None => false,

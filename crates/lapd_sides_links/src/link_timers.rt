@@ -173,7 +173,7 @@ impl LinkTimers {
         match self {
             LinkTimers::Empty => {}
             LinkTimers::One(lone) => lone.restart(id, stops, stop, start, now),
-            LinkTimers::Many(many) => many.restart(id, stops, stop, start, now),
+            LinkTimers::Many(many) => many.restart(*id, stops, stop, start, now),
         }
     }
 

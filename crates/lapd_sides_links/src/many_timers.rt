@@ -145,16 +145,17 @@ impl ManyTimers {
     }
 
     /// Starts a timer of one link, and stops another one first if `stops`.
-    // A call of its own: inlined, it would cost the step of an only link registers.
+    // A call of its own, with the id by value: otherwise the step of an only link would save
+    // registers for it, and write the id to memory.
     #[inline(never)]
-    pub fn restart(&mut self, id: &LinkId, stops: bool, stop: Timer, start: Timer, now: u64)
-        ensures own { placed self.new id.now
-            ≡ option_map (timed now (restart_outs stops stop start)) (placed self.old id.now) }
-        ensures others { (other : LinkId) → other ≢ id.now
+    pub fn restart(&mut self, id: LinkId, stops: bool, stop: Timer, start: Timer, now: u64)
+        ensures own { placed self.new id
+            ≡ option_map (timed now (restart_outs stops stop start)) (placed self.old id) }
+        ensures others { (other : LinkId) → other ≢ id
             → placed self.new other ≡ placed self.old other }
     {
-        self.places.restart(id, stops, stop, start, now);
-        enter(&mut self.expiries, id, self.places.get(id));
+        self.places.restart(&id, stops, stop, start, now);
+        enter(&mut self.expiries, &id, self.places.get(&id));
     }
 
     /// Stops a timer of one link.

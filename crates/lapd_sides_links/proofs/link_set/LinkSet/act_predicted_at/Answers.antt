@@ -7,10 +7,9 @@ use Rattle.lapd_sides_links.proofs.link_set.LinkSet.act_predicted_at.Goals as go
 
 pub returns-in-Some-clause-ok : goal.returns-in-Some-clause-ok
 returns-in-Some-clause-ok c = λ is side links shown.
-    let frame = c.args.frame.now in
     have_acted side c.args.self.now c.carry_out_predicted.new.self c.predicted_step_at.new.self links
     c.args.key.now.id c.args.now
-    (Heard (predicted_control frame.kind frame.nr) (predicted_role frame.kind)) frame.info.now
+    (Heard (predicted_control c.args.kind c.args.nr) (predicted_role c.args.kind)) c.args.info.now
     (predicted_outs c.in-Some.outs) c.args.acts.now c.carry_out_predicted.new.acts
     c.in-Some.ensures.ok c.carry_out_predicted.ensures.table c.carry_out_predicted.ensures.own
     c.carry_out_predicted.ensures.others c.carry_out_predicted.ensures.frames
@@ -19,12 +18,11 @@ returns-in-Some-clause-ok c = λ is side links shown.
 pub returns-in-Some-clause-appended : goal.returns-in-Some-clause-appended
 returns-in-Some-clause-appended c = λ is.
     appended c.args.self.now.table c.predicted_step_at.new.self c.args.key.now.id _
-    c.args.frame.now.info.now (predicted_outs c.in-Some.outs) c.args.acts.now
+    c.args.info.now (predicted_outs c.in-Some.outs) c.args.acts.now
     c.carry_out_predicted.new.acts c.in-Some.ensures.ok c.carry_out_predicted.ensures.frames
     c.carry_out_predicted.ensures.primitives
 
 pub returns-in-None-clause-declined : goal.returns-in-None-clause-declined
 returns-in-None-clause-declined c = λ is.
-    let frame = c.args.frame.now in
-    none_taken c.args.self.now c.args.key.now.id (predicted_control frame.kind frame.nr)
-    (predicted_role frame.kind) c.in-None.ensures.declined
+    none_taken c.args.self.now c.args.key.now.id (predicted_control c.args.kind c.args.nr)
+    (predicted_role c.args.kind) c.in-None.ensures.declined
