@@ -75,7 +75,7 @@ impl PartialEq for LinkId {
     ghost laws = { Prim.search (comparing, rules) };
 
     fn eq(&self, other: &LinkId) -> bool {
-        self.sapi.value() == other.sapi.value() && self.tei.value() == other.tei.value()
+        self.sapi == other.sapi && self.tei.value() == other.tei.value()
     }
 }
 

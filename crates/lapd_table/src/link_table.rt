@@ -161,20 +161,21 @@ impl LinkTable {
         if place > 0 {
             Some(usize::from(place) - 1)
         } else {
-            self.search(id)
+            self.search(*id)
         }
     }
 
     /// As [`LinkTable::slot`], by the map.
+    // The id is passed by value, so that no caller has to write it to memory.
     #[inline(never)]
-    fn search(&self, id: &LinkId) -> Option<usize>
+    fn search(&self, id: LinkId) -> Option<usize>
         ensures found { IfSome result (λ place. IsKey self.now (record {
-          id = id.now;
+          id = id;
           place = place;
         })) }
-        ensures none { result ≡ None → link_at self.now id.now ≡ None }
+        ensures none { result ≡ None → link_at self.now id ≡ None }
     {
-        match self.keys.get(id) {
+        match self.keys.get(&id) {
             Some(place) => Some(*place),
             None => None,
         }
