@@ -110,11 +110,13 @@ module _ (c : Configs) (event : SideEvent) (t : SideView User) (ok : OverhearsNo
   module _ (requests : (ri : ℕ) → Awaits ri After → Awaits ri t ⊎ (is_answered ri After ≡ false))
     where
       -- offers depend on the reference that is awaited
-      offer_by : (tei : ℕ) (phase old : Phase) (o : Option ℕ) (line : List Assignment) → awaited phase
+      offer_by : (tei : ℕ) (phase old : Phase) (o : Option ℕ) (line : List Assignment)
+          → awaited phase
           ≡ o → ((ri : ℕ) → o ≡ Some ri → (awaited old ≡ Some ri)
           ⊎ (list_any (has_reference ri) line ≡ false))
           → list_any (is_offer tei phase) line ≡ true → list_any (is_offer tei old) line ≡ true
-      offer_by tei phase old None line is asks h = any_weaker (is_offer tei phase) (is_offer tei old)
+      offer_by tei phase old None line is asks h = any_weaker (is_offer tei phase)
+          (is_offer tei old)
           line
           (λ a offer.
           absurd (has_not_none a.reference (ap (has_tei a.reference) (sym is)
@@ -191,7 +193,8 @@ claims_with tei t x h = elim (either_some (holds tei t) _ h) [
       (is_offer tei t.now.management.terminal x || false) (sym (list_any-append (is_offer tei t.now.management.terminal)
       (assignments t) (x ∷ [])) ∙ offered)) [
         | inl before ↦ inl (some_second (holds tei t) _ before)
-        | inr new ↦ (let two = both_so (is_of_tei tei x) (has_tei x.reference (awaited t.now.management.terminal))
+        | inr new ↦ (let two = both_so (is_of_tei tei x)
+            (has_tei x.reference (awaited t.now.management.terminal))
             (or_none (is_offer tei t.now.management.terminal x) new) in
             inr ((let e = two.0 in grind (arith, nat_tests, e)), two.1))
       ]

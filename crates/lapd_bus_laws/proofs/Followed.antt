@@ -104,13 +104,15 @@ pub one_event : (c : Configs) (i : ℕ) (e : BusEvent) (t : SideView User) (b : 
     → KeepsTerminal i e → slice_get b.terminals i ≡ Some t → FollowsOne c i e t b
 one_event c i (OfTerminal j event) t b ok at = of_terminal c i event t b at j (j == i) refl
 one_event c i (OfNetwork j event) t b ok at = of_network c i event t b at j (j == i) refl
-one_event c i (Join j new) t b ok at = other_joins c i j new t b (slice_get b.terminals j) ok refl at
+one_event c i (Join j new) t b ok at = other_joins c i j new t b (slice_get b.terminals j) ok refl
+    at
 one_event c i (Restart known) t b ok at = absurd ok
 
 -- ---- Every run.
 
 pub follows : (c : Configs) (i : ℕ) (events : List BusEvent) (t : SideView User) (b : Bus)
-    → AllByRecursion (KeepsTerminal i) events → slice_get b.terminals i ≡ Some t → Follows c i events t b
+    → AllByRecursion (KeepsTerminal i) events → slice_get b.terminals i ≡ Some t
+    → Follows c i events t b
 follows c i [] t b ok at = record { terminal = t; there = at; moved = refl }
 follows c i (e ∷ es) t b ok at =
     let first = one_event c i e t b ok.0 at in

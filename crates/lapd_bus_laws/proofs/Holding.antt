@@ -18,19 +18,20 @@ use Rattle.lapd_sides_laws.specs.Interface.{Configs, fresh_link, from_here, user
 use Rattle.lapd_sides_laws.specs.Premises.{is_removal, is_assignment, GivesTeiOnce}
 use Rattle.lapd_sides_laws.specs.Projects.{HasLink, AwaitsLink, IsSafeAt}
 use Rattle.lapd_sides_laws.specs.SideView.{SideView, SideEvent, Take, Lose, Expire, Ask, Overhear, reaction, left, does}
+use Rattle.lapd_sides_laws.proofs.AsMade.{new_are_own, new_of_user, new_of_network}
 use Rattle.lapd_sides_laws.proofs.NetworkOwn.{network_preserves}
 use Rattle.lapd_sides_laws.proofs.TerminalOwn.{Owns}
 use Rattle.lapd_sides_laws.proofs.Timed.{new_is_timed}
 use Rattle.lapd_sides_laws.proofs.UserOwn.{AreOwn, user_preserves}
 use Rattle.lapd_bus_laws.specs.Assignments.{Assignment, assignment_in, assignments, holds, is_of_tei, is_sent, awaited, claims, is_taken}
-use Rattle.lapd_bus_laws.specs.Bus.{Bus, BusEvent, OfTerminal, OfNetwork, Join, Restart, NewTerminal, KeepsTerminal, new_bus, OverhearsNothing, recorded_anew, from_now, reached_by, left_of, on_line_of, terminal_does, network_does, terminal_joins, bus_step, after_events, interface_of, moves_along}
+use Rattle.lapd_bus_laws.specs.Bus.{Bus, BusEvent, OfTerminal, OfNetwork, Join, Restart, NewTerminal, KeepsTerminal, connected, new_bus, OverhearsNothing, recorded_anew, from_now, reached_by, left_of, on_line_of, terminal_does, network_does, terminal_joins, bus_step, after_events, interface_of, moves_along}
 use Rattle.lapd_bus_laws.specs.Holdings.{RequestsByItsOwn, KeepsTeisApart, IsReached, AssignsTei, Assigns, IsOnlyClaimant, IsClear, LeavesAlone, KeepsHolding}
-use Rattle.lapd_bus_laws.specs.Links.{Throughout, IsTimelyFor, IsNotAssigned, AssignsOthers, ObtainsOnce, IsSole, IsNobodyElses}
+use Rattle.lapd_bus_laws.specs.Links.{IsAside, IsNewHere, Throughout, IsTimelyFor, IsNotAssigned, AssignsOthers, ObtainsOnce, IsSole, IsNobodyElses}
 use Rattle.lapd_bus_laws.proofs.Assigns.{HasNoManagementLink, AssignsOne, AssignsAtMostOne, event_assigns}
 use Rattle.lapd_bus_laws.proofs.Claims.{any_left, same_tei, claims_before, obtains_claimed, reached_by_none, reached_by_one, reached_without, reached_by_assignment}
 use Rattle.lapd_bus_laws.proofs.Lists.{Each, Others, AtMostOne, each_set, each_map, others_set, others_map, map_back, any_at, one_more, one_dropped, one_removed, either_some, some_first, not_both, false_by}
 use Rattle.lapd_bus_laws.proofs.Obtains.{TakesAnswer, event_obtains}
-use Rattle.lapd_bus_laws.proofs.Single.{fixed_of, KeepsApart, event_keeps, all_keep, new_keeps}
+use Rattle.lapd_bus_laws.proofs.Single.{fixed_of, no_management, KeepsApart, event_keeps, all_keep, new_keeps}
 use Rattle.lapd_bus_laws.proofs.Sole.{has_so, has_not, safe_here, nobody_elses}
 use Rattle.lapd_sides_laws.proofs.Managed.{neither}
 
@@ -323,7 +324,8 @@ module _ (c : Configs) (id : LinkId) (i : ℕ) where
   event_holds (Join j new) b is h = join_holds b j new (slice_get b.terminals j) is.leaves refl h
   event_holds (Restart known) b is h = absurd is.leaves
 
-  obtains_here : (e : BusEvent) (b : Bus) → LeavesAlone id.tei i e → IsHeld b → ObtainsOnce c id i e b
+  obtains_here : (e : BusEvent) (b : Bus) → LeavesAlone id.tei i e → IsHeld b
+      → ObtainsOnce c id i e b
   obtains_here (OfTerminal j event) b ok h = λ t at. (
     (λ same. gives_once event t ok (h.mine t (subst (λ (k : ℕ).
         slice_get b.terminals k ≡ Some t) same at))),
@@ -556,5 +558,78 @@ module _ (c : Configs) (id : LinkId) (low : id.tei < 127) (i : ℕ) (b : Bus) (e
 
   pub holding_is_nobody_elses : IsNobodyElses id i (after_events c after (from_now Now))
   holding_is_nobody_elses = nobody_elses c id low i after Now
-      (all_keep_terminal c id i after (from_now Now) keeps) (sole_now c id i Now Left.apart Left.offered
+      (all_keep_terminal c id i after (from_now Now) keeps)
+      (sole_now c id i Now Left.apart Left.offered
       clear) once
+
+-- ---- From the start.
+
+module _ (c : Configs) (id : LinkId) (low : id.tei < 127) (i : ℕ) (known : List ℕ)
+    (terminals : List NewTerminal) (after : List BusEvent)
+    (only : IsOnlyClaimant id.tei i (new_bus c known terminals))
+    (keeps : Throughout c (KeepsHolding c id i) after (from_now (new_bus c known terminals))) where
+  abbrev pub First : Bus
+  First = new_bus c known terminals
+
+  new_is_once : (new : NewTerminal) → IsOnce c id i (recorded_anew (connected c new))
+  new_is_once new = record {
+    own = new_are_own c.user new.fixed new.random;
+    single = tt;
+    spent = λ past. refl;
+  }
+
+  first_held : IsHeld c id i (from_now First)
+  first_held = record {
+    others = others_map (IsUnclaimed c id i) (IsUnclaimed c id i) recorded_anew i First.terminals
+        (λ u none. none) only;
+    mine = λ u there.
+        (let m = map_back recorded_anew First.terminals i u there in
+        let n = map_back (connected c) terminals i m.0 m.1 in
+        subst (IsOnce c id i) (ap recorded_anew n.2 ∙ m.2) (new_is_once n.0));
+    management = no_management c known;
+  }
+
+  new_is_aside : (new : NewTerminal) → claims id.tei (connected c new) ≡ false
+      → IsAside id (connected c new)
+  new_is_aside new none =
+      let unheld = (neither (holds id.tei (connected c new)) _ none).0 in
+      record {
+        unheld = unheld;
+        link = none_by ((connected c new).now.served.links id) (λ link.
+            has_not id.tei (tei_of (connected c new).now.management.terminal) unheld
+            (owner_holds (connected c new).now.management.terminal id.tei
+            (new_are_own c.user new.fixed new.random id link)));
+        line = refl;
+      }
+
+  first_sole : IsSole id i First
+  first_sole = λ k u there apart.
+      (let m = map_back (connected c) terminals k u there in
+      subst (λ (x : SideView User). claims id.tei x ≡ false → IsAside id x) m.2
+      (new_is_aside m.0) (only k u there apart))
+
+  first_once : Throughout c (ObtainsOnce c id i) after (from_now First)
+  first_once = obtains_once c id i after (from_now First) keeps first_held
+
+  pub first_is_safe : (t : SideView User) → (parameters_for c.user id.sapi).k ≤ 127
+      → (parameters_for c.network id.sapi).k ≤ 127 → slice_get First.terminals i ≡ Some t
+      → IsSafeAt c id (moves_along c i after (from_now First)) (from_here (interface_of t First))
+  first_is_safe t small_p small_q at =
+      let m = map_back (connected c) terminals i t at in
+      let new : IsNewHere c id (parameters_for c.user id.sapi) (parameters_for c.network id.sapi)
+      (connected c m.0) First = record {
+        user = new_of_user c.user id m.0.fixed m.0.random;
+        network = new_of_network c.network id known;
+        to_user = refl;
+        to_network = refl;
+      } in
+      safe_here c id low i (parameters_for c.user id.sapi) (parameters_for c.network id.sapi) after
+      t First small_p small_q (all_keep_terminal c id i after (from_now First) keeps) at
+      (subst (λ (x : SideView User). IsNewHere c id (parameters_for c.user id.sapi)
+      (parameters_for c.network id.sapi) x First) m.2 new) first_sole
+      (all_timely c id i after (from_now First) keeps)
+      (all_assign_others c id i after (from_now First) keeps) first_once
+
+  pub first_is_nobody_elses : IsNobodyElses id i (after_events c after (from_now First))
+  first_is_nobody_elses = nobody_elses c id low i after First
+      (all_keep_terminal c id i after (from_now First) keeps) first_sole first_once

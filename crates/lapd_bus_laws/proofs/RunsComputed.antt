@@ -22,12 +22,12 @@ use Rattle.lapd_sides.specs.User.{User, terminal_acts, user_takes, user_expires,
 use Rattle.lapd_sides_laws.specs.Primitives.{link_primitives}
 use Rattle.lapd_sides_laws.specs.Schedule.{configs, call, IsMessage}
 use Rattle.lapd_sides_laws.specs.SideView.{SideView, does}
-use Rattle.lapd_sides_laws.proofs.Computed.{Fits, holding, with_both}
+use Rattle.lapd_sides_laws.proofs.Computed.{Fits, holding, with_octets, with_both}
 use Rattle.lapd_bus_laws.specs.Assignments.{holds, IsSingle}
-use Rattle.lapd_bus_laws.specs.Bus.{bus_step, after_events}
+use Rattle.lapd_bus_laws.specs.Bus.{bus_step, from_now, after_events}
 use Rattle.lapd_bus_laws.specs.Holdings.{AssignsFree, RequestsByItsOwn, JoinsWithFree, IsOfBus, KeepsTeisApart, IsReached, Assigns, IsOnlyClaimant, IsClear, KeepsHolding}
 use Rattle.lapd_bus_laws.specs.Links.{Throughout}
-use Rattle.lapd_bus_laws.specs.Runs.{requested_bus, from_assignment, KeepsAllButAssignment, KeepsAllButReference, KeepsAllButJoining, second_call, two_terminals, both_request, assigns_first, talking, moved, assigned_while_held, assigned_in_transit, twins, same_reference, answered_before, joins_with_held, same_fixed, waiting_terminal, other_random}
+use Rattle.lapd_bus_laws.specs.Runs.{two_fixed, fixed_call, fixed_talks, requested_bus, from_assignment, KeepsAllButAssignment, KeepsAllButReference, KeepsAllButJoining, second_call, two_terminals, both_request, assigns_first, talking, moved, assigned_while_held, assigned_in_transit, twins, same_reference, answered_before, joins_with_held, same_fixed, waiting_terminal, other_random}
 use Rattle.lapd_bus_laws.proofs.Checks.{throughout_by, of_bus, of_bus_so, assigns_free, assigns_free_so, requests_by_its_own, requests_by_its_own_so, joins_with_free, joins_with_free_so, keeps_teis_apart, keeps_teis_apart_so, keeps_holding, keeps_holding_so, no_fixed_is_single, both_hold_so, assigns_now_so, only_claimant_so, is_clear_so}
 use Rattle.lapd_sides.specs.Worked as sides
 
@@ -231,6 +231,63 @@ unfolding link_acts link_expires in_links with_tei without_tei primitive_of_tei 
     steps lies_within terminal_acts user_takes user_expires user_requested links_below
     does
 moved_holders = refl
+
+-- ---- Fixed TEIs.
+
+pub fixed_claims : IsOnlyClaimant 0 0 two_fixed
+unfolding link_acts link_expires in_links with_tei without_tei primitive_of_tei manages
+    assigner_acts link_of network_takes network_expires network_requested begin put state_to
+    rc_to increment_rc layer3_initiated_to release_pending_to start stop expired
+    clear_exception_conditions zero_state_variables set_peer_busy set_own_busy enquiry_response
+    transmit_enquiry queue_up discard_i_queue acknowledge invoke_retransmission i_frame_ns
+    discard_unacknowledged transmit_i_frame ensure_t200 transmit_rr establish_data_link
+    reestablish_data_link end_establishment tei_assigned confirm_or_indicate ua_final
+    awaiting_establishment_t200 awaiting_establishment confirm_release awaiting_release_t200
+    awaiting_release acknowledge_with_timers nr_error_recovery i_frame_nr i_frame_nr_in_recovery
+    poll_or_final poll rr_nr rej_nr rnr_nr rr_nr_in_recovery rnr_nr_in_recovery timer_recovery_t200
+    busy_on busy_off in_7_and_8 established_t200 multiple_frame_established timer_recovery by_state
+    report_fault row send_all acknowledge_pending end_step step initial_variables without_exceptions
+    with_zero_counters status_frame acknowledgement without_ack_pending poll_response is_accepted
+    is_rejected after_i_frame i_frame_response is_valid_nr with_va acknowledged_count
+    acknowledges_all with_vs may_send next_i_frame after_sending with_own_busy with_peer_busy after
+    steps lies_within terminal_acts user_takes user_expires user_requested links_below
+    does
+fixed_claims = only_claimant_so 0 0 two_fixed refl
+
+pub record FixedTalks (message : Vec ℕ Global) : Type 0 where
+  pub keeps : Throughout configs (KeepsHolding configs fixed_call 0) (fixed_talks message)
+      (from_now two_fixed)
+  pub to_network : link_primitives fixed_call
+      (after_events configs (fixed_talks message) (from_now two_fixed)).delivered
+      ≡ what.Established ∷ what.Up (1 ∷ []) ∷ []
+
+fixed_talks_hold : (v : Vec ℕ Global) (x : Fits v (1 ∷ [])) → FixedTalks (holding v (1 ∷ []) x)
+unfolding link_acts link_expires in_links with_tei without_tei primitive_of_tei manages
+    assigner_acts link_of network_takes network_expires network_requested begin put state_to
+    rc_to increment_rc layer3_initiated_to release_pending_to start stop expired
+    clear_exception_conditions zero_state_variables set_peer_busy set_own_busy enquiry_response
+    transmit_enquiry queue_up discard_i_queue acknowledge invoke_retransmission i_frame_ns
+    discard_unacknowledged transmit_i_frame ensure_t200 transmit_rr establish_data_link
+    reestablish_data_link end_establishment tei_assigned confirm_or_indicate ua_final
+    awaiting_establishment_t200 awaiting_establishment confirm_release awaiting_release_t200
+    awaiting_release acknowledge_with_timers nr_error_recovery i_frame_nr i_frame_nr_in_recovery
+    poll_or_final poll rr_nr rej_nr rnr_nr rr_nr_in_recovery rnr_nr_in_recovery timer_recovery_t200
+    busy_on busy_off in_7_and_8 established_t200 multiple_frame_established timer_recovery by_state
+    report_fault row send_all acknowledge_pending end_step step initial_variables without_exceptions
+    with_zero_counters status_frame acknowledgement without_ack_pending poll_response is_accepted
+    is_rejected after_i_frame i_frame_response is_valid_nr with_va acknowledged_count
+    acknowledges_all with_vs may_send next_i_frame after_sending with_own_busy with_peer_busy after
+    steps lies_within terminal_acts user_takes user_expires user_requested links_below
+    does
+fixed_talks_hold v x = record {
+  keeps = throughout_by configs (KeepsHolding configs fixed_call 0)
+      (keeps_holding configs fixed_call 0) (keeps_holding_so configs fixed_call 0)
+      (fixed_talks (holding v (1 ∷ []) x)) (from_now two_fixed) refl;
+  to_network = refl;
+}
+
+pub fixed_talks_so : (message : Vec ℕ Global) → IsMessage 1 message → FixedTalks message
+fixed_talks_so = with_octets FixedTalks (1 ∷ []) fixed_talks_hold
 
 -- ---- Each premise is needed.
 

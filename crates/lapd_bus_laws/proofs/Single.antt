@@ -90,7 +90,8 @@ module _ (c : Configs) where
             elim (requests t at ri waits) [
               | inl before ↦ inl before
               | inr new ↦ inr (λ k u there apart other.
-                  not_both (awaits ri u) other (any_other (awaits ri) b.terminals j k u new.others there
+                  not_both (awaits ri u) other (any_other (awaits ri) b.terminals j k u new.others
+                  there
                   apart))
             ]);
         management = h.management;

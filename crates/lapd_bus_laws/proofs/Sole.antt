@@ -157,7 +157,8 @@ module _ (c : Configs) (id : LinkId) (low : id.tei < 127) (i : ℕ) where
     now = new_user c.user new.fixed new.random;
   }) h (λ elsewhere. aside_joins new t other (h j t at apart))
 
-  aside_after : (e : BusEvent) (b : Bus) → KeepsTerminal i e → OthersAside b → ObtainsOnce c id i e b
+  aside_after : (e : BusEvent) (b : Bus) → KeepsTerminal i e → OthersAside b
+      → ObtainsOnce c id i e b
       → OthersAside (bus_step c e b)
   aside_after (OfTerminal j event) b ok h once = terminal_aside b j event (slice_get b.terminals j)
       ok refl h once
@@ -166,7 +167,8 @@ module _ (c : Configs) (id : LinkId) (low : id.tei < 127) (i : ℕ) where
   aside_after (Join j new) b ok h once = join_aside b j new (slice_get b.terminals j) ok refl h once
   aside_after (Restart known) b ok h once = absurd ok
 
-  all_aside : (events : List BusEvent) (b : Bus) → AllByRecursion (KeepsTerminal i) events → OthersAside b
+  all_aside : (events : List BusEvent) (b : Bus) → AllByRecursion (KeepsTerminal i) events
+      → OthersAside b
       → Throughout c (ObtainsOnce c id i) events b → OthersAside (after_events c events b)
   all_aside [] b ok h once = h
   all_aside (e ∷ es) b ok h once = all_aside es (bus_step c e b) ok.1
@@ -255,7 +257,8 @@ module _ (c : Configs) (id : LinkId) (low : id.tei < 127) (i : ℕ) where
     one_meets (Join j new) ok h timely quiet once = (tt, tt)
     one_meets (Restart known) ok h timely quiet once = absurd ok
 
-  meets : (events : List BusEvent) (t : SideView User) (b : Bus) → AllByRecursion (KeepsTerminal i) events
+  meets : (events : List BusEvent) (t : SideView User) (b : Bus) → AllByRecursion (KeepsTerminal i)
+      events
       → slice_get b.terminals i ≡ Some t → OthersAside b
       → Throughout c (IsTimelyFor id i) events b → Throughout c (AssignsOthers c id.tei) events b
       → Throughout c (ObtainsOnce c id i) events b
@@ -272,7 +275,8 @@ module _ (c : Configs) (id : LinkId) (low : id.tei < 127) (i : ℕ) where
   -- ---- The link is safe.
 
   pub safe_here : (p q : Parameters) (events : List BusEvent) (t : SideView User) (b : Bus)
-      → p.k ≤ 127 → q.k ≤ 127 → AllByRecursion (KeepsTerminal i) events → slice_get b.terminals i ≡ Some t
+      → p.k ≤ 127 → q.k ≤ 127 → AllByRecursion (KeepsTerminal i) events → slice_get b.terminals i
+      ≡ Some t
       → IsNewHere c id p q t b → IsSole id i b
       → Throughout c (IsTimelyFor id i) events (from_now b) → Throughout c (AssignsOthers c id.tei)
       events (from_now b) → Throughout c (ObtainsOnce c id i) events (from_now b)

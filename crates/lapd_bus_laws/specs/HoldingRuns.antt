@@ -55,7 +55,8 @@ abbrev pub first_asks : List BusEvent
 first_asks = OfTerminal 0 (Ask request.AskTei 0) ∷ []
 
 abbrev pub from_first : Bus
-from_first = from_now (bus_step configs assigns_first (after_events configs first_asks two_terminals))
+from_first =
+    from_now (bus_step configs assigns_first (after_events configs first_asks two_terminals))
 
 -- T200 of the terminal expires while the answer to its SABME is in transit. The second SABME starts
 -- another establishment at the network, and the terminal takes the first establishment's message

@@ -41,8 +41,8 @@ AssignsOthers c tei (OfNetwork j event) b = (t : SideView User)
     → IsNotAssigned tei (reaction (network_behaviour c.network) event (on_line_of t b)).effects
 AssignsOthers c tei other b = Unit {0}
 
--- The terminal at this index obtains the TEI once, no other terminal obtains it, and none joins with
--- it.
+-- The terminal at this index obtains the TEI once, no other terminal obtains it, and none joins
+-- with it.
 abbrev pub ObtainsOnce : Configs → LinkId → ℕ → BusEvent → Bus → Type 0
 ObtainsOnce c id i (OfTerminal j event) b = (t : SideView User) → slice_get b.terminals j ≡ Some t
     → (j ≡ i → GivesTeiOnce (user_behaviour c.user) id event t)

@@ -88,6 +88,25 @@ abbrev pub moved : List BusEvent
 moved = first_alone ++ OfNetwork 0 (Ask (request.Remove 64) 0) ∷ OfTerminal 0 (Take 0)
     ∷ second_requests ++ second_takes
 
+-- ---- Fixed TEIs.
+
+abbrev pub with_fixed_tei : ℕ → Lcg → NewTerminal
+with_fixed_tei tei random = record { fixed = Some tei; random = random }
+
+-- two terminals with the fixed TEIs 0 and 1, which the network knows
+abbrev pub two_fixed : Bus
+two_fixed = new_bus configs (0 ∷ 1 ∷ []) (with_fixed_tei 0 sides.random
+    ∷ with_fixed_tei 1 other_random ∷ [])
+
+abbrev pub fixed_call : LinkId
+fixed_call = of_sapi Call 0
+
+-- The first terminal establishes its link and submits a message, which is acknowledged.
+abbrev pub fixed_talks : Vec ℕ Global → List BusEvent
+fixed_talks message = OfTerminal 0 (Ask (request.Establish fixed_call) 0) ∷ OfNetwork 0 (Take 0)
+    ∷ OfTerminal 0 (Take 0) ∷ OfTerminal 0 (Ask (request.Give fixed_call message) 0)
+    ∷ OfNetwork 0 (Take 0) ∷ OfTerminal 0 (Take 0) ∷ []
+
 -- ---- Each premise is needed.
 
 -- all premises but that on assignments, on references or on joining
@@ -139,6 +158,4 @@ joins_with_held = first_obtains
 
 -- two terminals with the same fixed TEI
 abbrev pub same_fixed : Bus
-same_fixed = new_bus configs []
-    (record { fixed = Some 5; random = sides.random }
-    ∷ record { fixed = Some 5; random = other_random } ∷ [])
+same_fixed = new_bus configs [] (with_fixed_tei 5 sides.random ∷ with_fixed_tei 5 other_random ∷ [])

@@ -74,6 +74,31 @@ pub fn every_holding_is_safe()
         → IsNobodyElses id i (after_events c after (from_now (bus_step c e b))) }
 {}
 
+/// The same from the first event of a bus on, for a TEI that no other terminal holds then: a fixed
+/// TEI, which the network knows or not.
+///
+/// The premises of each event are those of a holding (`KeepsHolding`).
+///
+/// - `safe`: the link between the network and this terminal is safe, in both directions.
+/// - `nobody_elses`: no other terminal delivers anything about the link.
+pub fn each_fixed_tei_is_safe()
+    ensures safe { (c : Configs) (id : LinkId) (i : ℕ) (known : List ℕ)
+        (terminals : List NewTerminal) (after : List BusEvent) (t : SideView User)
+        → id.tei < 127 → (parameters_for c.user id.sapi).k ≤ 127
+        → (parameters_for c.network id.sapi).k ≤ 127
+        → slice_get (new_bus c known terminals).terminals i ≡ Some t
+        → IsOnlyClaimant id.tei i (new_bus c known terminals)
+        → Throughout c (KeepsHolding c id i) after (from_now (new_bus c known terminals))
+        → IsSafeAt c id (moves_along c i after (from_now (new_bus c known terminals)))
+        (from_here (interface_of t (new_bus c known terminals))) }
+    ensures nobody_elses { (c : Configs) (id : LinkId) (i : ℕ) (known : List ℕ)
+        (terminals : List NewTerminal) (after : List BusEvent) → id.tei < 127
+        → IsOnlyClaimant id.tei i (new_bus c known terminals)
+        → Throughout c (KeepsHolding c id i) after (from_now (new_bus c known terminals))
+        → IsNobodyElses id i
+        (after_events c after (from_now (new_bus c known terminals))) }
+{}
+
 /// One way to keep the premise on assignments: a TEI is freed only while it is not in use, a
 /// network that restarts knows the TEIs in use, and the network knows the fixed TEI of a terminal
 /// that joins (`LosesNone`).

@@ -27,6 +27,7 @@
 //! - [`every_bus_is_single`]: no two terminals hold the same TEI.
 //! - [`every_holding_is_safe`]: the links of a TEI are safe from its assignment to the next, and
 //!   nobody else delivers anything about them.
+//! - [`each_fixed_tei_is_safe`]: the same from the first event on, for fixed TEIs.
 //! - [`freeing_keeps_assignments`]: a premise on freeing TEIs implies that on assigning them.
 //! - [`calls_are_bus_events`]: the calls of n + 1 sides in code are events of the bus.
 //! - [`bus_premises_can_be_met`], [`each_bus_premise_is_needed`],
@@ -42,7 +43,9 @@ mod laws;
 mod runs;
 
 pub use calls::calls_are_bus_events;
-pub use holdings::{every_bus_is_single, every_holding_is_safe, freeing_keeps_assignments};
+pub use holdings::{
+    each_fixed_tei_is_safe, every_bus_is_single, every_holding_is_safe, freeing_keeps_assignments,
+};
 pub use laws::{each_run_is_a_run_of_two_sides, each_terminals_link_is_safe};
 pub use runs::{
     bus_premises_can_be_met, each_bus_premise_is_needed, each_holding_premise_is_needed,

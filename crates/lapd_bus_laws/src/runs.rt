@@ -12,14 +12,15 @@ ghost use Rattle.lapd_bus_laws.specs.Bus.{Bus, BusEvent, bus_step, from_now, aft
 ghost use Rattle.lapd_bus_laws.specs.HoldingRuns.{IsReceivedByTerminal, IsReceivedByNetwork, KeepsAllButT200, KeepsAllButAssigning, KeepsAllButRequesting, KeepsAllButLeaving, joined, replaced, restarted, from_first, hasty, regained, assigns_second, with_old_sabme, answers_old, from_twins, taken_twice};
 ghost use Rattle.lapd_bus_laws.specs.Holdings.{KeepsTeisApart, IsReached, Assigns, IsOnlyClaimant, IsClear, KeepsHolding};
 ghost use Rattle.lapd_bus_laws.specs.Links.{Throughout, IsNobodyElses};
-ghost use Rattle.lapd_bus_laws.specs.Runs.{two_terminals, second_call, assigns_first, requested_bus, from_assignment, talking, moved, KeepsAllButAssignment, KeepsAllButReference, KeepsAllButJoining, assigned_while_held, assigned_in_transit, twins, same_reference, answered_before, joins_with_held, same_fixed};
+ghost use Rattle.lapd_bus_laws.specs.Runs.{two_fixed, fixed_call, fixed_talks, two_terminals, second_call, assigns_first, requested_bus, from_assignment, talking, moved, KeepsAllButAssignment, KeepsAllButReference, KeepsAllButJoining, assigned_while_held, assigned_in_transit, twins, same_reference, answered_before, joins_with_held, same_fixed};
 
 /// The premises of a bus can be met.
 ///
 /// In the first run two terminals request a TEI, come up and talk. The network assigns TEI 64 to
 /// the first: then all premises of its holding are met, and the messages of both terminals are
 /// received and acknowledged. In the second run the network removes the TEI of the first terminal,
-/// and the second obtains the same TEI.
+/// and the second obtains the same TEI. In the third run both terminals have fixed TEIs, and one
+/// of them talks.
 pub fn bus_premises_can_be_met()
     ensures reached { IsReached configs requested_bus }
     ensures apart { KeepsTeisApart configs assigns_first requested_bus }
@@ -44,6 +45,14 @@ pub fn bus_premises_can_be_met()
     ensures moved_apart { Throughout configs (KeepsTeisApart configs) moved two_terminals }
     ensures moved_holders { map (holds 64) (after_events configs moved two_terminals).terminals
         ≡ false ∷ true ∷ [] }
+    ensures fixed_only { IsOnlyClaimant 0 0 two_fixed }
+    ensures fixed_keeps { (message : Vec ℕ Global) → IsMessage 1 message
+        → Throughout configs (KeepsHolding configs fixed_call 0) (fixed_talks message)
+        (from_now two_fixed) }
+    ensures fixed_to_network { (message : Vec ℕ Global) → IsMessage 1 message
+        → link_primitives fixed_call
+        (after_events configs (fixed_talks message) (from_now two_fixed)).delivered
+        ≡ what.Established ∷ what.Up (1 ∷ []) ∷ [] }
 {}
 
 /// No premise on TEIs can be dropped. Each run keeps all others, and ends with two terminals that
