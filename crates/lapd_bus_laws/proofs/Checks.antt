@@ -19,7 +19,7 @@ use Rattle.lapd_sides_laws.specs.SideView.{SideView, SideEvent, Take, Lose, Expi
 use Rattle.lapd_sides_laws.proofs.Managed.{neither}
 use Rattle.lapd_bus_laws.specs.Assignments.{holds, awaited, awaits, is_answered, claims, is_taken, IsSingle}
 use Rattle.lapd_bus_laws.specs.Bus.{Bus, BusEvent, OfTerminal, OfNetwork, Join, Restart, NewTerminal, connected, new_bus, OverhearsNothing, on_line_of, bus_step}
-use Rattle.lapd_bus_laws.specs.Holdings.{AssignsFree, IsOwnReference, RequestsByItsOwn, JoinsWithFree, IsOfBus, KeepsTeisApart, Assigns, IsOnlyClaimant, IsClear, LeavesAlone, KeepsHolding}
+use Rattle.lapd_bus_laws.specs.Holdings.{AssignsFree, IsOwnReference, RequestsByItsOwn, RequestsUnanswered, JoinsWithFree, IsOfBus, KeepsTeisApart, Assigns, IsOnlyClaimant, IsClear, LeavesAlone, KeepsHolding}
 use Rattle.lapd_bus_laws.specs.Links.{Throughout, IsTimelyFor, AssignsOthers}
 use Rattle.lapd_bus_laws.proofs.Lists.{apart_index, map_back, any_at, any_other, either_some}
 use Rattle.lapd_bus_laws.proofs.Sole.{has_not, has_so}
@@ -291,6 +291,15 @@ module _ (c : Configs) where
   timely_for_so id i (Join j new) b h = tt
   timely_for_so id i (Restart known) b h = tt
 
+  own_is_unanswered : (e : BusEvent) (b : Bus) → RequestsByItsOwn c e b → RequestsUnanswered c e b
+  own_is_unanswered (OfTerminal i event) b own = λ t at ri waits. elim (own t at ri waits) [
+    | inl before ↦ inl before
+    | inr new ↦ inr new.unanswered
+  ]
+  own_is_unanswered (OfNetwork j event) b own = tt
+  own_is_unanswered (Join j new) b own = tt
+  own_is_unanswered (Restart known) b own = tt
+
   abbrev pub keeps_holding : LinkId → ℕ → BusEvent → Bus → Bool
   keeps_holding id i e b = leaves_alone id.tei i e b && (timely_for id i e b &&
       (assigns_others id.tei e b && requests_by_its_own e b))
@@ -305,7 +314,7 @@ module _ (c : Configs) where
         leaves = leaves_alone_so id.tei i e b one.0;
         timely = timely_for_so id i e b two.0;
         assigns = assigns_others_so id.tei e b three.0;
-        requests = requests_by_its_own_so e b three.1;
+        requests = own_is_unanswered e b (requests_by_its_own_so e b three.1);
       }
 
   -- ---- Two holders, or none.

@@ -25,7 +25,7 @@ use Rattle.lapd_sides_laws.proofs.Timed.{new_is_timed}
 use Rattle.lapd_sides_laws.proofs.UserOwn.{AreOwn, user_preserves}
 use Rattle.lapd_bus_laws.specs.Assignments.{Assignment, assignment_in, assignments, holds, is_of_tei, is_sent, awaited, claims, is_taken}
 use Rattle.lapd_bus_laws.specs.Bus.{Bus, BusEvent, OfTerminal, OfNetwork, Join, Restart, NewTerminal, KeepsTerminal, connected, new_bus, OverhearsNothing, recorded_anew, from_now, reached_by, left_of, on_line_of, terminal_does, network_does, terminal_joins, bus_step, after_events, interface_of, moves_along}
-use Rattle.lapd_bus_laws.specs.Holdings.{RequestsByItsOwn, KeepsTeisApart, IsReached, AssignsTei, Assigns, IsOnlyClaimant, IsClear, LeavesAlone, KeepsHolding}
+use Rattle.lapd_bus_laws.specs.Holdings.{RequestsUnanswered, KeepsTeisApart, IsReached, AssignsTei, Assigns, IsOnlyClaimant, IsClear, LeavesAlone, KeepsHolding}
 use Rattle.lapd_bus_laws.specs.Links.{IsAside, IsNewHere, Throughout, IsTimelyFor, IsNotAssigned, AssignsOthers, ObtainsOnce, IsSole, IsNobodyElses}
 use Rattle.lapd_bus_laws.proofs.Assigns.{HasNoManagementLink, AssignsOne, AssignsAtMostOne, event_assigns}
 use Rattle.lapd_bus_laws.proofs.Claims.{any_left, same_tei, claims_before, obtains_claimed, reached_by_none, reached_by_one, reached_without, reached_by_assignment}
@@ -175,7 +175,7 @@ module _ (c : Configs) (id : LinkId) (i : ℕ) where
 
   terminal_holds : (b : Bus) (j : ℕ) (event : SideEvent) (o : Option (SideView User))
       → OverhearsNothing event → slice_get b.terminals j ≡ o
-      → RequestsByItsOwn c (OfTerminal j event) b → IsHeld b
+      → RequestsUnanswered c (OfTerminal j event) b → IsHeld b
       → IsHeld (terminal_does c j event o b)
   terminal_holds b j event None ok at requests h = h
   terminal_holds b j event (Some t) ok at requests h =
@@ -183,11 +183,8 @@ module _ (c : Configs) (id : LinkId) (i : ℕ) where
       record {
         others = others_set IsUnclaimed i b.terminals j after h.others
             (λ apart. false_by (claims id.tei after) (λ claim.
-            not_both (claims id.tei t) (claims_before c event t ok
-            (λ ri waits. elim (requests t at ri waits) [
-              | inl before ↦ inl before
-              | inr new ↦ inr new.unanswered
-            ]) id.tei claim) (h.others j t at apart)));
+            not_both (claims id.tei t) (claims_before c event t ok (requests t at) id.tei claim)
+            (h.others j t at apart)));
         mine = λ u there. elim (get_after_set b.terminals j i after u there) [
           | inl e ↦ subst IsOnce e.1 (once_does event t ok
               (h.mine t (subst (λ (k : ℕ). slice_get b.terminals k ≡ Some t) (sym e.0) at)))

@@ -94,10 +94,18 @@ abbrev pub LeavesAlone : ℕ → ℕ → BusEvent → Type 0
 LeavesAlone tei i (Join j new) = (j ≡ i → ⊥) × (new.fixed ≡ Some tei → ⊥)
 LeavesAlone tei i other = KeepsTerminal i other
 
+-- No assignment with the reference of a new request is in transit to the terminal.
+abbrev pub RequestsUnanswered : Configs → BusEvent → Bus → Type 0
+RequestsUnanswered c (OfTerminal i event) b = (t : SideView User)
+    → slice_get b.terminals i ≡ Some t
+    → (ri : ℕ) → awaits ri (does (user_behaviour c.user) event t) ≡ true
+    → (awaits ri t ≡ true) ⊎ (is_answered ri (does (user_behaviour c.user) event t) ≡ false)
+RequestsUnanswered c other b = Unit {0}
+
 -- The premises of one event in a holding of the TEI. Besides, T200 waits, the TEI is not assigned
--- again, and terminals request by references of their own.
+-- again, and no terminal requests by a reference that is answered.
 pub record KeepsHolding (c : Configs) (id : LinkId) (i : ℕ) (e : BusEvent) (b : Bus) : Type 0 where
   pub leaves : LeavesAlone id.tei i e
   pub timely : IsTimelyFor id i e b
   pub assigns : AssignsOthers c id.tei e b
-  pub requests : RequestsByItsOwn c e b
+  pub requests : RequestsUnanswered c e b

@@ -41,8 +41,8 @@ pub fn every_bus_is_single()
 /// hold, and an event in which the network assigns the TEI. At that moment no octets of the link
 /// are in transit to the network, nor to the terminal that may take the TEI (`IsClear`). Then, for
 /// any events in which T200 of the link waits for its answer, the network neither restarts nor
-/// assigns the TEI again, the terminal is not replaced, no other one joins with the TEI, and
-/// terminals request by references of their own (`KeepsHolding`):
+/// assigns the TEI again, the terminal is not replaced, no other one joins with the TEI, and no
+/// terminal requests by a reference of which an assignment is in transit to it (`KeepsHolding`):
 ///
 /// - `one`: at most one terminal holds the TEI or may still take it.
 /// - `safe`: the link between the network and that terminal is safe, in both directions, as for two
