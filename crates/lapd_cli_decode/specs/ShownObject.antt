@@ -15,7 +15,7 @@ use Rattle.lapd_cli_render.specs.declared.Packet.{Packet}
 use Rattle.lapd_cli_ladder.specs.Parts.{name_of, nr_of, ns_of}
 use Rattle.lapd_cli_ladder.specs.Words.{known_role}
 use Rattle.lapd_cli_decode.specs.AnySapi.{sapi_of}
-use Rattle.lapd_cli_decode.specs.Time.{seconds_digits}
+use Rattle.lapd_follow.specs.Texts.{seconds_digits}
 
 -- ---- Members that an object may lack.
 

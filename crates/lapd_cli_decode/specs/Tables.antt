@@ -10,6 +10,7 @@ use Rattle.lapd_follow.specs.declared.tally.Kinds.{Kinds}
 use Rattle.lapd_follow.specs.declared.tally.Tally.{Tally}
 use Rattle.lapd_follow.specs.declared.tally.Times.{Times}
 use Rattle.lapd_follow.specs.Tallies.{middle_of}
+use Rattle.lapd_follow.specs.Texts.{seconds_digits}
 use Rattle.lapd_cli_script.specs.declared.script.ScriptFault.{ScriptFault}
 use Rattle.lapd_cli_script.specs.declared.script.ScriptFault.TheVariants.{BadLine, Device, Memory, Port}
 use Rattle.lapd_cli_decode.specs.declared.style.Style.{Style}
@@ -25,11 +26,6 @@ mean_of t = t.total / max t.count 1
 
 -- ---- Lines.
 
--- microseconds as seconds with three digits after the point
-abbrev pub thousandths : ℕ → List ℕ
-thousandths n = decimal (n / 1000000) ++ (codes "." ++ (decimal (n / 100000 % 10)
-    ++ (decimal (n / 10000 % 10) ++ decimal (n / 1000 % 10))))
-
 -- the frames that an end sent, by kind
 abbrev pub kinds_line : List ℕ → Kinds → List ℕ
 kinds_line direction k = codes "  " ++ (direction ++ (codes " I " ++ (decimal k.i
@@ -42,14 +38,15 @@ kinds_line direction k = codes "  " ++ (direction ++ (codes " I " ++ (decimal k.
 
 -- two times, in seconds
 abbrev pub from_to : ℕ → ℕ → List ℕ
-from_to least greatest = thousandths least ++ (codes " to " ++ (thousandths greatest ++ codes " s"))
+from_to least greatest = seconds_digits least ++ (codes " to "
+    ++ (seconds_digits greatest ++ codes " s"))
 
 -- the answers to polls whose times are known: the least time and the greatest, between which times
 -- the middle one lies, and the mean
 abbrev pub range_text : Times → Option ℕ → Option ℕ → Option Middle → List ℕ
 range_text t (Some least) (Some greatest) (Some middle) = codes ", answers " ++ (decimal t.count
     ++ (codes " after " ++ (from_to least greatest ++ (codes ", middle "
-    ++ (from_to middle.from middle.to ++ (codes ", mean " ++ (thousandths (mean_of t)
+    ++ (from_to middle.from middle.to ++ (codes ", mean " ++ (seconds_digits (mean_of t)
     ++ codes " s")))))))
 range_text t least greatest middle = []
 
@@ -66,7 +63,7 @@ counts_text direction t = codes "  " ++ (direction ++ (codes " messages "
 -- how long an end was busy
 abbrev pub busy_text : Option ℕ → List ℕ
 busy_text None = []
-busy_text (Some total) = codes ", busy " ++ (thousandths total ++ codes " s")
+busy_text (Some total) = codes ", busy " ++ (seconds_digits total ++ codes " s")
 
 abbrev pub counts_line : List ℕ → Tally → List ℕ
 counts_line direction t = counts_text direction t

@@ -1,6 +1,7 @@
 -- The time that is printed before a trace line.
 use Rattle.std.specs.Prelude.{ℕ, ◌-◌, ◌/◌, ◌%◌, List, [], ◌++◌, codes, Option, None, Some}
 use Rattle.std.specs.Fmt.{decimal}
+use Rattle.lapd_follow.specs.Texts.{seconds_digits}
 use Rattle.lapd_cli_decode.specs.declared.frame_time.FrameTime.{FrameTime}
 use Rattle.lapd_cli_decode.specs.declared.frame_time.FrameTime.TheVariants.{Hidden, Absolute, Relative, Delta, Day}
 use Rattle.lapd_cli_decode.specs.declared.style.Style.{Style}
@@ -25,12 +26,6 @@ time_of Absolute first last moment = moment
 time_of Relative first last moment = since first moment
 time_of Delta first last moment = since last moment
 time_of Day first last moment = moment
-
--- microseconds as seconds with six digits after the point
-abbrev pub seconds_digits : ℕ → List ℕ
-seconds_digits time = decimal (time / 1000000) ++ (codes "." ++ (decimal (time / 100000 % 10)
-    ++ (decimal (time / 10000 % 10) ++ (decimal (time / 1000 % 10)
-    ++ (decimal (time / 100 % 10) ++ (decimal (time / 10 % 10) ++ decimal (time % 10)))))))
 
 -- microseconds since 1970 as the time of day (UTC): two digits of the hour and of the minute, and
 -- the second with two digits before the point and six after it

@@ -2,9 +2,10 @@
 
 ghost use Rattle.std.specs.Prelude.{◌≡◌, ◌++◌, Some, IfOk, OnOk};
 ghost use Rattle.std.specs.String.{string_bytes};
-ghost use Rattle.lapd_cli_decode.specs.Time.{day_digits, day_text, either, front_text, known_text, seconds_digits, since, time_of, time_text, time_width, two_digits};
+ghost use Rattle.lapd_cli_decode.specs.Time.{day_digits, day_text, either, front_text, known_text, since, time_of, time_text, time_width, two_digits};
 
 use crate::style::Style;
+use lapd_follow::Seconds;
 use std::alloc::{AllocError, Global};
 use std::fmt;
 
@@ -208,26 +209,5 @@ impl fmt::Display for TwoDigits {
         let tens = self.number / 10;
         let ones = self.number % 10;
         write!(f, "{tens}{ones}")
-    }
-}
-
-/// Microseconds, shown as seconds with six digits after the point.
-#[derive(Clone, Copy)]
-pub(crate) struct Seconds {
-    pub(crate) time: u64,
-}
-
-impl fmt::Display for Seconds {
-    ghost output = { λ shown. Some (seconds_digits shown.time) };
-
-    fn fmt<W: fmt::Write>(&self, f: &mut fmt::Formatter<W>) -> fmt::Result {
-        let seconds = self.time / 1_000_000;
-        let first = self.time / 100_000 % 10;
-        let second = self.time / 10_000 % 10;
-        let third = self.time / 1_000 % 10;
-        let fourth = self.time / 100 % 10;
-        let fifth = self.time / 10 % 10;
-        let sixth = self.time % 10;
-        write!(f, "{seconds}.{first}{second}{third}{fourth}{fifth}{sixth}")
     }
 }

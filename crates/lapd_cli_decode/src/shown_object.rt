@@ -5,9 +5,9 @@ ghost use Rattle.std.specs.String.{string_bytes};
 ghost use Rattle.lapd_cli_decode.specs.ShownObject.{cut_member, direction_member, f_member, frame_object, kind_members, moment_member, number_member, numbers_members, octets_member, p_member, packet_member, pf_member, reading_object, role_member, shown_object, time_member};
 
 use crate::any_sapi::sapi_of;
-use crate::frame_time::Seconds;
 use lapd_cli_ladder::{known_role, name_of, nr_of, ns_of};
 use lapd_cli_render::Packet;
+use lapd_follow::Seconds;
 use lapd_frame::{Frame, FrameFault, Number, Role, Side};
 use std::alloc::{AllocError, Global};
 

@@ -3,11 +3,11 @@
 ghost use Rattle.std.specs.Prelude.{◌≡◌, ◌++◌, Some, IfOk, OnOk};
 ghost use Rattle.std.specs.Io.KnownBytes.{Appends, Keeps};
 ghost use Rattle.std.specs.String.{string_bytes};
-ghost use Rattle.lapd_cli_decode.specs.Tables.{TablesEnd, address_members, busy_member, busy_text, counts_line, counts_text, end_lines, end_object, first_members, from_to, head_line, kinds_line, last_members, link_lines, link_object, link_text, mean_of, messages_of, object_front, object_head, object_rest, place_text, range_member, range_text, tables_text, thousandths, times_list, times_member, times_text};
+ghost use Rattle.lapd_cli_decode.specs.Tables.{TablesEnd, address_members, busy_member, busy_text, counts_line, counts_text, end_lines, end_object, first_members, from_to, head_line, kinds_line, last_members, link_lines, link_object, link_text, mean_of, messages_of, object_front, object_head, object_rest, place_text, range_member, range_text, tables_text, times_list, times_member, times_text};
 
 use crate::style::Style;
 use lapd_cli_script::ScriptFault;
-use lapd_follow::{Kinds, LinkTally, Middle, Tally, Times};
+use lapd_follow::{Kinds, LinkTally, Middle, Seconds, Tally, Times};
 use std::alloc::{AllocError, Global};
 use std::fmt;
 use std::io::Write;
@@ -188,7 +188,7 @@ fn push_range(
         from: middle.from,
         to: middle.to,
     };
-    let mean = Thousandths {
+    let mean = Seconds {
         time: mean_of(times),
     };
     write!(
@@ -204,7 +204,7 @@ fn push_busy(text: &mut String, total: Option<u64>) -> Result<(), AllocError>
     match total {
         None => Ok(()),
         Some(time) => {
-            let total = Thousandths { time };
+            let total = Seconds { time };
             write!(text, ", busy {total} s")
         }
     }
@@ -367,24 +367,6 @@ fn mean_of(times: &Times) -> u64
     times.total / times.count.max(1)
 }
 
-/// Microseconds, shown as seconds with three digits after the point.
-#[derive(Clone, Copy)]
-struct Thousandths {
-    time: u64,
-}
-
-impl fmt::Display for Thousandths {
-    ghost output = { λ shown. Some (thousandths shown.time) };
-
-    fn fmt<W: fmt::Write>(&self, f: &mut fmt::Formatter<W>) -> fmt::Result {
-        let seconds = self.time / 1_000_000;
-        let tenths = self.time / 100_000 % 10;
-        let hundredths = self.time / 10_000 % 10;
-        let thousandths = self.time / 1_000 % 10;
-        write!(f, "{seconds}.{tenths}{hundredths}{thousandths}")
-    }
-}
-
 /// Two times, shown in seconds.
 #[derive(Clone, Copy)]
 struct FromTo {
@@ -396,8 +378,8 @@ impl fmt::Display for FromTo {
     ghost output = { λ shown. Some (from_to shown.from shown.to) };
 
     fn fmt<W: fmt::Write>(&self, f: &mut fmt::Formatter<W>) -> fmt::Result {
-        let from = Thousandths { time: self.from };
-        let to = Thousandths { time: self.to };
+        let from = Seconds { time: self.from };
+        let to = Seconds { time: self.to };
         write!(f, "{from} to {to} s")
     }
 }

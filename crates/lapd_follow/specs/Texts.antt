@@ -55,12 +55,16 @@ clause_of (AssignedTwice tei ri) = codes "5.3.2"
 clause_of (AssignedInUse tei) = codes "5.3.3.2"
 clause_of (TwoResponses tei first second) = codes "5.3.3.2"
 
--- a time in microseconds, as seconds with three digits after the point
-abbrev pub after_text : Option ℕ → List ℕ
-after_text None = []
-after_text (Some n) = codes " after " ++ (decimal (n / 1000000) ++ (codes "."
-    ++ (decimal (n / 100000 % 10) ++ (decimal (n / 10000 % 10)
-    ++ (decimal (n / 1000 % 10) ++ codes " s")))))
+-- microseconds as seconds with six digits after the point
+abbrev pub seconds_digits : ℕ → List ℕ
+seconds_digits time = decimal (time / 1000000) ++ (codes "." ++ (decimal (time / 100000 % 10)
+    ++ (decimal (time / 10000 % 10) ++ (decimal (time / 1000 % 10)
+    ++ (decimal (time / 100 % 10) ++ (decimal (time / 10 % 10) ++ decimal (time % 10)))))))
+
+-- the time from a poll to its answer, in microseconds, if it is known
+abbrev pub within_text : Option ℕ → List ℕ
+within_text None = []
+within_text (Some time) = codes " in " ++ (seconds_digits time ++ codes " s")
 
 -- a TEI in words; the group TEI stands for all
 abbrev pub tei_names : ℕ → List ℕ
@@ -107,7 +111,7 @@ remark_text DiscWithoutP = codes "DISC with P=0"
 remark_text UaWithoutF = codes "F=0 answers P=1"
 remark_text (BeforeAnswer packet) = codes "sent before packet " ++ (decimal packet
     ++ codes " is answered")
-remark_text (Answers packet after) = codes "answers packet " ++ (decimal packet ++ after_text after)
+remark_text (Answers packet after) = codes "answers packet " ++ (decimal packet ++ within_text after)
 remark_text LateResponse = codes "answers an earlier poll"
 remark_text ResponseWithoutPoll = codes "response without a poll"
 remark_text (NotAnswered packet) = codes "packet " ++ (decimal packet ++ codes " is not answered")

@@ -4,6 +4,7 @@ ghost use Rattle.lapd_follow.specs.Texts.{assignment_text, class_name, clause_of
 
 use crate::Identity;
 use crate::reference::Reference;
+use crate::seconds::Seconds;
 use lapd_frame::Tei;
 use lapd_mod128::Seq;
 use std::fmt;
@@ -230,14 +231,8 @@ impl fmt::Display for Remark {
                 packet,
                 after: Some(after),
             } => {
-                let seconds = after / 1_000_000;
-                let tenths = after / 100_000 % 10;
-                let hundredths = after / 10_000 % 10;
-                let thousandths = after / 1_000 % 10;
-                write!(
-                    f,
-                    "answers packet {packet} after {seconds}.{tenths}{hundredths}{thousandths} s"
-                )
+                let after = Seconds { time: after };
+                write!(f, "answers packet {packet} in {after} s")
             }
             Remark::LateResponse => write!(f, "answers an earlier poll"),
             Remark::ResponseWithoutPoll => write!(f, "response without a poll"),

@@ -21,49 +21,49 @@ use std::test::Fail;
 const DIALOGUES: &str = "\
 # an undisturbed call
 user 00817f:
-net 008173: begins establishment 1; answers packet 1 after 0.040 s;
+net 008173: begins establishment 1; answers packet 1 in 0.040000 s;
 user 008100000801:
 net 00810102:
 net 028100020802:
 user 02810102:
 user 00810103:
-net 00810103: answers packet 7 after 0.040 s;
+net 00810103: answers packet 7 in 0.040000 s;
 user 008153:
-net 008173: answers packet 9 after 0.040 s;
+net 008173: answers packet 9 in 0.040000 s;
 # V(R) is not reset when the link is established again
 user 00817f:
-net 008173: begins establishment 1; answers packet 1 after 0.040 s;
+net 008173: begins establishment 1; answers packet 1 in 0.040000 s;
 user 0081000001:
 user 0081020002:
 net 00810104:
 user 00817f:
-net 008173: begins establishment 2; answers packet 6 after 0.040 s;
+net 008173: begins establishment 2; answers packet 6 in 0.040000 s;
 user 0081000003:
 net 00810906: !N(R) 3 is not from 0 to 1;
 # V(S) is not reset when the link is established again
 user 00817f:
-net 008173: begins establishment 1; answers packet 1 after 0.040 s;
+net 008173: begins establishment 1; answers packet 1 in 0.040000 s;
 user 0081000001:
 net 00810102:
 net 02817f:
-user 028173: begins establishment 2; answers packet 5 after 0.040 s;
+user 028173: begins establishment 2; answers packet 5 in 0.040000 s;
 user 0081020002: first N(S) is 1, not 0;
 user 0081040002: N(S) 2, 0 expected;
 # an I frame is repeated to a busy peer
 user 00817f:
-net 008173: begins establishment 1; answers packet 1 after 0.040 s;
+net 008173: begins establishment 1; answers packet 1 in 0.040000 s;
 user 0081000001:
 net 00810500:
 user 0081020002: sent to a busy peer;
 user 00810101:
-net 00810501: answers packet 6 after 0.040 s;
+net 00810501: answers packet 6 in 0.040000 s;
 user 0081000001: repeated; !sent to a peer that answered a poll by RNR;
 net 00810100:
 user 0081000001: repeated;
 net 00810104:
 # N(S) is used again for other octets
 user 00817f:
-net 008173: begins establishment 1; answers packet 1 after 0.040 s;
+net 008173: begins establishment 1; answers packet 1 in 0.040000 s;
 user 0081000001:
 user 0081000001: repeated;
 user 0081000002: !repeated with other octets;
@@ -71,27 +71,27 @@ net 00810102:
 user 0081020002:
 # UA without SABME
 user 00817f:
-net 008173: begins establishment 1; answers packet 1 after 0.040 s;
+net 008173: begins establishment 1; answers packet 1 in 0.040000 s;
 net 008173: !UA without SABME or DISC;
 # N(R) beyond V(S)
 user 00817f:
-net 008173: begins establishment 1; answers packet 1 after 0.040 s;
+net 008173: begins establishment 1; answers packet 1 in 0.040000 s;
 user 0081000001:
 net 00810104: !N(R) 2 is not from 0 to 1;
 net 00810102:
 net 00810100: !N(R) 0 is not from 1 to 1;
 # a response without a poll
 user 00817f:
-net 008173: begins establishment 1; answers packet 1 after 0.040 s;
+net 008173: begins establishment 1; answers packet 1 in 0.040000 s;
 net 00810101: !response without a poll;
 user 00810101:
 user 00810101: packet 4 is not answered;
-net 00810101: answers packet 5 after 0.040 s;
+net 00810101: answers packet 5 in 0.040000 s;
 net 00810101: answers an earlier poll;
 net 00810101: !response without a poll;
 # the window is exceeded
 user 00817f:
-net 008173: begins establishment 1; answers packet 1 after 0.040 s;
+net 008173: begins establishment 1; answers packet 1 in 0.040000 s;
 user 0081000001:
 user 0081020001:
 user 0081040001:
@@ -105,18 +105,18 @@ user 0081040001:
 net 00810107: answers an earlier poll;
 user 00817f:
 net 00810107: answers an earlier poll;
-net 008173: begins establishment 1; answers packet 4 after 0.080 s;
+net 008173: begins establishment 1; answers packet 4 in 0.080000 s;
 user 0081000001:
 # both establish at once, and frames of the old establishment are still on the line
 user 00817f:
-net 008173: begins establishment 1; answers packet 1 after 0.040 s;
+net 008173: begins establishment 1; answers packet 1 in 0.040000 s;
 user 0081000001:
 net 00810102:
 user 00817f:
 net 028100020802:
 net 02817f:
-user 028173: answers packet 7 after 0.040 s;
-net 008173: begins establishment 2; answers packet 5 after 0.160 s;
+user 028173: answers packet 7 in 0.040000 s;
+net 008173: begins establishment 2; answers packet 5 in 0.160000 s;
 user 0081000005:
 net 00810102:
 net 0281000209:
@@ -124,7 +124,7 @@ user 02810102:
 # a SABME is sent again before its late answer arrives
 user 00817f:
 user 00817f: packet 1 is not answered;
-net 008173: begins establishment 1; answers packet 2 after 0.040 s;
+net 008173: begins establishment 1; answers packet 2 in 0.040000 s;
 net 0281000009:
 user 02810102:
 net 008173: answers an earlier SABME or DISC;
@@ -132,7 +132,7 @@ net 0281000009:
 user 02810102:
 # a lost frame is rejected and sent again
 user 00817f:
-net 008173: begins establishment 1; answers packet 1 after 0.040 s;
+net 008173: begins establishment 1; answers packet 1 in 0.040000 s;
 user 0081000001:
 user 0081040003: N(S) 2, 1 expected;
 net 00810902:
@@ -141,49 +141,49 @@ user 0081040003:
 net 00810106:
 # I and S frames on a released link, until it is established again
 user 00817f:
-net 008173: begins establishment 1; answers packet 1 after 0.040 s;
+net 008173: begins establishment 1; answers packet 1 in 0.040000 s;
 user 008153:
 net 00810102:
-net 008173: answers packet 3 after 0.080 s;
+net 008173: answers packet 3 in 0.080000 s;
 user 0081000001: !sent on a released link;
 net 00810100: !sent on a released link;
 user 00817f:
 user 0081000001: !sent on a released link;
-net 008173: begins establishment 2; answers packet 8 after 0.080 s;
+net 008173: begins establishment 2; answers packet 8 in 0.080000 s;
 user 0081020001:
 net 00811f:
 net 00810102: !sent on a released link;
 # after a DISC that is sent again, a UA may answer an earlier SABME; the UA to a SABME may be lost
 user 00817f:
 user 00817f: packet 1 is not answered;
-net 008173: begins establishment 1; answers packet 2 after 0.040 s;
+net 008173: begins establishment 1; answers packet 2 in 0.040000 s;
 user 008153:
-net 008173: answers packet 4 after 0.040 s;
+net 008173: answers packet 4 in 0.040000 s;
 user 0081000001:
 net 028153:
 net 028153: packet 7 is not answered;
-user 02811f: answers packet 8 after 0.040 s;
+user 02811f: answers packet 8 in 0.040000 s;
 net 02817f:
 user 0081000001:
 # SABME and DISC with P=0, and UA with F=0
 user 00816f: !SABME with P=0;
-net 008163: begins establishment 1; answers packet 1 after 0.040 s;
+net 008163: begins establishment 1; answers packet 1 in 0.040000 s;
 user 00817f:
-net 008163: begins establishment 2; !F=0 answers P=1; answers packet 3 after 0.040 s;
+net 008163: begins establishment 2; !F=0 answers P=1; answers packet 3 in 0.040000 s;
 user 008143: !DISC with P=0;
-net 008163: answers packet 5 after 0.040 s;
+net 008163: answers packet 5 in 0.040000 s;
 # an I frame with P=0 before the answer to a poll
 user 00817f:
-net 008173: begins establishment 1; answers packet 1 after 0.040 s;
+net 008173: begins establishment 1; answers packet 1 in 0.040000 s;
 user 00810101:
 net 00810100:
 user 0081000001: !sent before packet 3 is answered;
 user 0081000101: repeated; packet 3 is not answered;
-net 00810103: answers packet 6 after 0.040 s;
+net 00810103: answers packet 6 in 0.040000 s;
 user 0081020001:
 user 00810101:
 net 02817f:
-user 028173: begins establishment 2; answers packet 10 after 0.040 s;
+user 028173: begins establishment 2; answers packet 10 in 0.040000 s;
 user 0081000001:
 # TEIs are assigned and denied; then without a request
 user fcff030f123401ff: requests a TEI, reference 1234;
@@ -248,16 +248,16 @@ user fcff030f123401fe:
 net feff030f123402ff:
 # the links of a TEI that is removed are new
 user 00817f:
-net 008173: begins establishment 1; answers packet 1 after 0.040 s;
+net 008173: begins establishment 1; answers packet 1 in 0.040000 s;
 user 0081000001:
 net feff030f00000681: removes TEI 64;
 net 00810106:
 user 00817f:
-net 008173: begins establishment 1; answers packet 6 after 0.040 s;
+net 008173: begins establishment 1; answers packet 6 in 0.040000 s;
 net feff030f000006ff: removes all TEIs;
 net 00810106:
 user 00817f:
-net 008173: begins establishment 1; answers packet 10 after 0.040 s;
+net 008173: begins establishment 1; answers packet 10 in 0.040000 s;
 ";
 
 /// A listener, with the text of its remarks on the last frame.

@@ -39,33 +39,33 @@ d4c3b2a102000400000000000000000000000400b1000000\
 05000000c0d401001400000014000000000020fd00010000000000000000003000810101";
 
 const LINES: &str = "\
-U>N SAPI 0 TEI 64 C SABME P=1/N>U SAPI 0 TEI 64 R UA F=1; begins establishment 1; answers packet 1 after 0.023 s\
+U>N SAPI 0 TEI 64 C SABME P=1/N>U SAPI 0 TEI 64 R UA F=1; begins establishment 1; answers packet 1 in 0.023000 s\
 /N>U SAPI 0 TEI 64 R RNR N(R)=0 F=0/N>U SAPI 0 TEI 64 R RR N(R)=0 F=0\
 /SAPI 0 TEI 64: establishments 1\
 /  U>N I 0, RR 0, RNR 0, REJ 0, SABME 1, DISC 0, UA 0, DM 0, UI 0, FRMR 0, XID 0\
 /  U>N messages 0, octets 0, repeated 0, polls 1\
 /  N>U I 0, RR 1, RNR 1, REJ 0, SABME 0, DISC 0, UA 1, DM 0, UI 0, FRMR 0, XID 0\
-/  N>U messages 0, octets 0, repeated 0, polls 0, answers 1 after 0.023 to 0.023 s, middle 0.023 to 0.023 s, mean 0.023 s, busy 1.250 s";
+/  N>U messages 0, octets 0, repeated 0, polls 0, answers 1 after 0.023000 to 0.023000 s, middle 0.023000 to 0.023000 s, mean 0.023000 s, busy 1.250000 s";
 
 const CUT_LINES: &str = "\
-U>N SAPI 0 TEI 64 C SABME P=1/N>U SAPI 0 TEI 64 R UA F=1 [cut]; begins establishment 1; answers packet 1 after 0.023 s\
+U>N SAPI 0 TEI 64 C SABME P=1/N>U SAPI 0 TEI 64 R UA F=1 [cut]; begins establishment 1; answers packet 1 in 0.023000 s\
 /SAPI 0 TEI 64: establishments 1\
 /  U>N I 0, RR 0, RNR 0, REJ 0, SABME 1, DISC 0, UA 0, DM 0, UI 0, FRMR 0, XID 0\
 /  U>N messages 0, octets 0, repeated 0, polls 1\
 /  N>U I 0, RR 0, RNR 0, REJ 0, SABME 0, DISC 0, UA 1, DM 0, UI 0, FRMR 0, XID 0\
-/  N>U messages 0, octets 0, repeated 0, polls 0, answers 1 after 0.023 to 0.023 s, middle 0.023 to 0.023 s, mean 0.023 s";
+/  N>U messages 0, octets 0, repeated 0, polls 0, answers 1 after 0.023000 to 0.023000 s, middle 0.023000 to 0.023000 s, mean 0.023000 s";
 
 const POLLED_LINES: &str = "\
-U>N SAPI 0 TEI 64 C SABME P=1/N>U SAPI 0 TEI 64 R UA F=1; begins establishment 1; answers packet 1 after 0.023 s\
-/U>N SAPI 0 TEI 64 C RR N(R)=0 P=1/N>U SAPI 0 TEI 64 R RR N(R)=0 F=1; answers packet 3 after 0.005 s\
-/U>N SAPI 0 TEI 64 C RR N(R)=0 P=1/N>U SAPI 0 TEI 64 R RR N(R)=0 F=1; answers packet 5 after 0.012 s\
-/U>N SAPI 0 TEI 64 C RR N(R)=0 P=1/N>U SAPI 0 TEI 64 R RR N(R)=0 F=1; answers packet 7 after 0.014 s\
-/U>N SAPI 0 TEI 64 C RR N(R)=0 P=1/N>U SAPI 0 TEI 64 R RR N(R)=0 F=1; answers packet 9 after 0.120 s\
+U>N SAPI 0 TEI 64 C SABME P=1/N>U SAPI 0 TEI 64 R UA F=1; begins establishment 1; answers packet 1 in 0.023000 s\
+/U>N SAPI 0 TEI 64 C RR N(R)=0 P=1/N>U SAPI 0 TEI 64 R RR N(R)=0 F=1; answers packet 3 in 0.005000 s\
+/U>N SAPI 0 TEI 64 C RR N(R)=0 P=1/N>U SAPI 0 TEI 64 R RR N(R)=0 F=1; answers packet 5 in 0.012000 s\
+/U>N SAPI 0 TEI 64 C RR N(R)=0 P=1/N>U SAPI 0 TEI 64 R RR N(R)=0 F=1; answers packet 7 in 0.014500 s\
+/U>N SAPI 0 TEI 64 C RR N(R)=0 P=1/N>U SAPI 0 TEI 64 R RR N(R)=0 F=1; answers packet 9 in 0.120000 s\
 /SAPI 0 TEI 64: establishments 1\
 /  U>N I 0, RR 4, RNR 0, REJ 0, SABME 1, DISC 0, UA 0, DM 0, UI 0, FRMR 0, XID 0\
 /  U>N messages 0, octets 0, repeated 0, polls 5\
 /  N>U I 0, RR 4, RNR 0, REJ 0, SABME 0, DISC 0, UA 1, DM 0, UI 0, FRMR 0, XID 0\
-/  N>U messages 0, octets 0, repeated 0, polls 0, answers 5 after 0.005 to 0.120 s, middle 0.010 to 0.020 s, mean 0.034 s";
+/  N>U messages 0, octets 0, repeated 0, polls 0, answers 5 after 0.005000 to 0.120000 s, middle 0.010000 to 0.020000 s, mean 0.034900 s";
 
 const LADDER: &str = "\
 packet         time       user |                                    | network\
@@ -73,7 +73,7 @@ packet         time       user |                                    | network\
 /     2     0.023000      S0 R0 |<-- 0 64 UA F=1 --------------------| S0 R0\
 /                               |  [cut]                             |\
 /                               |  begins establishment 1            |\
-/                               |  answers packet 1 after 0.023 s    |";
+/                               |  answers packet 1 in 0.023000 s    |";
 
 const WIDE_LADDER: &str = "\
 packet              time       user |                                    | network\
@@ -81,10 +81,10 @@ packet              time       user |                                    | netwo
 /     2          1.025000      S0 R0 |<-- 0 64 UA F=1 --------------------| S0 R0\
 /                                    |  [cut]                             |\
 /                                    |  begins establishment 1            |\
-/                                    |  answers packet 1 after 0.023 s    |";
+/                                    |  answers packet 1 in 0.023000 s    |";
 
 const OBJECTS: &str =
-    r#"{"direction":"U>N","frame":"SABME","p":1,"packet":1,"role":"command","sapi":0,"tei":64,"time":"1.002000","remarks":[]}/{"direction":"N>U","f":1,"frame":"UA","packet":2,"role":"response","sapi":0,"tei":64,"time":"1.025000","remarks":[{"class":"normal","clause":"5.5.1.2","text":"begins establishment 1"},{"class":"normal","clause":"3.5.1","text":"answers packet 1 after 0.023 s"}]}/{"direction":"N>U","f":0,"frame":"RNR","nr":0,"packet":3,"role":"response","sapi":0,"tei":64,"time":"1.030000","remarks":[]}/{"direction":"N>U","f":0,"frame":"RR","nr":0,"packet":4,"role":"response","sapi":0,"tei":64,"time":"2.280000","remarks":[]}/{"establishments":1,"network":{"answers":{"count":1,"greatest":23000,"least":23000,"mean":23000,"middle":[23000,23000]},"busy":1250000,"disc":0,"dm":0,"frmr":0,"i":0,"messages":0,"octets":0,"polls":0,"rej":0,"repeated":0,"rnr":1,"rr":1,"sabme":0,"ua":1,"ui":0,"xid":0},"sapi":0,"tei":64,"user":{"disc":0,"dm":0,"frmr":0,"i":0,"messages":0,"octets":0,"polls":1,"rej":0,"repeated":0,"rnr":0,"rr":0,"sabme":1,"ua":0,"ui":0,"xid":0}}"#;
+    r#"{"direction":"U>N","frame":"SABME","p":1,"packet":1,"role":"command","sapi":0,"tei":64,"time":"1.002000","remarks":[]}/{"direction":"N>U","f":1,"frame":"UA","packet":2,"role":"response","sapi":0,"tei":64,"time":"1.025000","remarks":[{"class":"normal","clause":"5.5.1.2","text":"begins establishment 1"},{"class":"normal","clause":"3.5.1","text":"answers packet 1 in 0.023000 s"}]}/{"direction":"N>U","f":0,"frame":"RNR","nr":0,"packet":3,"role":"response","sapi":0,"tei":64,"time":"1.030000","remarks":[]}/{"direction":"N>U","f":0,"frame":"RR","nr":0,"packet":4,"role":"response","sapi":0,"tei":64,"time":"2.280000","remarks":[]}/{"establishments":1,"network":{"answers":{"count":1,"greatest":23000,"least":23000,"mean":23000,"middle":[23000,23000]},"busy":1250000,"disc":0,"dm":0,"frmr":0,"i":0,"messages":0,"octets":0,"polls":0,"rej":0,"repeated":0,"rnr":1,"rr":1,"sabme":0,"ua":1,"ui":0,"xid":0},"sapi":0,"tei":64,"user":{"disc":0,"dm":0,"frmr":0,"i":0,"messages":0,"octets":0,"polls":1,"rej":0,"repeated":0,"rnr":0,"rr":0,"sabme":1,"ua":0,"ui":0,"xid":0}}"#;
 
 #[test]
 fn captures_are_followed(rt: HostRuntime) -> Result<(), Fail> {

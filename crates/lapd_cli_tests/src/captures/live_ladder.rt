@@ -28,7 +28,7 @@ packet         time       user |                                    | network\
 /     1     0.000000 SABME sent |-- 0 64 SABME P=1 ----------------->| -\
 /     2     0.023000      S0 R0 |<-- 0 64 UA F=1 --------------------| S0 R0\
 /                               |  begins establishment 1            |\
-/                               |  answers packet 1 after 0.023 s    |\
+/                               |  answers packet 1 in 0.023000 s    |\
 /     3     0.998000      S1 R0 |-- 0 64 I N(S)=0 N(R)=0 P=0 inf.. ->| S0 R0\
 /     4    11.001000            |<-- F1 TooShort ffff ---------------|";
 
