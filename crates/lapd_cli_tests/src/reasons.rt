@@ -15,7 +15,7 @@ use lapd_cli_side_commands::{FromRead, FromWrite, Port};
 use lapd_sides::{Side, Tei};
 use rand_core::{Rng, SeedableRng};
 use rand_pcg::Pcg32;
-use std::alloc::Global;
+use std::alloc::{AllocError, Global};
 use std::io;
 use std::test::Fail;
 
@@ -115,27 +115,30 @@ fn is_bad_script(alloc: Global, chosen: &Invocation<'_>, mut line: &[u8]) -> boo
     ended == Err(ScriptFault::BadLine(1)) && printed.is_empty()
 }
 
+/// A line, and the reason that its row states, as `has_reason` takes it.
+type Row = (&'static [u8], &'static str);
+
 /// The first of the rows of a command that does not hold.
-fn wrong_row(alloc: Global, command: Command<'_, '_>) -> Option<&'static str> {
+fn wrong_row(alloc: Global, command: Command<'_, '_>) -> Option<Row> {
     for row in lines::BAD.lines().chain(lines::GOOD.lines()) {
         let (name, row) = row.split_once(": ").unwrap_or((row, ""));
         let (line, wanted) = row.split_once(" => ").unwrap_or((row, ""));
         if name == name_of(command.0) && !has_reason(alloc, command, line.as_bytes(), wanted) {
-            return Some(row);
+            return Some((line.as_bytes(), wanted));
         }
     }
     None
 }
 
 /// The first row of invalid lines with a line that the command accepts, or that has no reason.
-fn good_line(alloc: Global, command: Command<'_, '_>) -> Option<&'static str> {
+fn good_line(alloc: Global, command: Command<'_, '_>) -> Option<Row> {
     for row in lines::NONE.lines() {
         let (name, row) = row.split_once(": ").unwrap_or((row, ""));
         for line in row.split('|') {
             if name.split(", ").any(|name| name == name_of(command.0))
                 && !has_reason(alloc, command, line.as_bytes(), "?")
             {
-                return Some(line);
+                return Some((line.as_bytes(), "?"));
             }
         }
     }
@@ -143,13 +146,46 @@ fn good_line(alloc: Global, command: Command<'_, '_>) -> Option<&'static str> {
 }
 
 /// The first line with invalid or invisible octets that has another reason.
-fn wrong_octets(alloc: Global, command: Command<'_, '_>) -> Option<&'static str> {
+fn wrong_octets(alloc: Global, command: Command<'_, '_>) -> Option<Row> {
     for (line, wanted) in UNSEEN {
         if command.0 == Script::Decode && !has_reason(alloc, command, *line, *wanted) {
-            return Some(*wanted);
+            return Some((*line, *wanted));
         }
     }
     None
+}
+
+/// The verdict on a line: whether the command refuses it, and the reason.
+fn verdict_on(alloc: Global, command: Command<'_, '_>, line: &[u8]) -> Result<String, AllocError> {
+    let is_bad = is_bad(alloc, command, line);
+    let refused = if is_bad { "refused" } else { "accepted" };
+    match reason(alloc, command.0, line)? {
+        Some(reason) => format!(in alloc; "{refused}, with the reason '{reason}'"),
+        None => format!(in alloc; "{refused}, without a reason"),
+    }
+}
+
+/// The verdict that a row states for its line.
+fn stated_verdict(alloc: Global, wanted: &str) -> Result<String, AllocError> {
+    match wanted {
+        "" => format!(in alloc; "accepted, without a reason"),
+        "?" => format!(in alloc; "refused, with a reason"),
+        "*" => format!(in alloc; "refused with a reason, or accepted without one"),
+        _ => format!(in alloc; "refused, with the reason '{wanted}'"),
+    }
+}
+
+/// The failure of a line of this command: the verdict on it beside the one that its row states.
+fn failure_of(alloc: Global, command: Command<'_, '_>, line: &[u8], wanted: &str) -> Fail {
+    let made = verdict_on(alloc, command, line);
+    let stated = stated_verdict(alloc, wanted);
+    if let (Ok(made), Ok(stated)) = (made, stated) {
+        let name = name_of(command.0);
+        let line = line.escape_ascii();
+        Fail::new(format_args!("{name}: '{line}': it is {made}; the row wants it {stated}"))
+    } else {
+        Fail::new("out of memory")
+    }
 }
 
 /// A random number below this one.
@@ -219,13 +255,9 @@ fn lines_hold(alloc: Global, command: Command<'_, '_>) -> Result<(), Fail> {
         .or(good_line(alloc, command))
         .or(wrong_octets(alloc, command));
     match wrong {
-        Some(row) => Err(Fail::new(format_args!("{}: {row}", name_of(command.0)))),
+        Some((line, wanted)) => Err(failure_of(alloc, command, line, wanted)),
         None if agrees(alloc, command, &mut drawn) => Ok(()),
-        None => Err(Fail::new(format_args!(
-            "{}: '{}': a reason and no bad line, or none and one",
-            name_of(command.0),
-            drawn.as_slice().escape_ascii()
-        ))),
+        None => Err(failure_of(alloc, command, drawn.as_slice(), "*")),
     }
 }
 
@@ -246,36 +278,36 @@ fn lines_have_reasons(rt: HostRuntime) -> Result<(), Fail> {
     Ok(())
 }
 
-/// Whether a typed line of a command is tidied to this line.
-fn is_meant(alloc: Global, script: Script, typed: &str, meant: &str) -> bool {
+/// The line to which a typed line of a command is tidied.
+fn tidied_line(alloc: Global, script: Script, typed: &str) -> Vec<u8> {
     match tidied(alloc, script, typed.as_bytes()) {
-        Ok(line) => line.as_slice() == meant.as_bytes(),
-        Err(_) => false,
+        Ok(line) => line,
+        Err(_) => Vec::new(alloc),
     }
 }
 
-/// Whether the command of `script` tidies the typed line of `row` as `row` says. Rows of other
-/// commands always hold.
-fn typed_row_holds(alloc: Global, script: Script, row: &str) -> bool {
-    let (name, row) = row.split_once(": ").unwrap_or((row, ""));
-    let (typed, meant) = row.split_once(" => ").unwrap_or((row, ""));
-    name != name_of(script) || is_meant(alloc, script, typed, meant)
-}
-
-/// Fails the test at the first typed line of a command that is tidied otherwise.
-fn typed_lines_hold(alloc: Global, script: Script) -> Result<(), Fail> {
-    for row in lines::TYPED.lines() {
-        if !typed_row_holds(alloc, script, row) {
-            return Err(Fail::new(format_args!("{row}")));
-        }
+/// Fails the test if the command of `script` tidies the typed line of `row` otherwise than `row`
+/// says. Rows of other commands always hold.
+fn typed_row_holds(alloc: Global, script: Script, row: &str) -> Result<(), Fail> {
+    let (name, line) = row.split_once(": ").unwrap_or((row, ""));
+    let (typed, meant) = line.split_once(" => ").unwrap_or((line, ""));
+    let made = tidied_line(alloc, script, typed);
+    if name != name_of(script) || made.as_slice() == meant.as_bytes() {
+        Ok(())
+    } else {
+        let made = made.as_slice().escape_ascii();
+        Err(Fail::new(format_args!(
+            "{name}: '{typed}': it is tidied to '{made}'; the row wants '{meant}'"
+        )))
     }
-    Ok(())
 }
 
 #[test]
 fn typed_lines_are_tidied(rt: HostRuntime) -> Result<(), Fail> {
     for (script, _words) in COMMANDS {
-        typed_lines_hold(rt.alloc(), *script)?;
+        for row in lines::TYPED.lines() {
+            typed_row_holds(rt.alloc(), *script, row)?;
+        }
     }
     Ok(())
 }
