@@ -111,7 +111,8 @@ remark_text DiscWithoutP = codes "DISC with P=0"
 remark_text UaWithoutF = codes "F=0 answers P=1"
 remark_text (BeforeAnswer packet) = codes "sent before packet " ++ (decimal packet
     ++ codes " is answered")
-remark_text (Answers packet after) = codes "answers packet " ++ (decimal packet ++ within_text after)
+remark_text (Answers packet after) = codes "answers packet "
+    ++ (decimal packet ++ within_text after)
 remark_text LateResponse = codes "answers an earlier poll"
 remark_text ResponseWithoutPoll = codes "response without a poll"
 remark_text (NotAnswered packet) = codes "packet " ++ (decimal packet ++ codes " is not answered")
