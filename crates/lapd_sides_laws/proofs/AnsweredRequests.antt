@@ -12,14 +12,13 @@ use Rattle.lapd_tei.specs.Terminal.{tei_of}
 use Rattle.lapd_table.specs.declared.link_id.LinkId.{LinkId}
 use Rattle.lapd_sides_links.specs.declared.config.Config.{Config}
 use Rattle.lapd_sides_links.specs.declared.side_fault.SideKind.{SideKind}
-use Rattle.lapd_sides_links.specs.Expiries.{IsQuietBefore}
 use Rattle.lapd_sides_links.specs.Links.{Linked, Links, Reaction, of_sapi, in_links, link_acts, parameters_for}
 use Rattle.lapd_sides.specs.SideState.{link_of}
 use Rattle.lapd_sides.specs.Network as network
 use Rattle.lapd_sides.specs.Network.{Network, network_requested, link_of_network}
 use Rattle.lapd_sides.specs.User as user
 use Rattle.lapd_sides.specs.User.{User, user_requested, link_of_user, with_tei_or, wants, forgets}
-use Rattle.lapd_sides_laws.specs.Answers.{asks, answers, HasAnswer, expiries_of, KeepsRequest, IsBy, IsPunctual, Throughout, most_periods}
+use Rattle.lapd_sides_laws.specs.Answers.{asks, answers, HasAnswer, expiries_of, KeepsRequest, IsBy, IsAtMostLate, IsPunctual, Throughout, most_periods}
 use Rattle.lapd_sides_laws.specs.EndAnswers.{Asked, Establishment, Withdrawal, Clearing, request_of, may_release, most_expiries}
 use Rattle.lapd_sides_laws.specs.ExactTimers.{HaveExactTimers, SideStep, BringsOctets, stepped, stepped_by_all, new_view}
 use Rattle.lapd_sides_laws.specs.Interface.{network_behaviour, user_behaviour}
@@ -54,15 +53,16 @@ module _ (side : Side) (id : LinkId) (links : Links) (now : ℕ) (input : Input)
 
 -- without the clock, each event is ready; with it, each punctual event is
 unclocked : (S : Type 0) (w : Behaviour S) (side_steps : List SideStep) (v : SideView S)
-    → Throughout w (λ event s. false ≡ true → IsPunctual w event s) side_steps v
+    → Throughout w (λ event s. false ≡ true → IsPunctual 0 w event s) side_steps v
 unclocked S w [] v = tt
 unclocked S w (x ∷ xs) v = (λ ticks. cc, unclocked S w xs (stepped w x v))
 
-pub clocked : (S : Type 0) (w : Behaviour S) (side_steps : List SideStep) (v : SideView S)
-    → Throughout w (IsPunctual w) side_steps v
-    → Throughout w (λ event s. true ≡ true → IsPunctual w event s) side_steps v
-clocked S w [] v h = tt
-clocked S w (x ∷ xs) v h = (λ ticks. h.0, clocked S w xs (stepped w x v) h.1)
+pub clocked : (S : Type 0) (w : Behaviour S) (lateness : ℕ) (side_steps : List SideStep)
+    (v : SideView S) → Throughout w (IsPunctual lateness w) side_steps v
+    → Throughout w (λ event s. true ≡ true → IsPunctual lateness w event s) side_steps v
+clocked S w lateness [] v h = tt
+clocked S w lateness (x ∷ xs) v h =
+    (λ ticks. h.0, clocked S w lateness xs (stepped w x v) h.1)
 
 -- ---- A network side.
 
@@ -114,32 +114,33 @@ module _ (config : Config) (known : List ℕ) (before : List SideStep) (asked : 
       ++ (stepped_by_all (network_behaviour config) after (new_view a.after)).delivered)
   network_counts enough =
       let w = network_behaviour config in
-      answered_by_count config id asked false now Network w side.Network
-      (λ has. network_ways id (may_release asked) (answers asked) (Debt config id asked false now)
-      config (debt_closed config id asked false now has)) NetworkBefore a network_steps
+      answered_by_count config id asked false 0 now Network w side.Network
+      (λ has. network_ways id (may_release asked) (answers asked) (Debt config id asked false 0 now)
+      config (debt_closed config id asked false 0 now has)) NetworkBefore a network_steps
       network_exact network_exact_after
       (network_request_usual config id false now (asks asked id) NetworkBefore a done
       (network_usual config id false now known before (λ ticks. cc))) after keeps
       (unclocked Network w after (new_view a.after)) enough
 
-  pub network_is_in_time : (moment : ℕ) → All (λ x. IsBy now x.event) before
-      → Throughout (network_behaviour config) (IsPunctual (network_behaviour config)) after
+  pub network_is_in_time : (lateness moment : ℕ) → All (λ x. IsBy now x.event) before
+      → Throughout (network_behaviour config) (IsPunctual lateness (network_behaviour config)) after
       (new_view a.after)
-      → IsQuietBefore (stepped_by_all (network_behaviour config) after
+      → IsAtMostLate lateness (stepped_by_all (network_behaviour config) after
       (new_view a.after)).now.served moment
-      → now + most_periods asked (parameters_for config id.sapi).n200 * config.durations.t200
-      < moment
+      → now + most_periods asked (parameters_for config id.sapi).n200
+      * (config.durations.t200 + lateness) < moment
       → HasAnswer asked id (a.effects.primitives
       ++ (stepped_by_all (network_behaviour config) after (new_view a.after)).delivered)
-  network_is_in_time moment by punctual quiet late =
+  network_is_in_time lateness moment by punctual quiet late =
       let w = network_behaviour config in
-      answered_in_time config id asked true now Network w side.Network
-      (λ has. network_ways id (may_release asked) (answers asked) (Debt config id asked true now)
-      config (debt_closed config id asked true now has)) NetworkBefore a network_steps
+      answered_in_time config id asked true lateness now Network w side.Network
+      (λ has. network_ways id (may_release asked) (answers asked)
+      (Debt config id asked true lateness now) config
+      (debt_closed config id asked true lateness now has)) NetworkBefore a network_steps
       network_exact network_exact_after
       (network_request_usual config id true now (asks asked id) NetworkBefore a done
       (network_usual config id true now known before (λ ticks. by))) after keeps
-      (clocked Network w after (new_view a.after) punctual) moment refl quiet late
+      (clocked Network w lateness after (new_view a.after) punctual) moment refl quiet late
 
 -- ---- A user side with a TEI.
 
@@ -207,29 +208,30 @@ module _ (config : Config) (fixed : Option ℕ) (random : Lcg) (before : List Si
       ++ (stepped_by_all (user_behaviour config) after (new_view a.after)).delivered)
   user_counts enough =
       let w = user_behaviour config in
-      answered_by_count config id asked false now User w side.User
-      (λ has. user_ways id (may_release asked) (answers asked) (Debt config id asked false now)
-      config (debt_closed config id asked false now has)) UserBefore a user_steps
+      answered_by_count config id asked false 0 now User w side.User
+      (λ has. user_ways id (may_release asked) (answers asked) (Debt config id asked false 0 now)
+      config (debt_closed config id asked false 0 now has)) UserBefore a user_steps
       user_exact user_exact_after
       (user_request_usual config id false now (asks asked id) UserBefore a done
       (user_usual config id false now fixed random before (λ ticks. cc))) after keeps
       (unclocked User w after (new_view a.after)) enough
 
-  pub user_is_in_time : (moment : ℕ) → All (λ x. IsBy now x.event) before
-      → Throughout (user_behaviour config) (IsPunctual (user_behaviour config)) after
+  pub user_is_in_time : (lateness moment : ℕ) → All (λ x. IsBy now x.event) before
+      → Throughout (user_behaviour config) (IsPunctual lateness (user_behaviour config)) after
       (new_view a.after)
-      → IsQuietBefore (stepped_by_all (user_behaviour config) after
+      → IsAtMostLate lateness (stepped_by_all (user_behaviour config) after
       (new_view a.after)).now.served moment
-      → now + most_periods asked (parameters_for config id.sapi).n200 * config.durations.t200
-      < moment
+      → now + most_periods asked (parameters_for config id.sapi).n200
+      * (config.durations.t200 + lateness) < moment
       → HasAnswer asked id (a.effects.primitives
       ++ (stepped_by_all (user_behaviour config) after (new_view a.after)).delivered)
-  user_is_in_time moment by punctual quiet late =
+  user_is_in_time lateness moment by punctual quiet late =
       let w = user_behaviour config in
-      answered_in_time config id asked true now User w side.User
-      (λ has. user_ways id (may_release asked) (answers asked) (Debt config id asked true now)
-      config (debt_closed config id asked true now has)) UserBefore a user_steps
+      answered_in_time config id asked true lateness now User w side.User
+      (λ has. user_ways id (may_release asked) (answers asked)
+      (Debt config id asked true lateness now) config
+      (debt_closed config id asked true lateness now has)) UserBefore a user_steps
       user_exact user_exact_after
       (user_request_usual config id true now (asks asked id) UserBefore a done
       (user_usual config id true now fixed random before (λ ticks. by))) after keeps
-      (clocked User w after (new_view a.after) punctual) moment refl quiet late
+      (clocked User w lateness after (new_view a.after) punctual) moment refl quiet late

@@ -1,5 +1,5 @@
 -- A side answers each request about a link before the link's T200 has expired too often, and in
--- time if timers are expired when they are due.
+-- time if no timer is expired too late.
 use Rattle.std.proofs.Common.{◌≡◌, ◌⊎◌, inl, inr, ℕ, ◌+◌, ◌-◌, ◌*◌, ◌≤◌, ◌<◌, Bool, true, false, List, [], ◌++◌, Option, Some, None, refl, sym, ap, subst, ◌∙◌, arith}
 use Rattle.std.specs.Prelude.{is_some, option_map}
 use Rattle.std.specs.List.{list_any}
@@ -18,7 +18,7 @@ use Rattle.lapd_sides_links.specs.declared.config.Config.{Config}
 use Rattle.lapd_sides_links.specs.declared.running_timer.RunningTimer.{RunningTimer}
 use Rattle.lapd_sides_links.specs.Expiries.{IsQuietBefore}
 use Rattle.lapd_sides_links.specs.Links.{Linked, Served, Reaction, is_served, parameters_for}
-use Rattle.lapd_sides_laws.specs.Answers.{answers, HasAnswer, expiries_of, KeepsRequest, IsPunctual, Throughout, most_periods}
+use Rattle.lapd_sides_laws.specs.Answers.{answers, HasAnswer, expiries_of, KeepsRequest, IsAtMostLate, IsPunctual, Throughout, most_periods}
 use Rattle.lapd_sides_laws.specs.EndAnswers.{Asked, Establishment, Withdrawal, Clearing, request_of, may_release, most_expiries}
 use Rattle.lapd_sides_laws.specs.ExactTimers.{HaveExactTimers, SideStep, stepped_by_all, new_view}
 use Rattle.lapd_sides_laws.specs.Owed.{IsStep}
@@ -58,10 +58,9 @@ there (Some deadline) h = (deadline, refl)
 there None h = cc
 
 -- a timer that is not overdue
-pub quiet_until : (s : Served) (id : LinkId) (l : Linked) (deadline moment : ℕ) → s.links id ≡ Some
-    l
+not_overdue : (s : Served) (id : LinkId) (l : Linked) (deadline moment : ℕ) → s.links id ≡ Some l
     → deadline_of T200 l.timers ≡ Some deadline → IsQuietBefore s moment → moment ≤ deadline
-quiet_until s id l deadline moment is runs quiet = elim (cases_lt deadline moment) [
+not_overdue s id l deadline moment is runs quiet = elim (cases_lt deadline moment) [
   | inl overdue ↦
       let e : RunningTimer = record { timer = T200; of = Some id; deadline = deadline } in
       absurd (quiet deadline overdue e (record {
@@ -76,7 +75,14 @@ quiet_until s id l deadline moment is runs quiet = elim (cases_lt deadline momen
   | inr early ↦ early
 ]
 
-module _ (config : Config) (id : LinkId) (asked : Asked) (clock : Bool) (now : ℕ) where
+-- a timer that is overdue by the lateness at most
+pub quiet_until : (s : Served) (id : LinkId) (l : Linked) (deadline lateness moment : ℕ)
+    → s.links id ≡ Some l → deadline_of T200 l.timers ≡ Some deadline
+    → IsAtMostLate lateness s moment → moment ≤ deadline + lateness
+quiet_until s id l deadline lateness moment is runs quiet =
+    omega (arith, not_overdue s id l deadline (moment - lateness) is runs quiet)
+
+module _ (config : Config) (id : LinkId) (asked : Asked) (clock : Bool) (lateness now : ℕ) where
   abbrev pub N200 : ℕ
   N200 = (parameters_for config id.sapi).n200
 
@@ -84,15 +90,15 @@ module _ (config : Config) (id : LinkId) (asked : Asked) (clock : Bool) (now : �
   T200Length = config.durations.t200
 
   abbrev pub Limit : ℕ
-  Limit = now + most_periods asked N200 * T200Length
+  Limit = now + most_periods asked N200 * (T200Length + lateness)
 
   abbrev pub Debt : ℕ → ℕ → Option Linked → Type 0
-  Debt = Owed asked N200 clock T200Length Limit
+  Debt = Owed asked N200 clock T200Length lateness Limit
 
   -- the debt at the end of the request
   owing : (l : Linked) → IsOwing asked l.end → is_some (deadline_of T200 l.timers) ≡ runs T200 l.end
       → IsUsual config id clock now now l
-      → IsOwed asked N200 clock T200Length Limit (most_expiries asked N200) 0 l
+      → IsOwed asked N200 clock T200Length lateness Limit (most_expiries asked N200) 0 l
   owing l o exact usual =
       let on = runs_t200 o.was l.end.state l.end.layer3_initiated l.end.release_pending l.end.t200
       o.owed in
@@ -107,7 +113,7 @@ module _ (config : Config) (id : LinkId) (asked : Asked) (clock : Bool) (now : �
         runs = t.1;
         in_time = λ ticks.
             let early = usual.early ticks t.0 t.1 in
-            let most = most_left asked N200 o.was l.end.rc T200Length in
+            let most = most_left asked N200 o.was l.end.rc (T200Length + lateness) in
             record {
               length_is = ap (λ (d : Lengths). d.t200) usual.durations;
               early = omega arith;
@@ -124,8 +130,8 @@ module _ (config : Config) (id : LinkId) (asked : Asked) (clock : Bool) (now : �
 
   pub debt_closed : HasLinks id.sapi → IsClosed id (may_release asked) (answers asked) Debt config
   debt_closed has = record {
-    kept = λ m last. owed_is_kept asked N200 clock T200Length Limit id config m last has;
-    expires = owed_expires asked N200 clock T200Length Limit;
+    kept = λ m last. owed_is_kept asked N200 clock T200Length lateness Limit id config m last has;
+    expires = owed_expires asked N200 clock T200Length lateness Limit;
     absent = λ m less last none. absurd none;
     idle = still_running;
   }
@@ -136,10 +142,11 @@ module _ (config : Config) (id : LinkId) (asked : Asked) (clock : Bool) (now : �
 
     -- by the clock, each event is punctual
     abbrev pub Ready : SideEvent → S → Type 0
-    Ready event s = clock ≡ true → IsPunctual w event s
+    Ready event s = clock ≡ true → IsPunctual lateness w event s
 
     at_moment : (m last moment : ℕ) (s : S) (l : Option Linked) → Link s ≡ l
-        → (clock ≡ true → IsQuietBefore (w.served s) moment) → Debt m last l → Debt m moment l
+        → (clock ≡ true → IsAtMostLate lateness (w.served s) moment) → Debt m last l
+        → Debt m moment l
     at_moment m last moment s None is quiet o = absurd o
     at_moment m last moment s (Some l) is quiet o = record {
       was = o.was;
@@ -153,7 +160,8 @@ module _ (config : Config) (id : LinkId) (asked : Asked) (clock : Bool) (now : �
           let t = o.in_time ticks in
           record {
             length_is = t.length_is;
-            early = quiet_until (w.served s) id l o.deadline moment is o.runs (quiet ticks);
+            early = quiet_until (w.served s) id l o.deadline lateness moment is o.runs
+                (quiet ticks);
             late = t.late;
             bounded = t.bounded;
           };
@@ -231,15 +239,16 @@ module _ (config : Config) (id : LinkId) (asked : Asked) (clock : Bool) (now : �
         ]
 
         none_late : (m last moment : ℕ) (l : Option Linked) → clock ≡ true → Link Last.now ≡ l
-            → IsQuietBefore (w.served Last.now) moment → Limit < moment → Debt m last l → ⊥
+            → IsAtMostLate lateness (w.served Last.now) moment → Limit < moment → Debt m last l → ⊥
         none_late m last moment None ticks is quiet late o = o
         none_late m last moment (Some l) ticks is quiet late o =
             let t = o.in_time ticks in
-            let early = quiet_until (w.served Last.now) id l o.deadline moment is o.runs quiet in
+            let early = quiet_until (w.served Last.now) id l o.deadline lateness moment is o.runs
+            quiet in
             omega (arith, t.bounded, early, late)
 
         pub answered_in_time : (moment : ℕ) → clock ≡ true
-            → IsQuietBefore (w.served Last.now) moment → Limit < moment
+            → IsAtMostLate lateness (w.served Last.now) moment → Limit < moment
             → HasAnswer asked id (a.effects.primitives ++ Last.delivered)
         answered_in_time moment ticks quiet late = elim outcome [
           | inl h ↦ h

@@ -46,15 +46,16 @@ use Rattle.lapd_sides_laws.proofs.WaitingRuns.{Outcome, still_has, indebted_goes
 use Rattle.lapd_sides_laws.proofs.WaitingUser.{Establishes, IsWaiting}
 
 -- each punctual event, by the clock
-with_clock : (clock : Bool) (S : Type 0) (w : Behaviour S) (xs : List SideStep) (v : SideView S)
-    → Throughout w (IsPunctual w) xs v
-    → Throughout w (λ event s. clock ≡ true → IsPunctual w event s) xs v
-with_clock clock S w [] v h = tt
-with_clock clock S w (x ∷ xs) v h = (λ ticks. h.0, with_clock clock S w xs (stepped w x v) h.1)
+with_clock : (clock : Bool) (lateness : ℕ) (S : Type 0) (w : Behaviour S) (xs : List SideStep)
+    (v : SideView S) → Throughout w (IsPunctual lateness w) xs v
+    → Throughout w (λ event s. clock ≡ true → IsPunctual lateness w event s) xs v
+with_clock clock lateness S w [] v h = tt
+with_clock clock lateness S w (x ∷ xs) v h =
+    (λ ticks. h.0, with_clock clock lateness S w xs (stepped w x v) h.1)
 
 -- without the clock, each event is punctual enough
 without_clock : (S : Type 0) (w : Behaviour S) (xs : List SideStep) (v : SideView S)
-    → Throughout w (λ event s. false ≡ true → IsPunctual w event s) xs v
+    → Throughout w (λ event s. false ≡ true → IsPunctual 0 w event s) xs v
 without_clock S w [] v = tt
 without_clock S w (x ∷ xs) v = (λ ticks. cc, without_clock S w xs (stepped w x v))
 
@@ -98,10 +99,11 @@ there : (o : Option ℕ) → is_some o ≡ true → (deadline : ℕ) × (o ≡ S
 there (Some deadline) h = (deadline, refl)
 there None h = cc
 
-module _ (config : Config) (id : LinkId) (asked : Asked) (clock : Bool) (now : ℕ) (s : User)
-    (usual : HasUsual config clock now s) (none : tei_of s.management.terminal ≡ None) where
+module _ (config : Config) (id : LinkId) (asked : Asked) (clock : Bool) (lateness now : ℕ)
+    (s : User) (usual : HasUsual config clock now s)
+    (none : tei_of s.management.terminal ≡ None) where
   abbrev Limit202 : ℕ
-  Limit202 = now + n202 * config.durations.t202
+  Limit202 = now + n202 * (config.durations.t202 + lateness)
 
   abbrev Wanting : User
   Wanting = record s { management = record s.management { pending = with_pending id.sapi true s.management.pending } }
@@ -111,11 +113,12 @@ module _ (config : Config) (id : LinkId) (asked : Asked) (clock : Bool) (now : �
 
   abbrev Waits : User → Type 0
   Waits x =
-      IsWaiting config id.sapi clock Limit202 n202 0 x.management.terminal x.management.pending x.served.timers
+      IsWaiting config id.sapi clock lateness Limit202 n202 0 x.management.terminal
+      x.management.pending x.served.timers
 
-  -- one period of T202 and those that are left; there are n202 = 3 at most
+  -- one period of T202 and those that are left, each ended late; there are n202 = 3 at most
   in_limit : (d count : ℕ) → d ≤ now + config.durations.t202 → 1 ≤ count
-      → d + (n202 - count) * config.durations.t202 ≤ Limit202
+      → d + lateness + (n202 - count) * (config.durations.t202 + lateness) ≤ Limit202
   in_limit d zero h least = absurd (omega (arith, least))
   in_limit d (suc zero) h least = omega (arith, h)
   in_limit d (suc (suc zero)) h least = omega (arith, h)
@@ -261,22 +264,22 @@ module _ (config : Config) (id : LinkId) (asked : Asked) (clock : Bool) (now : �
         linked = has_links config id.sapi (establishes_wanted asked a is done).0
 
         abbrev Ends : ℕ → SideView User → Type 0
-        Ends m v = Outcome config id asked clock Limit202 is linked m v
+        Ends m v = Outcome config id asked clock lateness Limit202 is linked m v
 
         goes : (after : List SideStep) → KeepsRequest asked side.User id after
             → Throughout (user_behaviour config)
-            (λ event x. clock ≡ true → IsPunctual (user_behaviour config) event x) after
+            (λ event x. clock ≡ true → IsPunctual lateness (user_behaviour config) event x) after
             (new_view a.after)
             → Ends (n202 - t202_expiries after) (after_request (user_behaviour config) a after)
         goes after keeps ready =
             let begun = establishes_wanted asked a is done in
             let waits : Waits a.after =
             subst (λ (x : Reaction User). Waits x.after) begun.1 (wanted_waits begun.0) in
-            let ready_now = ready_again config id asked clock Limit202 is linked n202 0 a.after
-            waits
+            let ready_now = ready_again config id asked clock lateness Limit202 is linked n202 0
+            a.after waits
             own_after timer_after in
-            all_wait config id asked clock Limit202 is linked after (new_view a.after) n202 0 keeps
-            ready (inr (inl (record { ready = ready_now; own = own_after })))
+            all_wait config id asked clock lateness Limit202 is linked after (new_view a.after) n202
+            0 keeps ready (inr (inl (record { ready = ready_now; own = own_after })))
 
         in_the_end : (after : List SideStep)
             → HasAnswerFor asked id.sapi (after_request (user_behaviour config) a after).delivered
@@ -287,15 +290,15 @@ module _ (config : Config) (id : LinkId) (asked : Asked) (clock : Bool) (now : �
 
         timely : (after : List SideStep) (moment : ℕ) → clock ≡ true
             → KeepsRequest asked side.User id after
-            → AreExpiredInTime (user_behaviour config) a after moment
-            → now + n202 * config.durations.t202
-            + most_periods asked (parameters_for config id.sapi).n200 * config.durations.t200
-            < moment
+            → AreExpiredInTime lateness (user_behaviour config) a after moment
+            → now + n202 * (config.durations.t202 + lateness)
+            + most_periods asked (parameters_for config id.sapi).n200
+            * (config.durations.t200 + lateness) < moment
             → IsAnsweredFor asked id.sapi (user_behaviour config) a after
         timely after moment ticks keeps in_time late =
-            let ready = with_clock clock User (user_behaviour config) after (new_view a.after)
-            in_time.at_each in
-            in_the_end after (answered_by config id asked clock Limit202 is linked
+            let ready = with_clock clock lateness User (user_behaviour config) after
+            (new_view a.after) in_time.at_each in
+            in_the_end after (answered_by config id asked clock lateness Limit202 is linked
             (n202 - t202_expiries after) moment (after_request (user_behaviour config) a after)
             ticks in_time.at_last late (goes after keeps ready))
 
@@ -309,7 +312,7 @@ module _ (config : Config) (id : LinkId) (asked : Asked) (clock : Bool) (now : �
             (subst (λ (y : Option Linked). is_some y ≡ true) (sym there) some))
 
         none_left : (m since last : ℕ) (o : ℕ) (l : Option Linked) → m ≡ 0
-            → Debt config (of_sapi id.sapi o) asked clock since m last l → ⊥
+            → Debt config (of_sapi id.sapi o) asked clock lateness since m last l → ⊥
         none_left m since last o None none debt = debt
         none_left m since last o (Some l) none debt =
             omega (
@@ -320,14 +323,14 @@ module _ (config : Config) (id : LinkId) (asked : Asked) (clock : Bool) (now : �
             )
 
         exists : (m since last : ℕ) (o : ℕ) (l : Option Linked)
-            → Debt config (of_sapi id.sapi o) asked clock since m last l → is_some l ≡ true
+            → Debt config (of_sapi id.sapi o) asked clock lateness since m last l → is_some l ≡ true
         exists m since last o None debt = absurd debt
         exists m since last o (Some l) debt = refl
 
         exhausted : (m : ℕ) (v : SideView User) (second : List SideStep) → m ≡ 0
             → KeepsRequest asked side.User id second
             → Throughout (user_behaviour config)
-            (λ event x. clock ≡ true → IsPunctual (user_behaviour config) event x) second v
+            (λ event x. clock ≡ true → IsPunctual lateness (user_behaviour config) event x) second v
             → AreOwn v.now
             → ((own : ℕ) → tei_of v.now.management.terminal ≡ Some own
             → most_expiries asked (parameters_for config id.sapi).n200
@@ -335,7 +338,7 @@ module _ (config : Config) (id : LinkId) (asked : Asked) (clock : Bool) (now : �
             → Ends m v
             → HasAnswerFor asked id.sapi (stepped_by_all (user_behaviour config) second v).delivered
         exhausted m v second none keeps ready own enough (inl h) =
-            still_has config id asked clock Limit202 is linked second v h
+            still_has config id asked clock lateness Limit202 is linked second v h
         exhausted m v second none keeps ready own enough (inr (inl (last, p))) =
             absurd (omega (arith, p.ready.waits.few, none))
         exhausted m v second none keeps ready own enough (inr (inr o)) =
@@ -343,8 +346,8 @@ module _ (config : Config) (id : LinkId) (asked : Asked) (clock : Bool) (now : �
             let has_tei = its_tei o.own v.now at refl own (exists o.m o.since o.last o.own at
             o.debt) in
             let more = enough o.own has_tei in
-            elim (indebted_goes config id asked clock Limit202 is linked second v o.own o.since o.m
-            o.last keeps ready o.debt) [
+            elim (indebted_goes config id asked clock lateness Limit202 is linked second v o.own
+            o.since o.m o.last keeps ready o.debt) [
               | inl h ↦ h
               | inr (final, debt) ↦ absurd (none_left
                   (o.m - expiries_of (of_sapi id.sapi o.own) second) o.since final o.own _
@@ -353,10 +356,10 @@ module _ (config : Config) (id : LinkId) (asked : Asked) (clock : Bool) (now : �
 
         counted : (first second : List SideStep) → KeepsRequest asked side.User id (first ++ second)
             → Throughout (user_behaviour config)
-            (λ event x. clock ≡ true → IsPunctual (user_behaviour config) event x) first
+            (λ event x. clock ≡ true → IsPunctual lateness (user_behaviour config) event x) first
             (new_view a.after)
             → Throughout (user_behaviour config)
-            (λ event x. clock ≡ true → IsPunctual (user_behaviour config) event x) second
+            (λ event x. clock ≡ true → IsPunctual lateness (user_behaviour config) event x) second
             (after_request (user_behaviour config) a first)
             → n202 ≤ t202_expiries first
             → ((own : ℕ) → tei_of (after_request (user_behaviour config) a first).now.management.terminal
@@ -379,32 +382,36 @@ module _ (config : Config) (id : LinkId) (asked : Asked) (clock : Bool) (now : �
             (sym (one_by_one User w first second (new_view a.after))) h)
 
 pub user_without_tei_in_time : (config : Config) (fixed : Option ℕ) (random : Lcg)
-    (before after : List SideStep) (asked : Asked) (id : LinkId) (now moment : ℕ)
-    (a : Reaction User) → All (λ x. IsBy now x.event) before
+    (before after : List SideStep) (asked : Asked) (id : LinkId)
+    (lateness now moment : ℕ) (a : Reaction User) → All (λ x. IsBy now x.event) before
     → tei_of (user_after config fixed random before).management.terminal ≡ None
     → user_requested config (asks asked id) now (user_after config fixed random before) ≡ Ok a
     → KeepsRequest asked side.User id after
-    → AreExpiredInTime (user_behaviour config) a after moment
-    → now + n202 * config.durations.t202
-    + most_periods asked (parameters_for config id.sapi).n200 * config.durations.t200 < moment
+    → AreExpiredInTime lateness (user_behaviour config) a after moment
+    → now + n202 * (config.durations.t202 + lateness)
+    + most_periods asked (parameters_for config id.sapi).n200 * (config.durations.t200 + lateness)
+    < moment
     → IsAnsweredFor asked id.sapi (user_behaviour config) a after
-user_without_tei_in_time config fixed random before after Establishment id now moment a by none done
+user_without_tei_in_time config fixed random before after Establishment id lateness now moment a by none
+    done
     keeps in_time late =
-    timely config id Establishment true now (user_after config fixed random before)
+    timely config id Establishment true lateness now (user_after config fixed random before)
     (user_has_usual config true now id fixed random before (λ ticks. by)) none a done tt after
     moment refl keeps in_time late
-user_without_tei_in_time config fixed random before after Withdrawal id now moment a by none done
+user_without_tei_in_time config fixed random before after Withdrawal id lateness now moment a by none
+    done
     keeps
     in_time late =
-    timely config id Withdrawal true now (user_after config fixed random before)
+    timely config id Withdrawal true lateness now (user_after config fixed random before)
     (user_has_usual config true now id fixed random before (λ ticks. by)) none a done tt after
     moment refl keeps in_time late
-user_without_tei_in_time config fixed random before after Clearing id now moment a by none done
+user_without_tei_in_time config fixed random before after Clearing id lateness now moment a by none
+    done
     keeps
     in_time late =
     any_more (answers_for Clearing id.sapi) a.effects.primitives
     (after_request (user_behaviour config) a after).delivered
-    (cleared config id Clearing true now (user_after config fixed random before)
+    (cleared config id Clearing true lateness now (user_after config fixed random before)
     (user_has_usual config true now id fixed random before (λ ticks. by)) none a done)
 
 pub user_without_tei : (config : Config) (fixed : Option ℕ) (random : Lcg)
@@ -419,14 +426,14 @@ pub user_without_tei : (config : Config) (fixed : Option ℕ) (random : Lcg)
 user_without_tei config fixed random before first second Establishment id now a none done keeps
     exhausts enough =
     let w = user_behaviour config in
-    counted config id Establishment false now (user_after config fixed random before)
+    counted config id Establishment false 0 now (user_after config fixed random before)
     (user_has_usual config false now id fixed random before (λ ticks. cc)) none a done tt
     first second keeps (without_clock User w first (new_view a.after))
     (without_clock User w second (after_request w a first)) exhausts enough
 user_without_tei config fixed random before first second Withdrawal id now a none done keeps
     exhausts enough =
     let w = user_behaviour config in
-    counted config id Withdrawal false now (user_after config fixed random before)
+    counted config id Withdrawal false 0 now (user_after config fixed random before)
     (user_has_usual config false now id fixed random before (λ ticks. cc)) none a done tt
     first second keeps (without_clock User w first (new_view a.after))
     (without_clock User w second (after_request w a first)) exhausts enough
@@ -434,5 +441,5 @@ user_without_tei config fixed random before first second Clearing id now a none 
     exhausts enough =
     any_more (answers_for Clearing id.sapi) a.effects.primitives
     (after_request (user_behaviour config) a (first ++ second)).delivered
-    (cleared config id Clearing false now (user_after config fixed random before)
+    (cleared config id Clearing false 0 now (user_after config fixed random before)
     (user_has_usual config false now id fixed random before (λ ticks. cc)) none a done)

@@ -25,7 +25,7 @@ use Rattle.lapd_sides_links.specs.declared.primitive.What.TheVariants as what
 use Rattle.lapd_tei.specs.declared.out.TeiOut.TheVariants as outcome
 use Rattle.lapd_sides.specs.declared.request.Request.TheVariants as request
 use Rattle.lapd_sides.specs.Worked as sides
-use Rattle.lapd_sides_laws.specs.AnswerRuns.{alone, t200_at, user_with, primitives_of_run, establishing, three_expiries, releasing, six_expiries, seeking, assignment, late_assignment, arriving, withdrawing, backwards}
+use Rattle.lapd_sides_laws.specs.AnswerRuns.{alone, t200_at, user_with, primitives_of_run, establishing, three_expiries, three_late_expiries, releasing, six_expiries, seeking, assignment, late_assignment, arriving, withdrawing, backwards}
 use Rattle.lapd_sides_laws.specs.Schedule.{call}
 use Rattle.std.specs.Prelude.{option_map}
 use Rattle.lapd_timers.specs.declared.timer.Timer.{Timer}
@@ -51,6 +51,9 @@ pub record AreReached : Type 0 where
       (user_with (Some 64) []) ≡ Ok establishing
   pub establish_waits : primitives_of_run establishing three_expiries ≡ []
   pub establish_ends : primitives_of_run establishing (three_expiries ++ t200_at (4000 ∷ []))
+      ≡ Of call (what.Report letter.G) ∷ Of call what.Released ∷ []
+  pub late_waits : primitives_of_run establishing three_late_expiries ≡ []
+  pub late_ends : primitives_of_run establishing (three_late_expiries ++ t200_at (4040 ∷ []))
       ≡ Of call (what.Report letter.G) ∷ Of call what.Released ∷ []
   pub release_accepted : user_requested sides.both_sapis (request.Release call) 0
       (user_with (Some 64) (alone (Ask (request.Establish call) 0) ∷ [])) ≡ Ok releasing
@@ -92,6 +95,8 @@ are_reached = record {
   establish_accepted = refl;
   establish_waits = refl;
   establish_ends = refl;
+  late_waits = refl;
+  late_ends = refl;
   release_accepted = refl;
   release_waits = refl;
   release_ends = refl;
@@ -229,7 +234,7 @@ ua = arriving (0x00 ∷ 0x81 ∷ 0x73 ∷ []) 4000
 abbrev tei : SideStep
 tei = arriving assignment 6000
 
-pub establish_in_time : AreExpiredInTime (user_behaviour sides.both_sapis) establishing
+pub establish_in_time : AreExpiredInTime 0 (user_behaviour sides.both_sapis) establishing
     three_expiries 4000
 unfolding link_acts link_expires in_links with_tei without_tei primitive_of_tei manages
     assigner_acts link_of network_takes network_expires network_requested begin put
@@ -267,7 +272,46 @@ establish_in_time = record {
       (λ id apart. rw apart (new_idle id)) (no_timers 4000);
 }
 
-pub release_in_time : AreExpiredInTime (user_behaviour sides.both_sapis) releasing six_expiries 8000
+pub late_in_time : AreExpiredInTime 10 (user_behaviour sides.both_sapis) establishing
+    three_late_expiries 4040
+unfolding link_acts link_expires in_links with_tei without_tei primitive_of_tei manages
+    assigner_acts link_of network_takes network_expires network_requested begin put
+    state_to rc_to increment_rc layer3_initiated_to release_pending_to start stop expired
+    clear_exception_conditions zero_state_variables set_peer_busy set_own_busy enquiry_response
+    transmit_enquiry queue_up discard_i_queue acknowledge invoke_retransmission i_frame_ns
+    discard_unacknowledged transmit_i_frame ensure_t200 transmit_rr establish_data_link
+    reestablish_data_link end_establishment tei_assigned confirm_or_indicate ua_final
+    awaiting_establishment_t200 awaiting_establishment confirm_release awaiting_release_t200
+    awaiting_release acknowledge_with_timers nr_error_recovery i_frame_nr i_frame_nr_in_recovery
+    poll_or_final poll rr_nr rej_nr rnr_nr rr_nr_in_recovery rnr_nr_in_recovery timer_recovery_t200
+    busy_on busy_off in_7_and_8 established_t200 multiple_frame_established timer_recovery by_state
+    report_fault row send_all acknowledge_pending end_step step initial_variables
+    without_exceptions with_zero_counters status_frame acknowledgement without_ack_pending
+    poll_response is_accepted is_rejected after_i_frame i_frame_response is_valid_nr with_va
+    acknowledged_count acknowledges_all with_vs may_send next_i_frame after_sending with_own_busy
+    with_peer_busy after steps lies_within terminal_acts user_takes user_expires
+    user_requested links_below does
+late_in_time = record {
+  at_each = (
+    quiet_with (At establishing ([])) 1000 (now_due 1000)
+        (λ id apart. rw apart (new_idle id)) (no_timers 1000),
+    (
+      quiet_with (At establishing (t200 1010 ∷ [])) 2010 (now_due 2010)
+          (λ id apart. rw apart (new_idle id)) (no_timers 2010),
+      (
+        quiet_with (At establishing (t200 1010 ∷ t200 2020 ∷ [])) 3020 (now_due 3020)
+            (λ id apart. rw apart (new_idle id)) (no_timers 3020),
+        tt,
+      ),
+    ),
+  );
+  at_last =
+      quiet_with (At establishing (t200 1010 ∷ t200 2020 ∷ t200 3030 ∷ [])) 4030 (now_due 4030)
+      (λ id apart. rw apart (new_idle id)) (no_timers 4030);
+}
+
+pub release_in_time : AreExpiredInTime 0 (user_behaviour sides.both_sapis) releasing six_expiries
+    8000
 unfolding link_acts link_expires in_links with_tei without_tei primitive_of_tei manages
     assigner_acts link_of network_takes network_expires network_requested begin put
     state_to rc_to increment_rc layer3_initiated_to release_pending_to start stop expired
@@ -330,7 +374,7 @@ release_in_time = record {
       _ _ apart (new_idle id)))))))))) (no_timers 8000);
 }
 
-pub without_tei_in_time : AreExpiredInTime (user_behaviour sides.both_sapis) seeking
+pub without_tei_in_time : AreExpiredInTime 0 (user_behaviour sides.both_sapis) seeking
     late_assignment 10000
 unfolding link_acts link_expires in_links with_tei without_tei primitive_of_tei manages
     assigner_acts link_of network_takes network_expires network_requested begin put
@@ -381,7 +425,7 @@ without_tei_in_time = record {
       (λ id apart. rw apart (new_idle id)) (no_timers 10000);
 }
 
-pub backwards_in_time : AreExpiredInTime (user_behaviour sides.both_sapis) backwards [] 6000
+pub backwards_in_time : AreExpiredInTime 0 (user_behaviour sides.both_sapis) backwards [] 6000
 unfolding link_acts link_expires in_links with_tei without_tei primitive_of_tei manages
     assigner_acts link_of network_takes network_expires network_requested begin put
     state_to rc_to increment_rc layer3_initiated_to release_pending_to start stop expired

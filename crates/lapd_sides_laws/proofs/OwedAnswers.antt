@@ -192,15 +192,15 @@ product_below a b len h = grind (arith, h)
 product_less : (a b len : ℕ) → a + 1 ≤ b → len + a * len ≤ b * len
 product_less a b len h = grind (arith, product_below (a + 1) b len h)
 
--- now, the deadline of T200, the periods left after it, and the length of each; the last of them
--- ends at `limit` at the latest
-pub record IsInTime (len limit now more deadline : ℕ) (t : Timers) : Type 0 where
+-- now, the deadline of T200, the periods left after it, and the length of each; each ends at most
+-- `lateness` after its deadline, and the last of them at `limit` at the latest
+pub record IsInTime (len lateness limit now more deadline : ℕ) (t : Timers) : Type 0 where
   pub length_is : t.durations.t200 ≡ len
-  pub early : now ≤ deadline
+  pub early : now ≤ deadline + lateness
   pub late : deadline ≤ last_moment
-  pub bounded : deadline + more * len ≤ limit
+  pub bounded : deadline + lateness + more * (len + lateness) ≤ limit
 
-module _ (asked : Asked) (n : ℕ) (clock : Bool) (len limit : ℕ) where
+module _ (asked : Asked) (n : ℕ) (clock : Bool) (len lateness limit : ℕ) where
   -- at most m more expiries; with `clock`, in time
   pub record IsOwed (m now : ℕ) (l : Linked) : Type 0 where
     pub was : Situation
@@ -211,7 +211,7 @@ module _ (asked : Asked) (n : ℕ) (clock : Bool) (len limit : ℕ) where
     pub deadline : ℕ
     pub runs : deadline_of T200 l.timers ≡ Some deadline
     pub in_time : clock ≡ true
-        → IsInTime len limit now (periods asked n was l.end.rc) deadline l.timers
+        → IsInTime len lateness limit now (periods asked n was l.end.rc) deadline l.timers
 
   abbrev pub Owed : ℕ → ℕ → Option Linked → Type 0
   Owed m now None = ⊥
@@ -251,7 +251,7 @@ module _ (asked : Asked) (n : ℕ) (clock : Bool) (len limit : ℕ) where
         in_time = λ ticks.
             let t = o.in_time ticks in
             let less = product_below (periods asked n next.now s.end.rc)
-            (periods asked n o.was l.end.rc) len h.2 in
+            (periods asked n o.was l.end.rc) (len + lateness) h.2 in
             record {
               length_is = ap (λ (d : Lengths). d.t200)
                   (durations_stay now s.outs timers ∙ same_durations) ∙ t.length_is;
@@ -273,7 +273,7 @@ module _ (asked : Asked) (n : ℕ) (clock : Bool) (len limit : ℕ) where
             let is : timers.durations.t200 ≡ len =
             ap (λ (d : Lengths). d.t200) same_durations ∙ t.length_is in
             let less = product_less (periods asked n next.now s.end.rc)
-            (periods asked n o.was l.end.rc) len h.1 in
+            (periods asked n o.was l.end.rc) (len + lateness) h.1 in
             record {
               length_is = ap (λ (d : Lengths). d.t200) (durations_stay now s.outs timers) ∙ is;
               early = omega (arith, t.early, t.late);

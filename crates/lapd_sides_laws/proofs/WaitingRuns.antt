@@ -27,7 +27,7 @@ use Rattle.lapd_sides_links.specs.declared.running_timer.RunningTimer.{RunningTi
 use Rattle.lapd_sides_links.specs.Expiries.{IsQuietBefore}
 use Rattle.lapd_sides_links.specs.Links.{Linked, Links, Served, parameters_for}
 use Rattle.lapd_sides.specs.User.{User}
-use Rattle.lapd_sides_laws.specs.Answers.{answers, answers_for, HasAnswer, HasAnswerFor, KeepsRequest, requests_release, IsPunctual, Throughout, expiries_of, most_periods}
+use Rattle.lapd_sides_laws.specs.Answers.{answers, answers_for, HasAnswer, HasAnswerFor, KeepsRequest, requests_release, IsAtMostLate, IsPunctual, Throughout, expiries_of, most_periods}
 use Rattle.lapd_sides_laws.specs.EndAnswers.{Asked, may_release, most_expiries}
 use Rattle.lapd_sides_laws.specs.ExactTimers.{SideStep, stepped, stepped_by_all}
 use Rattle.lapd_sides_laws.specs.Interface.{user_behaviour}
@@ -87,11 +87,11 @@ module _ (asked : Asked) (id : LinkId) where
   for_sapi (Of other w ∷ ps) h = first_of other w ps (id_eq id other) refl (for_sapi ps) h
   for_sapi (Management o ∷ ps) h = for_sapi ps h
 
--- ---- T202 is not overdue.
+-- ---- T202 is not overdue, or by the lateness at most.
 
-quiet_managed : (s : Served) (deadline moment : ℕ) → deadline_of T202 s.timers ≡ Some deadline
+managed_not_overdue : (s : Served) (deadline moment : ℕ) → deadline_of T202 s.timers ≡ Some deadline
     → IsQuietBefore s moment → moment ≤ deadline
-quiet_managed s deadline moment runs quiet = elim (cases_lt deadline moment) [
+managed_not_overdue s deadline moment runs quiet = elim (cases_lt deadline moment) [
   | inl overdue ↦
       let e : RunningTimer = record { timer = T202; of = None; deadline = deadline } in
       absurd (quiet deadline overdue e (record {
@@ -100,6 +100,12 @@ quiet_managed s deadline moment runs quiet = elim (cases_lt deadline moment) [
       }))
   | inr early ↦ early
 ]
+
+quiet_managed : (s : Served) (deadline lateness moment : ℕ)
+    → deadline_of T202 s.timers ≡ Some deadline → IsAtMostLate lateness s moment
+    → moment ≤ deadline + lateness
+quiet_managed s deadline lateness moment runs quiet =
+    omega (arith, managed_not_overdue s deadline (moment - lateness) runs quiet)
 
 no_link : (l : Option Linked) → (is_some l ≡ true → ⊥) → l ≡ None
 no_link None none = refl
@@ -113,24 +119,24 @@ neither true b h = cc
 abbrev pub one_202 : SideEvent → ℕ
 one_202 event = cond (is_t202 event) 1 0
 
-module _ (config : Config) (id : LinkId) (asked : Asked) (clock : Bool) (limit : ℕ)
+module _ (config : Config) (id : LinkId) (asked : Asked) (clock : Bool) (lateness limit : ℕ)
     (is : Establishes asked) (has : HasLinks id.sapi) where
   abbrev Wait : ℕ → ℕ → User → Type 0
-  Wait m last s = Waits config id asked clock limit m last s
+  Wait m last s = Waits config id asked clock lateness limit m last s
 
   abbrev Begun : ℕ → Links → Type 0
-  Begun last links = HasBegun config id asked clock limit last links
+  Begun last links = HasBegun config id asked clock lateness limit last links
 
   abbrev Has : SideView User → Type 0
   Has v = HasAnswerFor asked id.sapi v.delivered
 
   -- by the clock, each event is punctual
   abbrev Punctual : SideEvent → User → Type 0
-  Punctual event s = clock ≡ true → IsPunctual (user_behaviour config) event s
+  Punctual event s = clock ≡ true → IsPunctual lateness (user_behaviour config) event s
 
-  later : (m last moment : ℕ) (s : User) → IsReady config id asked clock limit m last s
-      → (clock ≡ true → IsQuietBefore s.served moment)
-      → IsReady config id asked clock limit m moment s
+  later : (m last moment : ℕ) (s : User) → IsReady config id asked clock lateness limit m last s
+      → (clock ≡ true → IsAtMostLate lateness s.served moment)
+      → IsReady config id asked clock lateness limit m moment s
   later m last moment s h quiet =
       let w = h.waits in
       record {
@@ -148,7 +154,8 @@ module _ (config : Config) (id : LinkId) (asked : Asked) (clock : Bool) (limit :
           in_time = λ ticks.
               let t = w.in_time ticks in
               record {
-                early = quiet_managed s.served w.deadline moment w.runs (quiet ticks);
+                early = quiet_managed s.served w.deadline lateness moment w.runs
+                    (quiet ticks);
                 late = t.late;
                 bounded = t.bounded;
               };
@@ -158,8 +165,8 @@ module _ (config : Config) (id : LinkId) (asked : Asked) (clock : Bool) (limit :
       }
 
   at_event : (event : SideEvent) (m last : ℕ) (s : User) → Punctual event s
-      → IsReady config id asked clock limit m last s
-      → IsReady config id asked clock limit m (moment_or last event) s
+      → IsReady config id asked clock lateness limit m last s
+      → IsReady config id asked clock lateness limit m (moment_or last event) s
   at_event (Take moment) m last s quiet h = later m last moment s h quiet
   at_event (Lose at) m last s quiet h = h
   at_event (Expire timer of moment) m last s quiet h = later m last moment s h quiet
@@ -168,9 +175,10 @@ module _ (config : Config) (id : LinkId) (asked : Asked) (clock : Bool) (limit :
 
   abbrev Happens : ℕ → ℕ → SideEvent → Type 0
   Happens m now event = IsNow config now id (may_release asked)
-      (Answers config id asked clock limit) (IsReady config id asked clock limit m now)
-      (Continues config id asked clock limit m now)
-      (waiting_is_ruled config id asked clock limit is m now) event
+      (Answers config id asked clock lateness limit)
+      (IsReady config id asked clock lateness limit m now)
+      (Continues config id asked clock lateness limit m now)
+      (waiting_is_ruled config id asked clock lateness limit is m now) event
 
   at_its_moment : (event : SideEvent) (m last : ℕ) → Happens m (moment_or last event) event
   at_its_moment (Take moment) m last = refl
@@ -180,43 +188,44 @@ module _ (config : Config) (id : LinkId) (asked : Asked) (clock : Bool) (limit :
   at_its_moment (Overhear octets moment) m last = refl
 
   abbrev GoesTo : ℕ → ℕ → Reaction User → Type 0
-  GoesTo m now a = GoesWith config id asked clock limit m now m a
+  GoesTo m now a = GoesWith config id asked clock lateness limit m now m a
 
   reacts : (event : SideEvent) (v : SideView User) (m last : ℕ)
       → (may_release asked ≡ false → requests_release side.User id event ≡ false)
-      → IsReady config id asked clock limit m (moment_or last event) v.now
+      → IsReady config id asked clock lateness limit m (moment_or last event) v.now
       → GoesTo m (moment_or last event) (reaction (user_behaviour config) event v)
   reacts event v m last keeps ready =
       let now = moment_or last event in
-      user_reacts config now id (may_release asked) (Answers config id asked clock limit)
-      (IsReady config id asked clock limit m now) (Continues config id asked clock limit m now)
-      (waiting_is_ruled config id asked clock limit is m now) event v
+      user_reacts config now id (may_release asked) (Answers config id asked clock lateness limit)
+      (IsReady config id asked clock lateness limit m now)
+      (Continues config id asked clock lateness limit m now)
+      (waiting_is_ruled config id asked clock lateness limit is m now) event v
       (at_its_moment event m last) keeps ready
 
   none_spent : (m now spent : ℕ) (a : Reaction User) → spent ≡ 0 → GoesTo m now a
-      → GoesWith config id asked clock limit m now (m - spent) a
+      → GoesWith config id asked clock lateness limit m now (m - spent) a
   none_spent m now spent a none h =
-      subst (λ k. GoesWith config id asked clock limit m now k a) (omega (arith, none)) h
+      subst (λ k. GoesWith config id asked clock lateness limit m now k a) (omega (arith, none)) h
 
   -- an expiry of T202 is counted
   spends : (event : SideEvent) (v : SideView User) (m last : ℕ)
       → (may_release asked ≡ false → requests_release side.User id event ≡ false)
-      → IsReady config id asked clock limit m (moment_or last event) v.now
-      → GoesWith config id asked clock limit m (moment_or last event) (m - one_202 event)
+      → IsReady config id asked clock lateness limit m (moment_or last event) v.now
+      → GoesWith config id asked clock lateness limit m (moment_or last event) (m - one_202 event)
       (reaction (user_behaviour config) event v)
   unfolding user_expires
   spends (Expire T202 None now) v m last keeps ready =
       let on : is_some (deadline_of T202 v.now.served.timers) ≡ true = rw ready.waits.runs refl in
-      subst (λ test. GoesWith config id asked clock limit m now (m - 1)
+      subst (λ test. GoesWith config id asked clock lateness limit m now (m - 1)
       (if test then management_expires config now T202 v.now else unmoved v.now)) (sym on)
-      (expired config id asked clock limit is m now v.now ready)
+      (expired config id asked clock lateness limit is m now v.now ready)
   spends event v m last keeps ready =
       none_spent m (moment_or last event) (one_202 event)
       (reaction (user_behaviour config) event v) refl (reacts event v m last keeps ready)
 
   -- a waiting terminal has no links
   pub ready_again : (m now : ℕ) (s : User) → Wait m now s → AreOwn s → HasTimerOfTerminal s
-      → IsReady config id asked clock limit m now s
+      → IsReady config id asked clock lateness limit m now s
   ready_again m now s w own timer = record {
     waits = w;
     no_links = λ k. no_link (s.served.links k)
@@ -226,7 +235,7 @@ module _ (config : Config) (id : LinkId) (asked : Asked) (clock : Bool) (limit :
 
   -- the state after one event
   pub record IsPending (m last : ℕ) (s : User) : Type 0 where
-    pub ready : IsReady config id asked clock limit m last s
+    pub ready : IsReady config id asked clock lateness limit m last s
     pub own : AreOwn s
 
   abbrev After : ℕ → ℕ → SideView User → Type 0
@@ -274,8 +283,8 @@ module _ (config : Config) (id : LinkId) (asked : Asked) (clock : Bool) (limit :
     pub m : ℕ
     pub few : m ≤ most_expiries asked (parameters_for config id.sapi).n200
     pub in_time : clock ≡ true → since ≤ limit
-    pub debt : Debt config (with_tei_of config id asked clock limit own) asked clock since m last
-        (links (with_tei_of config id asked clock limit own))
+    pub debt : Debt config (with_tei_of config id asked clock lateness limit own) asked clock
+        lateness since m last (links (with_tei_of config id asked clock lateness limit own))
 
   abbrev pub Outcome : ℕ → SideView User → Type 0
   Outcome m v = Has v ⊎ (((last : ℕ) × IsPending m last v.now) ⊎ IsIndebted v.now.served.links)
@@ -289,23 +298,25 @@ module _ (config : Config) (id : LinkId) (asked : Asked) (clock : Bool) (limit :
   -- the link of the TEI from here on
   pub indebted_goes : (xs : List SideStep) (v : SideView User) (own since m last : ℕ) → Keeps xs
       → ArePunctual xs v
-      → Debt config (with_tei_of config id asked clock limit own) asked clock since m last
-      (v.now.served.links (with_tei_of config id asked clock limit own))
+      → Debt config (with_tei_of config id asked clock lateness limit own) asked clock lateness
+      since m last (v.now.served.links (with_tei_of config id asked clock lateness limit own))
       → Has (stepped_by_all (user_behaviour config) xs v)
-      ⊎ ((final : ℕ) × Debt config (with_tei_of config id asked clock limit own) asked clock since
-      (m - expiries_of (with_tei_of config id asked clock limit own) xs) final
+      ⊎ ((final : ℕ) × Debt config (with_tei_of config id asked clock lateness limit own) asked
+      clock lateness since
+      (m - expiries_of (with_tei_of config id asked clock lateness limit own) xs) final
       ((stepped_by_all (user_behaviour config) xs v).now.served.links
-      (with_tei_of config id asked clock limit own)))
+      (with_tei_of config id asked clock lateness limit own)))
   indebted_goes xs v own since m last keeps quiet debt =
       let w = user_behaviour config in
-      let its = with_tei_of config id asked clock limit own in
-      let D = Debt config its asked clock since in
-      let closed = debt_closed config its asked clock since has in
+      let its = with_tei_of config id asked clock lateness limit own in
+      let D = Debt config its asked clock lateness since in
+      let closed = debt_closed config its asked clock lateness since has in
       let v2 = stepped_by_all w xs v in
       elim (all_go its (may_release asked) (answers asked) D config User w side.User closed
       (user_ways its (may_release asked) (answers asked) D config closed)
-      (Ready config its asked clock since User w) (advance config its asked clock since User w)
-      xs v m keeps quiet (inr (last, debt))) [
+      (Ready config its asked clock lateness since User w)
+      (advance config its asked clock lateness since User w) xs v m keeps quiet
+      (inr (last, debt))) [
         | inl h ↦ inl (for_sapi asked its v2.delivered h)
         | inr rest ↦ inr rest
       ]
@@ -314,7 +325,7 @@ module _ (config : Config) (id : LinkId) (asked : Asked) (clock : Bool) (limit :
       → ArePunctual xs v → Begun last v.now.served.links
       → Outcome m (stepped_by_all (user_behaviour config) xs v)
   begun_goes xs v m last keeps quiet b =
-      let its = with_tei_of config id asked clock limit b.own in
+      let its = with_tei_of config id asked clock lateness limit b.own in
       let most = most_expiries asked (parameters_for config id.sapi).n200 in
       elim (indebted_goes xs v b.own b.since most last keeps quiet b.debt) [
         | inl h ↦ inl h
@@ -359,26 +370,27 @@ module _ (config : Config) (id : LinkId) (asked : Asked) (clock : Bool) (limit :
 
   -- layer 3 has the answer by then
   pub answered_by : (m moment : ℕ) (v : SideView User) → clock ≡ true
-      → IsQuietBefore v.now.served moment
-      → limit + most_periods asked (parameters_for config id.sapi).n200 * config.durations.t200
-      < moment → Outcome m v → Has v
+      → IsAtMostLate lateness v.now.served moment
+      → limit + most_periods asked (parameters_for config id.sapi).n200
+      * (config.durations.t200 + lateness) < moment → Outcome m v → Has v
   answered_by m moment v ticks quiet late (inl h) = h
   answered_by m moment v ticks quiet late (inr (inl (last, h))) =
       let w = h.ready.waits in
       let t = w.in_time ticks in
-      let early = quiet_managed v.now.served w.deadline moment w.runs quiet in
+      let early = quiet_managed v.now.served w.deadline lateness moment w.runs quiet in
       absurd (omega (arith, early, t.bounded, late))
   answered_by m moment v ticks quiet late (inr (inr o)) =
-      let its = with_tei_of config id asked clock limit o.own in
+      let its = with_tei_of config id asked clock lateness limit o.own in
       absurd (too_late (v.now.served.links its) refl o.debt)
     where
       too_late : (l : Option Linked)
-          → v.now.served.links (with_tei_of config id asked clock limit o.own) ≡ l
-          → Debt config (with_tei_of config id asked clock limit o.own) asked clock o.since o.m
-          o.last l → ⊥
+          → v.now.served.links (with_tei_of config id asked clock lateness limit o.own) ≡ l
+          → Debt config (with_tei_of config id asked clock lateness limit o.own) asked clock
+          lateness o.since o.m o.last l → ⊥
       too_late None none debt = debt
       too_late (Some l) there debt =
           let t = debt.in_time ticks in
-          let early = quiet_until v.now.served (with_tei_of config id asked clock limit o.own) l
-          debt.deadline moment there debt.runs quiet in
+          let early = quiet_until v.now.served
+          (with_tei_of config id asked clock lateness limit o.own) l debt.deadline lateness moment
+          there debt.runs quiet in
           omega (arith, early, t.bounded, o.in_time ticks, late)

@@ -78,40 +78,40 @@ if_tested : {X : Type 0} (P : X → Type 0) (test : Bool) (a b : X) → (test �
 if_tested P true a b first second = first refl
 if_tested P false a b first second = second refl
 
-module _ (config : Config) (id : LinkId) (asked : Asked) (clock : Bool) (limit : ℕ)
+module _ (config : Config) (id : LinkId) (asked : Asked) (clock : Bool) (lateness limit : ℕ)
     (is : Establishes asked) (m now : ℕ) where
   abbrev Ready : User → Type 0
-  Ready s = IsReady config id asked clock limit m now s
+  Ready s = IsReady config id asked clock lateness limit m now s
 
   abbrev Next : Reaction User → Type 0
-  Next a = Goes config id asked clock limit m now a
+  Next a = Goes config id asked clock lateness limit m now a
 
   abbrev pub NextWith : ℕ → Reaction User → Type 0
-  NextWith less a = GoesWith config id asked clock limit m now less a
+  NextWith less a = GoesWith config id asked clock lateness limit m now less a
 
   message_goes : (k : TeiKind) (its ai : ℕ) (s : User) (h : Ready s)
-      → Next (Acts config id asked clock limit m now
+      → Next (Acts config id asked clock lateness limit m now
       (awaiting_receives h.waits.purpose h.waits.count h.waits.ri k its ai) s)
   message_goes kind.Assigned its ai s h =
       let w = h.waits in
-      if_either (λ step. Next (Acts config id asked clock limit m now step s))
+      if_either (λ step. Next (Acts config id asked clock lateness limit m now step s))
       ((its == w.ri) && is_automatic ai)
       (moves_to (Assigned (Some w.ri) ai) (outcome.Stop T202 ∷ outcome.Got ai ∷ []))
       (moves_to (Awaiting w.purpose w.count w.ri) [])
-      (obtains config id asked clock limit m now ai (Some w.ri) s is w h.no_links)
-      (awaits config id asked clock limit m now w.purpose s w)
-  message_goes kind.Request its ai s h = awaits config id asked clock limit m now h.waits.purpose s
-      h.waits
-  message_goes kind.Denied its ai s h = awaits config id asked clock limit m now h.waits.purpose s
-      h.waits
+      (obtains config id asked clock lateness limit m now ai (Some w.ri) s is w h.no_links)
+      (awaits config id asked clock lateness limit m now w.purpose s w)
+  message_goes kind.Request its ai s h = awaits config id asked clock lateness limit m now
+      h.waits.purpose s h.waits
+  message_goes kind.Denied its ai s h = awaits config id asked clock lateness limit m now
+      h.waits.purpose s h.waits
   message_goes kind.CheckRequest its ai s h =
-      awaits config id asked clock limit m now h.waits.purpose s h.waits
+      awaits config id asked clock lateness limit m now h.waits.purpose s h.waits
   message_goes kind.CheckResponse its ai s h =
-      awaits config id asked clock limit m now h.waits.purpose s h.waits
-  message_goes kind.Remove its ai s h = awaits config id asked clock limit m now h.waits.purpose s
-      h.waits
-  message_goes kind.Verify its ai s h = awaits config id asked clock limit m now h.waits.purpose s
-      h.waits
+      awaits config id asked clock lateness limit m now h.waits.purpose s h.waits
+  message_goes kind.Remove its ai s h = awaits config id asked clock lateness limit m now
+      h.waits.purpose s h.waits
+  message_goes kind.Verify its ai s h = awaits config id asked clock lateness limit m now
+      h.waits.purpose s h.waits
 
   hears : (m : TeiMessage) (s : User) → Ready s
       → Next (terminal_acts config now (event.Heard m) s)
@@ -126,7 +126,7 @@ module _ (config : Config) (id : LinkId) (asked : Asked) (clock : Bool) (limit :
   asks s h =
       subst (λ phase. Next (assigned config now
       (terminal_step phase (event.Ask (next_reference s.management.random))) s)) (sym h.waits.phase)
-      (awaits config id asked clock limit m now h.waits.purpose s h.waits)
+      (awaits config id asked clock lateness limit m now h.waits.purpose s h.waits)
 
   wanting : (other : Sapi) (s : User) → Ready s
       → Next (terminal_acts config now event.Want
@@ -137,7 +137,7 @@ module _ (config : Config) (id : LinkId) (asked : Asked) (clock : Bool) (limit :
       let more : User = record s { management = record s.management { pending = with_pending other true s.management.pending } } in
       subst (λ phase. Next (assigned config now
       (terminal_step phase (event.Want (next_reference s.management.random))) more)) (sym w.phase)
-      (awaits config id asked clock limit m now reason.Establishment more (record {
+      (awaits config id asked clock lateness limit m now reason.Establishment more (record {
         purpose = w.purpose;
         count = w.count;
         ri = w.ri;
@@ -165,14 +165,15 @@ module _ (config : Config) (id : LinkId) (asked : Asked) (clock : Bool) (limit :
       } in
       subst (λ phase. NextWith (m - 1) (assigned config now
       (terminal_step phase (event.T202 (next_reference s.management.random))) off)) (sym w.phase)
-      (if_tested (λ step. NextWith (m - 1) (Acts config id asked clock limit m now step off))
+      (if_tested
+      (λ step. NextWith (m - 1) (Acts config id asked clock lateness limit m now step off))
       (nat_lt w.count n202)
       (moves_to (Awaiting w.purpose (w.count + 1) (next_reference s.management.random))
       (outcome.Send (request (next_reference s.management.random)) ∷ outcome.Start T202 ∷ []))
       (moves_to Unassigned (outcome.Failed ∷ []))
-      (λ more. again config id asked clock limit m now (next_reference s.management.random) s w
-      (below w.count n202 more))
-      (λ last. fails config id asked clock limit m now off is w.kept))
+      (λ more. again config id asked clock lateness limit m now (next_reference s.management.random)
+      s w (below w.count n202 more))
+      (λ last. fails config id asked clock lateness limit m now off is w.kept))
 
   fewer : (a : Reaction User) → NextWith (m - 1) a → Next a
   fewer a (inl h) = inl h
@@ -248,8 +249,8 @@ module _ (config : Config) (id : LinkId) (asked : Asked) (clock : Bool) (limit :
       (forgot other s (sapi_value id.sapi == sapi_value other) refl keeps h) tt
 
   pub waiting_is_ruled : IsRuled config now id (may_release asked) (Answers config id asked clock
-      limit)
-      Ready (Continues config id asked clock limit m now)
+      lateness limit)
+      Ready (Continues config id asked clock lateness limit m now)
   waiting_is_ruled = record {
     same = λ s h. inl h.waits;
     relinked = λ links s h. inl h.waits;

@@ -80,11 +80,13 @@ establishes_fits Establishment is = tt
 establishes_fits Withdrawal is = tt
 establishes_fits Clearing is = absurd is
 
-begun_owes : (config : Config) (id : LinkId) (asked : Asked) (clock : Bool) (now last : ℕ)
-    → Establishes asked → last ≤ now → (clock ≡ true → now ≤ last_moment)
-    → Debt config id asked clock now (most_expiries asked (parameters_for config id.sapi).n200) last
+begun_owes : (config : Config) (id : LinkId) (asked : Asked) (clock : Bool)
+    (lateness now last : ℕ) → Establishes asked → last ≤ now
+    → (clock ≡ true → now ≤ last_moment + lateness)
+    → Debt config id asked clock lateness now
+    (most_expiries asked (parameters_for config id.sapi).n200) last
     (Some (after_step now (all_stopped config.durations) (begun (parameters_for config id.sapi))))
-begun_owes config id asked clock now last is earlier some = record {
+begun_owes config id asked clock lateness now last is earlier some = record {
   was = Establishing;
   fits = establishes_fits asked is;
   owed = (refl, refl, refl, refl);
@@ -99,22 +101,22 @@ begun_owes config id asked clock now last is earlier some = record {
     bounded = omega (
       arith,
       most_left asked (parameters_for config id.sapi).n200 Establishing 0
-          config.durations.t200,
+          (config.durations.t200 + lateness),
     );
   };
 }
 
 -- ---- While the terminal awaits a TEI.
 
--- By the clock: the deadline of T202 is not before now, and T202 may run n202 - count times more
--- after it, until `limit`.
-pub record IsInTime202 (config : Config) (limit now count deadline : ℕ) : Type 0 where
-  pub early : now ≤ deadline
+-- By the clock: T202 ends at most `lateness` after its deadline, and it may run n202 - count times
+-- more after that, until `limit`.
+pub record IsInTime202 (config : Config) (lateness limit now count deadline : ℕ) : Type 0 where
+  pub early : now ≤ deadline + lateness
   pub late : deadline ≤ last_moment
-  pub bounded : deadline + (n202 - count) * config.durations.t202 ≤ limit
+  pub bounded : deadline + lateness + (n202 - count) * (config.durations.t202 + lateness) ≤ limit
 
 -- at most m more expiries of T202; with `clock`, in time
-pub record IsWaiting (config : Config) (at : Sapi) (clock : Bool) (limit m now : ℕ)
+pub record IsWaiting (config : Config) (at : Sapi) (clock : Bool) (lateness limit m now : ℕ)
     (terminal : Phase) (pending : PendingEstablishments) (t : Timers) : Type 0 where
   pub purpose : Purpose
   pub count : ℕ
@@ -126,7 +128,7 @@ pub record IsWaiting (config : Config) (at : Sapi) (clock : Bool) (limit m now :
   pub deadline : ℕ
   pub runs : deadline_of T202 t ≡ Some deadline
   pub few : n202 - count + 1 ≤ m
-  pub in_time : clock ≡ true → IsInTime202 config limit now count deadline
+  pub in_time : clock ≡ true → IsInTime202 config lateness limit now count deadline
 
 -- ---- The kept establishment is released, or executed.
 
@@ -212,141 +214,143 @@ begun_in config now own sapi.Packet s kept was =
     ≡ Some (begun_link config id now)) (sym kept) (begun_by config now id first still)
 begun_in config now own sapi.Management s kept was = cc
 
-module _ (config : Config) (id : LinkId) (asked : Asked) (clock : Bool) (limit : ℕ) where
-  abbrev pub N200 : ℕ
-  N200 = (parameters_for config id.sapi).n200
+module _ (config : Config) (id : LinkId) (asked : Asked) (clock : Bool) (lateness limit : ℕ)
+  where
+    abbrev pub N200 : ℕ
+    N200 = (parameters_for config id.sapi).n200
 
-  -- the link of this TEI
-  abbrev pub with_tei_of : ℕ → LinkId
-  with_tei_of own = of_sapi id.sapi own
+    -- the link of this TEI
+    abbrev pub with_tei_of : ℕ → LinkId
+    with_tei_of own = of_sapi id.sapi own
 
-  -- the terminal has a TEI, and since then the link owes the answer
-  pub record HasBegun (now : ℕ) (links : Links) : Type 0 where
-    pub own : ℕ
-    pub since : ℕ
-    pub in_time : clock ≡ true → since ≤ limit
-    pub debt : Debt config (with_tei_of own) asked clock since (most_expiries asked N200) now
-        (links (with_tei_of own))
+    -- the terminal has a TEI, and since then the link owes the answer
+    pub record HasBegun (now : ℕ) (links : Links) : Type 0 where
+      pub own : ℕ
+      pub since : ℕ
+      pub in_time : clock ≡ true → since ≤ limit
+      pub debt : Debt config (with_tei_of own) asked clock lateness since (most_expiries asked N200)
+          now (links (with_tei_of own))
 
-  abbrev pub Waits : ℕ → ℕ → User → Type 0
-  Waits m now s = IsWaiting config id.sapi clock limit m now s.management.terminal s.management.pending s.served.timers
+    abbrev pub Waits : ℕ → ℕ → User → Type 0
+    Waits m now s = IsWaiting config id.sapi clock lateness limit m now s.management.terminal
+        s.management.pending s.served.timers
 
-  abbrev pub Continues : ℕ → ℕ → User → Type 0
-  Continues m now s = Waits m now s ⊎ HasBegun now s.served.links
+    abbrev pub Continues : ℕ → ℕ → User → Type 0
+    Continues m now s = Waits m now s ⊎ HasBegun now s.served.links
 
-  -- before an event: no link exists, and T202 alone runs
-  pub record IsReady (m now : ℕ) (s : User) : Type 0 where
-    pub waits : Waits m now s
-    pub no_links : (k : LinkId) → s.served.links k ≡ None
-    pub timer : HasTimerOfTerminal s
+    -- before an event: no link exists, and T202 alone runs
+    pub record IsReady (m now : ℕ) (s : User) : Type 0 where
+      pub waits : Waits m now s
+      pub no_links : (k : LinkId) → s.served.links k ≡ None
+      pub timer : HasTimerOfTerminal s
 
-  abbrev pub Answers : List Primitive → Type 0
-  Answers primitives = HasAnswerFor asked id.sapi primitives
+    abbrev pub Answers : List Primitive → Type 0
+    Answers primitives = HasAnswerFor asked id.sapi primitives
 
-  module _ (m now : ℕ) where
-    abbrev pub GoesWith : ℕ → Reaction User → Type 0
-    GoesWith less a = Answers a.effects.primitives ⊎ Continues less now a.after
+    module _ (m now : ℕ) where
+      abbrev pub GoesWith : ℕ → Reaction User → Type 0
+      GoesWith less a = Answers a.effects.primitives ⊎ Continues less now a.after
 
-    abbrev pub Goes : Reaction User → Type 0
-    Goes a = GoesWith m a
+      abbrev pub Goes : Reaction User → Type 0
+      Goes a = GoesWith m a
 
-    abbrev pub Acts : TerminalStep → User → Reaction User
-    Acts step s = assigned config now step s
+      abbrev pub Acts : TerminalStep → User → Reaction User
+      Acts step s = assigned config now step s
 
-    -- still awaiting the answer to the same request
-    pub awaits : (purpose : Purpose) (s : User) (w : Waits m now s)
-        → Goes (Acts (moves_to (Awaiting purpose w.count w.ri) []) s)
-    unfolding manages
-    awaits purpose s w = inr (inl (record {
-      purpose = purpose;
-      count = w.count;
-      ri = w.ri;
-      phase = refl;
-      kept = w.kept;
-      served = w.served;
-      durations = w.durations;
-      deadline = w.deadline;
-      runs = w.runs;
-      few = w.few;
-      in_time = w.in_time;
-    }))
+      -- still awaiting the answer to the same request
+      pub awaits : (purpose : Purpose) (s : User) (w : Waits m now s)
+          → Goes (Acts (moves_to (Awaiting purpose w.count w.ri) []) s)
+      unfolding manages
+      awaits purpose s w = inr (inl (record {
+        purpose = purpose;
+        count = w.count;
+        ri = w.ri;
+        phase = refl;
+        kept = w.kept;
+        served = w.served;
+        durations = w.durations;
+        deadline = w.deadline;
+        runs = w.runs;
+        few = w.few;
+        in_time = w.in_time;
+      }))
 
-    product_less : (a b len : ℕ) → a + 1 ≤ b → len + a * len ≤ b * len
-    product_less a b len h =
-        let m : (a + 1) * len ≤ b * len = grind (arith, h) in grind (arith, m)
+      product_less : (a b len : ℕ) → a + 1 ≤ b → len + a * len ≤ b * len
+      product_less a b len h =
+          let m : (a + 1) * len ≤ b * len = grind (arith, h) in grind (arith, m)
 
-    -- T202 has expired, and the TEI is requested again
-    pub again : (new : ℕ) (s : User) (w : Waits m now s) → w.count < n202
-        → GoesWith (m - 1) (Acts (moves_to (Awaiting w.purpose (w.count + 1) new)
-        (outcome.Send (request new) ∷ outcome.Start T202 ∷ []))
-        (record s {
-          served = record { links = s.served.links; timers = stopped T202 s.served.timers };
-        }))
-    unfolding manages
-    again new s w more =
-        let is : s.served.timers.durations.t202 ≡ config.durations.t202 =
-        ap (λ (d : Lengths). d.t202) w.durations in
-        let less = product_less (n202 - (w.count + 1)) (n202 - w.count) config.durations.t202
-        (omega (arith, more)) in
-        inr (inl (record {
-          purpose = w.purpose;
-          count = w.count + 1;
-          ri = new;
-          phase = refl;
-          kept = w.kept;
-          served = w.served;
-          durations = w.durations;
-          deadline = deadline_from now s.served.timers.durations.t202;
-          runs = refl;
-          few = omega (arith, w.few, more);
-          in_time = λ ticks.
-              let t = w.in_time ticks in
-              record {
-                early = omega (arith, t.early, t.late);
-                late = omega arith;
-                bounded = omega (arith, t.bounded, t.early, less, is);
-              };
-        }))
+      -- T202 has expired, and the TEI is requested again
+      pub again : (new : ℕ) (s : User) (w : Waits m now s) → w.count < n202
+          → GoesWith (m - 1) (Acts (moves_to (Awaiting w.purpose (w.count + 1) new)
+          (outcome.Send (request new) ∷ outcome.Start T202 ∷ []))
+          (record s {
+            served = record { links = s.served.links; timers = stopped T202 s.served.timers };
+          }))
+      unfolding manages
+      again new s w more =
+          let is : s.served.timers.durations.t202 ≡ config.durations.t202 =
+          ap (λ (d : Lengths). d.t202) w.durations in
+          let less = product_less (n202 - (w.count + 1)) (n202 - w.count)
+          (config.durations.t202 + lateness) (omega (arith, more)) in
+          inr (inl (record {
+            purpose = w.purpose;
+            count = w.count + 1;
+            ri = new;
+            phase = refl;
+            kept = w.kept;
+            served = w.served;
+            durations = w.durations;
+            deadline = deadline_from now s.served.timers.durations.t202;
+            runs = refl;
+            few = omega (arith, w.few, more);
+            in_time = λ ticks.
+                let t = w.in_time ticks in
+                record {
+                  early = omega (arith, t.early, t.late);
+                  late = omega arith;
+                  bounded = omega (arith, t.bounded, t.early, less, is);
+                };
+          }))
 
-    -- no TEI was obtained
-    pub fails : (s : User) → Establishes asked → is_pending id.sapi s.management.pending ≡ true
-        → GoesWith (m - 1) (Acts (moves_to Unassigned (outcome.Failed ∷ [])) s)
-    unfolding manages
-    fails s is kept = inl (released_for asked id.sapi s.management.pending is kept)
+      -- no TEI was obtained
+      pub fails : (s : User) → Establishes asked → is_pending id.sapi s.management.pending ≡ true
+          → GoesWith (m - 1) (Acts (moves_to Unassigned (outcome.Failed ∷ [])) s)
+      unfolding manages
+      fails s is kept = inl (released_for asked id.sapi s.management.pending is kept)
 
-    joins : (own : ℕ) (links : Links) → is_served config id.sapi ≡ true
-        → links (with_tei_of own) ≡ None
-        → with_tei config own links (with_tei_of own) ≡ Some (fresh config (with_tei_of own))
-    unfolding with_tei
-    joins own links served none =
-        let itself : (own == own) ≡ true = grind (arith, nat_tests) in
-        let is : is_link_of config own (with_tei_of own) ≡ true = rw (served, itself) refl in
-        rw (is, none) refl
+      joins : (own : ℕ) (links : Links) → is_served config id.sapi ≡ true
+          → links (with_tei_of own) ≡ None
+          → with_tei config own links (with_tei_of own) ≡ Some (fresh config (with_tei_of own))
+      unfolding with_tei
+      joins own links served none =
+          let itself : (own == own) ≡ true = grind (arith, nat_tests) in
+          let is : is_link_of config own (with_tei_of own) ≡ true = rw (served, itself) refl in
+          rw (is, none) refl
 
-    -- the TEI is obtained
-    pub obtains : (own : ℕ) (by : Option ℕ) (s : User) → Establishes asked → Waits m now s
-        → ((k : LinkId) → s.served.links k ≡ None)
-        → Goes (Acts (moves_to (Assigned by own) (outcome.Stop T202 ∷ outcome.Got own ∷ [])) s)
-    unfolding manages
-    obtains own by s is w none =
-        let step = moves_to (Assigned by own) (outcome.Stop T202 ∷ outcome.Got own ∷ []) in
-        let middle : User = record s {
-          served = (manages side.User config now step.outs s.served).after;
-          management = record s.management {
-            terminal = step.now;
-            random = drawn step.outs s.management.random;
-          };
-        } in
-        let new = joins own s.served.links w.served (none (with_tei_of own)) in
-        let now_begun = begun_in config now own id.sapi middle w.kept new in
-        let moment : clock ≡ true → now ≤ last_moment = λ ticks.
-        let t = w.in_time ticks in omega (arith, t.early, t.late) in
-        inr (inr (record {
-          own = own;
-          since = now;
-          in_time = λ ticks. let t = w.in_time ticks in omega (arith, t.early, t.bounded);
-          debt = subst (Debt config (with_tei_of own) asked clock now (most_expiries asked N200)
-              now)
-              (sym now_begun) (begun_owes config (with_tei_of own) asked clock now now is
-              (omega arith) moment);
-        }))
+      -- the TEI is obtained
+      pub obtains : (own : ℕ) (by : Option ℕ) (s : User) → Establishes asked → Waits m now s
+          → ((k : LinkId) → s.served.links k ≡ None)
+          → Goes (Acts (moves_to (Assigned by own) (outcome.Stop T202 ∷ outcome.Got own ∷ [])) s)
+      unfolding manages
+      obtains own by s is w none =
+          let step = moves_to (Assigned by own) (outcome.Stop T202 ∷ outcome.Got own ∷ []) in
+          let middle : User = record s {
+            served = (manages side.User config now step.outs s.served).after;
+            management = record s.management {
+              terminal = step.now;
+              random = drawn step.outs s.management.random;
+            };
+          } in
+          let new = joins own s.served.links w.served (none (with_tei_of own)) in
+          let now_begun = begun_in config now own id.sapi middle w.kept new in
+          let moment : clock ≡ true → now ≤ last_moment + lateness = λ ticks.
+          let t = w.in_time ticks in omega (arith, t.early, t.late) in
+          inr (inr (record {
+            own = own;
+            since = now;
+            in_time = λ ticks. let t = w.in_time ticks in omega (arith, t.early, t.bounded);
+            debt = subst (Debt config (with_tei_of own) asked clock lateness now
+                (most_expiries asked N200) now)
+                (sym now_begun) (begun_owes config (with_tei_of own) asked clock lateness now now is
+                (omega arith) moment);
+          }))

@@ -59,6 +59,10 @@ establishing = requested (request.Establish call) (user_with (Some 64) [])
 abbrev pub three_expiries : List SideStep
 three_expiries = t200_at (1000 ∷ 2000 ∷ 3000 ∷ [])
 
+-- each expiry is 10 ms late
+abbrev pub three_late_expiries : List SideStep
+three_late_expiries = t200_at (1010 ∷ 2020 ∷ 3030 ∷ [])
+
 -- ---- The release is requested while the link is being established. The SABME is answered at the
 -- last moment, and the DISC is not.
 

@@ -1,6 +1,6 @@
 -- Layer 3's requests to a side, their answers among the primitives of a link, and how often T200 of
 -- the link expires.
-use Rattle.std.specs.Prelude.{◌≡◌, ℕ, ◌+◌, ◌*◌, ◌≤◌, ◌==◌, ◌&&◌, Bool, true, false, List, [], ◌∷◌, ◌++◌, Some, None}
+use Rattle.std.specs.Prelude.{◌≡◌, ℕ, ◌+◌, ◌-◌, ◌*◌, ◌≤◌, ◌==◌, ◌&&◌, Bool, true, false, List, [], ◌∷◌, ◌++◌, Some, None}
 use Rattle.std.specs.List.{list_any, count_by}
 use Rattle.lapd_timers.specs.declared.timer.Timer.TheVariants.{T200, T202}
 use Rattle.lapd_frame.specs.declared.Sapi.{Sapi}
@@ -14,7 +14,7 @@ use Rattle.lapd_sides_links.specs.declared.primitive.Primitive.TheVariants.{Of, 
 use Rattle.lapd_sides_links.specs.declared.primitive.What.{What}
 use Rattle.lapd_sides_links.specs.declared.primitive.What.TheVariants as what
 use Rattle.lapd_sides_links.specs.Expiries.{IsQuietBefore}
-use Rattle.lapd_sides_links.specs.Links.{Reaction}
+use Rattle.lapd_sides_links.specs.Links.{Reaction, Served}
 use Rattle.lapd_sides.specs.declared.request.Request.{Request}
 use Rattle.lapd_sides.specs.declared.request.Request.TheVariants as request
 use Rattle.lapd_sides_laws.specs.EndAnswers.{Asked, Establishment, Withdrawal, Clearing, may_release}
@@ -99,16 +99,20 @@ IsBy moment (Expire timer of now) = now ≤ moment
 IsBy moment (Ask request now) = now ≤ moment
 IsBy moment (Overhear octets now) = now ≤ moment
 
--- no timer of the side is overdue at the moment of the event
-abbrev pub IsPunctual : {S : Type 0} → Behaviour S → SideEvent → S → Type 0
-IsPunctual w (Take now) s = IsQuietBefore (w.served s) now
-IsPunctual w (Lose at) s = Unit {0}
-IsPunctual w (Expire timer of now) s = IsQuietBefore (w.served s) now
-IsPunctual w (Ask request now) s = IsQuietBefore (w.served s) now
-IsPunctual w (Overhear octets now) s = IsQuietBefore (w.served s) now
+-- At this moment no timer of the side has been due for more than `late` milliseconds.
+abbrev pub IsAtMostLate : ℕ → Served → ℕ → Type 0
+IsAtMostLate late s now = IsQuietBefore s (now - late)
+
+-- the same at the moment of the event
+abbrev pub IsPunctual : {S : Type 0} → ℕ → Behaviour S → SideEvent → S → Type 0
+IsPunctual late w (Take now) s = IsAtMostLate late (w.served s) now
+IsPunctual late w (Lose at) s = Unit {0}
+IsPunctual late w (Expire timer of now) s = IsAtMostLate late (w.served s) now
+IsPunctual late w (Ask request now) s = IsAtMostLate late (w.served s) now
+IsPunctual late w (Overhear octets now) s = IsAtMostLate late (w.served s) now
 
 -- The most periods of T200 until the answer: one for each SABME and each DISC. T200 is started anew
--- if the DISC is sent.
+-- if the DISC is sent. Each period may end late.
 abbrev pub most_periods : Asked → ℕ → ℕ
 most_periods Establishment n200 = n200 + 1
 most_periods asked n200 = 2 * (n200 + 1)
@@ -129,8 +133,9 @@ abbrev pub IsAnsweredFor : {S : Type 0} → Asked → Sapi → Behaviour S → R
 IsAnsweredFor asked sapi w a side_steps = HasAnswerFor asked sapi
     (a.effects.primitives ++ (after_request w a side_steps).delivered)
 
--- Every timer of the side is expired no later than it is due, up to this moment.
-pub record AreExpiredInTime {S : Type 0} (w : Behaviour S) (a : Reaction S)
+-- Every timer of the side is expired at most `late` milliseconds after it is due, up to this
+-- moment. If `late` is 0, it is expired when it is due.
+pub record AreExpiredInTime {S : Type 0} (late : ℕ) (w : Behaviour S) (a : Reaction S)
     (side_steps : List SideStep) (moment : ℕ) : Type 0 where
-  pub at_each : Throughout w (IsPunctual w) side_steps (new_view a.after)
-  pub at_last : IsQuietBefore (w.served (after_request w a side_steps).now) moment
+  pub at_each : Throughout w (IsPunctual late w) side_steps (new_view a.after)
+  pub at_last : IsAtMostLate late (w.served (after_request w a side_steps).now) moment

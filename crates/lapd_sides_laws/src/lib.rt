@@ -59,7 +59,7 @@
 //! - [`every_end_answers`]: an end answers each request of layer 3 before its T200 has expired too
 //!   often, whatever its inputs are.
 //! - [`every_request_is_answered`]: so does a side, whatever arrives, and in time if its timers are
-//!   expired when they are due.
+//!   expired when they are due, or late by a bounded time.
 //! - [`bounds_are_reached`]: worked runs in which layer 3 has its answer at the last moment.
 //! - [`every_message_is_accounted_for`]: every message submitted is acknowledged, dropped or waits,
 //!   whatever arrives, as long as the TEI of its link stays.
