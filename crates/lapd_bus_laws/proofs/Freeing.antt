@@ -257,7 +257,7 @@ module _ (c : Configs) where
         no_management c known;
   }
 
-  -- ---- What the network assigns is not in use.
+  -- ---- The network assigns no TEI that is in use.
 
   assigns_unused : (e : BusEvent) (b : Bus) → LosesNone c e b → Knows b → AssignsFree c e b
   assigns_unused (OfNetwork j event) b is h = λ t there tei given.

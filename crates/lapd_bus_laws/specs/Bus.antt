@@ -191,8 +191,8 @@ abbrev pub OverhearsNothing : SideEvent → Type 0
 OverhearsNothing (Overhear octets now) = ⊥
 OverhearsNothing event = Unit {0}
 
--- The event leaves the terminal at this index and the network as they are, but for what they do
--- themselves: another terminal may join, and the network does not restart.
+-- The network does not restart, and no new terminal replaces the one at this index. Other terminals
+-- may be replaced.
 abbrev pub KeepsTerminal : ℕ → BusEvent → Type 0
 KeepsTerminal i (OfTerminal j event) = OverhearsNothing event
 KeepsTerminal i (OfNetwork j event) = OverhearsNothing event

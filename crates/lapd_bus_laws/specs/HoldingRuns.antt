@@ -14,8 +14,8 @@ use Rattle.lapd_bus_laws.specs.Holdings.{RequestsByItsOwn, LeavesAlone}
 use Rattle.lapd_bus_laws.specs.Links.{Throughout, IsTimelyFor, AssignsOthers}
 use Rattle.lapd_bus_laws.specs.Runs.{two_terminals, twins, first_alone, assigns_first}
 
--- What the terminal at this index received of the network is right, and what the network received
--- of it.
+-- The terminal at this index received messages of the network in order and once each, and all that
+-- the network counts as acknowledged; the second is the same for the network.
 abbrev pub IsReceivedByTerminal : LinkId → ℕ → Bus → Type 0
 IsReceivedByTerminal id i b = (t : SideView User) → slice_get b.terminals i ≡ Some t
     → IsReceived (given_to id b.given) (known_of id b.delivered).acked

@@ -88,8 +88,8 @@ pub record IsClear (id : LinkId) (i : ℕ) (b : Bus) : Type 0 where
   pub to_terminal : (t : SideView User) → slice_get b.terminals i ≡ Some t
       → those_for side.Network id t.incoming ≡ []
 
--- The event leaves the terminal at this index and the network as they are, and no terminal joins
--- with the TEI as a fixed one.
+-- The network does not restart, no new terminal replaces the one at this index, and none joins with
+-- this TEI as its fixed TEI.
 abbrev pub LeavesAlone : ℕ → ℕ → BusEvent → Type 0
 LeavesAlone tei i (Join j new) = (j ≡ i → ⊥) × (new.fixed ≡ Some tei → ⊥)
 LeavesAlone tei i other = KeepsTerminal i other

@@ -56,11 +56,11 @@ user_after config fixed random s = record (new_user config fixed random) {
   served = served_after s.served (new_user config fixed random).served;
 }
 
--- ---- What layer 3 knows of a restart.
+-- ---- A restart, as layer 3 counts it.
 
--- A restart delivers no primitive, but layer 3 knows of it, as if the side had delivered these. If
--- the side has the link again, the messages that waited count as dropped. If not, its TEI is gone,
--- and nothing is known of them, as if the terminal had given up the TEI.
+-- A restart delivers no primitive, but layer 3 counts as if the side had delivered these. If the
+-- side has the link again, the messages that waited count as dropped. If not, its TEI is gone, and
+-- they are not counted, as if the terminal had given up the TEI.
 abbrev pub drop_all : LinkId → ℕ → List Primitive
 drop_all id zero = []
 drop_all id (suc n) = Of id (what.Dropped (suc n)) ∷ []
