@@ -19,6 +19,7 @@ impl Address {
     ///
     /// Returns `BadAddress` if an extension bit is wrong, else `SapiNotServed` if the service
     /// access point is not served.
+    #[inline(always)]
     pub fn read(octets: [u8; 2], from: Side) -> Result<Address, FieldFault>
         ensures exact { result ≡ address_at from octets }
         ensures found { IfOk result (λ a. IsAddress a × (octets ≡ address_octets from a)) }
@@ -40,6 +41,7 @@ impl Address {
     }
 
     /// The two octets of the address, in a frame that `from` sends.
+    #[inline(always)]
     pub fn write(&self, from: Side) -> [u8; 2]
         ensures octets { result ≡ address_octets from self.now }
         ensures grammar { IsAddress self.now }
@@ -53,6 +55,7 @@ impl Address {
 }
 
 /// The role of a frame of `from`, by its C/R bit.
+#[inline(always)]
 fn role_of(set: bool, from: Side) -> Role
     ensures { result ≡ role_of from set }
 {

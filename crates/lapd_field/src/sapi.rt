@@ -17,6 +17,7 @@ pub enum Sapi {
 
 impl Sapi {
     /// The served service access point with this number; `None` if the number is not 0, 16 or 63.
+    #[inline(always)]
     pub fn new(value: u8) -> Option<Sapi>
         ensures { result ≡ sapi_at value }
     {

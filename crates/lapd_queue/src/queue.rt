@@ -158,8 +158,7 @@ impl IQueue {
             let Some(message) = self.messages.pop_front() else {
                 unreachable!()
             };
-            // If eight rooms are kept, this is the message, which is dropped.
-            let _back = self.kept.try_push(message);
+            keep(&mut self.kept, message);
         }
         self.sent -= n;
     }
@@ -180,5 +179,14 @@ impl IQueue {
         self.go_back();
         self.messages.clear();
         dropped
+    }
+}
+
+/// Keeps the room of this message for a later one, unless eight are kept.
+#[inline(always)]
+#[tactic(auto)]
+fn keep(kept: &mut ArrayVec<Vec<u8>, 8, Global>, message: Vec<u8>) {
+    if !kept.is_full() {
+        kept.push(message);
     }
 }

@@ -180,7 +180,7 @@ run_alike : (r : Reading) (moves : List Move) (w u : World) → WorldAlike w u �
 run_alike r [] w u a = a
 run_alike r (move ∷ moves) w u a = run_alike r moves (world_after w (happens_keeping r move w)) (world_after u (happens_quickly r move u)) (after_alike w u _ _ a (move_alike r move w u a))
 
--- ---- What follows from it.
+-- ---- Consequences for reports and refusals.
 
 -- reports
 report_alike : (x y : Result Happened Refusal) → HappenedAlike x y → ReportsExpected x → ReportsExpected y

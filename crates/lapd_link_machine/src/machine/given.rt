@@ -87,6 +87,7 @@ impl Machine {
     }
 
     /// Whether a message is sent at once if it is queued.
+    #[inline(always)]
     fn is_open(&self) -> bool
         ensures exactly { result ≡ (is_idle_machine self.now
             && may_send Tagged self.now.params.k self.now.window) }

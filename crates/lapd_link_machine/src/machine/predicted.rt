@@ -276,6 +276,7 @@ impl Machine {
     }
 
     /// Whether the state is 7, and no message is unsent.
+    #[inline(always)]
     pub(crate) fn is_idle(&self) -> bool
         ensures exactly { result ≡ is_idle_machine self.now }
         ensures idle { result ≡ true → IsIdle self.now }

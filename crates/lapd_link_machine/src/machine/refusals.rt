@@ -81,6 +81,7 @@ impl Machine {
     }
 
     /// Why a message of this many octets is refused, whether or not the queue is full.
+    #[inline(always)]
     pub fn refuses_message(&self, len: usize) -> Option<LinkFault>
         ensures { (message : List ℕ) (e : End) → length message ≡ len
             → Represents self.now [] (begin e) → MatchOption result
