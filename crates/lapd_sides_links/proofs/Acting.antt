@@ -39,7 +39,7 @@ use Rattle.lapd_sides_links.specs.Places.{AreStopped}
 use Rattle.lapd_sides_links.specs.LinkTimers.{timers_of}
 use Rattle.lapd_sides_links.specs.TimersAtPlaces.{of_each_link}
 use Rattle.lapd_sides_links.specs.Shown.{timers_at, made_by, IsLinked, LinksDo, ShowLinks, HaveActed}
-use Rattle.lapd_sides_links.proofs.Dues.{deadline_stays, same_past, same_runs}
+use Rattle.lapd_sides_links.proofs.DueTimers.{deadline_stays, same_past, same_runs}
 
 -- ---- The link does not exist.
 

@@ -3,7 +3,7 @@ pub mod Arrivals
 pub mod Known
 pub mod Units
 pub mod Order
-pub mod Dues
+pub mod DueTimers
 pub mod LoneTimers
 pub mod Outcomes
 pub mod Tournaments

@@ -110,7 +110,7 @@ impl Machine {
         let (window, field) = self.window.send_message();
         self.window = window;
         self.queue.sent_one();
-        let effect = self.ensure_t200_quietly();
+        let effect = self.ensure_t200_returning();
         GivenOuts {
             place,
             field,
@@ -120,15 +120,15 @@ impl Machine {
 
     /// If T200 does not run, stops T203 and starts T200.
     #[inline(always)]
-    fn ensure_t200_quietly(&mut self) -> SendEffect
+    fn ensure_t200_returning(&mut self) -> SendEffect
         ensures step { (s : StepState) (outs : List Out) → Represents self.old outs s
             → Represents self.new (outs ++ send_outs result) (ensure_t200 s) }
     {
         if self.t200 {
             SendEffect::Nothing
         } else {
-            let stops = self.stop_t203_quietly();
-            self.start_t200_quietly();
+            let stops = self.stop_t203_returning();
+            self.start_t200_returning();
             SendEffect::Starts { stops }
         }
     }

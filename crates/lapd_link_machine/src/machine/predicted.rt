@@ -54,7 +54,7 @@ impl Machine {
 
     /// STOP T200. Returns whether it ran.
     #[inline(always)]
-    fn stop_t200_quietly(&mut self) -> bool
+    fn stop_t200_returning(&mut self) -> bool
         ensures step { (s : StepState) (outs : List Out) → Represents self.old outs s
             → Represents self.new (outs ++ out_where result (Stop T200)) (stop T200 s) }
         ensures idle { IsIdle self.old → IsIdle self.new }
@@ -66,7 +66,7 @@ impl Machine {
 
     /// STOP T203. Returns whether it ran.
     #[inline(always)]
-    pub(crate) fn stop_t203_quietly(&mut self) -> bool
+    pub(crate) fn stop_t203_returning(&mut self) -> bool
         ensures step { (s : StepState) (outs : List Out) → Represents self.old outs s
             → Represents self.new (outs ++ out_where result (Stop T203)) (stop T203 s) }
     {
@@ -77,7 +77,7 @@ impl Machine {
 
     /// START T203.
     #[inline(always)]
-    fn start_t203_quietly(&mut self)
+    fn start_t203_returning(&mut self)
         ensures step { (s : StepState) (outs : List Out) → Represents self.old outs s
             → Represents self.new (outs ++ Start T203 ∷ []) (start T203 s) }
         ensures idle { IsIdle self.old → IsIdle self.new }
@@ -87,7 +87,7 @@ impl Machine {
 
     /// START T200.
     #[inline(always)]
-    pub(crate) fn start_t200_quietly(&mut self)
+    pub(crate) fn start_t200_returning(&mut self)
         ensures step { (s : StepState) (outs : List Out) → Represents self.old outs s
             → Represents self.new (outs ++ Start T200 ∷ []) (start T200 s) }
         ensures idle { IsIdle self.old → IsIdle self.new }
@@ -105,7 +105,7 @@ impl Machine {
     /// Processes a valid N(R), and T200 and T203 by whether it acknowledges all, nothing new, or
     /// some.
     #[inline(always)]
-    fn take_nr_quietly(&mut self, nr: Number, taken: (Window, Advance)) -> NrEffect
+    fn take_nr_returning(&mut self, nr: Number, taken: (Window, Advance)) -> NrEffect
         requires taken { IsTaken nr self.old.window taken }
         requires counted { SentAreOutstanding self.old }
         ensures step { (s : StepState) (outs : List Out) → Represents self.old outs s
@@ -113,22 +113,22 @@ impl Machine {
         ensures idle { IsIdle self.old → IsIdle self.new }
     {
         if taken.1.all {
-            let count = self.acknowledge_quietly(nr, taken);
-            let stops = self.stop_t200_quietly();
-            self.start_t203_quietly();
+            let count = self.acknowledge_returning(nr, taken);
+            let stops = self.stop_t200_returning();
+            self.start_t203_returning();
             NrEffect::All { count, stops }
         } else if self.acknowledges_nothing_new(nr) {
             NrEffect::Nothing
         } else {
-            let count = self.acknowledge_quietly(nr, taken);
-            self.start_t200_quietly();
+            let count = self.acknowledge_returning(nr, taken);
+            self.start_t200_returning();
             NrEffect::Part { count }
         }
     }
 
     /// Ends the step: no message is unsent, so at most the pending acknowledgement is sent.
     #[inline(always)]
-    fn end_quietly(&mut self) -> Option<Response>
+    fn end_returning(&mut self) -> Option<Response>
         requires idle { IsIdle self.old }
         ensures step { (s : StepState) (outs : List Out) → Represents self.old outs s
             → Represents self.new (outs ++ response_outs result) (end_step Tagged s) }
@@ -165,8 +165,8 @@ impl Machine {
         match window.take_nr(nr) {
             Some(taken) => {
                 self.window = window;
-                let nr = self.take_nr_quietly(nr, taken);
-                let acknowledgement = self.end_quietly();
+                let nr = self.take_nr_returning(nr, taken);
+                let acknowledgement = self.end_returning();
                 Some(PredictedOuts {
                     response,
                     is_up,

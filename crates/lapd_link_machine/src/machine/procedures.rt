@@ -289,7 +289,7 @@ impl Machine {
     /// Returns how many.
     #[tactic(auto, using(crate::proofs::Tails::tails), unfolding(lapd_link_definition::specs::Procedures::acknowledge))]
     #[inline(always)]
-    pub(crate) fn acknowledge_quietly(&mut self, nr: Number, taken: (Window, Advance)) -> u16
+    pub(crate) fn acknowledge_returning(&mut self, nr: Number, taken: (Window, Advance)) -> u16
         requires taken { IsTaken nr self.old.window taken }
         requires counted { SentAreOutstanding self.old }
         ensures step { (s : StepState) (outs : List Out) → Represents self.old outs s
@@ -313,7 +313,7 @@ impl Machine {
         ensures step { MachineDoes self.old outs.old self.new outs.new (acknowledge Tagged nr) }
         ensures len { Grows 1 outs.old outs.new }
     {
-        let count = self.acknowledge_quietly(nr, taken);
+        let count = self.acknowledge_returning(nr, taken);
         if count > 0 {
             push(outs, Out::Acknowledged(count));
         }

@@ -1,5 +1,5 @@
 use Rattle.lapd_sides_links.specs.Expiries.{IsTimerOf}
-use Rattle.lapd_sides_links.proofs.Dues.{first_of_served, sooner_own}
+use Rattle.lapd_sides_links.proofs.DueTimers.{first_of_served, sooner_own}
 use Rattle.lapd_sides_links.proofs.deadlines.due.Goals as goal
 
 pub returns-clause-due : goal.returns-clause-due

@@ -1,7 +1,7 @@
 use Rattle.std.proofs.Common.{Option, sym, subst}
 use Rattle.lapd_sides_links.specs.declared.running_timer.RunningTimer.{RunningTimer}
 use Rattle.lapd_sides_links.specs.Expiries.{IsFirst, IsPast, of_management}
-use Rattle.lapd_sides_links.proofs.Dues.{none_of_management, due_of_management}
+use Rattle.lapd_sides_links.proofs.DueTimers.{none_of_management, due_of_management}
 use Rattle.lapd_sides_links.proofs.deadlines.due_of_management.Goals as goal
 
 pub returns-in_err-timer-clause-first : goal.returns-in_err-timer-clause-first

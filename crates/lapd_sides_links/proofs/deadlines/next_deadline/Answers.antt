@@ -1,6 +1,6 @@
 use Rattle.std.proofs.Common.{ℕ, Option, ap, ◌∙◌}
 use Rattle.lapd_timers.specs.Moments.{earlier}
-use Rattle.lapd_sides_links.proofs.Dues.{next_of_served}
+use Rattle.lapd_sides_links.proofs.DueTimers.{next_of_served}
 use Rattle.lapd_sides_links.proofs.deadlines.next_deadline.Goals as goal
 
 pub returns : goal.returns

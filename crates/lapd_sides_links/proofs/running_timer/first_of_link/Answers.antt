@@ -1,4 +1,4 @@
-use Rattle.lapd_sides_links.proofs.Dues.{first_of_both}
+use Rattle.lapd_sides_links.proofs.DueTimers.{first_of_both}
 use Rattle.lapd_sides_links.proofs.running_timer.first_of_link.Goals as goal
 
 pub returns : goal.returns

@@ -11,7 +11,7 @@ use Rattle.lapd_link_machine.proofs.machine.Machine.send_at_once.Goals as goal
 pub returns : goal.returns
 unfolding transmit_i_frame
 returns c = record {
-  step = λ s h. rw (ends_with_one c.args.self.now [] s c.requires.state c.requires.one c.requires.window_open h) (c.ensure_t200_quietly-effect.ensures.step _ (SendMessage c.sent-place.result (field_of_message c.send_message-window.result.1) ∷ []) (record {
+  step = λ s h. rw (ends_with_one c.args.self.now [] s c.requires.state c.requires.one c.requires.window_open h) (c.ensure_t200_returning-effect.ensures.step _ (SendMessage c.sent-place.result (field_of_message c.send_message-window.result.1) ∷ []) (record {
     parameters = h.parameters;
     state = h.state;
     rc = h.rc;

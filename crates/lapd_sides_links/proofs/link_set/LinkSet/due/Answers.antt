@@ -1,7 +1,7 @@
 use Rattle.lapd_sides_links.specs.LinkTimers.{timers_of}
 use Rattle.lapd_sides_links.specs.TimersAtPlaces.{of_each_link}
 use Rattle.lapd_sides_links.proofs.Acting.{first_of_links}
-use Rattle.lapd_sides_links.proofs.Dues.{own_timer}
+use Rattle.lapd_sides_links.proofs.DueTimers.{own_timer}
 use Rattle.lapd_sides_links.proofs.link_set.LinkSet.due.Goals as goal
 
 pub returns-clause-first : goal.returns-clause-first

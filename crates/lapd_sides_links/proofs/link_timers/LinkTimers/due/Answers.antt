@@ -6,7 +6,7 @@ use Rattle.lapd_sides_links.specs.declared.running_timer.RunningTimer.{RunningTi
 use Rattle.lapd_sides_links.specs.Expiries.{IsFirst, IsPast}
 use Rattle.lapd_sides_links.specs.LinkTimers.{timers_of}
 use Rattle.lapd_sides_links.specs.TimersAtPlaces.{of_each_link}
-use Rattle.lapd_sides_links.proofs.Dues.{none_runs, first_is_past, first_is_later}
+use Rattle.lapd_sides_links.proofs.DueTimers.{none_runs, first_is_past, first_is_later}
 use Rattle.lapd_sides_links.proofs.link_timers.LinkTimers.due.Goals as goal
 
 abbrev of_links : LinkTimers → Option LinkId → Option Timers

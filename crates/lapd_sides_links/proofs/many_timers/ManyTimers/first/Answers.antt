@@ -1,4 +1,4 @@
-use Rattle.lapd_sides_links.proofs.Dues.{first_of_entries}
+use Rattle.lapd_sides_links.proofs.DueTimers.{first_of_entries}
 use Rattle.lapd_sides_links.proofs.many_timers.ManyTimers.first.Goals as goal
 
 pub returns : goal.returns

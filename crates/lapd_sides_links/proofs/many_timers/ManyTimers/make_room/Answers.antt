@@ -1,4 +1,4 @@
-use Rattle.lapd_sides_links.proofs.Dues.{entered_still}
+use Rattle.lapd_sides_links.proofs.DueTimers.{entered_still}
 use Rattle.lapd_sides_links.proofs.many_timers.ManyTimers.make_room.Goals as goal
 
 pub invariant_of-self : goal.invariant_of-self

@@ -1,4 +1,4 @@
-use Rattle.lapd_sides_links.proofs.Dues.{none_entered_yet}
+use Rattle.lapd_sides_links.proofs.DueTimers.{none_entered_yet}
 use Rattle.lapd_sides_links.proofs.many_timers.ManyTimers.new.Goals as goal
 
 pub invariant_of-result : goal.invariant_of-result

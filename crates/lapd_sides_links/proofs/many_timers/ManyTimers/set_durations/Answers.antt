@@ -1,4 +1,4 @@
-use Rattle.lapd_sides_links.proofs.Dues.{entered_with_durations}
+use Rattle.lapd_sides_links.proofs.DueTimers.{entered_with_durations}
 use Rattle.lapd_sides_links.proofs.many_timers.ManyTimers.set_durations.Goals as goal
 
 pub invariant_of-self : goal.invariant_of-self

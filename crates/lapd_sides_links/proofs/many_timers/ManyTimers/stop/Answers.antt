@@ -1,5 +1,5 @@
 use Rattle.std.proofs.Common.{option_copied}
-use Rattle.lapd_sides_links.proofs.Dues.{entered_anew}
+use Rattle.lapd_sides_links.proofs.DueTimers.{entered_anew}
 use Rattle.lapd_sides_links.proofs.many_timers.ManyTimers.stop.Goals as goal
 
 pub invariant_of-self : goal.invariant_of-self

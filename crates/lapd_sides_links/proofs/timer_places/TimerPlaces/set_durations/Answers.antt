@@ -3,7 +3,7 @@ use Rattle.std.specs.Vec.{with_items}
 use Rattle.std.proofs.lemmas.List.{with_items_is}
 use Rattle.lapd_timers.specs.Due.{with_durations}
 use Rattle.lapd_sides_links.specs.TimersAtPlaces.{placed}
-use Rattle.lapd_sides_links.proofs.Dues.{among_with_durations}
+use Rattle.lapd_sides_links.proofs.DueTimers.{among_with_durations}
 use Rattle.lapd_sides_links.proofs.timer_places.TimerPlaces.set_durations.Goals as goal
 
 pub returns : goal.returns

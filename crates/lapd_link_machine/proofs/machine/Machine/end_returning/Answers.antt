@@ -2,7 +2,7 @@ use Rattle.std.proofs.Common.{refl, sym, ap, ◌∙◌}
 use Rattle.lapd_supervision.specs.StateVariables.{without_ack_pending, acknowledgement}
 use Rattle.lapd_link_definition.specs.Procedures.{transmit_rr}
 use Rattle.lapd_link_machine.proofs.Predicted.{ends_with_rr, ends_at_once, none_behind, same_outs}
-use Rattle.lapd_link_machine.proofs.machine.Machine.end_quietly.Goals as goal
+use Rattle.lapd_link_machine.proofs.machine.Machine.end_returning.Goals as goal
 
 pub returns-then-ack_pending : goal.returns-then-ack_pending
 unfolding transmit_rr

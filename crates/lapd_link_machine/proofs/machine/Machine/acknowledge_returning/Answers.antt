@@ -5,7 +5,7 @@ use Rattle.lapd_supervision.proofs.Outstanding.{acknowledged_count_at_most}
 use Rattle.lapd_supervision.specs.StateVariables.{with_va, acknowledged_count}
 use Rattle.lapd_link_definition.specs.Procedures.{acknowledge}
 use Rattle.lapd_link_machine.proofs.Tails.{tail_acknowledged}
-use Rattle.lapd_link_machine.proofs.machine.Machine.acknowledge_quietly.Goals as goal
+use Rattle.lapd_link_machine.proofs.machine.Machine.acknowledge_returning.Goals as goal
 use Rattle.lapd_queue.specs.Waiting.{without_first}
 
 pub acknowledge-requires : goal.acknowledge-requires

@@ -7,7 +7,7 @@ use Rattle.lapd_link_definition.specs.Procedures.{out_where}
 use Rattle.lapd_link_machine.specs.Represents.{Represents}
 use Rattle.lapd_link_machine.proofs.Guards.{guard_starts, guard_runs}
 use Rattle.lapd_link_machine.proofs.Predicted.{two_behind, none_behind, same_outs}
-use Rattle.lapd_link_machine.proofs.machine.Machine.ensure_t200_quietly.Goals as goal
+use Rattle.lapd_link_machine.proofs.machine.Machine.ensure_t200_returning.Goals as goal
 
 pub returns-then-self : goal.returns-then-self
 returns-then-self c = record {
@@ -18,9 +18,9 @@ returns-then-self c = record {
 pub returns-else-self : goal.returns-else-self
 returns-else-self c = record {
   step = λ s outs h.
-      let stopped : List Out = out_where c.stop_t203_quietly-stops.result (Stop T203) in
+      let stopped : List Out = out_where c.stop_t203_returning-stops.result (Stop T203) in
       let started : List Out = Start T200 ∷ [] in
       same_outs _ _ _ _ (two_behind outs stopped started)
-      (subst (λ (t : StepState). Represents c.start_t200_quietly.new.self ((outs ++ stopped) ++ started) t) (guard_starts s (h.t200 ∙ c.if-self.false))
-      (c.start_t200_quietly.ensures.step _ (outs ++ stopped) (c.stop_t203_quietly-stops.ensures.step s outs h)));
+      (subst (λ (t : StepState). Represents c.start_t200_returning.new.self ((outs ++ stopped) ++ started) t) (guard_starts s (h.t200 ∙ c.if-self.false))
+      (c.start_t200_returning.ensures.step _ (outs ++ stopped) (c.stop_t203_returning-stops.ensures.step s outs h)));
 }
