@@ -6,51 +6,67 @@ use Rattle.lapd_capture.specs.Octets.{number_at}
 use Rattle.lapd_capture.specs.Moment.{padded, units_among, units_of}
 
 -- one more option
-among_suc : (i : ℕ) (order : Order) (rest : List ℕ) → i < 64 → units_among (64 - i) order rest ≡ units_among (suc (64 - (i + 1))) order rest
-among_suc i order rest h = let e : 64 - i ≡ suc (64 - (i + 1)) = omega arith in ap (λ n. units_among n order rest) e
+among_suc : (i : ℕ) (order : Order) (rest : List ℕ) → i < 64
+    → units_among (64 - i) order rest ≡ units_among (suc (64 - (i + 1))) order rest
+among_suc i order rest h =
+    let e : 64 - i ≡ suc (64 - (i + 1)) = omega arith in ap (λ n. units_among n order rest) e
 
 -- by the code of the option
 abbrev by_code : ℕ → ℕ → Order → List ℕ → ℕ
 by_code n code order rest = if code == 0 then 1000000 else (
-    if code == 9 then units_of (slice_index rest 4) else units_among n order (drop (4 + padded (number_at order 2 2 rest)) rest))
+    if code == 9 then units_of (slice_index rest 4)
+    else units_among n order (drop (4 + padded (number_at order 2 2 rest)) rest))
 
-among_code : (i code : ℕ) (order : Order) (rest : List ℕ) → i < 64 → 5 ≤ length rest → code ≡ number_at order 2 0 rest
+among_code : (i code : ℕ) (order : Order) (rest : List ℕ) → i < 64 → 5 ≤ length rest
+    → code ≡ number_at order 2 0 rest
     → units_among (64 - i) order rest ≡ by_code (64 - (i + 1)) code order rest
 unfolding units_among
 among_code i code order rest h enough is =
     let long : nat_lt (length rest) 5 ≡ false = grind (arith, nat_tests) in
-    let once : units_among (suc (64 - (i + 1))) order rest ≡ by_code (64 - (i + 1)) (number_at order 2 0 rest) order rest = rw long refl in
+    let once : units_among (suc (64 - (i + 1))) order rest ≡ by_code (64 - (i + 1))
+    (number_at order 2 0 rest) order rest =
+    rw long refl in
     among_suc i order rest h ∙ once ∙ ap (λ k. by_code (64 - (i + 1)) k order rest) (sym is)
 
-pub among_short : (i : ℕ) (order : Order) (rest : List ℕ) → i < 64 → length rest < 5 → units_among (64 - i) order rest ≡ 1000000
+pub among_short : (i : ℕ) (order : Order) (rest : List ℕ) → i < 64 → length rest < 5
+    → units_among (64 - i) order rest ≡ 1000000
 unfolding units_among
 among_short i order rest h few =
     let short : nat_lt (length rest) 5 ≡ true = grind (arith, nat_tests) in
     let once : units_among (suc (64 - (i + 1))) order rest ≡ 1000000 = rw short refl in
     among_suc i order rest h ∙ once
 
-pub among_end : (i code : ℕ) (order : Order) (rest : List ℕ) → i < 64 → 5 ≤ length rest → code ≡ number_at order 2 0 rest → code ≡ 0 → units_among (64 - i) order rest ≡ 1000000
+pub among_end : (i code : ℕ) (order : Order) (rest : List ℕ) → i < 64 → 5 ≤ length rest
+    → code ≡ number_at order 2 0 rest → code ≡ 0 → units_among (64 - i) order rest ≡ 1000000
 unfolding units_among
-among_end i code order rest h enough is zero = among_code i code order rest h enough is ∙ ap (λ k. by_code (64 - (i + 1)) k order rest) zero
+among_end i code order rest h enough is zero =
+    among_code i code order rest h enough is ∙ ap (λ k. by_code (64 - (i + 1)) k order rest) zero
 
-pub among_found : (i code : ℕ) (order : Order) (rest : List ℕ) → i < 64 → 5 ≤ length rest → code ≡ number_at order 2 0 rest → code ≡ 9
+pub among_found : (i code : ℕ) (order : Order) (rest : List ℕ) → i < 64 → 5 ≤ length rest
+    → code ≡ number_at order 2 0 rest → code ≡ 9
     → units_among (64 - i) order rest ≡ units_of (slice_index rest 4)
 unfolding units_among
-among_found i code order rest h enough is nine = among_code i code order rest h enough is ∙ ap (λ k. by_code (64 - (i + 1)) k order rest) nine
+among_found i code order rest h enough is nine =
+    among_code i code order rest h enough is ∙ ap (λ k. by_code (64 - (i + 1)) k order rest) nine
 
-pub among_passed : (i code size count : ℕ) (order : Order) (rest after : List ℕ) → i < 64 → 5 ≤ length rest → code ≡ number_at order 2 0 rest → code ≢ 0 → code ≢ 9
+pub among_passed : (i code size count : ℕ) (order : Order) (rest after : List ℕ) → i < 64
+    → 5 ≤ length rest → code ≡ number_at order 2 0 rest → code ≢ 0 → code ≢ 9
     → size ≡ number_at order 2 2 rest → count ≡ padded size → after ≡ drop (4 + count) rest
     → units_among (64 - i) order rest ≡ units_among (64 - (i + 1)) order after
 unfolding units_among
-among_passed i code size count order rest after h enough is not_zero not_nine is_size is_count is_after =
+among_passed i code size count order rest after h enough is not_zero not_nine is_size is_count
+    is_after =
     let a : (code == 0) ≡ false = grind (arith, nat_tests) in
     let b : (code == 9) ≡ false = grind (arith, nat_tests) in
-    let passed : by_code (64 - (i + 1)) code order rest ≡ units_among (64 - (i + 1)) order (drop (4 + padded (number_at order 2 2 rest)) rest) = rw (a, b) refl in
+    let passed : by_code (64 - (i + 1)) code order rest ≡ units_among (64 - (i + 1)) order
+    (drop (4 + padded (number_at order 2 2 rest)) rest) =
+    rw (a, b) refl in
     among_code i code order rest h enough is ∙ passed
     ∙ ap (λ n. units_among (64 - (i + 1)) order (drop (4 + padded n) rest)) (sym is_size)
     ∙ ap (λ n. units_among (64 - (i + 1)) order (drop (4 + n) rest)) (sym is_count)
     ∙ ap (λ l. units_among (64 - (i + 1)) order l) (sym is_after)
 
-pub among_none : (i : ℕ) (order : Order) (rest : List ℕ) → 64 ≤ i → units_among (64 - i) order rest ≡ 1000000
+pub among_none : (i : ℕ) (order : Order) (rest : List ℕ) → 64 ≤ i
+    → units_among (64 - i) order rest ≡ 1000000
 unfolding units_among
 among_none i order rest h = let e : 64 - i ≡ 0 = omega arith in ap (λ n. units_among n order rest) e

@@ -50,13 +50,16 @@ abbrev captured_packet : ℕ → ℕ → Packet
 captured_packet number moment = record { number = number; moment = Some moment; is_cut = false }
 
 packet_is_drawn : (moment k : ℕ) → k + 1 < 18446744073709551616 → moment < 4294967296000
-    → captured_packet (k + 1) (read_moment moment) ≡ captured_packet (one_more k) (microseconds moment)
+    → captured_packet (k + 1) (read_moment moment)
+    ≡ captured_packet (one_more k) (microseconds moment)
 packet_is_drawn moment k few early =
     let number : k + 1 ≡ one_more k = omega (arith, few) in
-    ap (λ n. captured_packet n (read_moment moment)) number ∙ ap (λ m. captured_packet (one_more k) m) (moment_is_drawn moment early)
+    ap (λ n. captured_packet n (read_moment moment)) number
+    ∙ ap (λ m. captured_packet (one_more k) m) (moment_is_drawn moment early)
 
 -- the octets of the frame
-octets_are_drawn : (own : Side) (frame : LineFrame) → take (16 + length frame.octets - 16) (drop 16 (line_packet own frame)) ≡ frame.octets
+octets_are_drawn : (own : Side) (frame : LineFrame)
+    → take (16 + length frame.octets - 16) (drop 16 (line_packet own frame)) ≡ frame.octets
 octets_are_drawn own frame =
     let count : 16 + length frame.octets - 16 ≡ length frame.octets = omega arith in
     ap (λ n. take n frame.octets) count ∙ take_all (length frame.octets) frame.octets (omega arith)
@@ -69,26 +72,40 @@ behind_frame own frame place k left =
 -- what is known after a frame
 abbrev after_drawn : LineFrame → ℕ → Bool → ℕ → Option ℕ → Option ℕ → Listening → Printing
 after_drawn frame k has_user printed first last listening =
-    drawing (one_more k) has_user (one_more printed) (either first (Some (microseconds frame.moment)))
+    drawing (one_more k) has_user (one_more printed)
+    (either first (Some (microseconds frame.moment)))
     (either (Some (microseconds frame.moment)) last)
-    (listening_after (followed_packet (captured_packet (one_more k) (microseconds frame.moment))) frame.from frame.octets listening)
+    (listening_after (followed_packet (captured_packet (one_more k) (microseconds frame.moment)))
+    frame.from frame.octets listening)
 
 -- a frame of the capture has the text that is drawn
-text_is_drawn : (sender : Option Side) (keeps_going : Bool) (own : Side) (frame : LineFrame) (place k : ℕ) (left : List ℕ) (a b : Bool) (printed : ℕ) (first last : Option ℕ) (listening : Listening)
+text_is_drawn : (sender : Option Side) (keeps_going : Bool) (own : Side) (frame : LineFrame)
+    (place k : ℕ) (left : List ℕ) (a b : Bool) (printed : ℕ) (first last : Option ℕ)
+    (listening : Listening)
     → k + 1 < 18446744073709551616 → frame.moment < 4294967296000
-    → item_text (captured_ladder sender keeps_going) (behind_frame own frame place k left) (Frame (line_span frame)) (drawing k a printed first last listening)
+    → item_text (captured_ladder sender keeps_going) (behind_frame own frame place k left)
+    (Frame (line_span frame)) (drawing k a printed first last listening)
     ≡ rung_of frame (drawing k b printed first last listening)
 text_is_drawn sender keeps_going own frame place k left a b printed first last listening few early =
-    ap (λ octets. frame_text (captured_packet (k + 1) (read_moment frame.moment)) (Some frame.from) octets (drawing k a printed first last listening)) (octets_are_drawn own frame)
-    ∙ ap (λ packet. frame_text packet (Some frame.from) frame.octets (drawing k a printed first last listening)) (packet_is_drawn frame.moment k few early)
+    ap (λ octets. frame_text (captured_packet (k + 1) (read_moment frame.moment)) (Some frame.from)
+    octets (drawing k a printed first last listening)) (octets_are_drawn own frame)
+    ∙ ap (λ packet. frame_text packet (Some frame.from) frame.octets
+    (drawing k a printed first last listening)) (packet_is_drawn frame.moment k few early)
 
-state_is_drawn : (sender : Option Side) (keeps_going : Bool) (own : Side) (frame : LineFrame) (place k : ℕ) (left : List ℕ) (a : Bool) (printed : ℕ) (first last : Option ℕ) (listening : Listening)
+state_is_drawn : (sender : Option Side) (keeps_going : Bool) (own : Side) (frame : LineFrame)
+    (place k : ℕ) (left : List ℕ) (a : Bool) (printed : ℕ) (first last : Option ℕ)
+    (listening : Listening)
     → k + 1 < 18446744073709551616 → frame.moment < 4294967296000
-    → after_item (captured_ladder sender keeps_going) (behind_frame own frame place k left) (Frame (line_span frame)) (drawing k a printed first last listening)
+    → after_item (captured_ladder sender keeps_going) (behind_frame own frame place k left)
+    (Frame (line_span frame)) (drawing k a printed first last listening)
     ≡ after_drawn frame k (a || is_user (Some frame.from)) printed first last listening
 state_is_drawn sender keeps_going own frame place k left a printed first last listening few early =
-    ap (λ octets. after_frame (captured_packet (k + 1) (read_moment frame.moment)) (Some frame.from) octets (drawing k (a || is_user (Some frame.from)) printed first last listening)) (octets_are_drawn own frame)
-    ∙ ap (λ packet. after_frame packet (Some frame.from) frame.octets (drawing k (a || is_user (Some frame.from)) printed first last listening)) (packet_is_drawn frame.moment k few early)
+    ap (λ octets. after_frame (captured_packet (k + 1) (read_moment frame.moment)) (Some frame.from)
+    octets (drawing k (a || is_user (Some frame.from)) printed first last listening))
+    (octets_are_drawn own frame)
+    ∙ ap (λ packet. after_frame packet (Some frame.from) frame.octets
+    (drawing k (a || is_user (Some frame.from)) printed first last listening))
+    (packet_is_drawn frame.moment k few early)
 
 -- ---- A place that `decode` reaches.
 
@@ -105,7 +122,11 @@ record IsAt (own : Side) (whole text : List ℕ) (p : Place) : Type 0 where
   first : Option ℕ
   last : Option ℕ
   heard : Listening
-  is_place : p ≡ record { reading = line_reading place k moment body (records_of own rest); printing = drawing k has_user printed first last heard }
+  is_place : p
+      ≡ record {
+        reading = line_reading place k moment body (records_of own rest);
+        printing = drawing k has_user printed first last heard;
+      }
   fits : AreCaptured rest
   few : k + length rest < 18446744073709551616
   is_whole : text ++ rungs_of rest (drawing k draws_user printed first last heard) ≡ whole
@@ -120,26 +141,36 @@ reading_in r (Ok step) = step.reading
 reading_in r (Err fault) = r
 
 -- a place by its parts
-place_of_parts : (p : Place) (reading : Reading) (printing : Printing) → p.reading ≡ reading → p.printing ≡ printing → p ≡ record { reading = reading; printing = printing }
+place_of_parts : (p : Place) (reading : Reading) (printing : Printing) → p.reading ≡ reading
+    → p.printing ≡ printing → p ≡ record { reading = reading; printing = printing }
 place_of_parts p reading printing a b = rw (sym a, sym b) refl
 
 -- ---- A step from such a place.
 
 -- no frame is left
-no_more : (sender : Option Side) (keeps_going : Bool) (own : Side) (whole text : List ℕ) (new : Place) (item : CaptureItem)
-    (place k : ℕ) (moment : Option ℕ) (body : List ℕ) (a b : Bool) (printed : ℕ) (first last : Option ℕ) (listening : Listening)
+no_more : (sender : Option Side) (keeps_going : Bool) (own : Side) (whole text : List ℕ)
+    (new : Place) (item : CaptureItem)
+    (place k : ℕ) (moment : Option ℕ) (body : List ℕ) (a b : Bool) (printed : ℕ)
+    (first last : Option ℕ) (listening : Listening)
     → k + 0 < 18446744073709551616 → text ++ [] ≡ whole
-    → next_step (line_reading place k moment body []) ≡ Ok (record { item = item; reading = new.reading })
-    → new.printing ≡ after_item (captured_ladder sender keeps_going) new.reading item (drawing k a printed first last listening)
-    → IsAt own whole (text ++ item_text (captured_ladder sender keeps_going) new.reading item (drawing k a printed first last listening)) new
-no_more sender keeps_going own whole text new item place k moment body a b printed first last listening few is_whole step state =
+    → next_step (line_reading place k moment body [])
+    ≡ Ok (record { item = item; reading = new.reading })
+    → new.printing
+    ≡ after_item (captured_ladder sender keeps_going) new.reading item
+    (drawing k a printed first last listening)
+    → IsAt own whole (text
+    ++ item_text (captured_ladder sender keeps_going) new.reading item
+    (drawing k a printed first last listening)) new
+no_more sender keeps_going own whole text new item place k moment body a b printed first last
+    listening few is_whole step state =
     let how = captured_ladder sender keeps_going in
     let r : Reading = line_reading place k moment body [] in
     let s : Printing = drawing k a printed first last listening in
     let is_end : item ≡ End = ap item_in (sym step) in
     let is_reading : new.reading ≡ r = ap (λ q. reading_in r q) (sym step) in
     let is_printing : new.printing ≡ s = state ∙ ap (λ i. after_item how new.reading i s) is_end in
-    let is_text : text ++ item_text how new.reading item s ≡ text = ap (λ i. text ++ item_text how new.reading i s) is_end ∙ append-nil text in
+    let is_text : text ++ item_text how new.reading item s ≡ text =
+    ap (λ i. text ++ item_text how new.reading i s) is_end ∙ append-nil text in
     record {
       rest = [];
       place = place;
@@ -159,14 +190,22 @@ no_more sender keeps_going own whole text new item place k moment body a b print
     }
 
 -- a frame is next
-one_more_frame : (sender : Option Side) (keeps_going : Bool) (own : Side) (whole text : List ℕ) (new : Place) (item : CaptureItem) (frame : LineFrame) (rest : List LineFrame)
-    (place k : ℕ) (moment : Option ℕ) (body : List ℕ) (a b : Bool) (printed : ℕ) (first last : Option ℕ) (listening : Listening)
+one_more_frame : (sender : Option Side) (keeps_going : Bool) (own : Side) (whole text : List ℕ)
+    (new : Place) (item : CaptureItem) (frame : LineFrame) (rest : List LineFrame)
+    (place k : ℕ) (moment : Option ℕ) (body : List ℕ) (a b : Bool) (printed : ℕ)
+    (first last : Option ℕ) (listening : Listening)
     → AreCaptured (frame ∷ rest) → k + length (frame ∷ rest) < 18446744073709551616
     → text ++ rungs_of (frame ∷ rest) (drawing k b printed first last listening) ≡ whole
-    → next_step (line_reading place k moment body (records_of own (frame ∷ rest))) ≡ Ok (record { item = item; reading = new.reading })
-    → new.printing ≡ after_item (captured_ladder sender keeps_going) new.reading item (drawing k a printed first last listening)
-    → IsAt own whole (text ++ item_text (captured_ladder sender keeps_going) new.reading item (drawing k a printed first last listening)) new
-one_more_frame sender keeps_going own whole text new item frame rest place k moment body a b printed first last listening fits few is_whole step state =
+    → next_step (line_reading place k moment body (records_of own (frame ∷ rest)))
+    ≡ Ok (record { item = item; reading = new.reading })
+    → new.printing
+    ≡ after_item (captured_ladder sender keeps_going) new.reading item
+    (drawing k a printed first last listening)
+    → IsAt own whole (text
+    ++ item_text (captured_ladder sender keeps_going) new.reading item
+    (drawing k a printed first last listening)) new
+one_more_frame sender keeps_going own whole text new item frame rest place k moment body a b printed
+    first last listening fits few is_whole step state =
     let how = captured_ladder sender keeps_going in
     let s : Printing = drawing k a printed first last listening in
     let t : Printing = drawing k b printed first last listening in
@@ -179,15 +218,23 @@ one_more_frame sender keeps_going own whole text new item frame rest place k mom
     let room : k + 1 < 18446744073709551616 = omega (arith, few) in
     let number : one_more k ≡ k + 1 = omega (arith, room) in
     let drawn : Option ℕ = Some (microseconds frame.moment) in
-    let heard : Listening = listening_after (followed_packet (captured_packet (one_more k) (microseconds frame.moment))) frame.from frame.octets listening in
-    let after : ℕ → Bool → Printing = λ j d. drawing j d (one_more printed) (either first drawn) (either drawn last) heard in
+    let heard : Listening =
+    listening_after
+    (followed_packet (captured_packet (one_more k) (microseconds frame.moment))) frame.from
+    frame.octets listening in
+    let after : ℕ → Bool → Printing =
+    λ j d. drawing j d (one_more printed) (either first drawn) (either drawn last) heard in
     let is_printing : new.printing ≡ after (k + 1) c =
-    state ∙ ap (λ i. after_item how new.reading i s) is_frame ∙ ap (λ r. after_item how r (Frame (line_span frame)) s) is_reading
-    ∙ state_is_drawn sender keeps_going own frame next k (records_of own rest) a printed first last listening room fits.1
+    state ∙ ap (λ i. after_item how new.reading i s) is_frame
+    ∙ ap (λ r. after_item how r (Frame (line_span frame)) s) is_reading
+    ∙ state_is_drawn sender keeps_going own frame next k (records_of own rest) a printed first last
+    listening room fits.1
     ∙ ap (λ j. after j c) number in
     let is_text : item_text how new.reading item s ≡ rung_of frame t =
-    ap (λ i. item_text how new.reading i s) is_frame ∙ ap (λ r. item_text how r (Frame (line_span frame)) s) is_reading
-    ∙ text_is_drawn sender keeps_going own frame next k (records_of own rest) a b printed first last listening room fits.1 in
+    ap (λ i. item_text how new.reading i s) is_frame
+    ∙ ap (λ r. item_text how r (Frame (line_span frame)) s) is_reading
+    ∙ text_is_drawn sender keeps_going own frame next k (records_of own rest) a b printed first last
+    listening room fits.1 in
     let joined : text ++ rung_of frame t ++ rungs_of rest (after (one_more k) b) ≡ whole =
     append_assoc text (rung_of frame t) (rungs_of rest (after (one_more k) b)) ∙ is_whole in
     record {
@@ -205,40 +252,65 @@ one_more_frame sender keeps_going own whole text new item frame rest place k mom
       is_place = place_of_parts new behind (after (k + 1) c) is_reading is_printing;
       fits = fits.2;
       few = omega (arith, few);
-      is_whole = ap (λ l. text ++ l ++ rungs_of rest (after (k + 1) b)) is_text ∙ ap (λ j. text ++ rung_of frame t ++ rungs_of rest (after j b)) (sym number) ∙ joined;
+      is_whole =
+          ap (λ l. text ++ l ++ rungs_of rest (after (k + 1) b)) is_text
+          ∙ ap (λ j. text ++ rung_of frame t ++ rungs_of rest (after j b)) (sym number) ∙ joined;
     }
 
-from_rest : (sender : Option Side) (keeps_going : Bool) (own : Side) (whole text : List ℕ) (new : Place) (item : CaptureItem) (rest : List LineFrame)
-    (place k : ℕ) (moment : Option ℕ) (body : List ℕ) (a b : Bool) (printed : ℕ) (first last : Option ℕ) (listening : Listening)
-    → AreCaptured rest → k + length rest < 18446744073709551616 → text ++ rungs_of rest (drawing k b printed first last listening) ≡ whole
-    → next_step (line_reading place k moment body (records_of own rest)) ≡ Ok (record { item = item; reading = new.reading })
-    → new.printing ≡ after_item (captured_ladder sender keeps_going) new.reading item (drawing k a printed first last listening)
-    → IsAt own whole (text ++ item_text (captured_ladder sender keeps_going) new.reading item (drawing k a printed first last listening)) new
-from_rest sender keeps_going own whole text new item [] place k moment body a b printed first last listening fits few is_whole step state =
-    no_more sender keeps_going own whole text new item place k moment body a b printed first last listening few is_whole step state
-from_rest sender keeps_going own whole text new item (frame ∷ rest) place k moment body a b printed first last listening fits few is_whole step state =
-    one_more_frame sender keeps_going own whole text new item frame rest place k moment body a b printed first last listening fits few is_whole step state
+from_rest : (sender : Option Side) (keeps_going : Bool) (own : Side) (whole text : List ℕ)
+    (new : Place) (item : CaptureItem) (rest : List LineFrame)
+    (place k : ℕ) (moment : Option ℕ) (body : List ℕ) (a b : Bool) (printed : ℕ)
+    (first last : Option ℕ) (listening : Listening)
+    → AreCaptured rest → k + length rest < 18446744073709551616
+    → text ++ rungs_of rest (drawing k b printed first last listening) ≡ whole
+    → next_step (line_reading place k moment body (records_of own rest))
+    ≡ Ok (record { item = item; reading = new.reading })
+    → new.printing
+    ≡ after_item (captured_ladder sender keeps_going) new.reading item
+    (drawing k a printed first last listening)
+    → IsAt own whole (text
+    ++ item_text (captured_ladder sender keeps_going) new.reading item
+    (drawing k a printed first last listening)) new
+from_rest sender keeps_going own whole text new item [] place k moment body a b printed first last
+    listening fits few is_whole step state =
+    no_more sender keeps_going own whole text new item place k moment body a b printed first last
+    listening few is_whole step state
+from_rest sender keeps_going own whole text new item (frame ∷ rest) place k moment body a b printed
+    first last listening fits few is_whole step state =
+    one_more_frame sender keeps_going own whole text new item frame rest place k moment body a b
+    printed first last listening fits few is_whole step state
 
-one_step : (sender : Option Side) (keeps_going : Bool) (own : Side) (whole text : List ℕ) (mid new : Place) (item : CaptureItem)
-    → IsAt own whole text mid → next_step mid.reading ≡ Ok (record { item = item; reading = new.reading })
+one_step : (sender : Option Side) (keeps_going : Bool) (own : Side) (whole text : List ℕ)
+    (mid new : Place) (item : CaptureItem)
+    → IsAt own whole text mid
+    → next_step mid.reading ≡ Ok (record { item = item; reading = new.reading })
     → new.printing ≡ after_item (captured_ladder sender keeps_going) new.reading item mid.printing
-    → IsAt own whole (text ++ item_text (captured_ladder sender keeps_going) new.reading item mid.printing) new
+    → IsAt own whole
+    (text ++ item_text (captured_ladder sender keeps_going) new.reading item mid.printing) new
 one_step sender keeps_going own whole text mid new item h step state =
     let how = captured_ladder sender keeps_going in
     let step_here = ap (λ (p : Place). next_step p.reading) (sym h.is_place) ∙ step in
-    let state_here = state ∙ ap (λ (p : Place). after_item how new.reading item p.printing) h.is_place in
-    subst (λ (p : Place). IsAt own whole (text ++ item_text how new.reading item p.printing) new) (sym h.is_place)
-    (from_rest sender keeps_going own whole text new item h.rest h.place h.k h.moment h.body h.has_user h.draws_user h.printed h.first h.last h.heard
+    let state_here =
+    state ∙ ap (λ (p : Place). after_item how new.reading item p.printing) h.is_place in
+    subst (λ (p : Place). IsAt own whole (text ++ item_text how new.reading item p.printing) new)
+    (sym h.is_place)
+    (from_rest sender keeps_going own whole text new item h.rest h.place h.k h.moment h.body
+    h.has_user h.draws_user h.printed h.first h.last h.heard
     h.fits h.few h.is_whole step_here state_here)
 
 -- each place that `decode` reaches
-along : (sender : Option Side) (keeps_going : Bool) (own : Side) (whole : List ℕ) (start : Place) (n : ℕ) (text : List ℕ) (p : Place)
-    → IsAt own whole [] start → Prints (captured_ladder sender keeps_going) n start text p → IsAt own whole text p
+along : (sender : Option Side) (keeps_going : Bool) (own : Side) (whole : List ℕ) (start : Place)
+    (n : ℕ) (text : List ℕ) (p : Place)
+    → IsAt own whole [] start → Prints (captured_ladder sender keeps_going) n start text p
+    → IsAt own whole text p
 along sender keeps_going own whole start zero text p h prints =
-    subst (λ l. IsAt own whole l p) (sym prints.0) (subst (λ q. IsAt own whole [] q) (sym prints.1) h)
+    subst (λ l. IsAt own whole l p) (sym prints.0)
+    (subst (λ q. IsAt own whole [] q) (sym prints.1) h)
 along sender keeps_going own whole start (suc n) text p h prints =
     subst (λ l. IsAt own whole l p) (sym prints.8)
-    (one_step sender keeps_going own whole prints.2 prints.0 p prints.1 (along sender keeps_going own whole start n prints.2 prints.0 h prints.3) prints.5 prints.7)
+    (one_step sender keeps_going own whole prints.2 prints.0 p prints.1
+    (along sender keeps_going own whole start n prints.2 prints.0 h prints.3) prints.5
+    prints.7)
 
 -- ---- The end.
 
@@ -259,39 +331,61 @@ abbrev is_sound : Result Step CaptureFault → Bool
 is_sound (Err fault) = false
 is_sound (Ok step) = is_readable step.item
 
-sound_here : (own : Side) (rest : List LineFrame) (place k : ℕ) (moment : Option ℕ) (body : List ℕ) → AreCaptured rest
+sound_here : (own : Side) (rest : List LineFrame) (place k : ℕ) (moment : Option ℕ) (body : List ℕ)
+    → AreCaptured rest
     → is_sound (next_step (line_reading place k moment body (records_of own rest))) ≡ true
 sound_here own [] place k moment body fits = refl
-sound_here own (frame ∷ rest) place k moment body fits = ap is_sound (record_is_read own frame place k moment body (records_of own rest) fits.0)
+sound_here own (frame ∷ rest) place k moment body fits =
+    ap is_sound (record_is_read own frame place k moment body (records_of own rest) fits.0)
 
-sound_at : (own : Side) (whole text : List ℕ) (p : Place) → IsAt own whole text p → is_sound (next_step p.reading) ≡ true
-sound_at own whole text p h = ap (λ (q : Place). is_sound (next_step q.reading)) h.is_place ∙ sound_here own h.rest h.place h.k h.moment h.body h.fits
+sound_at : (own : Side) (whole text : List ℕ) (p : Place) → IsAt own whole text p
+    → is_sound (next_step p.reading) ≡ true
+sound_at own whole text p h =
+    ap (λ (q : Place). is_sound (next_step q.reading)) h.is_place
+    ∙ sound_here own h.rest h.place h.k h.moment h.body h.fits
 
-ends_here : (own : Side) (whole text : List ℕ) (rest : List LineFrame) (place k : ℕ) (moment : Option ℕ) (body : List ℕ) (d : Printing) (behind : Reading)
-    → AreCaptured rest → text ++ rungs_of rest d ≡ whole → next_step (line_reading place k moment body (records_of own rest)) ≡ Ok (record { item = End; reading = behind })
+ends_here : (own : Side) (whole text : List ℕ) (rest : List LineFrame) (place k : ℕ)
+    (moment : Option ℕ) (body : List ℕ) (d : Printing) (behind : Reading)
+    → AreCaptured rest → text ++ rungs_of rest d ≡ whole
+    → next_step (line_reading place k moment body (records_of own rest))
+    ≡ Ok (record { item = End; reading = behind })
     → text ≡ whole
-ends_here own whole text [] place k moment body d behind fits is_whole step = sym (append-nil text) ∙ is_whole
+ends_here own whole text [] place k moment body d behind fits is_whole step =
+    sym (append-nil text) ∙ is_whole
 ends_here own whole text (frame ∷ rest) place k moment body d behind fits is_whole step =
-    absurd (true≢false (ap (λ s. is_end (item_in s)) (sym step ∙ record_is_read own frame place k moment body (records_of own rest) fits.0)))
+    absurd (true≢false (ap (λ s. is_end (item_in s))
+    (sym step
+    ∙ record_is_read own frame place k moment body (records_of own rest) fits.0)))
 
-finished : (own : Side) (whole text : List ℕ) (p : Place) → IsAt own whole text p → IsFinished p → text ≡ whole
-finished own whole text p h (inl complete) = absurd (true≢false (sym complete ∙ ap (λ (q : Place). is_complete q.printing) h.is_place))
-finished own whole text p h (inr end) = ends_here own whole text h.rest h.place h.k h.moment h.body (drawing h.k h.draws_user h.printed h.first h.last h.heard) end.0
+finished : (own : Side) (whole text : List ℕ) (p : Place) → IsAt own whole text p → IsFinished p
+    → text ≡ whole
+finished own whole text p h (inl complete) =
+    absurd (true≢false (sym complete ∙ ap (λ (q : Place). is_complete q.printing) h.is_place))
+finished own whole text p h (inr end) =
+    ends_here own whole text h.rest h.place h.k h.moment h.body
+    (drawing h.k h.draws_user h.printed h.first h.last h.heard) end.0
     h.fits h.is_whole (ap (λ (q : Place). next_step q.reading) (sym h.is_place) ∙ end.1)
 
-decoded : (sender : Option Side) (keeps_going : Bool) (own : Side) (whole : List ℕ) (start : Place) (result : Result Seen CaptureStop) (old new : Option (List ℕ))
-    → IsAt own whole [] start → CaptureEnds (captured_ladder sender keeps_going) start result old new → PrintsOnly whole result old new
+decoded : (sender : Option Side) (keeps_going : Bool) (own : Side) (whole : List ℕ) (start : Place)
+    (result : Result Seen CaptureStop) (old new : Option (List ℕ))
+    → IsAt own whole [] start
+    → CaptureEnds (captured_ladder sender keeps_going) start result old new
+    → PrintsOnly whole result old new
 decoded sender keeps_going own whole start (Ok seen) old new h ends =
     let there = along sender keeps_going own whole start ends.1 ends.2 ends.0 h ends.3 in
-    let no_tables : closing_text (ends.0).printing ≡ [] = ap (λ (p : Place). closing_text p.printing) there.is_place in
+    let no_tables : closing_text (ends.0).printing ≡ [] =
+    ap (λ (p : Place). closing_text p.printing) there.is_place in
     let is_text : ends.2 ++ closing_text (ends.0).printing ≡ whole =
-    ap (λ l. ends.2 ++ l) no_tables ∙ append-nil (ends.2) ∙ finished own whole (ends.2) (ends.0) there ends.7 in
+    ap (λ l. ends.2 ++ l) no_tables ∙ append-nil (ends.2)
+    ∙ finished own whole (ends.2) (ends.0) there ends.7 in
     subst (λ l. Appends old new l) is_text ends.4
 decoded sender keeps_going own whole start (Err (AtFault fault place)) old new h ends =
-    let there = along sender keeps_going own whole start (ends.1).0 (ends.1).1 ends.0 h (ends.1).2 in
+    let there =
+    along sender keeps_going own whole start (ends.1).0 (ends.1).1 ends.0 h (ends.1).2 in
     absurd (true≢false (sym (sound_at own whole (ends.1).1 ends.0 there) ∙ ap is_sound ends.3))
 decoded sender keeps_going own whole start (Err (AtPacket fault place)) old new h ends =
-    let there = along sender keeps_going own whole start (ends.2).0 (ends.2).1 ends.0 h (ends.2).2 in
+    let there =
+    along sender keeps_going own whole start (ends.2).0 (ends.2).1 ends.0 h (ends.2).2 in
     absurd (true≢false (sym (sound_at own whole (ends.2).1 ends.0 there) ∙ ap is_sound ends.4))
 decoded sender keeps_going own whole start (Err (Input kind)) old new h ends = tt
 decoded sender keeps_going own whole start (Err Device) old new h ends = tt
@@ -303,14 +397,17 @@ opened_in r (Ok reading) = reading
 opened_in r (Err fault) = r
 
 -- the whole capture
-pub capture_is_drawn : (sender : Option Side) (keeps_going : Bool) (own : Side) (frames : List LineFrame) (start : Reading)
-    → AreCaptured frames → length frames < 18446744073709551616 → opened (file_octets ++ records_of own frames) ≡ Ok start
+pub capture_is_drawn : (sender : Option Side) (keeps_going : Bool) (own : Side)
+    (frames : List LineFrame) (start : Reading)
+    → AreCaptured frames → length frames < 18446744073709551616
+    → opened (file_octets ++ records_of own frames) ≡ Ok start
     → DecodesAs (captured_ladder sender keeps_going) start (rungs_of frames new_ladder)
 capture_is_drawn sender keeps_going own frames start fits few is_opened result old new ends =
     let how = captured_ladder sender keeps_going in
     let whole : List ℕ = rungs_of frames new_ladder in
     let first : Reading = line_reading 24 0 None [] (records_of own frames) in
-    let is_first : start ≡ first = ap (λ r. opened_in start r) (sym is_opened ∙ head_is_read (records_of own frames)) in
+    let is_first : start ≡ first =
+    ap (λ r. opened_in start r) (sym is_opened ∙ head_is_read (records_of own frames)) in
     let begun : IsAt own whole [] (begins_at how (Some (record { k = None })) start) = record {
       rest = frames;
       place = 24;
@@ -328,4 +425,5 @@ capture_is_drawn sender keeps_going own frames start fits few is_opened result o
       few = omega (arith, few);
       is_whole = refl;
     } in
-    decoded sender keeps_going own whole (begins_at how (Some (record { k = None })) start) result old new begun ends
+    decoded sender keeps_going own whole (begins_at how (Some (record { k = None })) start) result
+    old new begun ends

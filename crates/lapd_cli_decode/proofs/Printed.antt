@@ -19,27 +19,37 @@ use Rattle.lapd_cli_decode.specs.Captured.{ItemsEnd, Place, PrintsTo, StepsFrom,
 use Rattle.lapd_cli_decode.specs.Frames.{Printing, is_complete}
 
 -- bytes that are kept and then grow
-pub Appends-after : (a b c : Option (List ℕ)) (bs : List ℕ) → Keeps a b → Appends b c bs → Appends a c bs
+pub Appends-after : (a b c : Option (List ℕ)) (bs : List ℕ) → Keeps a b → Appends b c bs
+    → Appends a c bs
 Appends-after None b c bs p q = tt
 Appends-after (Some x) None c bs p q = absurd p
 Appends-after (Some x) (Some y) None bs p q = absurd q
 Appends-after (Some x) (Some y) (Some z) bs p q = q ∙ ap (λ l. l ++ bs) p
 
 -- a step whose writer was flushed before
-pub StepsFrom-flushed : {R : Type 0} (remaining : R → Option (List ℕ)) (how : CaptureStyle) (result : Result Bool CaptureStop) (old : Place) (reader : CaptureReader R) (printing : Printing) (a b c : Option (List ℕ))
-    → Keeps a b → StepsFrom remaining how result old reader printing b c → StepsFrom remaining how result old reader printing a c
+pub StepsFrom-flushed : {R : Type 0} (remaining : R → Option (List ℕ)) (how : CaptureStyle)
+    (result : Result Bool CaptureStop) (old : Place) (reader : CaptureReader R)
+    (printing : Printing) (a b c : Option (List ℕ))
+    → Keeps a b → StepsFrom remaining how result old reader printing b c
+    → StepsFrom remaining how result old reader printing a c
 StepsFrom-flushed remaining how (Ok false) old reader printing a b c k s =
     (s.0, s.1, (s.2.0, s.2.1, s.2.2, s.2.3, Appends-after a b c _ k s.2.4))
-StepsFrom-flushed remaining how (Ok true) old reader printing a b c k s = (s.0, s.1, (s.2.0, s.2.1, Appends-after a b c _ k s.2.2))
-StepsFrom-flushed remaining how (Err (Capture fault at)) old reader printing a b c k s = (s.0, (s.1.0, s.1.1, Appends-after a b c _ k s.1.2))
-StepsFrom-flushed remaining how (Err (Packet fault at)) old reader printing a b c k s = (s.0, (s.1.0, s.1.1, Appends-after a b c _ k s.1.2))
+StepsFrom-flushed remaining how (Ok true) old reader printing a b c k s =
+    (s.0, s.1, (s.2.0, s.2.1, Appends-after a b c _ k s.2.2))
+StepsFrom-flushed remaining how (Err (Capture fault at)) old reader printing a b c k s =
+    (s.0, (s.1.0, s.1.1, Appends-after a b c _ k s.1.2))
+StepsFrom-flushed remaining how (Err (Packet fault at)) old reader printing a b c k s =
+    (s.0, (s.1.0, s.1.1, Appends-after a b c _ k s.1.2))
 StepsFrom-flushed remaining how (Err (Input kind)) old reader printing a b c k s = tt
 StepsFrom-flushed remaining how (Err Device) old reader printing a b c k s = tt
 StepsFrom-flushed remaining how (Err Memory) old reader printing a b c k s = tt
 
-pub PrintsTo-more : (how : CaptureStyle) (start mid new : Place) (item : CaptureItem) (a b d : Option (List ℕ))
-    → PrintsTo how start a b mid → next_step mid.reading ≡ Ok (record { item = item; reading = new.reading })
-    → is_complete mid.printing ≡ false → packet_fault how.keeps_going item ≡ None → new.printing ≡ after_item how new.reading item mid.printing
+pub PrintsTo-more : (how : CaptureStyle) (start mid new : Place) (item : CaptureItem)
+    (a b d : Option (List ℕ))
+    → PrintsTo how start a b mid
+    → next_step mid.reading ≡ Ok (record { item = item; reading = new.reading })
+    → is_complete mid.printing ≡ false → packet_fault how.keeps_going item ≡ None
+    → new.printing ≡ after_item how new.reading item mid.printing
     → Appends b d (item_text how new.reading item mid.printing) → PrintsTo how start a d new
 PrintsTo-more how start mid new item a b d p step goes_on preserved printing grew = (
   suc p.0,
@@ -49,7 +59,8 @@ PrintsTo-more how start mid new item a b d p step goes_on preserved printing gre
 )
 
 -- nothing is printed at the beginning
-pub PrintsTo-none : (how : CaptureStyle) (start : Place) (a : Option (List ℕ)) → PrintsTo how start a a start
+pub PrintsTo-none : (how : CaptureStyle) (start : Place) (a : Option (List ℕ))
+    → PrintsTo how start a a start
 PrintsTo-none how start a = (0, [], (refl, refl), Appends-nil a)
 
 -- nothing more is printed
@@ -60,24 +71,29 @@ PrintsTo-preserved how start mid a b d p grew =
 
 -- one more step, after the text printed so far
 pub PrintsTo-step : (how : CaptureStyle) (start mid new : Place) (a b d : Option (List ℕ))
-    → PrintsTo how start a b mid → is_complete mid.printing ≡ false → TakesStep how (Ok false) mid new b d → PrintsTo how start a d new
+    → PrintsTo how start a b mid → is_complete mid.printing ≡ false
+    → TakesStep how (Ok false) mid new b d → PrintsTo how start a d new
 PrintsTo-step how start mid new a b d p goes_on s =
     PrintsTo-more how start mid new s.0 a b d p s.1 goes_on s.2 s.3 s.4
 
 -- the end of the capture, after the text printed so far
 pub ItemsEnd-done : (how : CaptureStyle) (start mid new : Place) (a b d : Option (List ℕ))
-    → PrintsTo how start a b mid → TakesStep how (Ok true) mid new b d → ItemsEnd how start (Ok tt) new.printing a d
+    → PrintsTo how start a b mid → TakesStep how (Ok true) mid new b d
+    → ItemsEnd how start (Ok tt) new.printing a d
 ItemsEnd-done how start mid new a b d p s =
     (mid, PrintsTo-preserved how start mid a b d p s.2, s.1, inr (new.reading, s.0))
 
 -- all requested frames are printed
 pub ItemsEnd-complete : (how : CaptureStyle) (start mid : Place) (a b : Option (List ℕ))
-    → PrintsTo how start a b mid → is_complete mid.printing ≡ true → ItemsEnd how start (Ok tt) mid.printing a b
+    → PrintsTo how start a b mid → is_complete mid.printing ≡ true
+    → ItemsEnd how start (Ok tt) mid.printing a b
 ItemsEnd-complete how start mid a b p complete = (mid, p, refl, inl complete)
 
 -- a stop, after the text printed so far
-pub ItemsEnd-stop : (how : CaptureStyle) (start mid new : Place) (printing : Printing) (a b d : Option (List ℕ)) (stop : CaptureStop)
-    → PrintsTo how start a b mid → is_complete mid.printing ≡ false → TakesStep how (Err stop) mid new b d → ItemsEnd how start (Err stop) printing a d
+pub ItemsEnd-stop : (how : CaptureStyle) (start mid new : Place) (printing : Printing)
+    (a b d : Option (List ℕ)) (stop : CaptureStop)
+    → PrintsTo how start a b mid → is_complete mid.printing ≡ false
+    → TakesStep how (Err stop) mid new b d → ItemsEnd how start (Err stop) printing a d
 ItemsEnd-stop how start mid new printing a b d (Capture fault at) p goes_on s =
     (mid, PrintsTo-preserved how start mid a b d p s.2, goes_on, s.0, s.1)
 ItemsEnd-stop how start mid new printing a b d (Packet fault at) p goes_on s =
@@ -86,53 +102,92 @@ ItemsEnd-stop how start mid new printing a b d (Input kind) p goes_on s = tt
 ItemsEnd-stop how start mid new printing a b d Device p goes_on s = tt
 ItemsEnd-stop how start mid new printing a b d Memory p goes_on s = tt
 
-pub ItemsEnd-from : {R : Type 0} (remaining : R → Option (List ℕ)) (how : CaptureStyle) (start mid : Place) (reader : CaptureReader R) (printing : Printing) (a b d : Option (List ℕ)) (stop : CaptureStop)
-    → PrintsTo how start a b mid → is_complete mid.printing ≡ false → StepsFrom remaining how (Err stop) mid reader printing b d → ItemsEnd how start (Err stop) printing a d
-ItemsEnd-from remaining how start mid reader printing a b d (Capture fault at) p goes_on s = ItemsEnd-stop how start mid s.0 printing a b d (Capture fault at) p goes_on s.1
-ItemsEnd-from remaining how start mid reader printing a b d (Packet fault at) p goes_on s = ItemsEnd-stop how start mid s.0 printing a b d (Packet fault at) p goes_on s.1
+pub ItemsEnd-from : {R : Type 0} (remaining : R → Option (List ℕ)) (how : CaptureStyle)
+    (start mid : Place) (reader : CaptureReader R) (printing : Printing) (a b d : Option (List ℕ))
+    (stop : CaptureStop)
+    → PrintsTo how start a b mid → is_complete mid.printing ≡ false
+    → StepsFrom remaining how (Err stop) mid reader printing b d
+    → ItemsEnd how start (Err stop) printing a d
+ItemsEnd-from remaining how start mid reader printing a b d (Capture fault at) p goes_on s =
+    ItemsEnd-stop how start mid s.0 printing a b d (Capture fault at) p goes_on s.1
+ItemsEnd-from remaining how start mid reader printing a b d (Packet fault at) p goes_on s =
+    ItemsEnd-stop how start mid s.0 printing a b d (Packet fault at) p goes_on s.1
 ItemsEnd-from remaining how start mid reader printing a b d (Input kind) p goes_on s = tt
 ItemsEnd-from remaining how start mid reader printing a b d Device p goes_on s = tt
 ItemsEnd-from remaining how start mid reader printing a b d Memory p goes_on s = tt
 
 -- a stop is passed on
-pub ItemsEnd-passed : (how : CaptureStyle) (start : Place) (result : Result ⊤ CaptureStop) (stop : CaptureStop) (printing : Printing) (a d : Option (List ℕ))
-    → IsErrAnd result (λ e. e ≡ stop) → ItemsEnd how start (Err stop) printing a d → ItemsEnd how start result printing a d
+pub ItemsEnd-passed : (how : CaptureStyle) (start : Place) (result : Result ⊤ CaptureStop)
+    (stop : CaptureStop) (printing : Printing) (a d : Option (List ℕ))
+    → IsErrAnd result (λ e. e ≡ stop) → ItemsEnd how start (Err stop) printing a d
+    → ItemsEnd how start result printing a d
 ItemsEnd-passed how start (Ok done) stop printing a d is h = absurd is
-ItemsEnd-passed how start (Err e) stop printing a d is h = subst (λ s. ItemsEnd how start (Err s) printing a d) (sym is) h
+ItemsEnd-passed how start (Err e) stop printing a d is h =
+    subst (λ s. ItemsEnd how start (Err s) printing a d) (sym is) h
 
 -- ---- one item of a reader
 
 -- the end
-pub item_ended : {R : Type 0} (remaining : R → Option (List ℕ)) (how : CaptureStyle) (old new : CaptureReader R) (left : List ℕ) (printing : Printing) (a : Option (List ℕ))
-    → MakesStep remaining (next_step (reading_of old left)) (Ok End) new → StepsFrom remaining how (Ok true) (place_of old left printing) new printing a a
+pub item_ended : {R : Type 0} (remaining : R → Option (List ℕ)) (how : CaptureStyle)
+    (old new : CaptureReader R) (left : List ℕ) (printing : Printing) (a : Option (List ℕ))
+    → MakesStep remaining (next_step (reading_of old left)) (Ok End) new
+    → StepsFrom remaining how (Ok true) (place_of old left printing) new printing a a
 item_ended remaining how old new left printing a m = (m.0, m.1, (m.2, refl, Appends-nil a))
 
 -- something without a frame
-pub item_other : {R : Type 0} (remaining : R → Option (List ℕ)) (how : CaptureStyle) (old new : CaptureReader R) (left : List ℕ) (printing : Printing) (a : Option (List ℕ))
-    → MakesStep remaining (next_step (reading_of old left)) (Ok Other) new → StepsFrom remaining how (Ok false) (place_of old left printing) new printing a a
-item_other remaining how old new left printing a m = (m.0, m.1, (Other, m.2, refl, refl, Appends-nil a))
+pub item_other : {R : Type 0} (remaining : R → Option (List ℕ)) (how : CaptureStyle)
+    (old new : CaptureReader R) (left : List ℕ) (printing : Printing) (a : Option (List ℕ))
+    → MakesStep remaining (next_step (reading_of old left)) (Ok Other) new
+    → StepsFrom remaining how (Ok false) (place_of old left printing) new printing a a
+item_other remaining how old new left printing a m =
+    (m.0, m.1, (Other, m.2, refl, refl, Appends-nil a))
 
 -- a frame
-pub item_frame : {R : Type 0} (remaining : R → Option (List ℕ)) (how : CaptureStyle) (old new : CaptureReader R) (left : List ℕ) (before after : Printing) (span : Span) (a b : Option (List ℕ))
+pub item_frame : {R : Type 0} (remaining : R → Option (List ℕ)) (how : CaptureStyle)
+    (old new : CaptureReader R) (left : List ℕ) (before after : Printing) (span : Span)
+    (a b : Option (List ℕ))
     → MakesStep remaining (next_step (reading_of old left)) (Ok (Frame span)) new
     → ((rest : List ℕ) → Appends a b (item_text how (reading_of new rest) (Frame span) before))
     → ((rest : List ℕ) → after ≡ after_item how (reading_of new rest) (Frame span) before)
     → StepsFrom remaining how (Ok false) (place_of old left before) new after a b
-item_frame remaining how old new left before after span a b m grew next = (m.0, m.1, (Frame span, m.2, refl, next m.0, grew m.0))
+item_frame remaining how old new left before after span a b m grew next =
+    (m.0, m.1, (Frame span, m.2, refl, next m.0, grew m.0))
 
 -- a packet that is skipped
-pub item_skipped : {R : Type 0} (remaining : R → Option (List ℕ)) (how : CaptureStyle) (old new : CaptureReader R) (left : List ℕ) (printing : Printing) (fault : PacketFault) (a : Option (List ℕ))
-    → MakesStep remaining (next_step (reading_of old left)) (Ok (Unreadable fault)) new → how.keeps_going ≡ true → StepsFrom remaining how (Ok false) (place_of old left printing) new printing a a
-item_skipped remaining how old new left printing fault a m goes = (m.0, m.1, (Unreadable fault, m.2, ap (λ b. packet_fault b (Unreadable fault)) goes, refl, Appends-nil a))
+pub item_skipped : {R : Type 0} (remaining : R → Option (List ℕ)) (how : CaptureStyle)
+    (old new : CaptureReader R) (left : List ℕ) (printing : Printing) (fault : PacketFault)
+    (a : Option (List ℕ))
+    → MakesStep remaining (next_step (reading_of old left)) (Ok (Unreadable fault)) new
+    → how.keeps_going ≡ true
+    → StepsFrom remaining how (Ok false) (place_of old left printing) new printing a a
+item_skipped remaining how old new left printing fault a m goes = (
+  m.0,
+  m.1,
+  (
+    Unreadable fault,
+    m.2,
+    ap (λ b. packet_fault b (Unreadable fault)) goes,
+    refl,
+    Appends-nil a,
+  ),
+)
 
 -- a packet at which reading stops
-pub item_stopped : {R : Type 0} (remaining : R → Option (List ℕ)) (how : CaptureStyle) (old new : CaptureReader R) (left : List ℕ) (before after : Printing) (fault : PacketFault) (place : ℕ) (a : Option (List ℕ))
-    → MakesStep remaining (next_step (reading_of old left)) (Ok (Unreadable fault)) new → place ≡ old.place
+pub item_stopped : {R : Type 0} (remaining : R → Option (List ℕ)) (how : CaptureStyle)
+    (old new : CaptureReader R) (left : List ℕ) (before after : Printing) (fault : PacketFault)
+    (place : ℕ) (a : Option (List ℕ))
+    → MakesStep remaining (next_step (reading_of old left)) (Ok (Unreadable fault)) new
+    → place ≡ old.place
     → StepsFrom remaining how (Err (Packet fault place)) (place_of old left before) new after a a
-item_stopped remaining how old new left before after fault place a m at = (place_of new m.0 before, (m.2, at, Appends-nil a))
+item_stopped remaining how old new left before after fault place a m at =
+    (place_of new m.0 before, (m.2, at, Appends-nil a))
 
 -- a fault of the capture
-pub item_fault : {R : Type 0} (remaining : R → Option (List ℕ)) (how : CaptureStyle) (old new : CaptureReader R) (left : List ℕ) (before after : Printing) (fault : CaptureFault) (place : ℕ) (a : Option (List ℕ))
-    → MakesStep remaining (next_step (reading_of old left)) (Err (ReadCapture fault)) new → place ≡ old.place
+pub item_fault : {R : Type 0} (remaining : R → Option (List ℕ)) (how : CaptureStyle)
+    (old new : CaptureReader R) (left : List ℕ) (before after : Printing) (fault : CaptureFault)
+    (place : ℕ) (a : Option (List ℕ))
+    → MakesStep remaining (next_step (reading_of old left)) (Err (ReadCapture fault)) new
+    → place ≡ old.place
     → StepsFrom remaining how (Err (Capture fault place)) (place_of old left before) new after a a
-item_fault remaining how old new left before after fault place a m at = (place_of old left before, (m, at, Appends-nil a))
+item_fault remaining how old new left before after fault place a m at =
+    (place_of old left before, (m, at, Appends-nil a))

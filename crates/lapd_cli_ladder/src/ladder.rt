@@ -64,7 +64,7 @@ pub(crate) fn between_width(width: usize) -> usize
     if width == 0 { BETWEEN } else { 36 }
 }
 
-/// What is between the upright lines if there is no arrow.
+/// The text between the upright lines if there is no arrow.
 fn blanks(width: usize) -> &'static [u8]
     ensures { result.now ≡ blanks width }
 {

@@ -131,7 +131,7 @@ abbrev pub pair_step : Step World
 pair_step w line = if bytes_eq line (codes "settle") then Some (settle_made w)
     else (if bytes_eq line (codes "recover") then Some (recover_made w) else move_step w line)
 
--- ---- What is printed at the end.
+-- ---- The lines printed at the end.
 
 -- the side's state, and its messages: submitted, received, acknowledged and dropped
 abbrev pub figures_of : Station → Figures

@@ -10,7 +10,8 @@ adds_none (Some before) = sym (append-nil before)
 pub adds_same : (a b : Option (List IoEvent)) → b ≡ a → Adds a b []
 adds_same a b same = subst (λ (x : Option (List IoEvent)). Adds a x []) (sym same) (adds_none a)
 
-pub adds_both : (a b c : Option (List IoEvent)) (first last : List IoEvent) → Adds a b first → Adds b c last → Adds a c (first ++ last)
+pub adds_both : (a b c : Option (List IoEvent)) (first last : List IoEvent) → Adds a b first
+    → Adds b c last → Adds a c (first ++ last)
 adds_both None None None first last p q = tt
 adds_both None None (Some after) first last p q = absurd q
 adds_both None (Some mid) c first last p q = absurd p

@@ -19,7 +19,8 @@ odd_again : (n : ℕ) → ((n * 2 + 1) % 2 ≡ 1) × ((n * 2 + 1) / 2 ≡ n)
 odd_again n = (omega arith, omega arith)
 
 parts_again : (from : Side) (sapi : Sapi) (role : Role) (tei : ℕ)
-    → address_at from ((sapi_value sapi * 4 + command_bit from role * 2) ∷ (tei * 2 + 1) ∷ []) ≡ Ok (record { sapi = sapi; tei = tei; role = role })
+    → address_at from ((sapi_value sapi * 4 + command_bit from role * 2) ∷ (tei * 2 + 1) ∷ [])
+    ≡ Ok (record { sapi = sapi; tei = tei; role = role })
 parts_again Network Call Command tei = rw (odd_again tei).0 (rw (odd_again tei).1 refl)
 parts_again Network Call Answer tei = rw (odd_again tei).0 (rw (odd_again tei).1 refl)
 parts_again Network Packet Command tei = rw (odd_again tei).0 (rw (odd_again tei).1 refl)
@@ -44,8 +45,10 @@ octet_again n true = let odd : (n * 2 + 1) % 2 ≡ 1 = omega arith in (omega ari
 even_again : (n : ℕ) → ((n * 2) % 2 ≡ 0) × ((n * 2) / 2 ≡ n)
 even_again n = (omega arith, omega arith)
 
-pub control_again : (c : Control) (rest : List ℕ) → control_at (control_octets c ++ rest) ≡ Ok (c, length (control_octets c))
-control_again (I ns nr p) rest = rw ((even_again ns).0, (even_again ns).1, (octet_again nr p).0, (octet_again nr p).1) refl
+pub control_again : (c : Control) (rest : List ℕ)
+    → control_at (control_octets c ++ rest) ≡ Ok (c, length (control_octets c))
+control_again (I ns nr p) rest =
+    rw ((even_again ns).0, (even_again ns).1, (octet_again nr p).0, (octet_again nr p).1) refl
 control_again (Rr nr pf) rest = rw ((octet_again nr pf).0, (octet_again nr pf).1) refl
 control_again (Rnr nr pf) rest = rw ((octet_again nr pf).0, (octet_again nr pf).1) refl
 control_again (Rej nr pf) rest = rw ((octet_again nr pf).0, (octet_again nr pf).1) refl
@@ -66,14 +69,17 @@ control_again (Xid true) rest = refl
 
 -- ---- Fields that are read were spelled so.
 
-pub address_spelled : (from : Side) (first second : ℕ) (a : Address) → address_at from (first ∷ second ∷ []) ≡ Ok a → first ∷ second ∷ [] ≡ address_octets from a
+pub address_spelled : (from : Side) (first second : ℕ) (a : Address)
+    → address_at from (first ∷ second ∷ []) ≡ Ok a → first ∷ second ∷ [] ≡ address_octets from a
 address_spelled Network first second a h = grind (arith, common_steps)
 address_spelled User first second a h = grind (arith, common_steps)
 
-pub unnumbered_spelled : (first : ℕ) (c : Control) → unnumbered_at first ≡ Some c → first ∷ [] ≡ control_octets c
+pub unnumbered_spelled : (first : ℕ) (c : Control) → unnumbered_at first ≡ Some c
+    → first ∷ [] ≡ control_octets c
 unnumbered_spelled first c h = grind (arith, common_steps)
 
-pub numbered_spelled : (first second : ℕ) (c : Control) → numbered_at first second ≡ Some c → first ∷ second ∷ [] ≡ control_octets c
+pub numbered_spelled : (first second : ℕ) (c : Control) → numbered_at first second ≡ Some c
+    → first ∷ second ∷ [] ≡ control_octets c
 numbered_spelled first second c h = grind (arith, common_steps)
 
 abbrev Taken : Control × ℕ → Result (Control × ℕ) FieldFault
@@ -82,20 +88,26 @@ Taken x = Ok x
 same_ok : (x y : Control × ℕ) → Taken x ≡ Taken y → x ≡ y
 same_ok x y h = cc
 
-with_length_ok : (field : Option Control) (m : ℕ) (c : Control) (n : ℕ) → with_length field m ≡ Ok (c, n) → (field ≡ Some c) × (n ≡ m)
+with_length_ok : (field : Option Control) (m : ℕ) (c : Control) (n : ℕ)
+    → with_length field m ≡ Ok (c, n) → (field ≡ Some c) × (n ≡ m)
 with_length_ok None m c n h = cc
 with_length_ok (Some d) m c n h =
-    let e = same_ok (d, m) (c, n) h in (ap (λ (p : Control × ℕ). Some p.0) e, sym (ap (λ (p : Control × ℕ). p.1) e))
+    let e = same_ok (d, m) (c, n) h in
+    (ap (λ (p : Control × ℕ). Some p.0) e, sym (ap (λ (p : Control × ℕ). p.1) e))
 
-control_spelled_at : (first : ℕ) (rest : List ℕ) (c : Control) (n : ℕ) (two : Bool) → (if two then with_second first rest else with_length (unnumbered_at first) 1) ≡ Ok (c, n)
+control_spelled_at : (first : ℕ) (rest : List ℕ) (c : Control) (n : ℕ) (two : Bool)
+    → (if two then with_second first rest else with_length (unnumbered_at first) 1) ≡ Ok (c, n)
     → take n (first ∷ rest) ≡ control_octets c
 control_spelled_at first [] c n true h = cc
 control_spelled_at first (second ∷ rest) c n true h =
-    let found = with_length_ok (numbered_at first second) 2 c n h in rw found.1 (numbered_spelled first second c found.0)
+    let found = with_length_ok (numbered_at first second) 2 c n h in
+    rw found.1 (numbered_spelled first second c found.0)
 control_spelled_at first rest c n false h =
-    let found = with_length_ok (unnumbered_at first) 1 c n h in rw found.1 (unnumbered_spelled first c found.0)
+    let found = with_length_ok (unnumbered_at first) 1 c n h in
+    rw found.1 (unnumbered_spelled first c found.0)
 
 -- the octets that a control field takes are the octets of the field
-pub control_spelled : (octets : List ℕ) (c : Control) (n : ℕ) → control_at octets ≡ Ok (c, n) → take n octets ≡ control_octets c
+pub control_spelled : (octets : List ℕ) (c : Control) (n : ℕ) → control_at octets ≡ Ok (c, n)
+    → take n octets ≡ control_octets c
 control_spelled [] c n h = cc
 control_spelled (first ∷ rest) c n h = control_spelled_at first rest c n (has_second first) h

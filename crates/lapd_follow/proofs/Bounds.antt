@@ -27,13 +27,16 @@ none_reached n a (b ∷ bs) rises h =
     let later = none_reached n b bs rises.1 below in
     grind (arith, reached_cons n b bs, leb_tells b n, later, below)
 
-is_reached_at : (n b m : ℕ) (bs : List ℕ) → ((nat_le b n ≡ true) × (b ≤ n)) ⊎ ((nat_le b n ≡ false) × (n < b))
+is_reached_at : (n b m : ℕ) (bs : List ℕ)
+    → ((nat_le b n ≡ true) × (b ≤ n)) ⊎ ((nat_le b n ≡ false) × (n < b))
     → Rises b bs → m < reached n bs → suc m < reached n (b ∷ bs)
 is_reached_at n b m bs (inl holds) rises later = grind (arith, reached_cons n b bs, holds.0, later)
-is_reached_at n b m bs (inr fails) rises later = omega (arith, none_reached n b bs rises fails.1, later)
+is_reached_at n b m bs (inr fails) rises later =
+    omega (arith, none_reached n b bs rises fails.1, later)
 
 -- a bound that is not above n
-is_reached : (n a : ℕ) (bs : List ℕ) (m d : ℕ) → Rises a bs → m < length bs → get_or bs m d ≤ n → m < reached n bs
+is_reached : (n a : ℕ) (bs : List ℕ) (m d : ℕ) → Rises a bs → m < length bs → get_or bs m d ≤ n
+    → m < reached n bs
 is_reached n a [] m d rises within h = omega (arith, within)
 is_reached n a (b ∷ bs) zero d rises within h = grind (arith, reached_cons n b bs, leb_tells b n, h)
 is_reached n a (b ∷ bs) (suc m) d rises within h =
@@ -41,9 +44,11 @@ is_reached n a (b ∷ bs) (suc m) d rises within h =
     is_reached_at n b m bs (leb_tells b n) rises.1 (is_reached n b bs m d rises.1 shorter h)
 
 -- a bound above n
-not_reached : (n a : ℕ) (bs : List ℕ) (m d : ℕ) → Rises a bs → m < length bs → n < get_or bs m d → reached n bs ≤ m
+not_reached : (n a : ℕ) (bs : List ℕ) (m d : ℕ) → Rises a bs → m < length bs → n < get_or bs m d
+    → reached n bs ≤ m
 not_reached n a [] m d rises within h = omega (arith, within)
-not_reached n a (b ∷ bs) zero d rises within h = grind (arith, reached_cons n b bs, leb_tells b n, none_reached n b bs rises.1 h)
+not_reached n a (b ∷ bs) zero d rises within h =
+    grind (arith, reached_cons n b bs, leb_tells b n, none_reached n b bs rises.1 h)
 not_reached n a (b ∷ bs) (suc m) d rises within h =
     let shorter : m < length bs = omega (arith, within) in
     let later = not_reached n b bs m d rises.1 shorter h in
@@ -70,22 +75,28 @@ begin_is m =
     grind (arith, eqb_tells (suc m) 0, ap end_of before)
 
 up_to_end : (n m : ℕ) → n < 2 ^ 64 → class_of n ≤ m
-    → ((nat_le (get_or bounds m (2 ^ 64 - 1)) n ≡ true) × (get_or bounds m (2 ^ 64 - 1) ≤ n)) ⊎ ((nat_le (get_or bounds m (2 ^ 64 - 1)) n ≡ false) × (n < get_or bounds m (2 ^ 64 - 1)))
-    → ((nat_le (suc m) (length bounds) ≡ true) × (suc m ≤ length bounds)) ⊎ ((nat_le (suc m) (length bounds) ≡ false) × (length bounds < suc m))
+    → ((nat_le (get_or bounds m (2 ^ 64 - 1)) n ≡ true) × (get_or bounds m (2 ^ 64 - 1) ≤ n))
+    ⊎ ((nat_le (get_or bounds m (2 ^ 64 - 1)) n ≡ false) × (n < get_or bounds m (2 ^ 64 - 1)))
+    → ((nat_le (suc m) (length bounds) ≡ true) × (suc m ≤ length bounds))
+    ⊎ ((nat_le (suc m) (length bounds) ≡ false) × (length bounds < suc m))
     → n ≤ get_or bounds m (2 ^ 64 - 1)
 unfolding class_of
 up_to_end n m fits h (inr above) within = omega (arith, above.1)
-up_to_end n m fits h (inl below) (inl within) = omega (arith, is_reached n 0 bounds m (2 ^ 64 - 1) bounds_rise within.1 below.1, h)
+up_to_end n m fits h (inl below) (inl within) =
+    omega (arith, is_reached n 0 bounds m (2 ^ 64 - 1) bounds_rise within.1 below.1, h)
 up_to_end n m fits h (inl below) (inr past) =
     let far : length bounds ≤ m = omega (arith, past.1) in
     omega (arith, get_or_past bounds m (2 ^ 64 - 1) far, fits)
 
 -- a time of a class up to m is not above the end of m
 pub not_above_end : (n m : ℕ) → n < 2 ^ 64 → class_of n ≤ m → n ≤ end_of m
-not_above_end n m fits h = rw (end_is m) (up_to_end n m fits h (leb_tells (get_or bounds m (2 ^ 64 - 1)) n) (leb_tells (suc m) (length bounds)))
+not_above_end n m fits h =
+    rw (end_is m) (up_to_end n
+    m fits h (leb_tells (get_or bounds m (2 ^ 64 - 1)) n) (leb_tells (suc m) (length bounds)))
 
 below_end : (n m : ℕ) → n < get_or bounds m (2 ^ 64 - 1)
-    → ((nat_le (suc m) (length bounds) ≡ true) × (suc m ≤ length bounds)) ⊎ ((nat_le (suc m) (length bounds) ≡ false) × (length bounds < suc m))
+    → ((nat_le (suc m) (length bounds) ≡ true) × (suc m ≤ length bounds))
+    ⊎ ((nat_le (suc m) (length bounds) ≡ false) × (length bounds < suc m))
     → class_of n ≤ m
 unfolding class_of
 below_end n m h (inl within) = not_reached n 0 bounds m (2 ^ 64 - 1) bounds_rise within.1 h
@@ -116,16 +127,21 @@ dense_at a [] (suc m) dense h = absurd (omega (arith, h))
 dense_at a (b ∷ bs) zero dense h = dense.0
 dense_at a (b ∷ bs) (suc m) dense h = dense_at b bs m dense.1 h
 
-bounds_dense : (m : ℕ) → get_or bounds m (2 ^ 64 - 1) < 100000000 → 2 * get_or bounds (suc m) (2 ^ 64 - 1) ≤ 5 * get_or bounds m (2 ^ 64 - 1)
+bounds_dense : (m : ℕ) → get_or bounds m (2 ^ 64 - 1) < 100000000
+    → 2 * get_or bounds (suc m) (2 ^ 64 - 1) ≤ 5 * get_or bounds m (2 ^ 64 - 1)
 unfolding bounds
-bounds_dense m h = dense_at 1000 (2000 ∷ 5000 ∷ 10000 ∷ 20000 ∷ 50000 ∷ 100000 ∷ 200000 ∷ 500000 ∷ 1000000 ∷ 2000000 ∷ 5000000 ∷ 10000000 ∷ 20000000 ∷ 50000000 ∷ 100000000 ∷ []) m (grind arith) h
+bounds_dense m h =
+    dense_at 1000 (2000 ∷ 5000 ∷ 10000 ∷ 20000 ∷ 50000 ∷ 100000 ∷ 200000 ∷ 500000 ∷ 1000000
+    ∷ 2000000 ∷ 5000000 ∷ 10000000 ∷ 20000000 ∷ 50000000 ∷ 100000000 ∷ []) m (grind arith) h
 
 first_end : end_of 0 ≡ 1000
 unfolding end_of bounds
 first_end = refl
 
-pub narrow_class : (c : ℕ) → 1000 < end_of c → begin_of c < 100000000 → 2 * end_of c ≤ 5 * begin_of c
+pub narrow_class : (c : ℕ) → 1000 < end_of c → begin_of c < 100000000
+    → 2 * end_of c ≤ 5 * begin_of c
 narrow_class zero late early = absurd (omega (arith, first_end, late))
 narrow_class (suc m) late early =
-    let near : get_or bounds m (2 ^ 64 - 1) < 100000000 = omega (arith, begin_is m, end_is m, early) in
+    let near : get_or bounds m (2 ^ 64 - 1) < 100000000 =
+    omega (arith, begin_is m, end_is m, early) in
     omega (arith, begin_is m, end_is m, end_is (suc m), bounds_dense m near)

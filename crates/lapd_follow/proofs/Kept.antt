@@ -6,8 +6,10 @@ use Rattle.lapd_frame.specs.declared.Control.TheVariants.{I, Rr, Rnr, Rej, Sabme
 use Rattle.lapd_follow.specs.declared.packet.Packet.{Packet}
 use Rattle.lapd_follow.specs.Exchange.{Exchange, after_control, kept_octets}
 
-pub kept_is_enough : (control : Control) (role : Role) (info : List ℕ) (packet : Packet) (x : Exchange)
-    → after_control control role (kept_octets control info) packet x ≡ after_control control role info packet x
+pub kept_is_enough : (control : Control) (role : Role) (info : List ℕ) (packet : Packet)
+    (x : Exchange)
+    → after_control control role (kept_octets control info) packet x
+    ≡ after_control control role info packet x
 kept_is_enough (I ns nr p) role info packet x = refl
 kept_is_enough (Rr nr pf) role info packet x = refl
 kept_is_enough (Rnr nr pf) role info packet x = refl

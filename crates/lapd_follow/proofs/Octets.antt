@@ -8,7 +8,10 @@ pub ruleset octets = (length-map, map-append, drop-map, slice_get-map)
 
 -- the octets of the last frames are the last of the octets of all frames
 pub last_octets : {X : Type 0} (n : ℕ) (frames : List X) (frame : X) (octets : X → List ℕ)
-    → map octets (drop (length (frames ++ frame ∷ []) - n) (frames ++ frame ∷ [])) ≡ keep_last n (map octets frames ++ octets frame ∷ [])
+    → map octets (drop (length (frames ++ frame ∷ []) - n) (frames ++ frame ∷ []))
+    ≡ keep_last n (map octets frames ++ octets frame ∷ [])
 last_octets n frames frame octets =
     let all : List _ = frames ++ frame ∷ [] in
-    sym (drop-map octets (length all - n) all) ∙ ap (λ (k : ℕ). drop (k - n) (map octets all)) (sym (length-map all octets)) ∙ ap (λ kept. keep_last n kept) (map-append octets frames (frame ∷ []))
+    sym (drop-map octets (length all - n) all)
+    ∙ ap (λ (k : ℕ). drop (k - n) (map octets all)) (sym (length-map all octets))
+    ∙ ap (λ kept. keep_last n kept) (map-append octets frames (frame ∷ []))

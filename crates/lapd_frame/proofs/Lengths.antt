@@ -9,19 +9,23 @@ use Rattle.lapd_field.specs.declared.control.Control.TheVariants.{I, Rr, Rnr, Re
 use Rattle.lapd_frame.specs.Frame.{n201, content_fault}
 
 -- a frame of the control table has short information
-pub where_long : {X : Type 0} (long : Bool) (len : ℕ) (fault : X) → nat_lt 260 len ≡ long → (if long then Some fault else None) ≡ None → len ≤ n201
+pub where_long : {X : Type 0} (long : Bool) (len : ℕ) (fault : X) → nat_lt 260 len ≡ long
+    → (if long then Some fault else None) ≡ None → len ≤ n201
 where_long true len fault is h = cc
 where_long false len fault is h = grind (arith, nat_tests)
 
-where_some : {X : Type 0} (some : Bool) (len : ℕ) (fault : X) → nat_lt 0 len ≡ some → (if some then Some fault else None) ≡ None → len ≤ n201
+where_some : {X : Type 0} (some : Bool) (len : ℕ) (fault : X) → nat_lt 0 len ≡ some
+    → (if some then Some fault else None) ≡ None → len ≤ n201
 where_some true len fault is h = cc
 where_some false len fault is h = grind (arith, nat_tests)
 
-where_five : {X : Type 0} (five : Bool) (len : ℕ) (fault : X) → (len == 5) ≡ five → (if five then None else Some fault) ≡ None → len ≤ n201
+where_five : {X : Type 0} (five : Bool) (len : ℕ) (fault : X) → (len == 5) ≡ five
+    → (if five then None else Some fault) ≡ None → len ≤ n201
 where_five true len fault is h = grind (arith, nat_tests)
 where_five false len fault is h = cc
 
-pub content_is_short : (role : Role) (control : Control) (len : ℕ) → content_fault role control len ≡ None → len ≤ n201
+pub content_is_short : (role : Role) (control : Control) (len : ℕ)
+    → content_fault role control len ≡ None → len ≤ n201
 content_is_short Command (I ns nr p) len h = where_long (nat_lt 260 len) len _ refl h
 content_is_short Answer (I ns nr p) len h = cc
 content_is_short role (Rr nr pf) len h = where_some (nat_lt 0 len) len _ refl h

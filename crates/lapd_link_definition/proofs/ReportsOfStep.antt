@@ -81,7 +81,9 @@ starts timer s h = both s.outs (Start timer ∷ []) h (tt, tt)
 
 stops : (timer : Timer) (s : StepState) → P s → P (stop timer s)
 unfolding stop
-stops timer s h = both s.outs (out_where (runs timer s.end) (Stop timer)) h (one_where (runs timer s.end) (Stop timer) tt)
+stops timer s h =
+    both s.outs (out_where (runs timer s.end) (Stop timer)) h
+    (one_where (runs timer s.end) (Stop timer) tt)
 
 expires : (timer : Timer) (s : StepState) → P s → P (expired timer s)
 unfolding expired
@@ -121,16 +123,23 @@ queues message s h = h
 
 discards : (s : StepState) → P s → P (discard_i_queue s)
 unfolding discard_i_queue
-discards s h = both s.outs (counted (waiting s.end) Dropped) h (one_where (nat_lt 0 (waiting s.end)) (Dropped (waiting s.end)) tt)
+discards s h =
+    both s.outs (counted (waiting s.end) Dropped) h
+    (one_where (nat_lt 0 (waiting s.end)) (Dropped (waiting s.end)) tt)
 
 loses : (s : StepState) → P s → P (discard_unacknowledged s)
 unfolding discard_unacknowledged
-loses s h = both s.outs _ h (none_or (s.end.window.vs == s.end.window.va) (counted (waiting s.end) Dropped ++ Established ∷ [])
-    (both (counted (waiting s.end) Dropped) (Established ∷ []) (one_where (nat_lt 0 (waiting s.end)) (Dropped (waiting s.end)) tt) (tt, tt)))
+loses s h =
+    both s.outs _ h (none_or (s.end.window.vs == s.end.window.va)
+    (counted (waiting s.end) Dropped ++ Established ∷ [])
+    (both (counted (waiting s.end) Dropped) (Established ∷ [])
+    (one_where (nat_lt 0 (waiting s.end)) (Dropped (waiting s.end)) tt) (tt, tt)))
 
 establishing : (s : StepState) → P s → P (establish_data_link s)
 unfolding establish_data_link
-establishing s h = states _ _ (starts T200 _ (stops T203 _ (puts _ _ tt (rcs 0 _ (pendings false _ (clears _ h))))))
+establishing s h =
+    states _ _
+    (starts T200 _ (stops T203 _ (puts _ _ tt (rcs 0 _ (pendings false _ (clears _ h))))))
 
 reestablishing : (s : StepState) → P s → P (reestablish_data_link s)
 unfolding reestablish_data_link
@@ -147,7 +156,9 @@ module _ (r : Reading) where
 
   takes : (ns : ℕ) (p : Bool) (s : StepState) → P s → P (i_frame_ns r ns p s)
   unfolding i_frame_ns
-  takes ns p s h = both (s.outs ++ out_where (is_accepted ns s.end.window) Up) _ (both s.outs _ h (one_where (is_accepted ns s.end.window) Up tt)) (answering _)
+  takes ns p s h =
+      both (s.outs ++ out_where (is_accepted ns s.end.window) Up) _
+      (both s.outs _ h (one_where (is_accepted ns s.end.window) Up tt)) (answering _)
 
   sends : (s : StepState) → P s → P (transmit_i_frame r s)
   unfolding transmit_i_frame
@@ -159,16 +170,21 @@ module _ (r : Reading) where
 
   ensures_t200 : (s : StepState) → P s → P (ensure_t200 s)
   unfolding ensure_t200
-  ensures_t200 s h = both (s.outs ++ (if s.end.t200 then [] else out_where s.end.t203 (Stop T203))) _
-      (both s.outs _ h (none_or s.end.t200 (out_where s.end.t203 (Stop T203)) (one_where s.end.t203 (Stop T203) tt))) (none_or s.end.t200 (Start T200 ∷ []) (tt, tt))
+  ensures_t200 s h =
+      both (s.outs ++ (if s.end.t200 then [] else out_where s.end.t203 (Stop T203))) _
+      (both s.outs _ h (none_or s.end.t200 (out_where s.end.t203 (Stop T203))
+      (one_where s.end.t203 (Stop T203) tt)))
+      (none_or s.end.t200 (Start T200 ∷ []) (tt, tt))
 
   -- ---- States 4, 5 and 6.
 
-  in_4 : (input : Input) (s : StepState) → IsDueIn r TeiAssigned input s.end.window → P s → P (tei_assigned input s)
+  in_4 : (input : Input) (s : StepState) → IsDueIn r TeiAssigned input s.end.window → P s
+      → P (tei_assigned input s)
   unfolding tei_assigned
   in_4 Establish s due h = establishing _ (layer3s true _ (discards _ h))
   in_4 Release s due h = puts _ _ tt h
-  in_4 (Heard (Sabme p) Command) s due h = states _ _ (starts T203 _ (puts _ _ tt (zeroes _ (clears _ (puts _ _ tt h)))))
+  in_4 (Heard (Sabme p) Command) s due h =
+      states _ _ (starts T203 _ (puts _ _ tt (zeroes _ (clears _ (puts _ _ tt h)))))
   in_4 (Heard (Disc p) Command) s due h = puts _ _ tt h
   in_4 (Heard (Ua true) Answer) s due h = let asked = due.0 in cc
   in_4 (Heard (Ua false) Answer) s due h = let asked = due.0 in cc
@@ -198,7 +214,8 @@ module _ (r : Reading) where
       (λ _. starts T200 _ (puts _ _ tt (expires T200 _ (increments _ h))))
       (λ _. ending _ (puts _ _ tt (discards _ (expires T200 _ h))))
 
-  in_5 : (input : Input) (s : StepState) → IsDueIn r AwaitingEstablishment input s.end.window → P s → P (awaiting_establishment input s)
+  in_5 : (input : Input) (s : StepState) → IsDueIn r AwaitingEstablishment input s.end.window → P s
+      → P (awaiting_establishment input s)
   unfolding awaiting_establishment
   in_5 Establish s due h = layer3s true _ (discards _ h)
   in_5 Release s due h = pendings true _ (discards _ h)
@@ -221,7 +238,8 @@ module _ (r : Reading) where
       (λ _. starts T200 _ (puts _ _ tt (expires T200 _ (increments _ h))))
       (λ _. states _ _ (puts _ _ tt (puts _ _ tt (expires T200 _ h))))
 
-  in_6 : (input : Input) (s : StepState) → IsDueIn r AwaitingRelease input s.end.window → P s → P (awaiting_release input s)
+  in_6 : (input : Input) (s : StepState) → IsDueIn r AwaitingRelease input s.end.window → P s
+      → P (awaiting_release input s)
   unfolding awaiting_release
   in_6 (Heard (Sabme p) Command) s due h = puts _ _ tt h
   in_6 (Heard (Disc p) Command) s due h = puts _ _ tt h
@@ -251,55 +269,73 @@ module _ (r : Reading) where
   in_both : (input : Input) (s : StepState) → IsDueInBoth input → P s → P (in_7_and_8 input s)
   unfolding in_7_and_8
   in_both Establish s due h = establishing _ (layer3s true _ (discards _ h))
-  in_both Release s due h = states _ _ (starts T200 _ (stops T203 _ (puts _ _ tt (rcs 0 _ (discards _ h)))))
+  in_both Release s due h =
+      states _ _ (starts T200 _ (stops T203 _ (puts _ _ tt (rcs 0 _ (discards _ h)))))
   in_both (Give message) s due h = queues message _ h
   in_both BusyOn s due h = busy s h
   in_both BusyOff s due h = free s h
-  in_both (Heard (Sabme p) Command) s due h = states _ _ (zeroes _ (starts T203 _ (stops T200 _ (loses _ (puts _ _ tt (clears _ (puts _ _ tt h)))))))
-  in_both (Heard (Disc p) Command) s due h = states _ _ (stops T203 _ (stops T200 _ (puts _ _ tt (puts _ _ tt (discards _ h)))))
+  in_both (Heard (Sabme p) Command) s due h =
+      states _ _
+      (zeroes _ (starts T203 _ (stops T200 _ (loses _ (puts _ _ tt (clears _ (puts _ _ tt h)))))))
+  in_both (Heard (Disc p) Command) s due h =
+      states _ _ (stops T203 _ (stops T200 _ (puts _ _ tt (puts _ _ tt (discards _ h)))))
   in_both (Heard (Ua f) Answer) s due h = absurd due
   in_both (Heard (Dm false) Answer) s due h = absurd due
   in_both (Heard (Frmr f) Answer) s due h = absurd due
   in_both input s due h = h
 
-  by_valid : (nr : ℕ) (s x : StepState) → is_valid_nr r nr s.end.window ≡ true → P x → P (if is_valid_nr r nr s.end.window then x else nr_error_recovery s)
+  by_valid : (nr : ℕ) (s x : StepState) → is_valid_nr r nr s.end.window ≡ true → P x
+      → P (if is_valid_nr r nr s.end.window then x else nr_error_recovery s)
   by_valid nr s x valid h = either P (is_valid_nr r nr s.end.window) _ _ (λ _. h) (λ invalid. cc)
 
   advancing : (nr : ℕ) (s : StepState) → P s → P (acknowledge_with_timers r nr s)
   unfolding acknowledge_with_timers
-  advancing nr s h = either P (acknowledges_all nr s.end.window) _ _ (λ _. starts T203 _ (stops T200 _ (acknowledges nr s h)))
-      (λ _. either P (nr == s.end.window.va) _ _ (λ _. h) (λ _. starts T200 _ (acknowledges nr s h)))
+  advancing nr s h =
+      either P (acknowledges_all nr s.end.window) _ _
+      (λ _. starts T203 _ (stops T200 _ (acknowledges nr s h)))
+      (λ _. either P (nr == s.end.window.va) _ _ (λ _. h)
+      (λ _. starts T200 _ (acknowledges nr s h)))
 
   -- V(A) and V(S) do not change before N(R) is checked
-  valid_then : (ns nr : ℕ) (p : Bool) (s : StepState) → is_valid_nr r nr s.end.window ≡ true → is_valid_nr r nr (i_frame_ns r ns p s).end.window ≡ true
+  valid_then : (ns nr : ℕ) (p : Bool) (s : StepState) → is_valid_nr r nr s.end.window ≡ true
+      → is_valid_nr r nr (i_frame_ns r ns p s).end.window ≡ true
   unfolding i_frame_ns after_i_frame is_valid_nr
   valid_then ns nr p s valid = valid
 
-  i_frame_in_7 : (ns nr : ℕ) (p : Bool) (s : StepState) → is_valid_nr r nr s.end.window ≡ true → P s → P (s ▷ i_frame_ns r ns p ▷ i_frame_nr r nr)
+  i_frame_in_7 : (ns nr : ℕ) (p : Bool) (s : StepState) → is_valid_nr r nr s.end.window ≡ true → P s
+      → P (s ▷ i_frame_ns r ns p ▷ i_frame_nr r nr)
   unfolding i_frame_nr
   i_frame_in_7 ns nr p s valid h =
       let t = i_frame_ns r ns p s in
       let after : P t = takes ns p s h in
-      by_valid nr t _ (valid_then ns nr p s valid) (either P t.end.window.peer_busy _ _ (λ _. acknowledges nr t after) (λ _. advancing nr t after))
+      by_valid nr t _ (valid_then ns nr p s valid)
+      (either P t.end.window.peer_busy _ _ (λ _. acknowledges nr t after)
+      (λ _. advancing nr t after))
 
-  i_frame_in_8 : (ns nr : ℕ) (p : Bool) (s : StepState) → is_valid_nr r nr s.end.window ≡ true → P s → P (s ▷ i_frame_ns r ns p ▷ i_frame_nr_in_recovery r nr)
+  i_frame_in_8 : (ns nr : ℕ) (p : Bool) (s : StepState) → is_valid_nr r nr s.end.window ≡ true → P s
+      → P (s ▷ i_frame_ns r ns p ▷ i_frame_nr_in_recovery r nr)
   unfolding i_frame_nr_in_recovery
-  i_frame_in_8 ns nr p s valid h = by_valid nr _ _ (valid_then ns nr p s valid) (acknowledges nr _ (takes ns p s h))
+  i_frame_in_8 ns nr p s valid h =
+      by_valid nr _ _ (valid_then ns nr p s valid) (acknowledges nr _ (takes ns p s h))
 
   -- a supervisory frame in state 7: a response has F=0
   abbrev IsPollOrNot : Role → Bool → Type 0
   IsPollOrNot Command pf = Unit {0}
   IsPollOrNot Answer pf = pf ≡ false
 
-  polled : (busy_now pf : Bool) (role : Role) (s : StepState) → IsPollOrNot role pf → P s → P (s ▷ set_peer_busy busy_now ▷ poll_or_final role pf)
+  polled : (busy_now pf : Bool) (role : Role) (s : StepState) → IsPollOrNot role pf → P s
+      → P (s ▷ set_peer_busy busy_now ▷ poll_or_final role pf)
   unfolding poll_or_final
   polled busy_now true Command s is h = responds _ (peers busy_now s h)
   polled busy_now false Command s is h = peers busy_now s h
   polled busy_now true Answer s is h = cc
   polled busy_now false Answer s is h = peers busy_now s h
 
-  still_valid : (nr : ℕ) (busy_now pf : Bool) (role : Role) (s : StepState) → is_valid_nr r nr s.end.window ≡ true → is_valid_nr r nr (s ▷ set_peer_busy busy_now ▷ poll_or_final role pf).end.window ≡ true
-  unfolding poll_or_final set_peer_busy with_peer_busy enquiry_response without_ack_pending put is_valid_nr
+  still_valid : (nr : ℕ) (busy_now pf : Bool) (role : Role) (s : StepState)
+      → is_valid_nr r nr s.end.window ≡ true
+      → is_valid_nr r nr (s ▷ set_peer_busy busy_now ▷ poll_or_final role pf).end.window ≡ true
+  unfolding poll_or_final set_peer_busy with_peer_busy enquiry_response without_ack_pending put
+      is_valid_nr
   still_valid nr busy_now true Command s valid = valid
   still_valid nr busy_now true Answer s valid = valid
   still_valid nr busy_now false Command s valid = valid
@@ -309,28 +345,39 @@ module _ (r : Reading) where
   unfolding rr_nr
   rr_in_7 nr t valid h = by_valid nr t _ valid (advancing nr t h)
 
-  rej_in_7 : (nr : ℕ) (t : StepState) → is_valid_nr r nr t.end.window ≡ true → P t → P (rej_nr r nr t)
+  rej_in_7 : (nr : ℕ) (t : StepState) → is_valid_nr r nr t.end.window ≡ true → P t
+      → P (rej_nr r nr t)
   unfolding rej_nr
-  rej_in_7 nr t valid h = by_valid nr t _ valid (starts T203 _ (stops T200 _ (retransmits nr _ (acknowledges nr t h))))
+  rej_in_7 nr t valid h =
+      by_valid nr t _ valid (starts T203 _ (stops T200 _ (retransmits nr _ (acknowledges nr t h))))
 
-  rnr_in_7 : (nr : ℕ) (t : StepState) → is_valid_nr r nr t.end.window ≡ true → P t → P (rnr_nr r nr t)
+  rnr_in_7 : (nr : ℕ) (t : StepState) → is_valid_nr r nr t.end.window ≡ true → P t
+      → P (rnr_nr r nr t)
   unfolding rnr_nr
   rnr_in_7 nr t valid h = by_valid nr t _ valid (starts T200 _ (stops T203 _ (acknowledges nr t h)))
 
   expiring_7 : (s : StepState) → P s → P (established_t200 r s)
   unfolding established_t200
   expiring_7 s h = either P (sends_last s.end.parameters.recovery s.end.window) _ _
-      (λ _. states _ _ (rcs 1 _ (repeats _ (expires T200 _ h)))) (λ _. states _ _ (rcs 1 _ (enquires _ (expires T200 _ h))))
+      (λ _. states _ _ (rcs 1 _ (repeats _ (expires T200 _ h))))
+      (λ _. states _ _ (rcs 1 _ (enquires _ (expires T200 _ h))))
 
-  in_7 : (input : Input) (s : StepState) → IsDueIn r MultipleFrameEstablished input s.end.window → P s → P (multiple_frame_established r input s)
+  in_7 : (input : Input) (s : StepState) → IsDueIn r MultipleFrameEstablished input s.end.window
+      → P s → P (multiple_frame_established r input s)
   unfolding multiple_frame_established
   in_7 (Heard (I ns nr p) Command) s due h = i_frame_in_7 ns nr p s due h
-  in_7 (Heard (Rr nr pf) Command) s due h = rr_in_7 nr _ (still_valid nr false pf Command s due) (polled false pf Command s tt h)
-  in_7 (Heard (Rr nr pf) Answer) s due h = rr_in_7 nr _ (still_valid nr false pf Answer s due.1) (polled false pf Answer s due.0 h)
-  in_7 (Heard (Rej nr pf) Command) s due h = rej_in_7 nr _ (still_valid nr false pf Command s due) (polled false pf Command s tt h)
-  in_7 (Heard (Rej nr pf) Answer) s due h = rej_in_7 nr _ (still_valid nr false pf Answer s due.1) (polled false pf Answer s due.0 h)
-  in_7 (Heard (Rnr nr pf) Command) s due h = rnr_in_7 nr _ (still_valid nr true pf Command s due) (polled true pf Command s tt h)
-  in_7 (Heard (Rnr nr pf) Answer) s due h = rnr_in_7 nr _ (still_valid nr true pf Answer s due.1) (polled true pf Answer s due.0 h)
+  in_7 (Heard (Rr nr pf) Command) s due h =
+      rr_in_7 nr _ (still_valid nr false pf Command s due) (polled false pf Command s tt h)
+  in_7 (Heard (Rr nr pf) Answer) s due h =
+      rr_in_7 nr _ (still_valid nr false pf Answer s due.1) (polled false pf Answer s due.0 h)
+  in_7 (Heard (Rej nr pf) Command) s due h =
+      rej_in_7 nr _ (still_valid nr false pf Command s due) (polled false pf Command s tt h)
+  in_7 (Heard (Rej nr pf) Answer) s due h =
+      rej_in_7 nr _ (still_valid nr false pf Answer s due.1) (polled false pf Answer s due.0 h)
+  in_7 (Heard (Rnr nr pf) Command) s due h =
+      rnr_in_7 nr _ (still_valid nr true pf Command s due) (polled true pf Command s tt h)
+  in_7 (Heard (Rnr nr pf) Answer) s due h =
+      rnr_in_7 nr _ (still_valid nr true pf Answer s due.1) (polled true pf Answer s due.0 h)
   in_7 (Heard (Ua true) Answer) s due h = let asked = due.0 in cc
   in_7 (Heard (Ua false) Answer) s due h = let asked = due.0 in cc
   in_7 (Heard (Dm true) Answer) s due h = let asked = due.0 in cc
@@ -341,41 +388,68 @@ module _ (r : Reading) where
   in_7 input s due h = in_both input s tt h
 
   -- a supervisory frame in state 8
-  polled_in_8 : (busy_now pf : Bool) (role : Role) (s : StepState) → P s → P (s ▷ set_peer_busy busy_now ▷ poll role pf)
+  polled_in_8 : (busy_now pf : Bool) (role : Role) (s : StepState) → P s
+      → P (s ▷ set_peer_busy busy_now ▷ poll role pf)
   unfolding poll
   polled_in_8 busy_now true Command s h = responds _ (peers busy_now s h)
   polled_in_8 busy_now false Command s h = peers busy_now s h
   polled_in_8 busy_now true Answer s h = peers busy_now s h
   polled_in_8 busy_now false Answer s h = peers busy_now s h
 
-  still_valid_in_8 : (nr : ℕ) (busy_now pf : Bool) (role : Role) (s : StepState) → is_valid_nr r nr s.end.window ≡ true → is_valid_nr r nr (s ▷ set_peer_busy busy_now ▷ poll role pf).end.window ≡ true
+  still_valid_in_8 : (nr : ℕ) (busy_now pf : Bool) (role : Role) (s : StepState)
+      → is_valid_nr r nr s.end.window ≡ true
+      → is_valid_nr r nr (s ▷ set_peer_busy busy_now ▷ poll role pf).end.window ≡ true
   unfolding poll set_peer_busy with_peer_busy enquiry_response without_ack_pending is_valid_nr
   still_valid_in_8 nr busy_now true Command s valid = valid
   still_valid_in_8 nr busy_now true Answer s valid = valid
   still_valid_in_8 nr busy_now false Command s valid = valid
   still_valid_in_8 nr busy_now false Answer s valid = valid
 
-  rr_in_8 : (final : Bool) (nr : ℕ) (t : StepState) → is_valid_nr r nr t.end.window ≡ true → P t → P (rr_nr_in_recovery r final nr t)
+  rr_in_8 : (final : Bool) (nr : ℕ) (t : StepState) → is_valid_nr r nr t.end.window ≡ true → P t
+      → P (rr_nr_in_recovery r final nr t)
   unfolding rr_nr_in_recovery
-  rr_in_8 final nr t valid h = by_valid nr t _ valid (either P final _ _ (λ _. states _ _ (starts T203 _ (stops T200 _ (retransmits nr _ (acknowledges nr t h))))) (λ _. acknowledges nr t h))
+  rr_in_8 final nr t valid h =
+      by_valid nr t _ valid (either P final _ _
+      (λ _. states _ _ (starts T203 _ (stops T200 _ (retransmits nr _ (acknowledges nr t h)))))
+      (λ _. acknowledges nr t h))
 
-  rnr_in_8 : (final : Bool) (nr : ℕ) (t : StepState) → is_valid_nr r nr t.end.window ≡ true → P t → P (rnr_nr_in_recovery r final nr t)
+  rnr_in_8 : (final : Bool) (nr : ℕ) (t : StepState) → is_valid_nr r nr t.end.window ≡ true → P t
+      → P (rnr_nr_in_recovery r final nr t)
   unfolding rnr_nr_in_recovery
-  rnr_in_8 final nr t valid h = by_valid nr t _ valid (either P final _ _ (λ _. states _ _ (starts T200 _ (retransmits nr _ (acknowledges nr t h)))) (λ _. acknowledges nr t h))
+  rnr_in_8 final nr t valid h =
+      by_valid nr t _ valid (either P final _ _
+      (λ _. states _ _ (starts T200 _ (retransmits nr _ (acknowledges nr t h))))
+      (λ _. acknowledges nr t h))
 
   expiring_8 : (s : StepState) → P s → P (timer_recovery_t200 s)
   unfolding timer_recovery_t200
-  expiring_8 s h = either P (nat_lt s.end.rc s.end.parameters.n200) _ _ (λ _. enquires _ (expires T200 _ (increments _ h))) (λ _. reestablishing _ (puts _ _ tt (expires T200 _ h)))
+  expiring_8 s h =
+      either P (nat_lt s.end.rc s.end.parameters.n200) _ _
+      (λ _. enquires _ (expires T200 _ (increments _ h)))
+      (λ _. reestablishing _ (puts _ _ tt (expires T200 _ h)))
 
-  in_8 : (input : Input) (s : StepState) → IsDueIn r TimerRecovery input s.end.window → P s → P (timer_recovery r input s)
+  in_8 : (input : Input) (s : StepState) → IsDueIn r TimerRecovery input s.end.window → P s
+      → P (timer_recovery r input s)
   unfolding timer_recovery
   in_8 (Heard (I ns nr p) Command) s due h = i_frame_in_8 ns nr p s due h
-  in_8 (Heard (Rr nr pf) Command) s due h = rr_in_8 (is_final Command pf) nr _ (still_valid_in_8 nr false pf Command s due) (polled_in_8 false pf Command s h)
-  in_8 (Heard (Rr nr pf) Answer) s due h = rr_in_8 (is_final Answer pf) nr _ (still_valid_in_8 nr false pf Answer s due.1) (polled_in_8 false pf Answer s h)
-  in_8 (Heard (Rej nr pf) Command) s due h = rr_in_8 (is_final Command pf) nr _ (still_valid_in_8 nr false pf Command s due) (polled_in_8 false pf Command s h)
-  in_8 (Heard (Rej nr pf) Answer) s due h = rr_in_8 (is_final Answer pf) nr _ (still_valid_in_8 nr false pf Answer s due.1) (polled_in_8 false pf Answer s h)
-  in_8 (Heard (Rnr nr pf) Command) s due h = rnr_in_8 (is_final Command pf) nr _ (still_valid_in_8 nr true pf Command s due) (polled_in_8 true pf Command s h)
-  in_8 (Heard (Rnr nr pf) Answer) s due h = rnr_in_8 (is_final Answer pf) nr _ (still_valid_in_8 nr true pf Answer s due.1) (polled_in_8 true pf Answer s h)
+  in_8 (Heard (Rr nr pf) Command) s due h =
+      rr_in_8 (is_final Command pf) nr _ (still_valid_in_8 nr false pf Command s due)
+      (polled_in_8 false pf Command s h)
+  in_8 (Heard (Rr nr pf) Answer) s due h =
+      rr_in_8 (is_final Answer pf) nr _ (still_valid_in_8 nr false pf Answer s due.1)
+      (polled_in_8 false pf Answer s h)
+  in_8 (Heard (Rej nr pf) Command) s due h =
+      rr_in_8 (is_final Command pf) nr _ (still_valid_in_8 nr false pf Command s due)
+      (polled_in_8 false pf Command s h)
+  in_8 (Heard (Rej nr pf) Answer) s due h =
+      rr_in_8 (is_final Answer pf) nr _ (still_valid_in_8 nr false pf Answer s due.1)
+      (polled_in_8 false pf Answer s h)
+  in_8 (Heard (Rnr nr pf) Command) s due h =
+      rnr_in_8 (is_final Command pf) nr _ (still_valid_in_8 nr true pf Command s due)
+      (polled_in_8 true pf Command s h)
+  in_8 (Heard (Rnr nr pf) Answer) s due h =
+      rnr_in_8 (is_final Answer pf) nr _ (still_valid_in_8 nr true pf Answer s due.1)
+      (polled_in_8 true pf Answer s h)
   in_8 (Heard (Ua true) Answer) s due h = let asked = due.0 in cc
   in_8 (Heard (Ua false) Answer) s due h = let asked = due.0 in cc
   in_8 (Heard (Dm true) Answer) s due h = let asked = due.0 in cc
@@ -386,7 +460,8 @@ module _ (r : Reading) where
 
   -- ---- All rows, and the end of a step.
 
-  in_state : (state : State) (input : Input) (s : StepState) → IsDueIn r state input s.end.window → P s → P (by_state r state input s)
+  in_state : (state : State) (input : Input) (s : StepState) → IsDueIn r state input s.end.window
+      → P s → P (by_state r state input s)
   unfolding by_state
   in_state TeiAssigned input s due h = in_4 input s due h
   in_state AwaitingEstablishment input s due h = in_5 input s due h
@@ -394,25 +469,35 @@ module _ (r : Reading) where
   in_state MultipleFrameEstablished input s due h = in_7 input s due h
   in_state TimerRecovery input s due h = in_8 input s due h
 
-  by_row : (state : State) (input : Input) (s : StepState) → IsDueIn r state input s.end.window → P s → P (row r state input s)
+  by_row : (state : State) (input : Input) (s : StepState) → IsDueIn r state input s.end.window
+      → P s → P (row r state input s)
   unfolding row
-  by_row state (Heard control role) s due h = either P (is_unit_data control role) _ _ (λ _. puts _ s tt h) (λ _. in_state state (Heard control role) s due h)
+  by_row state (Heard control role) s due h =
+      either P (is_unit_data control role) _ _ (λ _. puts _ s tt h)
+      (λ _. in_state state (Heard control role) s due h)
   by_row state (UnitData len) s due h = puts _ s tt h
   by_row state (Faulty kind) s due h = absurd due
-  by_row state (Expiry timer) s due h = either P (runs timer s.end) _ _ (λ _. in_state state (Expiry timer) s due h) (λ _. h)
+  by_row state (Expiry timer) s due h =
+      either P (runs timer s.end) _ _ (λ _. in_state state (Expiry timer) s due h) (λ _. h)
   by_row state input s due h = in_state state input s due h
 
   all_sent : (n : ℕ) (s : StepState) → P s → P (send_all r n s)
   unfolding send_all
   all_sent zero s h = h
-  all_sent (suc n) s h = either P (may_send_next r s) _ _ (λ _. all_sent n _ (ensures_t200 _ (sends s h))) (λ _. h)
+  all_sent (suc n) s h =
+      either P (may_send_next r s) _ _ (λ _. all_sent n _ (ensures_t200 _ (sends s h))) (λ _. h)
 
   closes : (s : StepState) → P s → P (end_step r s)
   unfolding end_step acknowledge_pending
-  closes s h = let t = send_all r (unsent s.end) s in let sent : P t = all_sent (unsent s.end) s h in
-      either P (is_7_or_8 t.end.state && t.end.window.ack_pending) _ _ (λ _. reporting t sent) (λ _. sent)
+  closes s h =
+      let t = send_all r (unsent s.end) s in let sent : P t = all_sent (unsent s.end) s h in
+      either P (is_7_or_8 t.end.state && t.end.window.ack_pending) _ _ (λ _. reporting t sent)
+      (λ _. sent)
 
-  pub due_is_expected : (input : Input) (e : End) (s : StepState) → IsDue r input e → step r input e ≡ Ok s → AreExpected s.outs
+  pub due_is_expected : (input : Input) (e : End) (s : StepState) → IsDue r input e
+      → step r input e ≡ Ok s → AreExpected s.outs
   unfolding step begin
-  due_is_expected input e s due done = let is = (taken (refused input e) (end_step r (row r e.state input (begin e))) s done).1 in
-      subst (λ (t : StepState). P t) is (closes (row r e.state input (begin e)) (by_row e.state input (begin e) due tt))
+  due_is_expected input e s due done =
+      let is = (taken (refused input e) (end_step r (row r e.state input (begin e))) s done).1 in
+      subst (λ (t : StepState). P t) is
+      (closes (row r e.state input (begin e)) (by_row e.state input (begin e) due tt))

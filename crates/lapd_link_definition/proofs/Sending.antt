@@ -14,22 +14,30 @@ both_true false b h = cc
 pub below : (a b : ℕ) → nat_lt a b ≡ true → a < b
 below a b h = grind (arith, nat_tests)
 
-sends_one_more : (r : Reading) (n : ℕ) (s : StepState) → may_send_next r s ≡ true → send_all r (suc n) s ≡ send_all r n (send_next r s)
+sends_one_more : (r : Reading) (n : ℕ) (s : StepState) → may_send_next r s ≡ true
+    → send_all r (suc n) s ≡ send_all r n (send_next r s)
 unfolding send_all
 sends_one_more r n s go = rw go refl
 
 -- one message is sent, and then the rest
-pub sends_one : (r : Reading) (s : StepState) → may_send_next r s ≡ true → send_all r (unsent s.end) s ≡ send_all r (unsent (send_next r s).end) (send_next r s)
+pub sends_one : (r : Reading) (s : StepState) → may_send_next r s ≡ true
+    → send_all r (unsent s.end) s ≡ send_all r (unsent (send_next r s).end) (send_next r s)
 unfolding transmit_i_frame ensure_t200
 sends_one r s go =
-    let one = both_true (is_established s.end.state) (may_send r s.end.parameters.k s.end.window && nat_lt s.end.next (length s.end.given)) go in
-    let two = both_true (may_send r s.end.parameters.k s.end.window) (nat_lt s.end.next (length s.end.given)) one.1 in
+    let one =
+    both_true (is_established s.end.state)
+    (may_send r s.end.parameters.k s.end.window && nat_lt s.end.next (length s.end.given))
+    go in
+    let two =
+    both_true (may_send r s.end.parameters.k s.end.window)
+    (nat_lt s.end.next (length s.end.given)) one.1 in
     let free = below s.end.next (length s.end.given) two.1 in
     let more : unsent s.end ≡ suc (length s.end.given - (s.end.next + 1)) = omega (arith, free) in
     ap (λ n. send_all r n s) more ∙ sends_one_more r (length s.end.given - (s.end.next + 1)) s go
 
 -- sending stops when no more may be sent
-pub sends_none : (r : Reading) (n : ℕ) (s : StepState) → may_send_next r s ≡ false → send_all r n s ≡ s
+pub sends_none : (r : Reading) (n : ℕ) (s : StepState) → may_send_next r s ≡ false
+    → send_all r n s ≡ s
 unfolding send_all
 sends_none r zero s stop = refl
 sends_none r (suc n) s stop = rw stop refl

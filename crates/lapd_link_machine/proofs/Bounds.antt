@@ -7,10 +7,12 @@ use Rattle.lapd_link_definition.specs.declared.out.Out.{Out}
 use Rattle.lapd_link_definition.specs.Input.{Input, Heard, Faulty, Expiry, Establish, Release, BusyOn, BusyOff, UnitData, Give}
 use Rattle.lapd_link_machine.specs.Bounds.{is_primitive, primitive_count, most_outputs, IsBounded}
 
-pub primitives_behind : (outs : List Out) (out : Out) → is_primitive out ≡ false → primitive_count (outs ++ out ∷ []) ≡ primitive_count outs
+pub primitives_behind : (outs : List Out) (out : Out) → is_primitive out ≡ false
+    → primitive_count (outs ++ out ∷ []) ≡ primitive_count outs
 primitives_behind outs out h =
     let none : filter is_primitive (out ∷ []) ≡ [] = rw h refl in
-    ap length (filter-append is_primitive outs (out ∷ []) ∙ rw none (append-nil (filter is_primitive outs)))
+    ap length (filter-append is_primitive outs (out ∷ [])
+    ∙ rw none (append-nil (filter is_primitive outs)))
 
 pub primitives_among : (outs : List Out) → primitive_count outs ≤ length outs
 primitives_among outs = rw (length-filter is_primitive outs) (count_by-le-length is_primitive outs)
@@ -29,7 +31,8 @@ all_of (Give message) n few brief = few
 
 pub bounded : (input : Input) (established : Bool) (of_row outs : List Out) → length of_row ≤ 6
     → (input ≡ Establish → established ≡ false) → length outs ≤ 136
-    → (established ≡ false → length outs ≤ length of_row + 1) → primitive_count outs ≡ primitive_count of_row
+    → (established ≡ false → length outs ≤ length of_row + 1)
+    → primitive_count outs ≡ primitive_count of_row
     → IsBounded input outs
 bounded input established of_row outs six waits few quiet same = record {
   all = all_of input (length outs) few (λ h. let one = quiet (waits h) in omega (arith, one, six));

@@ -7,5 +7,6 @@ differ : (a b : ℕ) → (a == b) ≡ false → a < 128 → b < 128 → 0 < step
 unfolding steps
 differ a b h low high = grind (arith, h)
 
-pub some_are_sent : (v : StateVariables) (sent : ℕ) → v.vs < 128 → v.va < 128 → (v.vs == v.va) ≡ false → sent ≡ outstanding Tagged v → 0 < sent
+pub some_are_sent : (v : StateVariables) (sent : ℕ) → v.vs < 128 → v.va < 128
+    → (v.vs == v.va) ≡ false → sent ≡ outstanding Tagged v → 0 < sent
 some_are_sent v sent low high h counted = omega (arith, differ v.vs v.va h low high, counted)

@@ -10,18 +10,23 @@ use Rattle.lapd_queue.specs.Waiting.{Waiting, with_message, one_more_sent, witho
 use Rattle.lapd_link_machine.specs.Tail.{IsTail}
 
 -- the number of messages in the queue, as the table counts them
-pub tail_waiting : (given : List (List ℕ)) (first next : ℕ) (q : Waiting) → IsTail given first next q → length given - first ≡ length q.messages
+pub tail_waiting : (given : List (List ℕ)) (first next : ℕ) (q : Waiting)
+    → IsTail given first next q → length given - first ≡ length q.messages
 tail_waiting given first next q t = sym (length-drop first given) ∙ ap length t.messages
 
 -- the number of sent messages is the place of the first unsent message
-pub tail_place : (given : List (List ℕ)) (first next : ℕ) (q : Waiting) → IsTail given first next q → next - first ≡ q.sent
+pub tail_place : (given : List (List ℕ)) (first next : ℕ) (q : Waiting) → IsTail given first next q
+    → next - first ≡ q.sent
 tail_place given first next q t = omega (arith, t.next_is)
 
-pub tail_emptied : (given : List (List ℕ)) (first next : ℕ) (q : Waiting) → IsTail given first next q → IsTail given (length given) (length given) (emptied q)
+pub tail_emptied : (given : List (List ℕ)) (first next : ℕ) (q : Waiting)
+    → IsTail given first next q → IsTail given (length given) (length given) (emptied q)
 unfolding emptied
-tail_emptied given first next q t = record { messages = drop-length given; within = omega arith; next_is = omega arith }
+tail_emptied given first next q t =
+    record { messages = drop-length given; within = omega arith; next_is = omega arith }
 
-pub tail_acknowledged : (given : List (List ℕ)) (first next n : ℕ) (q : Waiting) → IsTail given first next q → n ≤ q.sent → n ≤ length q.messages
+pub tail_acknowledged : (given : List (List ℕ)) (first next n : ℕ) (q : Waiting)
+    → IsTail given first next q → n ≤ q.sent → n ≤ length q.messages
     → IsTail given (first + n) next (without_first n q)
 unfolding without_first
 tail_acknowledged given first next n q t low high = record {
@@ -30,18 +35,24 @@ tail_acknowledged given first next n q t low high = record {
   next_is = omega (arith, t.next_is);
 }
 
-pub tail_gone_back : (given : List (List ℕ)) (first next : ℕ) (q : Waiting) → IsTail given first next q → IsTail given first first (all_unsent q)
+pub tail_gone_back : (given : List (List ℕ)) (first next : ℕ) (q : Waiting)
+    → IsTail given first next q → IsTail given first first (all_unsent q)
 unfolding all_unsent
-tail_gone_back given first next q t = record { messages = t.messages; within = t.within; next_is = omega arith }
+tail_gone_back given first next q t =
+    record { messages = t.messages; within = t.within; next_is = omega arith }
 
-pub tail_sent : (given : List (List ℕ)) (first next : ℕ) (q : Waiting) → IsTail given first next q → IsTail given first (next + 1) (one_more_sent q)
+pub tail_sent : (given : List (List ℕ)) (first next : ℕ) (q : Waiting) → IsTail given first next q
+    → IsTail given first (next + 1) (one_more_sent q)
 unfolding one_more_sent
-tail_sent given first next q t = record { messages = t.messages; within = t.within; next_is = omega (arith, t.next_is) }
+tail_sent given first next q t =
+    record { messages = t.messages; within = t.within; next_is = omega (arith, t.next_is) }
 
-pub tail_given : (given : List (List ℕ)) (first next : ℕ) (q : Waiting) (message : List ℕ) → IsTail given first next q → IsTail (given ++ message ∷ []) first next (with_message message q)
+pub tail_given : (given : List (List ℕ)) (first next : ℕ) (q : Waiting) (message : List ℕ)
+    → IsTail given first next q → IsTail (given ++ message ∷ []) first next (with_message message q)
 unfolding with_message
 tail_given given first next q message t = record {
-  messages = drop-append-le first given (message ∷ []) t.within ∙ ap (λ l. l ++ message ∷ []) t.messages;
+  messages =
+      drop-append-le first given (message ∷ []) t.within ∙ ap (λ l. l ++ message ∷ []) t.messages;
   within = omega (arith, length-append given (message ∷ []), t.within);
   next_is = t.next_is;
 }
@@ -68,8 +79,19 @@ on_ok (Ok x) P Q h f = f h
 on_ok (Err y) P Q h f = h
 
 -- the place of the last sent message
-pub tail_last_place : (given : List (List ℕ)) (first next : ℕ) (q : Waiting) → IsTail given first next q → next - 1 - first ≡ q.sent - 1
+pub tail_last_place : (given : List (List ℕ)) (first next : ℕ) (q : Waiting)
+    → IsTail given first next q → next - 1 - first ≡ q.sent - 1
 tail_last_place given first next q t = omega (arith, t.next_is)
 
 -- how each action leaves the I queue the tail of the accepted messages
-pub ruleset tails = (tail_waiting, tail_place, tail_emptied, tail_acknowledged, tail_gone_back, tail_sent, tail_given, room_sent, room_gone_back)
+pub ruleset tails = (
+  tail_waiting,
+  tail_place,
+  tail_emptied,
+  tail_acknowledged,
+  tail_gone_back,
+  tail_sent,
+  tail_given,
+  room_sent,
+  room_gone_back,
+)

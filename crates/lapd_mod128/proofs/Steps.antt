@@ -24,26 +24,32 @@ pub whole_within_holds : (a x b : ℕ) → a ≤ x → x ≤ b → lies_within W
 unfolding lies_within
 whole_within_holds a x b low high = grind (arith, nat_tests)
 
-pub tagged_within_implies : (a x b : ℕ) → lies_within Tagged a x b ≡ true → steps Tagged a x ≤ steps Tagged a b
+pub tagged_within_implies : (a x b : ℕ) → lies_within Tagged a x b ≡ true
+    → steps Tagged a x ≤ steps Tagged a b
 unfolding lies_within
 tagged_within_implies a x b h = grind (arith, nat_tests)
 
-pub tagged_within_holds : (a x b : ℕ) → steps Tagged a x ≤ steps Tagged a b → lies_within Tagged a x b ≡ true
+pub tagged_within_holds : (a x b : ℕ) → steps Tagged a x ≤ steps Tagged a b
+    → lies_within Tagged a x b ≡ true
 unfolding lies_within
 tagged_within_holds a x b h = grind (arith, nat_tests)
 
-reaches_between_whole : (a x b : ℕ) → lies_within Whole a x b ≡ true → (reaches Whole a x ≡ true) × (reaches Whole x b ≡ true) × (reaches Whole a b ≡ true)
+reaches_between_whole : (a x b : ℕ) → lies_within Whole a x b ≡ true
+    → (reaches Whole a x ≡ true) × (reaches Whole x b ≡ true) × (reaches Whole a b ≡ true)
 unfolding reaches
 reaches_between_whole a x b h = let between = whole_within_implies a x b h in
     (grind (arith, nat_tests), grind (arith, nat_tests), grind (arith, nat_tests))
 
-within_one_more_whole : (a x b : ℕ) → lies_within Whole a x b ≡ true → lies_within Whole a x (after Whole b) ≡ true
+within_one_more_whole : (a x b : ℕ) → lies_within Whole a x b ≡ true
+    → lies_within Whole a x (after Whole b) ≡ true
 unfolding after
 within_one_more_whole a x b h = let between = whole_within_implies a x b h in
     whole_within_holds a x (b + 1) between.0 (omega arith)
 
-within_the_whole_whole : (a x y b : ℕ) → lies_within Whole a x b ≡ true → lies_within Whole x y b ≡ true → lies_within Whole a y b ≡ true
-within_the_whole_whole a x y b hx hy = let one = whole_within_implies a x b hx in let two = whole_within_implies x y b hy in
+within_the_whole_whole : (a x y b : ℕ) → lies_within Whole a x b ≡ true
+    → lies_within Whole x y b ≡ true → lies_within Whole a y b ≡ true
+within_the_whole_whole a x y b hx hy =
+    let one = whole_within_implies a x b hx in let two = whole_within_implies x y b hy in
     whole_within_holds a y b (omega arith) two.1
 
 -- counting whole numbers is adding
@@ -65,7 +71,8 @@ after_is_number Whole n h = tt
 after_is_number Tagged n h = omega arith
 
 -- the subtraction is the number of steps
-pub steps_are_counted : (r : Reading) (a b : ℕ) → IsNumber r a → IsNumber r b → reaches r a b ≡ true → AreSteps r (steps r a b) a b
+pub steps_are_counted : (r : Reading) (a b : ℕ) → IsNumber r a → IsNumber r b → reaches r a b ≡ true
+    → AreSteps r (steps r a b) a b
 unfolding steps
 steps_are_counted Whole a b ha hb h = record {
   lead = number_after_whole (b - a) a ∙ omega (arith, reaches_implies a b h);
@@ -87,29 +94,34 @@ no_steps Whole a = omega arith
 no_steps Tagged a = omega arith
 
 -- numbers with no steps between them are the same
-pub no_steps_is_same : (r : Reading) (a b : ℕ) → IsNumber r a → IsNumber r b → reaches r a b ≡ true → steps r a b ≡ 0 → a ≡ b
+pub no_steps_is_same : (r : Reading) (a b : ℕ) → IsNumber r a → IsNumber r b → reaches r a b ≡ true
+    → steps r a b ≡ 0 → a ≡ b
 unfolding steps
 no_steps_is_same Whole a b ha hb h none = omega (arith, reaches_implies a b h)
 no_steps_is_same Tagged a b ha hb h none = omega arith
 
 -- the steps to a number between add up
-pub steps_add_up : (r : Reading) (a x b : ℕ) → lies_within r a x b ≡ true → steps r a x + steps r x b ≡ steps r a b
+pub steps_add_up : (r : Reading) (a x b : ℕ) → lies_within r a x b ≡ true
+    → steps r a x + steps r x b ≡ steps r a b
 unfolding steps
 steps_add_up Whole a x b h = omega (arith, whole_within_implies a x b h)
 steps_add_up Tagged a x b h = omega (arith, tagged_within_implies a x b h)
 
 -- the steps to a number between two others are no more than the steps to the last
-pub steps_to_between : (r : Reading) (a x b : ℕ) → lies_within r a x b ≡ true → steps r a x ≤ steps r a b
+pub steps_to_between : (r : Reading) (a x b : ℕ) → lies_within r a x b ≡ true
+    → steps r a x ≤ steps r a b
 steps_to_between r a x b h = omega (arith, steps_add_up r a x b h)
 
 -- a number that lies between two others is reached from the first, and reaches the second
-pub reaches_between : (r : Reading) (a x b : ℕ) → lies_within r a x b ≡ true → (reaches r a x ≡ true) × (reaches r x b ≡ true) × (reaches r a b ≡ true)
+pub reaches_between : (r : Reading) (a x b : ℕ) → lies_within r a x b ≡ true
+    → (reaches r a x ≡ true) × (reaches r x b ≡ true) × (reaches r a b ≡ true)
 unfolding reaches
 reaches_between Whole a x b h = reaches_between_whole a x b h
 reaches_between Tagged a x b h = (refl, refl, refl)
 
 -- if the last number moves one step on, there is one step more
-pub one_more_step : (r : Reading) (a b : ℕ) → reaches r a b ≡ true → steps r a b < 127 → steps r a (after r b) ≡ steps r a b + 1
+pub one_more_step : (r : Reading) (a b : ℕ) → reaches r a b ≡ true → steps r a b < 127
+    → steps r a (after r b) ≡ steps r a b + 1
 unfolding steps after
 one_more_step Whole a b h room = omega (arith, reaches_implies a b h)
 one_more_step Tagged a b h room = omega arith
@@ -120,7 +132,8 @@ unfolding steps after
 one_more_whole_step a b h = omega arith
 
 -- if the first number moves one step on, there is one step less
-pub one_step_less : (r : Reading) (a b : ℕ) → 0 < steps r a b → steps r (after r a) b + 1 ≡ steps r a b
+pub one_step_less : (r : Reading) (a b : ℕ) → 0 < steps r a b
+    → steps r (after r a) b + 1 ≡ steps r a b
 unfolding steps after
 one_step_less Whole a b more = omega arith
 one_step_less Tagged a b more = omega arith
@@ -142,7 +155,8 @@ last_lies_within Whole a b h = whole_within_holds a b b (reaches_implies a b h) 
 last_lies_within Tagged a b h = tagged_within_holds a b b (omega arith)
 
 -- a number within two numbers is also within them if the last is one step further
-pub within_one_more : (r : Reading) (a x b : ℕ) → lies_within r a x b ≡ true → steps r a b < 127 → lies_within r a x (after r b) ≡ true
+pub within_one_more : (r : Reading) (a x b : ℕ) → lies_within r a x b ≡ true → steps r a b < 127
+    → lies_within r a x (after r b) ≡ true
 unfolding reaches
 within_one_more Whole a x b h room = within_one_more_whole a x b h
 within_one_more Tagged a x b h room = tagged_within_holds a x (after Tagged b)
@@ -150,26 +164,32 @@ within_one_more Tagged a x b h room = tagged_within_holds a x (after Tagged b)
 
 -- if two numbers lie within V(A) and V(S), the later lies within the earlier and V(S): V(A) never
 -- moves past N(R)
-pub within_the_rest : (r : Reading) (a x y b : ℕ) → lies_within r a y b ≡ true → lies_within r a x y ≡ true → lies_within r x y b ≡ true
+pub within_the_rest : (r : Reading) (a x y b : ℕ) → lies_within r a y b ≡ true
+    → lies_within r a x y ≡ true → lies_within r x y b ≡ true
 unfolding steps
-within_the_rest Whole a x y b hy hx = whole_within_holds x y b (whole_within_implies a x y hx).1 (whole_within_implies a y b hy).1
+within_the_rest Whole a x y b hy hx =
+    whole_within_holds x y b (whole_within_implies a x y hx).1 (whole_within_implies a y b hy).1
 within_the_rest Tagged a x y b hy hx = tagged_within_holds x y b
     (omega (arith, tagged_within_implies a y b hy, tagged_within_implies a x y hx))
 
 -- a number within a part lies within the whole
-pub within_the_whole : (r : Reading) (a x y b : ℕ) → lies_within r a x b ≡ true → lies_within r x y b ≡ true → lies_within r a y b ≡ true
+pub within_the_whole : (r : Reading) (a x y b : ℕ) → lies_within r a x b ≡ true
+    → lies_within r x y b ≡ true → lies_within r a y b ≡ true
 unfolding steps
 within_the_whole Whole a x y b hx hy = within_the_whole_whole a x y b hx hy
 within_the_whole Tagged a x y b hx hy = tagged_within_holds a y b
     (omega (arith, tagged_within_implies a x b hx, tagged_within_implies x y b hy))
 
 -- between a number and itself lies only that number
-pub only_itself_within : (r : Reading) (a x : ℕ) → IsNumber r a → IsNumber r x → lies_within r a x a ≡ true → a ≡ x
+pub only_itself_within : (r : Reading) (a x : ℕ) → IsNumber r a → IsNumber r x
+    → lies_within r a x a ≡ true → a ≡ x
 only_itself_within r a x ha hx h =
-    no_steps_is_same r a x ha hx (reaches_between r a x a h).0 (omega (arith, steps_add_up r a x a h, no_steps r a))
+    no_steps_is_same r a x ha hx (reaches_between r a x a h).0
+    (omega (arith, steps_add_up r a x a h, no_steps r a))
 
 -- the comparison agrees with the order by counting
-pub within_is_counted : (r : Reading) (a x b : ℕ) → IsNumber r a → IsNumber r x → IsNumber r b → lies_within r a x b ≡ true → LiesFrom r a x b
+pub within_is_counted : (r : Reading) (a x b : ℕ) → IsNumber r a → IsNumber r x → IsNumber r b
+    → lies_within r a x b ≡ true → LiesFrom r a x b
 within_is_counted r a x b ha hx hb h = (
   steps r a x,
   steps r a b,
@@ -178,7 +198,8 @@ within_is_counted r a x b ha hx hb h = (
   steps_to_between r a x b h,
 )
 
-pub counted_is_within : (r : Reading) (a x b : ℕ) → IsNumber r a → IsNumber r x → IsNumber r b → LiesFrom r a x b → lies_within r a x b ≡ true
+pub counted_is_within : (r : Reading) (a x b : ℕ) → IsNumber r a → IsNumber r x → IsNumber r b
+    → LiesFrom r a x b → lies_within r a x b ≡ true
 unfolding reaches
 counted_is_within Whole a x b ha hx hb (n, m, to_x, to_b, order) = whole_within_holds a x b
     (omega (arith, number_after_whole n a, to_x.lead))
@@ -187,21 +208,30 @@ counted_is_within Tagged a x b ha hx hb (n, m, to_x, to_b, order) = tagged_withi
     (omega (
       arith,
       order,
-      steps_are_unique Tagged n (steps Tagged a x) a x to_x (steps_are_counted Tagged a x ha hx refl),
-      steps_are_unique Tagged m (steps Tagged a b) a b to_b (steps_are_counted Tagged a b ha hb refl),
+      steps_are_unique Tagged n (steps Tagged a x) a x to_x
+          (steps_are_counted Tagged a x ha hx refl),
+      steps_are_unique Tagged m (steps Tagged a b) a b to_b
+          (steps_are_counted Tagged a b ha hb refl),
     ))
 
 -- the subtraction is below `k` exactly if fewer than `k` steps lead there
-pub fewer_steps_are_counted : (r : Reading) (k a b : ℕ) → IsNumber r a → IsNumber r b → reaches r a b ≡ true → steps r a b < k → InFewerSteps r k a b
-fewer_steps_are_counted r k a b ha hb h fewer = (steps r a b, fewer, (steps_are_counted r a b ha hb h).lead)
+pub fewer_steps_are_counted : (r : Reading) (k a b : ℕ) → IsNumber r a → IsNumber r b
+    → reaches r a b ≡ true → steps r a b < k → InFewerSteps r k a b
+fewer_steps_are_counted r k a b ha hb h fewer =
+    (steps r a b, fewer, (steps_are_counted r a b ha hb h).lead)
 
-pub counted_are_fewer_steps : (r : Reading) (k a b : ℕ) → IsNumber r a → IsNumber r b → reaches r a b ≡ true → InFewerSteps r k a b → steps r a b < k
+pub counted_are_fewer_steps : (r : Reading) (k a b : ℕ) → IsNumber r a → IsNumber r b
+    → reaches r a b ≡ true → InFewerSteps r k a b → steps r a b < k
 counted_are_fewer_steps r k a b ha hb h (n, fewer, lead) =
     grind (arith, fewer, lead, (steps_are_counted r a b ha hb h).fewest n)
 
 -- both directions of the equivalence, as one law
-pub lying_is_counting : (r : Reading) (a x b : ℕ) → IsNumber r a → IsNumber r x → IsNumber r b → (lies_within r a x b ≡ true) ↔ LiesFrom r a x b
-lying_is_counting r a x b ha hx hb = (within_is_counted r a x b ha hx hb, counted_is_within r a x b ha hx hb)
+pub lying_is_counting : (r : Reading) (a x b : ℕ) → IsNumber r a → IsNumber r x → IsNumber r b
+    → (lies_within r a x b ≡ true) ↔ LiesFrom r a x b
+lying_is_counting r a x b ha hx hb =
+    (within_is_counted r a x b ha hx hb, counted_is_within r a x b ha hx hb)
 
-pub fewer_is_counting : (r : Reading) (k a b : ℕ) → IsNumber r a → IsNumber r b → reaches r a b ≡ true → (steps r a b < k) ↔ InFewerSteps r k a b
-fewer_is_counting r k a b ha hb h = (fewer_steps_are_counted r k a b ha hb h, counted_are_fewer_steps r k a b ha hb h)
+pub fewer_is_counting : (r : Reading) (k a b : ℕ) → IsNumber r a → IsNumber r b
+    → reaches r a b ≡ true → (steps r a b < k) ↔ InFewerSteps r k a b
+fewer_is_counting r k a b ha hb h =
+    (fewer_steps_are_counted r k a b ha hb h, counted_are_fewer_steps r k a b ha hb h)

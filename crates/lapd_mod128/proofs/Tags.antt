@@ -32,7 +32,8 @@ tag_of_number_after (suc n) a = rw (tag_of_after (number_after Whole n a), tag_o
 
 -- a number at most one below another, and less than k above it, is near it
 pub next_is_near : (x y k : ℕ) → k ≤ 127 → y ≤ x + 1 → x < y + k → AreNear x y
-next_is_near x y k small below above = record { above = omega (arith, small, above); below = omega (arith, below) }
+next_is_near x y k small below above =
+    record { above = omega (arith, small, above); below = omega (arith, below) }
 
 -- near numbers with the same tag are equal
 pub near_tags_are_equal : (x y : ℕ) → AreNear x y → tag x ≡ tag y → x ≡ y
@@ -49,17 +50,21 @@ pub steps_on_tags : (a b : ℕ) → a ≤ b → b ≤ a + 127 → steps Tagged (
 unfolding tag steps
 steps_on_tags a b low high = omega arith
 
-order_of_steps : (low x y : ℕ) → low ≤ x → low ≤ y → nat_le (steps Whole low x) (steps Whole low y) ≡ nat_le x y
+order_of_steps : (low x y : ℕ) → low ≤ x → low ≤ y
+    → nat_le (steps Whole low x) (steps Whole low y) ≡ nat_le x y
 unfolding steps
 order_of_steps low x y x_low y_low = grind (arith, nat_tests)
 
 -- the order of two numbers from `low` to `low + 127` is the order of the steps from its tag
-pub order_on_tags : (low x y : ℕ) → low ≤ x → x ≤ low + 127 → low ≤ y → y ≤ low + 127 → nat_le (steps Tagged (tag low) (tag x)) (steps Tagged (tag low) (tag y)) ≡ nat_le x y
+pub order_on_tags : (low x y : ℕ) → low ≤ x → x ≤ low + 127 → low ≤ y → y ≤ low + 127
+    → nat_le (steps Tagged (tag low) (tag x)) (steps Tagged (tag low) (tag y)) ≡ nat_le x y
 order_on_tags low x y x_low x_high y_low y_high =
-    rw (steps_on_tags low x x_low x_high, steps_on_tags low y y_low y_high) (order_of_steps low x y x_low y_low)
+    rw (steps_on_tags low x x_low x_high, steps_on_tags low y y_low y_high)
+    (order_of_steps low x y x_low y_low)
 
 -- a number lies between two others exactly if its tag lies between theirs
-pub lies_within_on_tags : (a x b : ℕ) → a ≤ b → AreNear a b → AreNear a x → AreNear x b → lies_within Tagged (tag a) (tag x) (tag b) ≡ lies_within Whole a x b
+pub lies_within_on_tags : (a x b : ℕ) → a ≤ b → AreNear a b → AreNear a x → AreNear x b
+    → lies_within Tagged (tag a) (tag x) (tag b) ≡ lies_within Whole a x b
 unfolding tag steps lies_within
 lies_within_on_tags a x b order ab ax xb =
     grind (arith, nat_tests, ab.above, ab.below, ax.above, ax.below, xb.above, xb.below)

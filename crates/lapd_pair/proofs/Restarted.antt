@@ -25,11 +25,17 @@ drop_all : (messages : List (List ℕ)) → drop (length messages) messages ≡ 
 drop_all [] = refl
 drop_all (message ∷ messages) = drop_all messages
 
-none_waits : (given : List (List ℕ)) (queue : Waiting) → IsTail [] 0 0 queue → IsTail given (length given) (length given) queue
-none_waits given queue h = record { messages = drop_all given ∙ h.messages; within = omega arith; next_is = omega (arith, h.next_is) }
+none_waits : (given : List (List ℕ)) (queue : Waiting) → IsTail [] 0 0 queue
+    → IsTail given (length given) (length given) queue
+none_waits given queue h = record {
+  messages = drop_all given ∙ h.messages;
+  within = omega arith;
+  next_is = omega (arith, h.next_is);
+}
 
 -- a new link represents the end after a restart, whatever messages were submitted to it before
-new_represents : (link : Link) (e : End) → LinkRepresents link (new_end e.parameters) → LinkRepresents link (restarted e)
+new_represents : (link : Link) (e : End) → LinkRepresents link (new_end e.parameters)
+    → LinkRepresents link (restarted e)
 unfolding begin
 new_represents link e h = record {
   parameters = h.parameters;
@@ -45,13 +51,20 @@ new_represents link e h = record {
   put = h.put;
 }
 
-pub started_anew : (side own : Side) (parameters : Parameters) (v : View) (old : RecordedLink) (link : Link) (history : Log) (inward outward inward_new outward_new : Line)
-    → own ≡ old.link.side → ((e : End) → LinkRepresents old.link e → parameters ≡ e.parameters) → LinkRepresents link (new_end parameters) → setup_of link ≡ setup_for own
-    → ((messages : List (List ℕ)) (h : world.History) → AreSettled h → IsHistory old.history messages h → IsHistory history messages (with_others_dropped (length messages) h))
-    → ((from : Side) → IsOn from inward_new []) → ((from : Side) → IsOn from outward_new []) → IsConsistent Tagged v.station → IsView side old inward outward v
-    → IsDone side (record { link = link; history = history }) inward_new outward_new (quietly (restarts v)) []
+pub started_anew : (side own : Side) (parameters : Parameters) (v : View) (old : RecordedLink)
+    (link : Link) (history : Log) (inward outward inward_new outward_new : Line)
+    → own ≡ old.link.side → ((e : End) → LinkRepresents old.link e → parameters ≡ e.parameters)
+    → LinkRepresents link (new_end parameters) → setup_of link ≡ setup_for own
+    → ((messages : List (List ℕ)) (h : world.History) → AreSettled h
+    → IsHistory old.history messages h
+    → IsHistory history messages (with_others_dropped (length messages) h))
+    → ((from : Side) → IsOn from inward_new []) → ((from : Side) → IsOn from outward_new [])
+    → IsConsistent Tagged v.station → IsView side old inward outward v
+    → IsDone side (record { link = link; history = history }) inward_new outward_new
+    (quietly (restarts v)) []
 unfolding restarts
-started_anew side own parameters v old link history inward outward inward_new outward_new mine with_them representation setup drops empty_in empty_out preserved shown =
+started_anew side own parameters v old link history inward outward inward_new outward_new mine
+    with_them representation setup drops empty_in empty_out preserved shown =
     let e = v.station.end in
     let New : Parameters → Type 0 = λ p. LinkRepresents link (new_end p) in
     let sides : own ≡ side = mine ∙ ap (λ (x : Setup). x.side) shown.station.setup in

@@ -11,12 +11,15 @@ use Rattle.lapd_pair.specs.Runs.{AreDueThroughout, IsSafePair}
 use Rattle.lapd_pair.proofs.Pairs.{run_more}
 
 -- the first frames are due in each world on the way
-module _ (user network : Parameters) (user_window : user.k ≤ 127) (network_window : network.k ≤ 127) where
-  due_throughout : (before after : List Move) → AreDueThroughout Tagged after (run Tagged before (new_world user network))
+module _ (user network : Parameters) (user_window : user.k ≤ 127)
+    (network_window : network.k ≤ 127) where
+  due_throughout : (before after : List Move)
+      → AreDueThroughout Tagged after (run Tagged before (new_world user network))
   due_throughout before [] = every_run_is_due Tagged user network user_window network_window before
   due_throughout before (move ∷ after) = (
     every_run_is_due Tagged user network user_window network_window before,
-    subst (AreDueThroughout Tagged after) (run_more before move (new_world user network)) (due_throughout (before ++ move ∷ []) after),
+    subst (AreDueThroughout Tagged after) (run_more before move (new_world user network))
+        (due_throughout (before ++ move ∷ []) after),
   )
 
 pub pair_is_safe : (p : Pair) → ∥ IsSafePair p ∥₁

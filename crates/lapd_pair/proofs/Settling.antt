@@ -35,17 +35,23 @@ pub record Starts (frames : List Flight) : Type 0 where
   pub rest : List Flight
   pub is : frames ≡ frame ∷ rest
 
-starts_with : (from : Side) (octets : List ℕ) (frames : List Flight) → IsFirst from octets frames → Starts frames
+starts_with : (from : Side) (octets : List ℕ) (frames : List Flight) → IsFirst from octets frames
+    → Starts frames
 starts_with from octets [] first = absurd first
 starts_with from octets (frame ∷ rest) first = record { frame = frame; rest = rest; is = refl }
 
-pub some_starts : {A : Type 0} (octets_of : A → List ℕ) (from : Side) (line : Line) (o : Option A) (frames : List Flight) → true ≡ is_some o
-    → IfSome o (λ a. (from : Side) (frames : List Flight) → IsOn from line frames → IsFirst from (octets_of a) frames) → IsOn from line frames → Starts frames
-some_starts octets_of from line (Some a) frames is first on = starts_with from (octets_of a) frames (first from frames on)
+pub some_starts : {A : Type 0} (octets_of : A → List ℕ) (from : Side) (line : Line) (o : Option A)
+    (frames : List Flight) → true ≡ is_some o
+    → IfSome o (λ a. (from : Side) (frames : List Flight) → IsOn from line frames → IsFirst from
+    (octets_of a) frames) → IsOn from line frames → Starts frames
+some_starts octets_of from line (Some a) frames is first on =
+    starts_with from (octets_of a) frames (first from frames on)
 some_starts octets_of from line None frames is first on = cc
 
-pub none_starts : {A : Type 0} (from : Side) (line : Line) (o : Option A) (frames : List Flight) → false ≡ is_some o
-    → IfNone o ((from : Side) (frames : List Flight) → IsOn from line frames → frames ≡ []) → IsOn from line frames → frames ≡ []
+pub none_starts : {A : Type 0} (from : Side) (line : Line) (o : Option A) (frames : List Flight)
+    → false ≡ is_some o
+    → IfNone o ((from : Side) (frames : List Flight) → IsOn from line frames → frames ≡ [])
+    → IsOn from line frames → frames ≡ []
 none_starts from line None frames is none on = none from frames on
 none_starts from line (Some a) frames is none on = cc
 
@@ -54,29 +60,51 @@ none_starts from line (Some a) frames is none on = cc
 abbrev with_lines : World → List Flight → List Flight → World
 with_lines w to_user to_network = record w { to_user = to_user; to_network = to_network }
 
-lines_are : (P : World → Type 0) (w : World) (to_user to_network : List Flight) → w.to_user ≡ to_user → w.to_network ≡ to_network → P (with_lines w to_user to_network) → P w
-lines_are P w to_user to_network u n p = subst P (ap (λ l. with_lines w l to_network) (sym u) ∙ ap (λ l. with_lines w w.to_user l) (sym n)) p
+lines_are : (P : World → Type 0) (w : World) (to_user to_network : List Flight)
+    → w.to_user ≡ to_user → w.to_network ≡ to_network → P (with_lines w to_user to_network) → P w
+lines_are P w to_user to_network u n p =
+    subst P
+    (ap (λ l. with_lines w l to_network) (sym u) ∙ ap (λ l. with_lines w w.to_user l) (sym n)) p
 
-pub deliver_to_network : (w : World) → Starts w.to_network → Some (record { side = Network; event = Deliver }) ≡ next_move Tagged w
-deliver_to_network w s = sym (lines_are (λ v. next_move Tagged v ≡ Some (record { side = Network; event = Deliver })) w w.to_user (s.frame ∷ s.rest) refl s.is (next_to_network Tagged w.user w.network w.to_user s.frame s.rest))
+pub deliver_to_network : (w : World) → Starts w.to_network
+    → Some (record { side = Network; event = Deliver }) ≡ next_move Tagged w
+deliver_to_network w s =
+    sym (lines_are (λ v. next_move Tagged v ≡ Some (record { side = Network; event = Deliver })) w
+    w.to_user (s.frame ∷ s.rest) refl s.is
+    (next_to_network Tagged w.user w.network w.to_user s.frame s.rest))
 
-pub deliver_to_user : (w : World) → w.to_network ≡ [] → Starts w.to_user → Some (record { side = User; event = Deliver }) ≡ next_move Tagged w
-deliver_to_user w none s = sym (lines_are (λ v. next_move Tagged v ≡ Some (record { side = User; event = Deliver })) w (s.frame ∷ s.rest) [] s.is none (next_to_user Tagged w.user w.network s.frame s.rest))
+pub deliver_to_user : (w : World) → w.to_network ≡ [] → Starts w.to_user
+    → Some (record { side = User; event = Deliver }) ≡ next_move Tagged w
+deliver_to_user w none s =
+    sym (lines_are (λ v. next_move Tagged v ≡ Some (record { side = User; event = Deliver })) w
+    (s.frame ∷ s.rest) [] s.is none (next_to_user Tagged w.user w.network s.frame s.rest))
 
-pub t200_of_user : (w : World) → w.to_network ≡ [] → w.to_user ≡ [] → w.user.end.t200 ≡ true → Some (record { side = User; event = Expire200 }) ≡ next_move Tagged w
-t200_of_user w n u on = sym (lines_are (λ v. next_move Tagged v ≡ Some (record { side = User; event = Expire200 })) w [] [] u n (next_of_user Tagged w.user w.network on))
+pub t200_of_user : (w : World) → w.to_network ≡ [] → w.to_user ≡ [] → w.user.end.t200 ≡ true
+    → Some (record { side = User; event = Expire200 }) ≡ next_move Tagged w
+t200_of_user w n u on =
+    sym (lines_are (λ v. next_move Tagged v ≡ Some (record { side = User; event = Expire200 })) w []
+    [] u n (next_of_user Tagged w.user w.network on))
 
-pub t200_of_network : (w : World) → w.to_network ≡ [] → w.to_user ≡ [] → w.user.end.t200 ≡ false → w.network.end.t200 ≡ true → Some (record { side = Network; event = Expire200 }) ≡ next_move Tagged w
-t200_of_network w n u off on = sym (lines_are (λ v. next_move Tagged v ≡ Some (record { side = Network; event = Expire200 })) w [] [] u n (next_of_network Tagged w.user w.network off on))
+pub t200_of_network : (w : World) → w.to_network ≡ [] → w.to_user ≡ [] → w.user.end.t200 ≡ false
+    → w.network.end.t200 ≡ true
+    → Some (record { side = Network; event = Expire200 }) ≡ next_move Tagged w
+t200_of_network w n u off on =
+    sym (lines_are (λ v. next_move Tagged v ≡ Some (record { side = Network; event = Expire200 })) w
+    [] [] u n (next_of_network Tagged w.user w.network off on))
 
-pub nothing_next : (w : World) → w.to_network ≡ [] → w.to_user ≡ [] → w.user.end.t200 ≡ false → w.network.end.t200 ≡ false → no_move ≡ next_move Tagged w
-nothing_next w n u off none = sym (lines_are (λ v. next_move Tagged v ≡ no_move) w [] [] u n (next_none Tagged w.user w.network off none))
+pub nothing_next : (w : World) → w.to_network ≡ [] → w.to_user ≡ [] → w.user.end.t200 ≡ false
+    → w.network.end.t200 ≡ false → no_move ≡ next_move Tagged w
+nothing_next w n u off none =
+    sym (lines_are (λ v. next_move Tagged v ≡ no_move) w [] [] u n
+    (next_none Tagged w.user w.network off none))
 
 -- ---- The bound on the number of moves.
 
 -- from the number of waiting messages at each end
 pub bound_is : (p : Pair) (w : World) (user network : ℕ) → PairRepresents p w
-    → user ≡ length w.user.end.given - w.user.end.first → network ≡ length w.network.end.given - w.network.end.first → 8 * (user + network + 4) ≡ bound w
+    → user ≡ length w.user.end.given - w.user.end.first
+    → network ≡ length w.network.end.given - w.network.end.first
+    → 8 * (user + network + 4) ≡ bound w
 bound_is p w user network s user_waits network_waits =
     let a = left_settled w.user s.preserved.user.settled in
     let b = left_settled w.network s.preserved.network.settled in
@@ -89,32 +117,45 @@ bound_is p w user network s user_waits network_waits =
 pub none_made : (p : Pair) → AreMade (settling Tagged) p 0 p
 none_made p = record { representation = λ w s. s; counted = λ w s. refl }
 
-pub as_settled : (now : Pair) (done : Settled) (w : World) → HasMadeAll (next_move Tagged) (settling Tagged) (bound w) now done w → HasSettled now done w
-as_settled now done w all = record { representation = all.representation; moves = all.moves; rest = all.rest }
+pub as_settled : (now : Pair) (done : Settled) (w : World)
+    → HasMadeAll (next_move Tagged) (settling Tagged) (bound w) now done w → HasSettled now done w
+as_settled now done w all =
+    record { representation = all.representation; moves = all.moves; rest = all.rest }
 
 -- ---- An allocation fails.
 
 same_some : (a b : Move) → Some a ≡ Some b → a ≡ b
 same_some a b is = cc
 
-first_by : (first m : Move) (w : World) (b : Bool) (rest : Option Move) → is_ok (happens Tagged first w) ≡ b → (rest ≡ Some m → is_ok (happens Tagged m w) ≡ true) → (if b then Some first else rest) ≡ Some m → is_ok (happens Tagged m w) ≡ true
-first_by first m w true rest here later is = subst (λ n. is_ok (happens Tagged n w) ≡ true) (same_some first m is) here
+first_by : (first m : Move) (w : World) (b : Bool) (rest : Option Move)
+    → is_ok (happens Tagged first w) ≡ b → (rest ≡ Some m → is_ok (happens Tagged m w) ≡ true)
+    → (if b then Some first else rest) ≡ Some m → is_ok (happens Tagged m w) ≡ true
+first_by first m w true rest here later is =
+    subst (λ n. is_ok (happens Tagged n w) ≡ true) (same_some first m is) here
 first_by first m w false rest here later is = later is
 
-first_is_admitted : (moves : List Move) (w : World) (m : Move) → first_admitted Tagged moves w ≡ Some m → is_ok (happens Tagged m w) ≡ true
+first_is_admitted : (moves : List Move) (w : World) (m : Move)
+    → first_admitted Tagged moves w ≡ Some m → is_ok (happens Tagged m w) ≡ true
 first_is_admitted [] w m is = cc
-first_is_admitted (first ∷ moves) w m is = first_by first m w (is_ok (happens Tagged first w)) (first_admitted Tagged moves w) refl (λ later. first_is_admitted moves w m later) is
+first_is_admitted (first ∷ moves) w m is =
+    first_by first m w (is_ok (happens Tagged first w)) (first_admitted Tagged moves w) refl
+    (λ later. first_is_admitted moves w m later) is
 
 -- an admitted move is refused only when an allocation fails
-pub refused_for_memory : (why : PairFault) (outcome : Result Happened Refusal) → IsRefusedAs why outcome → is_ok outcome ≡ true → why ≡ fault.Memory
+pub refused_for_memory : (why : PairFault) (outcome : Result Happened Refusal)
+    → IsRefusedAs why outcome → is_ok outcome ≡ true → why ≡ fault.Memory
 refused_for_memory fault.Memory outcome is ok = refl
 refused_for_memory fault.NothingThere outcome is ok = cc
 refused_for_memory fault.NotRunning outcome is ok = cc
 refused_for_memory (fault.NotYet side at) outcome is ok = cc
 refused_for_memory (fault.Refused why) outcome is ok = cc
 
-pub stopped_at : (before now after : Pair) (n : ℕ) (m : Move) (why : PairFault) → AreMade (settling Tagged) before n now → ((w : World) → PairRepresents now w → Some m ≡ next_move Tagged w) → ((w : World) → PairRepresents now w → IsRefusedAs why (happens Tagged m w))
-    → ((w : World) → PairRepresents now w → PairRepresents after w) → (w : World) → PairRepresents before w → n < bound w → HasStoppedSettling why after w
+pub stopped_at : (before now after : Pair) (n : ℕ) (m : Move) (why : PairFault)
+    → AreMade (settling Tagged) before n now
+    → ((w : World) → PairRepresents now w → Some m ≡ next_move Tagged w)
+    → ((w : World) → PairRepresents now w → IsRefusedAs why (happens Tagged m w))
+    → ((w : World) → PairRepresents now w → PairRepresents after w) → (w : World)
+    → PairRepresents before w → n < bound w → HasStoppedSettling why after w
 stopped_at before now after n m why made next refuses same w s few =
     let u = run Tagged (settling Tagged n w) w in
     let su = made.representation w s in
@@ -131,7 +172,8 @@ stopped_at before now after n m why made next refuses same w s few =
 
 -- ---- A quiet line.
 
-pub drained_pair : (old new : Pair) (done : Settled) → Settles old new done → ∥ IsDrainedPair old new ∥₁
+pub drained_pair : (old new : Pair) (done : Settled) → Settles old new done
+    → ∥ IsDrainedPair old new ∥₁
 drained_pair old new done settles = ∥∥₁_map old.reached (λ x.
     let w = run Tagged x.moves (new_world x.user x.network) in
     record {
@@ -140,30 +182,43 @@ drained_pair old new done settles = ∥∥₁_map old.reached (λ x.
       moves = x.moves;
       representation = x.represent;
       after = (settles w x.represent).representation;
-      drained = λ q. every_quiet_line_drains Tagged x.user x.network x.few_of_user x.few_of_network x.some_of_user x.some_of_network x.moves q;
+      drained =
+          λ q. every_quiet_line_drains Tagged x.user x.network x.few_of_user x.few_of_network
+          x.some_of_user x.some_of_network x.moves q;
     })
 
 -- ---- All worlds that one pair represents agree on quietness and on the messages left.
 
-pub no_frames : (from : Side) (line : Line) (none other : List Flight) → none ≡ [] → IsOn from line none → IsOn from line other → other ≡ []
+pub no_frames : (from : Side) (line : Line) (none other : List Flight) → none ≡ []
+    → IsOn from line none → IsOn from line other → other ≡ []
 no_frames from line none [] is on on_other = refl
-no_frames from line none (f ∷ fs) is on on_other = let spelled = sym (ap (λ l. map (λ x. spelling from (fields_of x)) l) is) ∙ sym on.octets ∙ on_other.octets in cc
+no_frames from line none (f ∷ fs) is on on_other =
+    let spelled =
+    sym (ap (λ l. map (λ x. spelling from (fields_of x)) l) is) ∙ sym on.octets
+    ∙ on_other.octets in
+    cc
 
-quiet_again : (p : Pair) (w v : World) → PairRepresents p w → PairRepresents p v → IsQuiet w → IsQuiet v
+quiet_again : (p : Pair) (w v : World) → PairRepresents p w → PairRepresents p v → IsQuiet w
+    → IsQuiet v
 unfolding begin
 quiet_again p w v s t q = record {
   user = t.user.link.state ∙ sym s.user.link.state ∙ q.user;
   network = t.network.link.state ∙ sym s.network.link.state ∙ q.network;
   user_free = ap (λ m. m.own_busy) (t.user.link.window ∙ sym s.user.link.window) ∙ q.user_free;
-  network_free = ap (λ m. m.own_busy) (t.network.link.window ∙ sym s.network.link.window) ∙ q.network_free;
+  network_free =
+      ap (λ m. m.own_busy) (t.network.link.window ∙ sym s.network.link.window) ∙ q.network_free;
   to_user = no_frames Network p.to_user w.to_user v.to_user q.to_user s.to_user t.to_user;
-  to_network = no_frames User p.to_network w.to_network v.to_network q.to_network s.to_network t.to_network;
+  to_network =
+      no_frames User p.to_network w.to_network v.to_network q.to_network s.to_network t.to_network;
 }
 
-pub left_again : (p : Pair) (w v : World) → PairRepresents p w → PairRepresents p v → left w ≡ left v
+pub left_again : (p : Pair) (w v : World) → PairRepresents p w → PairRepresents p v
+    → left w ≡ left v
 left_again p w v s t =
-    let given_user : length w.user.end.given ≡ length v.user.end.given = ap length (sym s.user.history.given ∙ t.user.history.given) in
-    let given_network : length w.network.end.given ≡ length v.network.end.given = ap length (sym s.network.history.given ∙ t.network.history.given) in
+    let given_user : length w.user.end.given ≡ length v.user.end.given =
+    ap length (sym s.user.history.given ∙ t.user.history.given) in
+    let given_network : length w.network.end.given ≡ length v.network.end.given =
+    ap length (sym s.network.history.given ∙ t.network.history.given) in
     omega (
       arith,
       given_user,
@@ -186,11 +241,15 @@ left_again p w v s t =
       t.network.history.dropped,
     )
 
-module _ (old new : Pair) (done : Settled) (settles : Settles old new done) (w : World) (s : PairRepresents old w) (q : IsQuiet w) where
-  emptied_by : IsReached old.user old.network old.to_user old.to_network → IsEmptied done w (settled w)
+module _ (old new : Pair) (done : Settled) (settles : Settles old new done) (w : World)
+    (s : PairRepresents old w) (q : IsQuiet w) where
+  emptied_by : IsReached old.user old.network old.to_user old.to_network
+      → IsEmptied done w (settled w)
   emptied_by x =
       let v = run Tagged x.moves (new_world x.user x.network) in
-      let d = every_quiet_line_drains Tagged x.user x.network x.few_of_user x.few_of_network x.some_of_user x.some_of_network x.moves (quiet_again old w v s x.represent q) in
+      let d =
+      every_quiet_line_drains Tagged x.user x.network x.few_of_user x.few_of_network
+      x.some_of_user x.some_of_network x.moves (quiet_again old w v s x.represent q) in
       let h = settles w s in
       let i = settles v x.represent in
       let moves = i.moves in
@@ -198,9 +257,17 @@ module _ (old new : Pair) (done : Settled) (settles : Settles old new done) (w :
       record {
         rest = i.rest ∙ ap is_none d.drained.rests;
         few = omega (arith, moves, few, left_again old w v s x.represent);
-        empty = left_again new (settled w) (settled v) h.representation i.representation ∙ d.drained.empty;
-        user = sym h.representation.user.history.dropped ∙ i.representation.user.history.dropped ∙ ap length d.drained.user.dropped ∙ sym x.represent.user.history.dropped ∙ s.user.history.dropped;
-        network = sym h.representation.network.history.dropped ∙ i.representation.network.history.dropped ∙ ap length d.drained.network.dropped ∙ sym x.represent.network.history.dropped ∙ s.network.history.dropped;
+        empty =
+            left_again new (settled w) (settled v) h.representation i.representation
+            ∙ d.drained.empty;
+        user =
+            sym h.representation.user.history.dropped ∙ i.representation.user.history.dropped
+            ∙ ap length d.drained.user.dropped ∙ sym x.represent.user.history.dropped
+            ∙ s.user.history.dropped;
+        network =
+            sym h.representation.network.history.dropped ∙ i.representation.network.history.dropped
+            ∙ ap length d.drained.network.dropped ∙ sym x.represent.network.history.dropped
+            ∙ s.network.history.dropped;
       }
 
   pub emptied : IsEmptied done w (settled w)

@@ -45,28 +45,40 @@ at_most : (on : Bool) → (if on then 1 else 0) + 0 ≤ 1
 at_most true = omega arith
 at_most false = omega arith
 
-one_of_both : (input : Input) (e : End) → (if accepts input e then 1 else 0) + (if receives_unit input then 1 else 0) ≤ 1
+one_of_both : (input : Input) (e : End)
+    → (if accepts input e then 1 else 0) + (if receives_unit input then 1 else 0) ≤ 1
 one_of_both (input.Heard (I ns nr p) role) e = at_most (accepts (input.Heard (I ns nr p) role) e)
 one_of_both (input.Heard (Ui p) Command) e = omega arith
 one_of_both (input.Heard (Ui p) Answer) e = omega arith
 one_of_both (input.Heard control role) e = omega arith
 one_of_both other e = omega arith
 
-none_of_both : (input : Input) (e : End) (octets : List ℕ) → HasOctets input octets None → (if accepts input e then 1 else 0) + (if receives_unit input then 1 else 0) ≡ 0
+none_of_both : (input : Input) (e : End) (octets : List ℕ) → HasOctets input octets None
+    → (if accepts input e then 1 else 0) + (if receives_unit input then 1 else 0) ≡ 0
 none_of_both (input.Heard control role) e octets h = absurd h
 none_of_both other e octets h = refl
 
-held : (input : Input) (octets : List ℕ) (copy : Vec ℕ Global) → HasOctets input octets (Some copy) → copy.items ≡ octets
+held : (input : Input) (octets : List ℕ) (copy : Vec ℕ Global) → HasOctets input octets (Some copy)
+    → copy.items ≡ octets
 held (input.Heard control role) octets copy h = h
 held other octets copy h = cc
 
-copied : (input : Input) (e : End) (s : StepState) (octets : List ℕ) (copy : Option (Vec ℕ Global)) → step Tagged input e ≡ Ok s → HasOctets input octets copy → IsCopy octets (ups s.outs + unit_ups s.outs) copy
-copied input e s octets None done h = rw (ups_after Tagged input e s done, units_after Tagged input e s done) (none_of_both input e octets h)
-copied input e s octets (Some copy) done h = (rw (ups_after Tagged input e s done, units_after Tagged input e s done) (one_of_both input e), held input octets copy h)
+copied : (input : Input) (e : End) (s : StepState) (octets : List ℕ) (copy : Option (Vec ℕ Global))
+    → step Tagged input e ≡ Ok s → HasOctets input octets copy
+    → IsCopy octets (ups s.outs + unit_ups s.outs) copy
+copied input e s octets None done h =
+    rw (ups_after Tagged input e s done, units_after Tagged input e s done)
+    (none_of_both input e octets h)
+copied input e s octets (Some copy) done h = (
+  rw (ups_after Tagged input e s done, units_after Tagged input e s done) (one_of_both input e),
+  held input octets copy h,
+)
 
 -- ---- An establishment begins exactly if the number of establishments changes.
 
-beginning_by : (input : Input) (e : End) (s : StepState) (test : Bool) → begins e.state e.release_pending input ≡ test → step Tagged input e ≡ Ok s → test ≡ not (e.establishments == s.end.establishments)
+beginning_by : (input : Input) (e : End) (s : StepState) (test : Bool)
+    → begins e.state e.release_pending input ≡ test → step Tagged input e ≡ Ok s
+    → test ≡ not (e.establishments == s.end.establishments)
 beginning_by input e s true is done =
     let more = (begun_by_step Tagged input e s is done).counted in
     let other : (e.establishments == s.end.establishments) ≡ false = grind (arith, nat_tests) in
@@ -80,17 +92,34 @@ beginning_by input e s false is done =
 
 -- the inputs of executing the outputs of a step
 abbrev occasion_of : List ℕ → ℕ → StepState → Occasion
-occasion_of octets place s = record { given = s.end.given; establishment = s.end.establishments; octets = octets; place = place }
+occasion_of octets place s = record {
+  given = s.end.given;
+  establishment = s.end.establishments;
+  octets = octets;
+  place = place;
+}
 
 -- the line and the history before the first output
 abbrev story_before : View → StepState → Story
-story_before v s = record { line = v.outgoing; history = with_beginning v.station.end.establishments s.end.establishments v.station.history }
+story_before v s = record {
+  line = v.outgoing;
+  history =
+      with_beginning v.station.end.establishments s.end.establishments v.station.history;
+}
 
-between_outputs_begins : (side : Side) (place : ℕ) (input : Input) (octets : List ℕ) (copy : Option (Vec ℕ Global)) (v : View) (s : StepState) (before now : RecordedLink) (outward : Line)
-    → IsConsistent Tagged v.station → IsStation side before v.station → IsOn side outward v.outgoing → length octets ≤ n201 → HasOctets input octets copy → step Tagged input v.station.end ≡ Ok s
-    → LinkRepresents now.link s.end → setup_of now.link ≡ setup_of before.link → IsHistory now.history s.end.given (with_beginning v.station.end.establishments s.end.establishments v.station.history)
-    → IsBetweenOutputs side s.end (occasion_of octets place s) s.outs now outward copy (story_before v s)
-between_outputs_begins side place input octets copy v s before now outward preserved shown on few input_octets done link setup history =
+between_outputs_begins : (side : Side) (place : ℕ) (input : Input) (octets : List ℕ)
+    (copy : Option (Vec ℕ Global)) (v : View) (s : StepState) (before now : RecordedLink)
+    (outward : Line)
+    → IsConsistent Tagged v.station → IsStation side before v.station → IsOn side outward v.outgoing
+    → length octets ≤ n201 → HasOctets input octets copy
+    → step Tagged input v.station.end ≡ Ok s
+    → LinkRepresents now.link s.end → setup_of now.link ≡ setup_of before.link
+    → IsHistory now.history s.end.given
+    (with_beginning v.station.end.establishments s.end.establishments v.station.history)
+    → IsBetweenOutputs side s.end (occasion_of octets place s) s.outs now outward copy
+    (story_before v s)
+between_outputs_begins side place input octets copy v s before now outward preserved shown on few
+    input_octets done link setup history =
     let e = v.station.end in
     record {
       link = link;
@@ -98,9 +127,16 @@ between_outputs_begins side place input octets copy v s before now outward prese
       history = history;
       line = on;
       order = outputs_in_order Tagged input v.station s preserved done;
-      within = first_within Tagged s.end.state s.end (sound_step Tagged input e s preserved.window preserved.sound done);
-      settled = settled_alike v.station.history (with_beginning e.establishments s.end.establishments v.station.history) refl refl refl preserved.settled;
-      begun = begun_counted e.establishments s.end.establishments v.station.history preserved.begun (counted_by Tagged input e s (begins e.state e.release_pending input) refl done);
+      within =
+          first_within Tagged s.end.state s.end
+          (sound_step Tagged input e s preserved.window preserved.sound done);
+      settled =
+          settled_alike v.station.history
+          (with_beginning e.establishments s.end.establishments v.station.history) refl refl refl
+          preserved.settled;
+      begun =
+          begun_counted e.establishments s.end.establishments v.station.history preserved.begun
+          (counted_by Tagged input e s (begins e.state e.release_pending input) refl done);
       given = refl;
       short = step_is_short Tagged input e s preserved.short done;
       fits = few;
@@ -112,8 +148,12 @@ between_outputs_begins side place input octets copy v s before now outward prese
 abbrev Did : StepState → Result StepState LinkFault
 Did s = Ok s
 
-acted_by : (side : Side) (place : ℕ) (octets : List ℕ) (copy : Option (Vec ℕ Global)) (v : View) (s : StepState) (after : RecordedLink) (outward : Line) (result : Result StepState LinkFault) (outs : List Out)
-    → result ≡ Did s → s.outs ≡ outs → IsBetweenOutputs side s.end (occasion_of octets place s) [] after outward copy (after_outputs (occasion_of octets place s) s.outs (story_before v s))
+acted_by : (side : Side) (place : ℕ) (octets : List ℕ) (copy : Option (Vec ℕ Global)) (v : View)
+    (s : StepState) (after : RecordedLink) (outward : Line) (result : Result StepState LinkFault)
+    (outs : List Out)
+    → result ≡ Did s → s.outs ≡ outs
+    → IsBetweenOutputs side s.end (occasion_of octets place s) [] after outward copy
+    (after_outputs (occasion_of octets place s) s.outs (story_before v s))
     → IsActed side after outward (stepped octets place v result) outs
 unfolding view_after story_after
 acted_by side place octets copy v s after outward result outs is same h = record {
@@ -125,32 +165,58 @@ acted_by side place octets copy v s after outward result outs is same h = record
 }
 
 -- executing these outputs has the defined result; the same holds for an equal list of outputs
-abbrev pub RecordsAll : List ℕ → List Out → RecordedLink → Line → Option (Vec ℕ Global) → RecordedLink → Line → Option (Vec ℕ Global) → Type 0
+abbrev pub RecordsAll : List ℕ → List Out → RecordedLink → Line → Option (Vec ℕ Global)
+    → RecordedLink → Line → Option (Vec ℕ Global) → Type 0
 RecordsAll octets outs now outward copy after outward_after copy_after =
-    (side : Side) (e : End) (o : Occasion) (t : Story) → octets ≡ o.octets → IsBetweenOutputs side e o outs now outward copy t → IsBetweenOutputs side e o [] after outward_after copy_after (after_outputs o outs t)
+    (side : Side) (e : End) (o : Occasion) (t : Story) → octets ≡ o.octets
+    → IsBetweenOutputs side e o outs now outward copy t
+    → IsBetweenOutputs side e o [] after outward_after copy_after (after_outputs o outs t)
 
-pub records_of : (octets : List ℕ) (these those : List Out) (now : RecordedLink) (outward : Line) (copy : Option (Vec ℕ Global)) (after : RecordedLink) (outward_after : Line) (copy_after : Option (Vec ℕ Global)) → these ≡ those
-    → RecordsAll octets these now outward copy after outward_after copy_after → RecordsAll octets those now outward copy after outward_after copy_after
-records_of octets these those now outward copy after outward_after copy_after same reporting = subst (λ (x : List Out). RecordsAll octets x now outward copy after outward_after copy_after) same reporting
+pub records_of : (octets : List ℕ) (these those : List Out) (now : RecordedLink) (outward : Line)
+    (copy : Option (Vec ℕ Global)) (after : RecordedLink) (outward_after : Line)
+    (copy_after : Option (Vec ℕ Global)) → these ≡ those
+    → RecordsAll octets these now outward copy after outward_after copy_after
+    → RecordsAll octets those now outward copy after outward_after copy_after
+records_of octets these those now outward copy after outward_after copy_after same reporting =
+    subst (λ (x : List Out). RecordsAll octets x now outward copy after outward_after copy_after)
+    same reporting
 
 -- a step for an event, with its outputs
-pub step_acted : (side : Side) (place : ℕ) (input : Input) (octets : List ℕ) (copy copy_after : Option (Vec ℕ Global)) (v : View) (outs : List Out) (starts : Bool) (before now after : RecordedLink) (outward outward_after : Line)
-    → messages_of input ≡ [] → IsConsistent Tagged v.station → IsStation side before v.station → IsOn side outward v.outgoing → length octets ≤ n201 → HasOctets input octets copy
+pub step_acted : (side : Side) (place : ℕ) (input : Input) (octets : List ℕ)
+    (copy copy_after : Option (Vec ℕ Global)) (v : View) (outs : List Out) (starts : Bool)
+    (before now after : RecordedLink) (outward outward_after : Line)
+    → messages_of input ≡ [] → IsConsistent Tagged v.station → IsStation side before v.station
+    → IsOn side outward v.outgoing → length octets ≤ n201 → HasOctets input octets copy
     → Steps before.link now.link input outs → setup_of now.link ≡ setup_of before.link
     → ((e : End) → LinkRepresents before.link e → starts ≡ begins e.state e.release_pending input)
-    → ((messages : List (List ℕ)) (h : world.History) (was is : ℕ) → starts ≡ not (was == is) → IsHistory before.history messages h → IsHistory now.history messages (with_beginning was is h))
+    → ((messages : List (List ℕ)) (h : world.History) (was is : ℕ) → starts ≡ not (was == is)
+    → IsHistory before.history messages h
+    → IsHistory now.history messages (with_beginning was is h))
     → RecordsAll octets outs now outward copy after outward_after copy_after
-    → IsActed side after outward_after (stepped octets place v (step Tagged input v.station.end)) outs
-step_acted side place input octets copy copy_after v outs starts before now after outward outward_after none preserved shown on few input_octets steps setup tests notes reporting =
+    → IsActed side after outward_after (stepped octets place v (step Tagged input v.station.end))
+    outs
+step_acted side place input octets copy copy_after v outs starts before now after outward
+    outward_after none preserved shown on few input_octets steps setup tests notes reporting =
     let e = v.station.end in
     let done = steps e shown.link in
     let s = done.0 in
-    let starting : starts ≡ not (e.establishments == s.end.establishments) = beginning_by input e s starts (sym (tests e shown.link)) done.1 in
-    let given : s.end.given ≡ e.given = given_after Tagged input e s done.1 ∙ ap (λ m. e.given ++ m) none ∙ append-nil e.given in
-    let history : IsHistory now.history s.end.given (with_beginning e.establishments s.end.establishments v.station.history) = rw given (notes e.given v.station.history e.establishments s.end.establishments starting shown.history) in
-    let start = between_outputs_begins side place input octets copy v s before now outward preserved shown on few input_octets done.1 done.3 setup history in
-    let telling = records_of octets outs s.outs now outward copy after outward_after copy_after (sym done.2) reporting in
-    acted_by side place octets copy_after v s after outward_after (step Tagged input e) outs done.1 done.2 (telling side s.end (occasion_of octets place s) (story_before v s) refl start)
+    let starting : starts ≡ not (e.establishments == s.end.establishments) =
+    beginning_by input e s starts (sym (tests e shown.link)) done.1 in
+    let given : s.end.given ≡ e.given =
+    given_after Tagged input e s done.1 ∙ ap (λ m. e.given ++ m) none
+    ∙ append-nil e.given in
+    let history : IsHistory now.history s.end.given
+    (with_beginning e.establishments s.end.establishments v.station.history) =
+    rw given (notes e.given v.station.history e.establishments s.end.establishments starting
+    shown.history) in
+    let start =
+    between_outputs_begins side place input octets copy v s before now outward preserved
+    shown on few input_octets done.1 done.3 setup history in
+    let telling =
+    records_of octets outs s.outs now outward copy after outward_after copy_after
+    (sym done.2) reporting in
+    acted_by side place octets copy_after v s after outward_after (step Tagged input e) outs done.1
+    done.2 (telling side s.end (occasion_of octets place s) (story_before v s) refl start)
 
 -- no event submits a message
 pub no_message : (event : Event) → messages_of (input_of event) ≡ []
@@ -166,11 +232,15 @@ no_message (event.Unit len) = refl
 
 -- ---- A message is submitted.
 
-unless_begun : (same : Bool) (preserved : Log) (messages : List (List ℕ)) (h : world.History) (n : ℕ) → same ≡ true → IsHistory preserved messages h → IsHistory preserved messages (record h { begun = if same then h.begun else h.begun ++ n ∷ [] })
+unless_begun : (same : Bool) (preserved : Log) (messages : List (List ℕ)) (h : world.History)
+    (n : ℕ) → same ≡ true → IsHistory preserved messages h
+    → IsHistory preserved messages
+    (record h { begun = if same then h.begun else h.begun ++ n ∷ [] })
 unless_begun true preserved messages h n is shown = shown
 unless_begun false preserved messages h n is shown = cc
 
-begins_none : (state : State) (release_pending : Bool) (message : List ℕ) → begins state release_pending (input.Give message) ≡ false
+begins_none : (state : State) (release_pending : Bool) (message : List ℕ)
+    → begins state release_pending (input.Give message) ≡ false
 begins_none TeiAssigned release_pending message = refl
 begins_none AwaitingEstablishment release_pending message = refl
 begins_none AwaitingRelease release_pending message = refl
@@ -178,22 +248,40 @@ begins_none MultipleFrameEstablished release_pending message = refl
 begins_none TimerRecovery release_pending message = refl
 
 -- submitting a message, which begins no establishment
-pub give_acted : (side : Side) (message : List ℕ) (copy copy_after : Option (Vec ℕ Global)) (v : View) (outs : List Out) (before now after : RecordedLink) (outward outward_after : Line)
-    → copy ≡ None → IsConsistent Tagged v.station → IsStation side before v.station → IsOn side outward v.outgoing
-    → Steps before.link now.link (input.Give message) outs → setup_of now.link ≡ setup_of before.link
-    → ((messages : List (List ℕ)) (h : world.History) → AreSettled h → h.sent_in (length messages) ≡ None → IsHistory before.history messages h → IsHistory now.history (messages ++ message ∷ []) h)
+pub give_acted : (side : Side) (message : List ℕ) (copy copy_after : Option (Vec ℕ Global))
+    (v : View) (outs : List Out) (before now after : RecordedLink) (outward outward_after : Line)
+    → copy ≡ None → IsConsistent Tagged v.station → IsStation side before v.station
+    → IsOn side outward v.outgoing
+    → Steps before.link now.link (input.Give message) outs
+    → setup_of now.link ≡ setup_of before.link
+    → ((messages : List (List ℕ)) (h : world.History) → AreSettled h
+    → h.sent_in (length messages) ≡ None → IsHistory before.history messages h
+    → IsHistory now.history (messages ++ message ∷ []) h)
     → RecordsAll [] outs now outward copy after outward_after copy_after
-    → IsActed side after outward_after (stepped [] 0 v (step Tagged (input.Give message) v.station.end)) outs
-give_acted side message copy copy_after v outs before now after outward outward_after none preserved shown on steps setup gives reporting =
+    → IsActed side after outward_after
+    (stepped [] 0 v (step Tagged (input.Give message) v.station.end)) outs
+give_acted side message copy copy_after v outs before now after outward outward_after none preserved
+    shown on steps setup gives reporting =
     let e = v.station.end in
     let done = steps e shown.link in
     let s = done.0 in
-    let same = begun_by_no_step Tagged (input.Give message) e s (begins_none e.state e.release_pending message) done.1 in
+    let same =
+    begun_by_no_step Tagged (input.Give message) e s
+    (begins_none e.state e.release_pending message) done.1 in
     let equal : (e.establishments == s.end.establishments) ≡ true = grind (arith, nat_tests) in
-    let given : s.end.given ≡ e.given ++ message ∷ [] = given_after Tagged (input.Give message) e s done.1 in
+    let given : s.end.given ≡ e.given ++ message ∷ [] =
+    given_after Tagged (input.Give message) e s done.1 in
     let unsent = preserved.unsent (length e.given) (omega arith) in
-    let history : IsHistory now.history s.end.given (with_beginning e.establishments s.end.establishments v.station.history) =
-    rw given (unless_begun (e.establishments == s.end.establishments) now.history (e.given ++ message ∷ []) v.station.history (length v.station.history.received) equal (gives e.given v.station.history preserved.settled unsent shown.history)) in
-    let start = between_outputs_begins side 0 (input.Give message) [] copy v s before now outward preserved shown on (omega arith) none done.1 done.3 setup history in
-    let telling = records_of [] outs s.outs now outward copy after outward_after copy_after (sym done.2) reporting in
-    acted_by side 0 [] copy_after v s after outward_after (step Tagged (input.Give message) e) outs done.1 done.2 (telling side s.end (occasion_of [] 0 s) (story_before v s) refl start)
+    let history : IsHistory now.history s.end.given
+    (with_beginning e.establishments s.end.establishments v.station.history) =
+    rw given (unless_begun (e.establishments == s.end.establishments) now.history
+    (e.given ++ message ∷ []) v.station.history (length v.station.history.received) equal
+    (gives e.given v.station.history preserved.settled unsent shown.history)) in
+    let start =
+    between_outputs_begins side 0 (input.Give message) [] copy v s before now outward
+    preserved shown on (omega arith) none done.1 done.3 setup history in
+    let telling =
+    records_of [] outs s.outs now outward copy after outward_after copy_after (sym done.2)
+    reporting in
+    acted_by side 0 [] copy_after v s after outward_after (step Tagged (input.Give message) e) outs
+    done.1 done.2 (telling side s.end (occasion_of [] 0 s) (story_before v s) refl start)

@@ -36,16 +36,20 @@ module _ (station peer : Station) (n : ℕ) where
   done = end_step Whole (row Whole e.state (Expiry T200) (begin e))
 
   -- it is in state 7
-  in_state_7 : (a : ℕ) → Stream (source e) (sink peer.end) [] [] a → e.state ≡ MultipleFrameEstablished
+  in_state_7 : (a : ℕ) → Stream (source e) (sink peer.end) [] [] a
+      → e.state ≡ MultipleFrameEstablished
   in_state_7 a s = by_stage s.stage s.so
     where
-      by_stage : (stage : Stage) → IsAt stage (source e) (sink peer.end) [] [] → e.state ≡ MultipleFrameEstablished
+      by_stage : (stage : Stage) → IsAt stage (source e) (sink peer.end) [] []
+          → e.state ≡ MultipleFrameEstablished
       by_stage Clean cl = cl.in_7
       by_stage Waiting w = w.0
       by_stage Polling w = absurd (omega (arith, w.1))
       by_stage Answered w = absurd (omega (arith, w.1))
 
-  by_7 : (state : State) → state ≡ MultipleFrameEstablished → Draws c peer.end [] (n - 1) (multiple_frame_established Whole (Expiry T200) (begin e)) → Draws c peer.end [] (n - 1) (by_state Whole state (Expiry T200) (begin e))
+  by_7 : (state : State) → state ≡ MultipleFrameEstablished
+      → Draws c peer.end [] (n - 1) (multiple_frame_established Whole (Expiry T200) (begin e))
+      → Draws c peer.end [] (n - 1) (by_state Whole state (Expiry T200) (begin e))
   unfolding by_state
   by_7 MultipleFrameEstablished is d = d
   by_7 state is d = cc
@@ -54,16 +58,25 @@ module _ (station peer : Station) (n : ℕ) where
   unfolding row begin story_after multiple_frame_established
   draws_row on s =
       let f = s.flow in
-      draws_close c peer.end [] (n - 1) _ (by_test (λ (t : StepState). Draws c peer.end [] (n - 1) t) e.t200 _ _
-      (λ _. by_7 e.state (in_state_7 f.a f.mine) (draws_t200 c peer.end n (begin e) on s.idle refl refl f)) (λ off. cc))
+      draws_close c peer.end [] (n - 1) _
+      (by_test (λ (t : StepState). Draws c peer.end [] (n - 1) t) e.t200 _ _
+      (λ _. by_7 e.state (in_state_7 f.a f.mine)
+      (draws_t200 c peer.end n (begin e) on s.idle refl refl f)) (λ off. cc))
 
-  pub seen_expired : e.t200 ≡ true → Seen n v peer → Seen (n - 1) (left_by v (acts Whole side.User Expire200 v)) peer
+  pub seen_expired : e.t200 ≡ true → Seen n v peer
+      → Seen (n - 1) (left_by v (acts Whole side.User Expire200 v)) peer
   unfolding acts expires_200 takes step
   seen_expired on s =
       let d = draws_row on s in
       by_test (λ (r : Result ViewStep Refusal). Seen (n - 1) (left_by v r) peer) e.t200 _ _
-      (λ _. after_step [] 0 (n - 1) v peer [] 0 0 done (closed_step (Expiry T200) e done refl) (mine_open d.flow) s.its_idle tt d) (λ off. cc)
+      (λ _. after_step [] 0 (n - 1) v peer [] 0 0 done (closed_step (Expiry T200) e done refl)
+      (mine_open d.flow) s.its_idle tt d) (λ off. cc)
 
-  pub preserved_expired : e.t200 ≡ true → Seen n v peer → (left_by v (acts Whole side.User Expire200 v)).station.history.dropped ≡ v.station.history.dropped
+  pub preserved_expired : e.t200 ≡ true → Seen n v peer
+      → (left_by v (acts Whole side.User Expire200 v)).station.history.dropped
+      ≡ v.station.history.dropped
   unfolding acts expires_200 takes step
-  preserved_expired on s = by_test (λ (r : Result ViewStep Refusal). (left_by v r).station.history.dropped ≡ v.station.history.dropped) e.t200 _ _ (λ _. preserved_after [] 0 (n - 1) v peer [] 0 0 done (draws_row on s)) (λ off. cc)
+  preserved_expired on s =
+      by_test (λ (r : Result ViewStep Refusal). (left_by v r).station.history.dropped ≡
+      v.station.history.dropped) e.t200 _ _
+      (λ _. preserved_after [] 0 (n - 1) v peer [] 0 0 done (draws_row on s)) (λ off. cc)

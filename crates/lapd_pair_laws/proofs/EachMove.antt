@@ -34,7 +34,8 @@ module _ (P : End → Type 0) (s : Side) (v : View)
 
   pub kept_by_input : (what : Input) (octets : List ℕ) → Left P v (takes Whole what octets v)
   unfolding takes
-  kept_by_input what octets = by_outcome what octets 0 v.incoming (step Whole what v.station.end) refl
+  kept_by_input what octets =
+      by_outcome what octets 0 v.incoming (step Whole what v.station.end) refl
 
   delivered : (frames : List Flight) → Left P v (delivers Whole frames v)
   unfolding delivers receives
@@ -62,7 +63,8 @@ module _ (P : End → Type 0) (s : Side) (v : View)
       (takes Whole (input.Expiry T200) [] v) (kept_by_input (input.Expiry T200) []))
       (λ _. has)
   kept_by_event Expire203 =
-      by_test (Left P v) v.station.end.t203 _ _ (λ _. kept_by_input (input.Expiry T203) []) (λ _. has)
+      by_test (Left P v) v.station.end.t203 _ _ (λ _. kept_by_input (input.Expiry T203) [])
+      (λ _. has)
   kept_by_event (Busy on) = kept_by_input (busy_input on) []
   kept_by_event (UnitData octets) = kept_by_input (input.UnitData (length octets)) octets
   kept_by_event Restart = restarting

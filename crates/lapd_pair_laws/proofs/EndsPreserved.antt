@@ -20,7 +20,8 @@ pub record StaysSound (before after : End) : Type 0 where
 abbrev pub Left : View → Result ViewStep Refusal → Type 0
 Left v r = StaysSound v.station.end (left_by v r).station.end
 
-module _ (v : View) (small : v.station.end.parameters.k ≤ 127) (sound : IsSound Whole v.station.end) where
+module _ (v : View) (small : v.station.end.parameters.k ≤ 127)
+    (sound : IsSound Whole v.station.end) where
   unchanged : StaysSound v.station.end v.station.end
   unchanged = record { sound = sound; parameters = refl }
 

@@ -22,7 +22,14 @@ pub record Sink : Type 0 where
   pub rejecting : Bool
 
 abbrev pub source : End → Source
-source e = record { state = e.state; t200 = e.t200; busy = e.window.peer_busy; vs = e.window.vs; va = e.window.va; unsent = length e.given - e.next }
+source e = record {
+  state = e.state;
+  t200 = e.t200;
+  busy = e.window.peer_busy;
+  vs = e.window.vs;
+  va = e.window.va;
+  unsent = length e.given - e.next;
+}
 
 abbrev pub sink : End → Sink
 sink e = record { vr = e.window.vr; rejecting = e.window.rejecting }
@@ -37,7 +44,8 @@ IsWhole low end (m ∷ ms) = (m.number ≡ low) × IsWhole (low + 1) end ms
 -- stale messages above `low` may precede them
 abbrev pub IsJunkThenWhole : ℕ → ℕ → List Message → Type 0
 IsJunkThenWhole low end [] = low ≡ end
-IsJunkThenWhole low end (m ∷ ms) = IsWhole low end (m ∷ ms) ⊎ ((low < m.number) × IsJunkThenWhole low end ms)
+IsJunkThenWhole low end (m ∷ ms) =
+    IsWhole low end (m ∷ ms) ⊎ ((low < m.number) × IsJunkThenWhole low end ms)
 
 abbrev pub IsInTransit : Bool → ℕ → ℕ → List Message → Type 0
 IsInTransit false low end ms = IsWhole low end ms

@@ -28,11 +28,15 @@ pub record IsStepped (now was : List Kind) : Type 0 where
   pub names : (base top : ℕ) → FinalsNameAll base top was → FinalsNameAll base top now
 
 -- the peer's polls, over the frames that this side processes
-asked_out : (state : State) (base : ℕ) (received : List Receipt) (now was back : List Kind) → IsStepped now was → AreAsked state base received was back → AreAsked state base received now back
+asked_out : (state : State) (base : ℕ) (received : List Receipt) (now was back : List Kind)
+    → IsStepped now was → AreAsked state base received was back
+    → AreAsked state base received now back
 asked_out TeiAssigned base received now was back t w = tt
-asked_out AwaitingEstablishment base received now was back t w = record { polls = omega (arith, t.polls, w.polls); finals = w.finals }
+asked_out AwaitingEstablishment base received now was back t w =
+    record { polls = omega (arith, t.polls, w.polls); finals = w.finals }
 asked_out AwaitingRelease base received now was back t w = tt
-asked_out MultipleFrameEstablished base received now was back t w = record { polls = omega (arith, t.polls, w.polls); finals = w.finals }
+asked_out MultipleFrameEstablished base received now was back t w =
+    record { polls = omega (arith, t.polls, w.polls); finals = w.finals }
 asked_out TimerRecovery base received now was back t w = record {
   one = omega (arith, w.one, t.polls);
   behind = t.behind_poll w.behind;
@@ -41,11 +45,15 @@ asked_out TimerRecovery base received now was back t w = record {
 }
 
 -- this side's own polls
-asked_back : (state : State) (base : ℕ) (received : List Receipt) (out now was : List Kind) → IsStepped now was → AreAsked state base received out was → AreAsked state base received out now
+asked_back : (state : State) (base : ℕ) (received : List Receipt) (out now was : List Kind)
+    → IsStepped now was → AreAsked state base received out was
+    → AreAsked state base received out now
 asked_back TeiAssigned base received out now was t w = tt
-asked_back AwaitingEstablishment base received out now was t w = record { polls = w.polls; finals = omega (arith, t.finals, w.finals) }
+asked_back AwaitingEstablishment base received out now was t w =
+    record { polls = w.polls; finals = omega (arith, t.finals, w.finals) }
 asked_back AwaitingRelease base received out now was t w = tt
-asked_back MultipleFrameEstablished base received out now was t w = record { polls = w.polls; finals = omega (arith, t.finals, w.finals) }
+asked_back MultipleFrameEstablished base received out now was t w =
+    record { polls = w.polls; finals = omega (arith, t.finals, w.finals) }
 asked_back TimerRecovery base received out now was t w = record {
   one = omega (arith, w.one, t.finals);
   behind = w.behind;
@@ -53,10 +61,16 @@ asked_back TimerRecovery base received out now was t w = record {
   names = t.names base (high received) w.names;
 }
 
-awaiting_turned : (x : Party) (now was : List Kind) (nr : ℕ) → IsStepped now was → IsAwaiting nr (reception_now x was) → IsAwaiting nr (reception_now x now)
-awaiting_turned x now was nr t w = record { rejecting = w.rejecting; at = w.at; above = part_each (λ m. m.polled ≡ false → nr < m.number) t.messages w.above }
+awaiting_turned : (x : Party) (now was : List Kind) (nr : ℕ) → IsStepped now was
+    → IsAwaiting nr (reception_now x was) → IsAwaiting nr (reception_now x now)
+awaiting_turned x now was nr t w = record {
+  rejecting = w.rejecting;
+  at = w.at;
+  above = part_each (λ m. m.polled ≡ false → nr < m.number) t.messages w.above;
+}
 
-pub turned : (x y : Party) (out now was : List Kind) → IsStepped now was → Mid x y out was → Mid x y out now
+pub turned : (x y : Party) (out now was : List Kind) → IsStepped now was → Mid x y out was
+    → Mid x y out now
 turned x y out now was t m = record {
   opened = m.opened;
   mine = record {
@@ -66,12 +80,17 @@ turned x y out now was t m = record {
     lately = m.mine.lately;
     none_yet = m.mine.none_yet;
     below = m.mine.below;
-    reception = on_map (IsReceivable x y (Some (reception_now x was))) (IsReceivable x y (Some (reception_now x now))) (receives y out) (λ h i. record {
-      stream = i.stream;
-      acks = i.acks;
-      asked = asked_out y.state y.sends.base x.takes.received now was h.frames t i.asked;
-      rejected = rejected_map y.state y.sends.vs y.sends.base x.takes.received (Some (reception_now x now)) (Some (reception_now x was)) (rejections h.frames) (λ nr. awaiting_turned x now was nr t) i.rejected;
-    }) m.mine.reception;
+    reception =
+        on_map (IsReceivable x y (Some (reception_now x was)))
+        (IsReceivable x y (Some (reception_now x now))) (receives y out) (λ h i. record {
+          stream = i.stream;
+          acks = i.acks;
+          asked = asked_out y.state y.sends.base x.takes.received now was h.frames t i.asked;
+          rejected =
+              rejected_map y.state y.sends.vs y.sends.base x.takes.received (Some (reception_now x now))
+              (Some (reception_now x was)) (rejections h.frames) (λ nr. awaiting_turned x now was nr t)
+              i.rejected;
+        }) m.mine.reception;
     exchange = record {
       one = omega (arith, m.mine.exchange.one, t.answers);
       behind = m.mine.exchange.behind;
@@ -88,10 +107,19 @@ turned x y out now was t m = record {
     none_yet = m.its.none_yet;
     below = m.its.below;
     reception = record {
-      stream = stream_less (is_7_or_8 y.state) y.sends x.takes.received x.takes.vr x.takes.rejecting t.messages m.its.reception.stream;
-      acks = subst (λ ns. AreAcknowledging (is_7_or_8 y.state) y.takes x.sends.base x.sends.va x.sends.vs ns) (sym t.numbers) m.its.reception.acks;
-      asked = asked_back x.state x.sends.base y.takes.received (frames_received (receives y out)) now was t m.its.reception.asked;
-      rejected = rejected_part x.state x.sends.vs x.sends.base y.takes.received (receives y out) t.rejections m.its.reception.rejected;
+      stream =
+          stream_less (is_7_or_8 y.state) y.sends x.takes.received x.takes.vr x.takes.rejecting
+          t.messages m.its.reception.stream;
+      acks =
+          subst
+          (λ ns. AreAcknowledging (is_7_or_8 y.state) y.takes x.sends.base x.sends.va x.sends.vs ns)
+          (sym t.numbers) m.its.reception.acks;
+      asked =
+          asked_back x.state x.sends.base y.takes.received (frames_received (receives y out)) now
+          was t m.its.reception.asked;
+      rejected =
+          rejected_part x.state x.sends.vs x.sends.base y.takes.received (receives y out)
+          t.rejections m.its.reception.rejected;
     };
     exchange = record {
       one = omega (arith, m.its.exchange.one, t.asks);
@@ -156,7 +184,8 @@ abbrev pub left_of : Bool → ℕ → Kind
 left_of true nr = Enquiry nr
 left_of false nr = Status nr
 
-message_left_as : (polled : Bool) (m : Message) (nr : ℕ) (ks : List Kind) → m.polled ≡ polled → IsStepped (left_of polled nr ∷ ks) (Numbered m nr ∷ ks)
+message_left_as : (polled : Bool) (m : Message) (nr : ℕ) (ks : List Kind) → m.polled ≡ polled
+    → IsStepped (left_of polled nr ∷ ks) (Numbered m nr ∷ ks)
 message_left_as true m nr ks polls = record {
   numbers = refl;
   messages = part_first m (messages ks);
@@ -184,9 +213,11 @@ message_left_as false m nr ks polls = record {
   names = λ base top names. names;
 }
 
-pub message_left : (m : Message) (nr : ℕ) (ks : List Kind) → IsStepped (left_of m.polled nr ∷ ks) (Numbered m nr ∷ ks)
+pub message_left : (m : Message) (nr : ℕ) (ks : List Kind)
+    → IsStepped (left_of m.polled nr ∷ ks) (Numbered m nr ∷ ks)
 message_left m nr ks = message_left_as m.polled m nr ks refl
 
-pub messages_left : (polled : Bool) (nr : ℕ) (ks : List Kind) → messages (left_of polled nr ∷ ks) ≡ messages ks
+pub messages_left : (polled : Bool) (nr : ℕ) (ks : List Kind)
+    → messages (left_of polled nr ∷ ks) ≡ messages ks
 messages_left true nr ks = refl
 messages_left false nr ks = refl

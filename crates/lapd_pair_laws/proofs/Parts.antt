@@ -18,7 +18,8 @@ part_whole (x ∷ xs) = taken (part_whole xs)
 pub part_first : {A : Type 0} (x : A) (xs : List A) → Part xs (x ∷ xs)
 part_first x xs = lost (part_whole xs)
 
-pub part_under : {A : Type 0} (front : List A) {xs ys : List A} → Part xs ys → Part (front ++ xs) (front ++ ys)
+pub part_under : {A : Type 0} (front : List A) {xs ys : List A} → Part xs ys
+    → Part (front ++ xs) (front ++ ys)
 part_under [] p = p
 part_under (f ∷ front) p = taken (part_under front p)
 
@@ -72,63 +73,88 @@ part_some (lost p) some = tt
 
 -- ---- The order of messages and of the N(R).
 
-next_part : (polled : Bool) (low lower end number : ℕ) {xs ys : List Message} → Part xs ys → (Run Less : Type 0) → lower ≤ low → (Run → Less) → IsNext polled low end number ys Run → IsNext polled lower end number xs Less
+next_part : (polled : Bool) (low lower end number : ℕ) {xs ys : List Message} → Part xs ys
+    → (Run Less : Type 0) → lower ≤ low → (Run → Less) → IsNext polled low end number ys Run
+    → IsNext polled lower end number xs Less
 next_part true low lower end number p Run Less le f next = (next.0, part_nothing p next.1)
-next_part false low lower end number p Run Less le f next = (omega (arith, next.0), next.1, f next.2)
+next_part false low lower end number p Run Less le f next =
+    (omega (arith, next.0), next.1, f next.2)
 
-past_part : (polled : Bool) (low lower end number : ℕ) {xs ys : List Message} → Part xs ys → lower ≤ low → ((l : ℕ) → lower ≤ l → IsRun l end ys → IsRun lower end xs)
+past_part : (polled : Bool) (low lower end number : ℕ) {xs ys : List Message} → Part xs ys
+    → lower ≤ low → ((l : ℕ) → lower ≤ l → IsRun l end ys → IsRun lower end xs)
     → IsNext polled low end number ys (IsRun (number + 1) end ys) → IsRun lower end xs
-past_part true low lower end number {xs} p le f next = subst (λ l. IsRun lower end l) (sym (part_nothing p next.1)) tt
+past_part true low lower end number {xs} p le f next =
+    subst (λ l. IsRun lower end l) (sym (part_nothing p next.1)) tt
 past_part false low lower end number p le f next = f (number + 1) (omega (arith, next.0)) next.2
 
-run_part : {xs ys : List Message} (low lower end : ℕ) → Part xs ys → lower ≤ low → IsRun low end ys → IsRun lower end xs
+run_part : {xs ys : List Message} (low lower end : ℕ) → Part xs ys → lower ≤ low → IsRun low end ys
+    → IsRun lower end xs
 run_part low lower end ended le run = tt
-run_part low lower end (taken {x = m} {xs = xs} {ys = ys} p) le run = next_part m.polled low lower end m.number p (IsRun (m.number + 1) end ys) (IsRun (m.number + 1) end xs) le (λ r. run_part (m.number + 1) (m.number + 1) end p (omega arith) r) run
-run_part low lower end (lost {y = m} {ys = ys} p) le run = past_part m.polled low lower end m.number p le (λ l (le : lower ≤ l) (r : IsRun l end ys). run_part l lower end p le r) run
+run_part low lower end (taken {x = m} {xs = xs} {ys = ys} p) le run =
+    next_part m.polled low lower end m.number p (IsRun (m.number + 1) end ys)
+    (IsRun (m.number + 1) end xs) le
+    (λ r. run_part (m.number + 1) (m.number + 1) end p (omega arith) r) run
+run_part low lower end (lost {y = m} {ys = ys} p) le run =
+    past_part m.polled low lower end m.number p le
+    (λ l (le : lower ≤ l) (r : IsRun l end ys). run_part l lower end p le r) run
 
-junk_part : {xs ys : List Message} (low end : ℕ) → Part xs ys → IsJunkThenRun low end ys → IsJunkThenRun low end xs
+junk_part : {xs ys : List Message} (low end : ℕ) → Part xs ys → IsJunkThenRun low end ys
+    → IsJunkThenRun low end xs
 junk_part low end ended junk = tt
-junk_part low end (taken {x = m} p) (inl run) = inl (run_part low low end (taken {x = m} p) (omega arith) run)
+junk_part low end (taken {x = m} p) (inl run) =
+    inl (run_part low low end (taken {x = m} p) (omega arith) run)
 junk_part low end (taken p) (inr junk) = inr (junk.0, junk.1, junk_part low end p junk.2)
-junk_part low end (lost {y = m} {xs = xs} p) (inl run) = run_is_junk low end xs (run_part low low end (lost {y = m} p) (omega arith) run)
+junk_part low end (lost {y = m} {xs = xs} p) (inl run) =
+    run_is_junk low end xs (run_part low low end (lost {y = m} p) (omega arith) run)
 junk_part low end (lost p) (inr junk) = junk_part low end p junk.2
 
-pub order_part : (rejecting : Bool) (low end : ℕ) {xs ys : List Message} → Part xs ys → IsInOrder rejecting low end ys → IsInOrder rejecting low end xs
+pub order_part : (rejecting : Bool) (low end : ℕ) {xs ys : List Message} → Part xs ys
+    → IsInOrder rejecting low end ys → IsInOrder rejecting low end xs
 order_part true low end p order = junk_part low end p order
 order_part false low end p order = run_part low low end p (omega arith) order
 
-climb_part : {xs ys : List ℕ} (low lower top : ℕ) → Part xs ys → lower ≤ low → IsClimb low top ys → IsClimb lower top xs
+climb_part : {xs ys : List ℕ} (low lower top : ℕ) → Part xs ys → lower ≤ low → IsClimb low top ys
+    → IsClimb lower top xs
 climb_part low lower top ended le climb = omega (arith, le, climb)
-climb_part low lower top (taken {x = n} p) le climb = (omega (arith, le, climb.0), climb_part n n top p (omega arith) climb.1)
-climb_part low lower top (lost {y = n} p) le climb = climb_part n lower top p (omega (arith, le, climb.0)) climb.1
+climb_part low lower top (taken {x = n} p) le climb =
+    (omega (arith, le, climb.0), climb_part n n top p (omega arith) climb.1)
+climb_part low lower top (lost {y = n} p) le climb =
+    climb_part n lower top p (omega (arith, le, climb.0)) climb.1
 
-pub part_climb : (low top : ℕ) {xs ys : List ℕ} → Part xs ys → IsClimb low top ys → IsClimb low top xs
+pub part_climb : (low top : ℕ) {xs ys : List ℕ} → Part xs ys → IsClimb low top ys
+    → IsClimb low top xs
 part_climb low top p climb = climb_part low low top p (omega arith) climb
 
 -- ---- Which frames follow which.
 
 pub part_behind_poll : {xs ys : List Kind} → Part xs ys → NoneBehindPoll ys → NoneBehindPoll xs
 part_behind_poll ended none = tt
-part_behind_poll (taken p) none = ((λ poll. part_nothing (part_messages p) (none.0 poll)), part_behind_poll p none.1)
+part_behind_poll (taken p) none =
+    ((λ poll. part_nothing (part_messages p) (none.0 poll)), part_behind_poll p none.1)
 part_behind_poll (lost p) none = part_behind_poll p none.1
 
 pub part_behind_ask : {xs ys : List Kind} → Part xs ys → NoneBehindAsk ys → NoneBehindAsk xs
 part_behind_ask ended none = tt
-part_behind_ask (taken p) none = ((λ ask. part_nothing (part_numbers p) (none.0 ask)), part_behind_ask p none.1)
+part_behind_ask (taken p) none =
+    ((λ ask. part_nothing (part_numbers p) (none.0 ask)), part_behind_ask p none.1)
 part_behind_ask (lost p) none = part_behind_ask p none.1
 
-names_part : (k : Kind) (base top : ℕ) {xs ys : List Kind} → Part xs ys → NamesAll k base top ys → NamesAll k base top xs
+names_part : (k : Kind) (base top : ℕ) {xs ys : List Kind} → Part xs ys → NamesAll k base top ys
+    → NamesAll k base top xs
 names_part (Final nr) base top p names = (names.0, part_nothing (part_rejections p) names.1)
 names_part (Numbered m nr) base top p names = tt
 names_part k base top p names = tt
 
-pub part_names : (base top : ℕ) {xs ys : List Kind} → Part xs ys → FinalsNameAll base top ys → FinalsNameAll base top xs
+pub part_names : (base top : ℕ) {xs ys : List Kind} → Part xs ys → FinalsNameAll base top ys
+    → FinalsNameAll base top xs
 part_names base top ended names = tt
-part_names base top (taken {x = k} p) names = (names_part k base top p names.0, part_names base top p names.1)
+part_names base top (taken {x = k} p) names =
+    (names_part k base top p names.0, part_names base top p names.1)
 part_names base top (lost p) names = part_names base top p names.1
 
 -- at most one entry, which satisfies a predicate
-one_alone : (P : ℕ → Type 0) (n : ℕ) {xs ys : List ℕ} → Part xs ys → AtMostOne P (n ∷ ys) → AtMostOne P (n ∷ xs)
+one_alone : (P : ℕ → Type 0) (n : ℕ) {xs ys : List ℕ} → Part xs ys → AtMostOne P (n ∷ ys)
+    → AtMostOne P (n ∷ xs)
 one_alone P n ended one = one
 one_alone P n (taken p) one = absurd one
 one_alone P n (lost p) one = absurd one

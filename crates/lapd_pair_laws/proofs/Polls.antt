@@ -16,17 +16,24 @@ use Rattle.lapd_pair_laws.proofs.FrameOfStep.{turned, enquiry_left}
 -- ---- A poll is answered.
 
 -- its V(R) acknowledges all that this side received, if the peer processes frames
-pub named_where_received : {x y : Party} {out back : List Kind} → Mid x y out back → OnReception (λ h. is_7_or_8 y.state ≡ true → high x.takes.received ≤ y.sends.base + x.takes.vr) (receives y out)
+pub named_where_received : {x y : Party} {out back : List Kind} → Mid x y out back
+    → OnReception
+    (λ h. is_7_or_8 y.state ≡ true → high x.takes.received ≤ y.sends.base + x.takes.vr)
+    (receives y out)
 named_where_received {x = x} {y = y} {out = out} {back = back} m =
-    on_map (IsReceivable x y (Some (reception_now x back))) _ (receives y out) (λ h i opened. (m.its.reception.stream.step (inl opened)).below) m.mine.reception
+    on_map (IsReceivable x y (Some (reception_now x back))) _ (receives y out)
+    (λ h i opened. (m.its.reception.stream.step (inl opened)).below) m.mine.reception
 
 -- the poll in hand is the only one in transit: a final may answer it
-answered : (state : State) (base nr vr : ℕ) (received : List Receipt) (ks back : List Kind) → (is_7_or_8 state ≡ true → high received ≤ base + vr)
-    → AreAsked state base received (Enquiry nr ∷ ks) back → AreAsked state base received (Status nr ∷ ks) (back ++ Final vr ∷ [])
+answered : (state : State) (base nr vr : ℕ) (received : List Receipt) (ks back : List Kind)
+    → (is_7_or_8 state ≡ true → high received ≤ base + vr)
+    → AreAsked state base received (Enquiry nr ∷ ks) back
+    → AreAsked state base received (Status nr ∷ ks) (back ++ Final vr ∷ [])
 answered TeiAssigned base nr vr received ks back named w = tt
 answered AwaitingEstablishment base nr vr received ks back named w = absurd (omega (arith, w.polls))
 answered AwaitingRelease base nr vr received ks back named w = tt
-answered MultipleFrameEstablished base nr vr received ks back named w = absurd (omega (arith, w.polls))
+answered MultipleFrameEstablished base nr vr received ks back named w =
+    absurd (omega (arith, w.polls))
 answered TimerRecovery base nr vr received ks back named w =
     let more = tally_more final_of (Final vr) back in
     let no_final : tally final_of back ≡ 0 = omega (arith, w.one) in
@@ -34,22 +41,41 @@ answered TimerRecovery base nr vr received ks back named w =
       one = omega (arith, w.one, more);
       behind = ((λ poll. absurd (omega (arith, poll))), w.behind.1);
       alone = λ _. w.behind.0 (omega arith);
-      names = finals_more base (high received) (Final vr) back refl (named refl, refl) (no_finals base (high received) back no_final);
+      names =
+          finals_more base (high received) (Final vr) back refl (named refl, refl)
+          (no_finals base (high received) back no_final);
     }
 
-pub answering : (x y : Party) (out : List Kind) (nr : ℕ) (ks : List Kind) → Mid x y out (Enquiry nr ∷ ks) → Mid x y (out ++ Final x.takes.vr ∷ []) (Status nr ∷ ks)
+pub answering : (x y : Party) (out : List Kind) (nr : ℕ) (ks : List Kind)
+    → Mid x y out (Enquiry nr ∷ ks) → Mid x y (out ++ Final x.takes.vr ∷ []) (Status nr ∷ ks)
 answering x y out nr ks w =
-    let m : Mid x y out (Status nr ∷ ks) = turned x y out (Status nr ∷ ks) (Enquiry nr ∷ ks) (enquiry_left nr ks) w in
+    let m : Mid x y out (Status nr ∷ ks) =
+    turned x y out (Status nr ∷ ks) (Enquiry nr ∷ ks) (enquiry_left nr ks) w in
     let u = Final x.takes.vr in
     let was = Some (reception_now x (Enquiry nr ∷ ks)) in
     let here = Some (reception_now x (Status nr ∷ ks)) in
     let Got : Reception → Type 0 = λ h. IsGot y.sends.base x.takes.vr x.takes.received in
-    let Named : Reception → Type 0 = λ h. is_7_or_8 y.state ≡ true → high x.takes.received ≤ y.sends.base + x.takes.vr in
-    sends_supervisory x y out (Status nr ∷ ks) u (record { no_acceptance = refl; no_message = refl; no_ask = refl; no_answer = refl; known = refl })
-    (on_both (IsReceivable x y here) Got _ (receives y out) (λ h i got. acks_sent x.takes (is_7_or_8 x.state) y.sends.base h.va h.vs u h.frames m.opened refl got i.acks) m.mine.reception (got_where_received m))
-    (on_both (IsReceivable x y was) Named _ (receives y out) (λ h i named. answered y.state y.sends.base nr x.takes.vr x.takes.received ks h.frames named i.asked) w.mine.reception (named_where_received w))
-    (on_map (IsReceivable x y here) _ (receives y out) (λ h i. rejected_sent y.state y.sends.vs y.sends.base x.takes.received here u h.frames refl i.rejected) m.mine.reception)
-    (asked_received x.state x.sends.base y.takes.received u (receives y out) (Status nr ∷ ks) refl refl m.its.reception.asked) m
+    let Named : Reception → Type 0 =
+    λ h. is_7_or_8 y.state ≡ true → high x.takes.received ≤ y.sends.base + x.takes.vr in
+    sends_supervisory x y out (Status nr ∷ ks) u
+    (record {
+      no_acceptance = refl;
+      no_message = refl;
+      no_ask = refl;
+      no_answer = refl;
+      known = refl;
+    })
+    (on_both (IsReceivable x y here) Got _ (receives y out)
+    (λ h i got. acks_sent x.takes (is_7_or_8 x.state) y.sends.base h.va h.vs u h.frames
+    m.opened refl got i.acks) m.mine.reception (got_where_received m))
+    (on_both (IsReceivable x y was) Named _ (receives y out)
+    (λ h i named. answered y.state y.sends.base nr x.takes.vr x.takes.received ks h.frames
+    named i.asked) w.mine.reception (named_where_received w))
+    (on_map (IsReceivable x y here) _ (receives y out)
+    (λ h i. rejected_sent y.state y.sends.vs y.sends.base x.takes.received here u h.frames
+    refl i.rejected) m.mine.reception)
+    (asked_received x.state x.sends.base y.takes.received u (receives y out) (Status nr ∷ ks) refl
+    refl m.its.reception.asked) m
 
 -- ---- This side polls.
 
@@ -59,16 +85,22 @@ pub record IsSettled (x y : Party) (out back : List Kind) : Type 0 where
   pub finals : tally final_of back ≡ 0
 
 -- in state 7 there is never one
-pub settled_in_7 : (x y : Party) (out back : List Kind) → x.state ≡ MultipleFrameEstablished → Mid x y out back → IsSettled x y out back
+pub settled_in_7 : (x y : Party) (out back : List Kind) → x.state ≡ MultipleFrameEstablished
+    → Mid x y out back → IsSettled x y out back
 settled_in_7 x y out back is m =
-    let none : NoneAsked (frames_received (receives y out)) back = subst (λ s. AreAsked s x.sends.base y.takes.received (frames_received (receives y out)) back) is m.its.reception.asked in
+    let none : NoneAsked (frames_received (receives y out)) back =
+    subst
+    (λ s. AreAsked s x.sends.base y.takes.received (frames_received (receives y out)) back)
+    is m.its.reception.asked in
     record { polls = none.polls; finals = none.finals }
 
 no_polls : (ks : List Kind) → tally poll_of ks ≡ 0 → NoneBehindPoll ks
 no_polls [] none = tt
-no_polls (k ∷ ks) none = ((λ poll. absurd (omega (arith, poll, none))), no_polls ks (omega (arith, none)))
+no_polls (k ∷ ks) none =
+    ((λ poll. absurd (omega (arith, poll, none))), no_polls ks (omega (arith, none)))
 
-settled_asks : (base : ℕ) (received : List Receipt) (out back : List Kind) → tally poll_of out ≡ 0 → tally final_of back ≡ 0 → OneAsked base received out back
+settled_asks : (base : ℕ) (received : List Receipt) (out back : List Kind) → tally poll_of out ≡ 0
+    → tally final_of back ≡ 0 → OneAsked base received out back
 settled_asks base received out back polls finals = record {
   one = omega (arith, polls, finals);
   behind = no_polls out polls;
@@ -140,9 +172,12 @@ to_recovery x y out back settled m =
     (settled_asks x.sends.base y.takes.received frames back settled.polls settled.finals) tt m
 
 -- the poll is sent
-asked_once : (base : ℕ) (received : List Receipt) (u : Kind) (there : Option Reception) (back : List Kind) → message_of u ≡ [] → poll_of u ≡ 1 → tally poll_of (frames_received there) ≡ 0 → tally final_of back ≡ 0
+asked_once : (base : ℕ) (received : List Receipt) (u : Kind) (there : Option Reception)
+    (back : List Kind) → message_of u ≡ [] → poll_of u ≡ 1
+    → tally poll_of (frames_received there) ≡ 0 → tally final_of back ≡ 0
     → OneAsked base received (frames_received (option_map (one_more u) there)) back
-asked_once base received u None back no_message poll polls finals = settled_asks base received [] back refl finals
+asked_once base received u None back no_message poll polls finals =
+    settled_asks base received [] back refl finals
 asked_once base received u (Some h) back no_message poll polls finals =
     let more = tally_more poll_of u h.frames in
     record {
@@ -152,25 +187,39 @@ asked_once base received u (Some h) back no_message poll polls finals =
       names = no_finals base (high received) back finals;
     }
 
-pub enquiring : (x y : Party) (out back : List Kind) → IsSettled x y out back → Mid x y out back → Mid (recovering x) y (out ++ Enquiry x.takes.vr ∷ []) back
+pub enquiring : (x y : Party) (out back : List Kind) → IsSettled x y out back → Mid x y out back
+    → Mid (recovering x) y (out ++ Enquiry x.takes.vr ∷ []) back
 enquiring x y out back settled w =
     let z = recovering x in
     let m : Mid z y out back = to_recovery x y out back settled w in
     let u = Enquiry x.takes.vr in
     let Heard : Reception → Type 0 = IsReceivable z y (Some (reception_now z back)) in
     let Got : Reception → Type 0 = λ h. IsGot y.sends.base x.takes.vr x.takes.received in
-    sends_supervisory z y out back u (record { no_acceptance = refl; no_message = refl; no_ask = refl; no_answer = refl; known = refl })
-    (on_both Heard Got _ (receives y out) (λ h i got. acks_sent x.takes true y.sends.base h.va h.vs u h.frames refl refl got i.acks) m.mine.reception (got_where_received m))
-    (on_map Heard _ (receives y out) (λ h i. asked_sent y.state y.sends.base x.takes.received back u h.frames refl refl i.asked) m.mine.reception)
-    (on_map Heard _ (receives y out) (λ h i. rejected_sent y.state y.sends.vs y.sends.base x.takes.received (Some (reception_now z back)) u h.frames refl i.rejected) m.mine.reception)
-    (asked_once x.sends.base y.takes.received u (receives y out) back refl refl settled.polls settled.finals) m
+    sends_supervisory z y out back u (record {
+      no_acceptance = refl;
+      no_message = refl;
+      no_ask = refl;
+      no_answer = refl;
+      known = refl;
+    })
+    (on_both Heard Got _ (receives y out)
+    (λ h i got. acks_sent x.takes true y.sends.base h.va h.vs u h.frames refl refl got
+    i.acks) m.mine.reception (got_where_received m))
+    (on_map Heard _ (receives y out) (λ h i. asked_sent y.state y.sends.base x.takes.received back u
+    h.frames refl refl i.asked) m.mine.reception)
+    (on_map Heard _ (receives y out) (λ h i. rejected_sent y.state y.sends.vs y.sends.base
+    x.takes.received (Some (reception_now z back)) u h.frames refl i.rejected)
+    m.mine.reception)
+    (asked_once x.sends.base y.takes.received u (receives y out) back refl refl settled.polls
+    settled.finals) m
 
 -- ---- The answer arrives: to state 7, with no poll outstanding.
 
 abbrev pub established : Party → Party
 established x = record x { state = MultipleFrameEstablished }
 
-pub to_established : (x y : Party) (out back : List Kind) → IsSettled x y out back → rejections back ≡ [] → Mid x y out back → Mid (established x) y out back
+pub to_established : (x y : Party) (out back : List Kind) → IsSettled x y out back
+    → rejections back ≡ [] → Mid x y out back → Mid (established x) y out back
 to_established x y out back settled none m =
     let base = x.sends.base in
     entered MultipleFrameEstablished x y out back (numbering m) refl refl

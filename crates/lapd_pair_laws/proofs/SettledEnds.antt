@@ -24,7 +24,8 @@ use Rattle.lapd_pair_laws.proofs.Timers.{timed_step}
 -- ---- The end of a step.
 
 none_left : (s : StepState) → unsent s.end ≤ 0 → may_send_next Whole s ≡ false
-none_left s none = by_state (is_established s.end.state) (may_send Whole s.end.parameters.k s.end.window)
+none_left s none =
+    by_state (is_established s.end.state) (may_send Whole s.end.parameters.k s.end.window)
   where
     no : nat_lt s.end.next (length s.end.given) ≡ false
     no = grind (arith, nat_tests, none)
@@ -34,11 +35,17 @@ none_left s none = by_state (is_established s.end.state) (may_send Whole s.end.p
     by_state true false = refl
     by_state true true = no
 
-sent_all : (n : ℕ) (s : StepState) → unsent s.end ≤ n → may_send_next Whole (send_all Whole n s) ≡ false
+sent_all : (n : ℕ) (s : StepState) → unsent s.end ≤ n
+    → may_send_next Whole (send_all Whole n s) ≡ false
 unfolding send_all transmit_i_frame ensure_t200
 sent_all zero s few = none_left s few
-sent_all (suc n) s few = by_test (λ (t : StepState). may_send_next Whole t ≡ false) (may_send_next Whole s) _ _
-    (λ go. let one = both_true _ _ go in let two = both_true _ _ one.1 in let free = below s.end.next (length s.end.given) two.1 in sent_all n (send_next Whole s) (omega (arith, few, free)))
+sent_all (suc n) s few =
+    by_test (λ (t : StepState). may_send_next Whole t ≡ false) (may_send_next Whole s) _ _
+    (λ go. let one =
+    both_true _ _ go in let two =
+    both_true _ _ one.1 in let free =
+    below s.end.next (length s.end.given) two.1 in sent_all n
+    (send_next Whole s) (omega (arith, few, free)))
     (λ stop. stop)
 
 closed_close : (s : StepState) → IsClosed (end_step Whole s).end
@@ -46,17 +53,25 @@ unfolding end_step acknowledge_pending transmit_rr without_ack_pending may_send 
 closed_close s =
     let all = send_all Whole (unsent s.end) s in
     let done : may_send_next Whole all ≡ false = sent_all (unsent s.end) s (omega arith) in
-    by_test (λ (t : StepState). IsClosed t.end) (is_7_or_8 all.end.state && all.end.window.ack_pending) _ _
+    by_test (λ (t : StepState). IsClosed t.end)
+    (is_7_or_8 all.end.state && all.end.window.ack_pending) _ _
     (λ _. record { sent = done; acknowledged = λ opened. refl })
-    (λ none. record { sent = done; acknowledged = λ opened. pending (is_7_or_8 all.end.state) all.end.window.ack_pending none opened })
+    (λ none. record {
+      sent = done;
+      acknowledged =
+          λ opened. pending (is_7_or_8 all.end.state) all.end.window.ack_pending none opened;
+    })
   where
     pending : (a b : Bool) → (a && b) ≡ false → a ≡ true → b ≡ false
     pending true b none is = none
     pending false b none is = cc
 
-pub closed_step : (what : Input) (e : End) (s : StepState) → step Whole what e ≡ Ok s → IsClosed s.end
+pub closed_step : (what : Input) (e : End) (s : StepState) → step Whole what e ≡ Ok s
+    → IsClosed s.end
 unfolding step begin
-closed_step what e s done = let F : StepState → Type 0 = λ d. IsClosed d.end in subst F (taken (refused what e) _ s done).1 (closed_close (row Whole e.state what (begin e)))
+closed_step what e s done =
+    let F : StepState → Type 0 = λ d. IsClosed d.end in
+    subst F (taken (refused what e) _ s done).1 (closed_close (row Whole e.state what (begin e)))
 
 -- ---- Moves and runs.
 
@@ -70,7 +85,11 @@ settled_step what e s settled is = record {
 
 new_is_settled : (e : End) → e.state ≡ TeiAssigned → 1 ≤ e.parameters.k → IsSettledEnd e
 unfolding begin
-new_is_settled e is some = record { timed = rw is tt; closed = record { sent = rw is refl; acknowledged = rw is (λ opened. cc) }; some = some }
+new_is_settled e is some = record {
+  timed = rw is tt;
+  closed = record { sent = rw is refl; acknowledged = rw is (λ opened. cc) };
+  some = some;
+}
 
 settled_again : (e : End) → IsSettledEnd e → IsSettledEnd (restarted e)
 settled_again e settled = new_is_settled (restarted e) refl settled.some
@@ -78,15 +97,19 @@ settled_again e settled = new_is_settled (restarted e) refl settled.some
 both_settled : (w : World) → AreSettledEnds w → AreBoth IsSettledEnd w
 both_settled w are = record { user = are.user; network = are.network }
 
-pub move_settles : (move : Move) (w : World) → AreSettledEnds w → AreSettledEnds (world_after w (happens Whole move w))
+pub move_settles : (move : Move) (w : World) → AreSettledEnds w
+    → AreSettledEnds (world_after w (happens Whole move w))
 move_settles move w are =
     let after = kept_by_move IsSettledEnd settled_step settled_again move w (both_settled w are) in
     record { user = after.user; network = after.network }
 
-pub run_settles : (moves : List Move) (w : World) → AreSettledEnds w → AreSettledEnds (run Whole moves w)
+pub run_settles : (moves : List Move) (w : World) → AreSettledEnds w
+    → AreSettledEnds (run Whole moves w)
 run_settles moves w are =
     let after = kept_by_run IsSettledEnd settled_step settled_again moves w (both_settled w are) in
     record { user = after.user; network = after.network }
 
-pub new_settles : (user network : Parameters) → 1 ≤ user.k → 1 ≤ network.k → AreSettledEnds (new_world user network)
-new_settles user network u n = record { user = new_is_settled _ refl u; network = new_is_settled _ refl n }
+pub new_settles : (user network : Parameters) → 1 ≤ user.k → 1 ≤ network.k
+    → AreSettledEnds (new_world user network)
+new_settles user network u n =
+    record { user = new_is_settled _ refl u; network = new_is_settled _ refl n }

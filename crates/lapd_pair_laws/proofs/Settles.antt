@@ -48,8 +48,12 @@ user_drains n event w d s = record {
   sees = rw (after_by_user w (acts Whole side.User event (view_of side.User w))) s;
 }
 
-network_drains : (n : ℕ) (event : PairEvent) (w : World) → Drains (n - 1) (world_after (swapped w) (happens Whole (user_move event) (swapped w))) → Drains (n - 1) (world_after w (happens Whole (network_move event) w))
-network_drains n event w d = rw (network_alike Whole event w) (drains_swapped (n - 1) (world_after (swapped w) (happens Whole (user_move event) (swapped w))) d)
+network_drains : (n : ℕ) (event : PairEvent) (w : World)
+    → Drains (n - 1) (world_after (swapped w) (happens Whole (user_move event) (swapped w)))
+    → Drains (n - 1) (world_after w (happens Whole (network_move event) w))
+network_drains n event w d =
+    rw (network_alike Whole event w) (drains_swapped (n - 1)
+    (world_after (swapped w) (happens Whole (user_move event) (swapped w))) d)
 
 -- the same messages were dropped
 pub record SameDropped (w v : World) : Type 0 where
@@ -65,10 +69,16 @@ pub user_preserved : (event : PairEvent) (w : World)
     ≡ w.user.history.dropped
     → SameDropped w (world_after w (happens Whole (user_move event) w))
 unfolding happens
-user_preserved event w same = rw (after_by_user w (acts Whole side.User event (view_of side.User w))) (record { user = same; network = refl })
+user_preserved event w same =
+    rw (after_by_user w (acts Whole side.User event (view_of side.User w)))
+    (record { user = same; network = refl })
 
-network_preserved : (event : PairEvent) (w : World) → SameDropped (swapped w) (world_after (swapped w) (happens Whole (user_move event) (swapped w))) → SameDropped w (world_after w (happens Whole (network_move event) w))
-network_preserved event w same = rw (network_alike Whole event w) (record { user = same.network; network = same.user })
+network_preserved : (event : PairEvent) (w : World)
+    → SameDropped (swapped w)
+    (world_after (swapped w) (happens Whole (user_move event) (swapped w)))
+    → SameDropped w (world_after w (happens Whole (network_move event) w))
+network_preserved event w same =
+    rw (network_alike Whole event w) (record { user = same.network; network = same.user })
 
 -- one settling move, if any is possible; else no T200 runs and the line is empty
 pub record MovesOn (n : ℕ) (w : World) : Type 0 where
@@ -90,25 +100,44 @@ pub record Settles (w : World) : Type 0 where
 
 module _ (n : ℕ) (user network : Station) where
   abbrev at : List Flight → List Flight → World
-  at to_user to_network = record { user = user; network = network; to_user = to_user; to_network = to_network }
+  at to_user to_network =
+      record { user = user; network = network; to_user = to_user; to_network = to_network }
 
-  by_user : (frame : Flight) (rest to_network : List Flight) → Drains n (at (frame ∷ rest) to_network) → Drains (n - 1) (world_after (at (frame ∷ rest) to_network) (happens Whole (user_move Deliver) (at (frame ∷ rest) to_network)))
-  by_user frame rest to_network d = user_drains n Deliver (at (frame ∷ rest) to_network) d (seen_delivered user network frame rest to_network n d.holds.user_base d.holds.network_base d.holds.both d.ends_settled.user d.sees)
+  by_user : (frame : Flight) (rest to_network : List Flight)
+      → Drains n (at (frame ∷ rest) to_network)
+      → Drains (n - 1) (world_after (at (frame ∷ rest) to_network)
+      (happens Whole (user_move Deliver) (at (frame ∷ rest) to_network)))
+  by_user frame rest to_network d =
+      user_drains n Deliver (at (frame ∷ rest) to_network) d
+      (seen_delivered user network frame rest to_network n
+      d.holds.user_base d.holds.network_base d.holds.both d.ends_settled.user d.sees)
 
-  by_user_preserved : (frame : Flight) (rest to_network : List Flight) → Drains n (at (frame ∷ rest) to_network) → SameDropped (at (frame ∷ rest) to_network) (world_after (at (frame ∷ rest) to_network) (happens Whole (user_move Deliver) (at (frame ∷ rest) to_network)))
-  by_user_preserved frame rest to_network d = user_preserved Deliver (at (frame ∷ rest) to_network) (preserved_delivered user network frame rest to_network n d.holds.user_base d.holds.network_base d.holds.both d.ends_settled.user d.sees)
+  by_user_preserved : (frame : Flight) (rest to_network : List Flight)
+      → Drains n (at (frame ∷ rest) to_network)
+      → SameDropped (at (frame ∷ rest) to_network)
+      (world_after (at (frame ∷ rest) to_network)
+      (happens Whole (user_move Deliver) (at (frame ∷ rest) to_network)))
+  by_user_preserved frame rest to_network d =
+      user_preserved Deliver (at (frame ∷ rest) to_network)
+      (preserved_delivered user network frame rest to_network n
+      d.holds.user_base d.holds.network_base d.holds.both d.ends_settled.user d.sees)
 
-  expired_preserved : user.end.t200 ≡ true → Drains n (at [] []) → SameDropped (at [] []) (world_after (at [] []) (happens Whole (user_move Expire200) (at [] [])))
-  expired_preserved on d = user_preserved Expire200 (at [] []) (preserved_expired user network n on d.sees)
+  expired_preserved : user.end.t200 ≡ true → Drains n (at [] [])
+      → SameDropped (at [] [])
+      (world_after (at [] []) (happens Whole (user_move Expire200) (at [] [])))
+  expired_preserved on d =
+      user_preserved Expire200 (at [] []) (preserved_expired user network n on d.sees)
 
-  expired : user.end.t200 ≡ true → Drains n (at [] []) → Drains (n - 1) (world_after (at [] []) (happens Whole (user_move Expire200) (at [] [])))
+  expired : user.end.t200 ≡ true → Drains n (at [] [])
+      → Drains (n - 1) (world_after (at [] []) (happens Whole (user_move Expire200) (at [] [])))
   expired on d = user_drains n Expire200 (at [] []) d (seen_expired user network n on d.sees)
 
 -- if T200 runs and the line is empty, work remains
 pub some_at : (x : Source) (y : Sink) (a : ℕ) → x.t200 ≡ true → Stream x y [] [] a → 1 ≤ a
 some_at x y a on s = by_stage s.stage s.so s.most
   where
-    still : (rejecting : Bool) → (y.vr < x.vs) ⊎ IsAmong x.vs [] → IsInTransit rejecting y.vr x.vs [] → ⊥
+    still : (rejecting : Bool) → (y.vr < x.vs) ⊎ IsAmong x.vs []
+        → IsInTransit rejecting y.vr x.vs [] → ⊥
     still false (inl less) same = absurd (omega (arith, less, same))
     still true (inl less) same = absurd (omega (arith, less, same))
     still rejecting (inr none) same = absurd none
@@ -119,14 +148,23 @@ some_at x y a on s = by_stage s.stage s.so s.most
     by_stage Polling w most = absurd (omega (arith, w.1))
     by_stage Answered w most = absurd (omega (arith, w.1))
 
-pub progress : (n : ℕ) (user network : Station) (to_user to_network : List Flight) → Drains n (at n user network to_user to_network) → MovesOn n (at n user network to_user to_network) ⊎ Settles (at n user network to_user to_network)
+pub progress : (n : ℕ) (user network : Station) (to_user to_network : List Flight)
+    → Drains n (at n user network to_user to_network)
+    → MovesOn n (at n user network to_user to_network)
+    ⊎ Settles (at n user network to_user to_network)
 unfolding happens acts delivers receives takes expires_200 step
 progress n user network to_user (frame ∷ rest) d = inl (record {
   move = network_move Deliver;
   is = refl;
   some = let le = d.sees.flow.most in omega (arith, le);
-  drains = network_drains n Deliver (at n user network to_user (frame ∷ rest)) (by_user n network user frame rest to_user (drains_swapped n (at n user network to_user (frame ∷ rest)) d));
-  preserved = network_preserved Deliver (at n user network to_user (frame ∷ rest)) (by_user_preserved n network user frame rest to_user (drains_swapped n (at n user network to_user (frame ∷ rest)) d));
+  drains =
+      network_drains n Deliver (at n user network to_user (frame ∷ rest)) (by_user n
+      network user frame rest to_user
+      (drains_swapped n (at n user network to_user (frame ∷ rest)) d));
+  preserved =
+      network_preserved Deliver (at n user network to_user (frame ∷ rest)) (by_user_preserved n
+      network user frame rest to_user
+      (drains_swapped n (at n user network to_user (frame ∷ rest)) d));
 })
 progress n user network (frame ∷ rest) [] d = inl (record {
   move = user_move Deliver;
@@ -144,18 +182,30 @@ progress n user network [] [] d = by_timers user.end.t200 network.end.t200 refl 
     by_timers true b on other = inl (record {
       move = user_move Expire200;
       is = rw on refl;
-      some = let f = d.sees.flow in let some = some_at (source user.end) (sink network.end) f.a on f.mine in let le = f.most in omega (arith, some, le);
+      some =
+          let f = d.sees.flow in
+          let some = some_at (source user.end) (sink network.end) f.a on f.mine in
+          let le = f.most in omega (arith, some, le);
       drains = expired n user network on d;
       preserved = expired_preserved n user network on d;
     })
     by_timers false true off on = inl (record {
       move = network_move Expire200;
       is = rw (off, on) refl;
-      some = let f = d.sees.flow in let some = some_at (source network.end) (sink user.end) f.b on f.its in let le = f.most in omega (arith, some, le);
+      some =
+          let f = d.sees.flow in
+          let some = some_at (source network.end) (sink user.end) f.b on f.its in
+          let le = f.most in omega (arith, some, le);
       drains = network_drains n Expire200 w (expired n network user on (drains_swapped n w d));
-      preserved = network_preserved Expire200 w (expired_preserved n network user on (drains_swapped n w d));
+      preserved =
+          network_preserved Expire200 w
+          (expired_preserved n network user on (drains_swapped n w d));
     })
-    by_timers false false off none = inr (record { is = rw (off, none) refl; still = record { to_user = refl; to_network = refl; user = off; network = none } })
+    by_timers false false off none =
+        inr (record {
+          is = rw (off, none) refl;
+          still = record { to_user = refl; to_network = refl; user = off; network = none };
+        })
 
 -- ---- All its moves.
 
@@ -170,19 +220,40 @@ none_on : (fuel : ℕ) (w : World) → Settles w → settling Whole fuel w ≡ [
 none_on zero w s = refl
 none_on (suc fuel) w s = rw s.is refl
 
-stood : (fuel n : ℕ) (w : World) → Drains n w → Settles w → Ends w (run Whole (settling Whole fuel w) w)
-stood fuel n w d runs_at_place = rw (none_on fuel w runs_at_place) (record { n = n; drains = d; runs_at_place = runs_at_place; preserved = record { user = refl; network = refl } })
+stood : (fuel n : ℕ) (w : World) → Drains n w → Settles w
+    → Ends w (run Whole (settling Whole fuel w) w)
+stood fuel n w d runs_at_place =
+    rw (none_on fuel w runs_at_place) (record {
+      n = n;
+      drains = d;
+      runs_at_place = runs_at_place;
+      preserved = record { user = refl; network = refl };
+    })
 
-moved_on : (fuel : ℕ) (w : World) (move : Move) → next_move Whole w ≡ Some move → SameDropped w (world_after w (happens Whole move w)) → Ends (world_after w (happens Whole move w)) (run Whole (settling Whole fuel (world_after w (happens Whole move w))) (world_after w (happens Whole move w))) → Ends w (run Whole (settling Whole (suc fuel) w) w)
-moved_on fuel w move is same ends = rw is (record { n = ends.n; drains = ends.drains; runs_at_place = ends.runs_at_place; preserved = same_twice same ends.preserved })
+moved_on : (fuel : ℕ) (w : World) (move : Move) → next_move Whole w ≡ Some move
+    → SameDropped w (world_after w (happens Whole move w))
+    → Ends (world_after w (happens Whole move w))
+    (run Whole (settling Whole fuel (world_after w (happens Whole move w)))
+    (world_after w (happens Whole move w)))
+    → Ends w (run Whole (settling Whole (suc fuel) w) w)
+moved_on fuel w move is same ends =
+    rw is (record {
+      n = ends.n;
+      drains = ends.drains;
+      runs_at_place = ends.runs_at_place;
+      preserved = same_twice same ends.preserved;
+    })
 
-pub settles : (fuel n : ℕ) (w : World) → n ≤ fuel → Drains n w → Ends w (run Whole (settling Whole fuel w) w)
+pub settles : (fuel n : ℕ) (w : World) → n ≤ fuel → Drains n w
+    → Ends w (run Whole (settling Whole fuel w) w)
 settles zero n w few d = elim (progress n w.user w.network w.to_user w.to_network d) [
   | inl on ↦ absurd (let some = on.some in omega (arith, few, some))
   | inr runs_at_place ↦ stood zero n w d runs_at_place
 ]
 settles (suc fuel) n w few d = elim (progress n w.user w.network w.to_user w.to_network d) [
-  | inl on ↦ moved_on fuel w on.move on.is on.preserved (settles fuel (n - 1) (world_after w (happens Whole on.move w)) (omega (arith, few)) on.drains)
+  | inl on ↦ moved_on fuel w on.move on.is on.preserved
+      (settles fuel (n - 1) (world_after w (happens Whole on.move w)) (omega (arith, few))
+      on.drains)
   | inr runs_at_place ↦ stood (suc fuel) n w d runs_at_place
 ]
 
@@ -199,7 +270,8 @@ few_moves (suc fuel) n w d = elim (progress n w.user w.network w.to_user w.to_ne
 
 -- ---- If no move is possible, no message is left.
 
-none_unsent : (k next given : ℕ) (m : StateVariables) → 1 ≤ k → m.vs ≡ m.va → m.peer_busy ≡ false → (may_send Whole k m && nat_lt next given) ≡ false → given ≤ next
+none_unsent : (k next given : ℕ) (m : StateVariables) → 1 ≤ k → m.vs ≡ m.va → m.peer_busy ≡ false
+    → (may_send Whole k m && nat_lt next given) ≡ false → given ≤ next
 unfolding may_send steps
 none_unsent k next given m some same free sent =
     let room : nat_lt (m.vs - m.va) k ≡ true = grind (arith, nat_tests, some, same) in
@@ -207,28 +279,43 @@ none_unsent k next given m some same free sent =
     grind (arith, nat_tests, none)
 
 -- a side has no unsent or unacknowledged message
-side_done : (x y : End) (a : ℕ) → Stream (source x) (sink y) [] [] a → x.t200 ≡ false → IsSettledEnd x → (length x.given ≤ x.next) × (x.window.vs ≡ x.window.va)
+side_done : (x y : End) (a : ℕ) → Stream (source x) (sink y) [] [] a → x.t200 ≡ false
+    → IsSettledEnd x → (length x.given ≤ x.next) × (x.window.vs ≡ x.window.va)
 unfolding begin
 side_done x y a s off ends_settled = by_stage s.stage s.so
   where
-    by_stage : (stage : Stage) → IsAt stage (source x) (sink y) [] [] → (length x.given ≤ x.next) × (x.window.vs ≡ x.window.va)
+    by_stage : (stage : Stage) → IsAt stage (source x) (sink y) [] []
+        → (length x.given ≤ x.next) × (x.window.vs ≡ x.window.va)
     by_stage Clean c =
         let same : x.window.vs ≡ x.window.va = c.timed off in
         let sent = ends_settled.closed.sent in
-        let some = ends_settled.some in
-        (none_unsent x.parameters.k x.next (length x.given) x.window some same c.free (rw (c.in_7) at sent), same)
+        let some = ends_settled.some in (
+          none_unsent x.parameters.k x.next (length x.given) x.window some same c.free
+              (rw (c.in_7) at sent),
+          same,
+        )
     by_stage Waiting w = let on = w.1 in cc
     by_stage Polling w = absurd (omega (arith, w.1))
     by_stage Answered w = absurd (omega (arith, w.1))
 
-entered : {n : ℕ} {w : World} (d : Drains n w) → is_7_or_8 w.user.end.state ≡ true → Mid (party d.holds.user_base w.user) (party d.holds.network_base w.network) (kinds w.to_network) (kinds w.to_user)
-entered {w = w} d opened = enter (party d.holds.user_base w.user) (party d.holds.network_base w.network) (kinds w.to_network) (kinds w.to_user) opened d.holds.both
+entered : {n : ℕ} {w : World} (d : Drains n w) → is_7_or_8 w.user.end.state ≡ true
+    → Mid (party d.holds.user_base w.user) (party d.holds.network_base w.network)
+    (kinds w.to_network) (kinds w.to_user)
+entered {w = w} d opened =
+    enter (party d.holds.user_base w.user) (party d.holds.network_base w.network)
+    (kinds w.to_network) (kinds w.to_user) opened d.holds.both
 
-user_empty : (n : ℕ) (w : World) → Drains n w → IsStill w → AreSettled w.user.history → left_of w.user ≡ 0
+user_empty : (n : ℕ) (w : World) → Drains n w → IsStill w → AreSettled w.user.history
+    → left_of w.user ≡ 0
 user_empty n w d runs_at_place settled =
     let f = d.sees.flow in
-    let num : IsNumbering (party d.holds.user_base w.user).sends = numbering (entered d (mine_open f)) in
-    let s : Stream (source w.user.end) (sink w.network.end) [] [] f.a = subst (λ l. Stream (source w.user.end) (sink w.network.end) (kinds l) [] f.a) runs_at_place.to_network (subst (λ l. Stream (source w.user.end) (sink w.network.end) (kinds w.to_network) (kinds l) f.a) runs_at_place.to_user f.mine) in
+    let num : IsNumbering (party d.holds.user_base w.user).sends =
+    numbering (entered d (mine_open f)) in
+    let s : Stream (source w.user.end) (sink w.network.end) [] [] f.a =
+    subst (λ l. Stream (source w.user.end) (sink w.network.end) (kinds l) [] f.a)
+    runs_at_place.to_network (subst
+    (λ l. Stream (source w.user.end) (sink w.network.end) (kinds w.to_network) (kinds l)
+    f.a) runs_at_place.to_user f.mine) in
     let done = side_done w.user.end w.network.end f.a s runs_at_place.user d.ends_settled.user in
     let passed : w.user.history.passed ≡ w.user.end.first = d.holds.both.mine.passed in
     let first : w.user.end.first ≡ d.holds.user_base + w.user.end.window.va = num.first in
@@ -239,7 +326,15 @@ pub nothing_left : (begun w : World) → IsConsistentWorld Whole w → Ends begu
 nothing_left begun w preserved e =
     let runs_at_place = e.runs_at_place.still in
     let user = user_empty e.n w e.drains runs_at_place preserved.user.settled in
-    let network = user_empty e.n (swapped w) (drains_swapped e.n w e.drains) (record { to_user = runs_at_place.to_network; to_network = runs_at_place.to_user; user = runs_at_place.network; network = runs_at_place.user }) preserved.network.settled in
+    let network =
+    user_empty e.n (swapped w) (drains_swapped e.n w e.drains)
+    (record {
+      to_user = runs_at_place.to_network;
+      to_network = runs_at_place.to_user;
+      user = runs_at_place.network;
+      network = runs_at_place.user;
+    })
+    preserved.network.settled in
     omega (arith, user, network)
 
 -- ---- The remaining work of a quiet line.
@@ -253,7 +348,9 @@ stream_begins x y is low high timed = by_timer x.t200 refl
     same_in_transit false same = same
     same_in_transit true same = same
 
-    by_fresh : (rejecting : Bool) → 3 * x.unsent + 2 * (x.vs - y.vr) + fresh rejecting + 3 ≤ 3 * (x.unsent + (x.vs - x.va)) + 4
+    by_fresh : (rejecting : Bool)
+        → 3 * x.unsent + 2 * (x.vs - y.vr) + fresh rejecting + 3 ≤ 3 * (x.unsent + (x.vs - x.va))
+        + 4
     by_fresh true = omega (arith, low, high)
     by_fresh false = omega (arith, low, high)
 
@@ -264,14 +361,24 @@ stream_begins x y is low high timed = by_timer x.t200 refl
         let same : y.vr ≡ x.vs = omega (arith, low, high, t.0) in
         record {
           stage = Clean;
-          so = record { in_7 = is; free = t.1; arriving = same_in_transit y.rejecting same; wanted = refl; timed = λ _. t.0; stopped = λ on. cc };
+          so = record {
+            in_7 = is;
+            free = t.1;
+            arriving = same_in_transit y.rejecting same;
+            wanted = refl;
+            timed = λ _. t.0;
+            stopped = λ on. cc;
+          };
           most = omega (arith, same);
         }
 
 pub in_7 : (e : End) → e.state ≡ MultipleFrameEstablished
     → IsTimedIn e.state e.t200 e.window.vs e.window.va e.window.peer_busy → e.t200 ≡ false
     → (e.window.vs ≡ e.window.va) × (e.window.peer_busy ≡ false)
-in_7 e is timed = let t : IsTimedIn MultipleFrameEstablished e.t200 e.window.vs e.window.va e.window.peer_busy = rw is at timed in t
+in_7 e is timed =
+    let t : IsTimedIn MultipleFrameEstablished e.t200 e.window.vs e.window.va e.window.peer_busy =
+    rw is at timed in
+    t
 
 -- the messages of a side that are left
 pub side_left : (s : Station) (base : ℕ) → IsNumbering (party base s).sends
@@ -285,10 +392,15 @@ side_left s base num passed settled =
     left_settled s settled ∙ omega (arith, passed, first, next, ordered, within)
 
 -- two sides in state 7, with an empty line
-module _ (user network : Station) (i : IsInvariant (record { user = user; network = network; to_user = []; to_network = [] })) (ends_settled : AreSettledEnds (record { user = user; network = network; to_user = []; to_network = [] }))
+module _ (user network : Station)
+    (i : IsInvariant (record { user = user; network = network; to_user = []; to_network = [] }))
+    (ends_settled : AreSettledEnds
+    (record { user = user; network = network; to_user = []; to_network = [] }))
     (user_settled : AreSettled user.history) (network_settled : AreSettled network.history)
-    (user_in_7 : user.end.state ≡ MultipleFrameEstablished) (network_in_7 : network.end.state ≡ MultipleFrameEstablished)
-    (user_free : user.end.window.own_busy ≡ false) (network_free : network.end.window.own_busy ≡ false) where
+    (user_in_7 : user.end.state ≡ MultipleFrameEstablished)
+    (network_in_7 : network.end.state ≡ MultipleFrameEstablished)
+    (user_free : user.end.window.own_busy ≡ false)
+    (network_free : network.end.window.own_busy ≡ false) where
   abbrev line_empty : World
   line_empty = record { user = user; network = network; to_user = []; to_network = [] }
 
@@ -299,20 +411,30 @@ module _ (user network : Station) (i : IsInvariant (record { user = user; networ
       let x = party i.user_base user in
       let y = party i.network_base network in
       let mine : Mid x y [] [] = enter x y [] [] user_open i.both in
-      let its : Mid y x [] [] = enter y x [] [] network_open (record { mine = i.both.its; its = i.both.mine }) in
+      let its : Mid y x [] [] =
+      enter y x [] [] network_open (record { mine = i.both.its; its = i.both.mine }) in
       let between = between_open {x = x} {y = y} {out = []} {back = []} network_open mine in
       let between_its = between_open {x = y} {y = x} {out = []} {back = []} user_open its in
       let left_user = side_left user i.user_base (numbering mine) i.both.mine.passed user_settled in
-      let left_network = side_left network i.network_base (numbering its) i.both.its.passed network_settled in
+      let left_network =
+      side_left network i.network_base (numbering its) i.both.its.passed network_settled in
       record {
         holds = i;
         ends_settled = ends_settled;
         sees = record {
           flow = record {
-            a = 3 * ((length user.end.given - user.end.next) + (user.end.window.vs - user.end.window.va)) + 4;
-            b = 3 * ((length network.end.given - network.end.next) + (network.end.window.vs - network.end.window.va)) + 4;
-            mine = stream_begins (source user.end) (sink network.end) user_in_7 between.0 between.1 (in_7 user.end user_in_7 ends_settled.user.timed);
-            its = stream_begins (source network.end) (sink user.end) network_in_7 between_its.0 between_its.1 (in_7 network.end network_in_7 ends_settled.network.timed);
+            a =
+                3 * ((length user.end.given - user.end.next)
+                + (user.end.window.vs - user.end.window.va)) + 4;
+            b =
+                3 * ((length network.end.given - network.end.next)
+                + (network.end.window.vs - network.end.window.va)) + 4;
+            mine =
+                stream_begins (source user.end) (sink network.end) user_in_7 between.0 between.1
+                (in_7 user.end user_in_7 ends_settled.user.timed);
+            its =
+                stream_begins (source network.end) (sink user.end) network_in_7 between_its.0
+                between_its.1 (in_7 network.end network_in_7 ends_settled.network.timed);
             most = omega (arith, left_user, left_network);
           };
           idle = user_free;
@@ -325,11 +447,16 @@ module _ (user network : Station) (i : IsInvariant (record { user = user; networ
 abbrev with_lines : World → List Flight → List Flight → World
 with_lines w to_user to_network = record w { to_user = to_user; to_network = to_network }
 
-pub quiet_drains : (w : World) → IsInvariant w → IsConsistentWorld Whole w → AreSettledEnds w → IsQuiet w → Drains (most_moves w) w
+pub quiet_drains : (w : World) → IsInvariant w → IsConsistentWorld Whole w → AreSettledEnds w
+    → IsQuiet w → Drains (most_moves w) w
 quiet_drains w i preserved ends_settled q =
     let F : World → Type 0 = λ v. Drains (most_moves v) v in
-    let same : with_lines w [] [] ≡ w = ap (λ l. with_lines w l []) (sym q.to_user) ∙ ap (λ l. with_lines w w.to_user l) (sym q.to_network) in
-    subst F same (empty_drains w.user w.network (subst IsInvariant (sym same) i) (subst AreSettledEnds (sym same) ends_settled) preserved.user.settled preserved.network.settled q.user q.network q.user_free q.network_free)
+    let same : with_lines w [] [] ≡ w =
+    ap (λ l. with_lines w l []) (sym q.to_user)
+    ∙ ap (λ l. with_lines w w.to_user l) (sym q.to_network) in
+    subst F same (empty_drains w.user w.network (subst IsInvariant (sym same) i)
+    (subst AreSettledEnds (sym same) ends_settled) preserved.user.settled
+    preserved.network.settled q.user q.network q.user_free q.network_free)
 
 -- ---- The theorem, on whole numbers.
 
@@ -342,15 +469,21 @@ pub side_served : (before after : Station) → AreSettled after.history → left
 side_served before after settled none same = record {
   dropped = same;
   acknowledged = λ place there not_dropped.
-      let left : left_of after ≡ length after.end.given - after.history.passed = left_settled after settled in
-      let passed : nat_lt place after.history.passed ≡ true = all_passed place (length after.end.given) after.history.passed there (omega (arith, left, none)) in
-      or_second (is_one_of after.history.acked place) (is_one_of after.history.dropped place) (ap (λ l. is_one_of l place) same ∙ not_dropped) (settled.settled place ∙ passed);
+      let left : left_of after ≡ length after.end.given - after.history.passed =
+      left_settled after settled in
+      let passed : nat_lt place after.history.passed ≡ true =
+      all_passed place (length after.end.given) after.history.passed there
+      (omega (arith, left, none)) in
+      or_second (is_one_of after.history.acked place) (is_one_of after.history.dropped place)
+      (ap (λ l. is_one_of l place) same ∙ not_dropped) (settled.settled place ∙ passed);
 }
   where
-    all_passed : (place given passed : ℕ) → place < given → given ≤ passed → nat_lt place passed ≡ true
+    all_passed : (place given passed : ℕ) → place < given → given ≤ passed
+        → nat_lt place passed ≡ true
     all_passed place given passed there all = grind (arith, nat_tests, there, all)
 
-pub quiet_line_drains : (w : World) → IsInvariant w → IsConsistentWorld Whole w → AreSettledEnds w → IsQuiet w → IsDrained Whole w
+pub quiet_line_drains : (w : World) → IsInvariant w → IsConsistentWorld Whole w → AreSettledEnds w
+    → IsQuiet w → IsDrained Whole w
 quiet_line_drains w i preserved ends_settled q =
     let drains = quiet_drains w i preserved ends_settled q in
     let ends = settles (bound w) (most_moves w) w (omega arith) drains in
@@ -362,8 +495,12 @@ quiet_line_drains w i preserved ends_settled q =
       drained = record {
         rests = ends.runs_at_place.is;
         empty = none;
-        user = side_served w.user after.user preserved_after.user.settled (omega (arith, none)) ends.preserved.user;
-        network = side_served w.network after.network preserved_after.network.settled (omega (arith, none)) ends.preserved.network;
+        user =
+            side_served w.user after.user preserved_after.user.settled (omega (arith, none))
+            ends.preserved.user;
+        network =
+            side_served w.network after.network preserved_after.network.settled
+            (omega (arith, none)) ends.preserved.network;
         safe = safe_by_invariant after ends.drains.holds;
       };
     }

@@ -40,10 +40,13 @@ each_event_preserves (Busy on) = preserves_busy on
 each_event_preserves (UnitData octets) = preserves_unit_data octets
 each_event_preserves Restart = preserves_restart
 
-pub each_move_preserves : (move : Move) (w : World) → IsInvariant w → IsInvariant (world_after w (happens Whole move w))
-each_move_preserves move w i = move_preserves move.side move.event (each_event_preserves move.event) w i
+pub each_move_preserves : (move : Move) (w : World) → IsInvariant w
+    → IsInvariant (world_after w (happens Whole move w))
+each_move_preserves move w i =
+    move_preserves move.side move.event (each_event_preserves move.event) w i
 
-pub each_run_preserves : (moves : List Move) (w : World) → IsInvariant w → IsInvariant (run Whole moves w)
+pub each_run_preserves : (moves : List Move) (w : World) → IsInvariant w
+    → IsInvariant (run Whole moves w)
 each_run_preserves moves w i = run_preserves each_event_preserves moves w i
 
 -- ---- Reports.
@@ -54,20 +57,28 @@ Expected (Ok acted) = AreExpected acted.outs
 Expected (Err refusal) = Unit {0}
 
 -- a step on an input that is due
-stepped_so : (octets : List ℕ) (place : ℕ) (v : View) (what : Input) (r : Result StepState LinkFault) → step Whole what v.station.end ≡ r → IsDue Whole what v.station.end → Expected (stepped octets place v r)
+stepped_so : (octets : List ℕ) (place : ℕ) (v : View) (what : Input)
+    (r : Result StepState LinkFault) → step Whole what v.station.end ≡ r
+    → IsDue Whole what v.station.end → Expected (stepped octets place v r)
 stepped_so octets place v what (Ok s) is due = due_is_expected Whole what v.station.end s due is
 stepped_so octets place v what (Err fault) is due = tt
 
-pub own_so : (what : Input) (octets : List ℕ) (v : View) → IsDue Whole what v.station.end → Expected (takes Whole what octets v)
+pub own_so : (what : Input) (octets : List ℕ) (v : View) → IsDue Whole what v.station.end
+    → Expected (takes Whole what octets v)
 unfolding takes
 own_so what octets v due = stepped_so octets 0 v what (step Whole what v.station.end) refl due
 
-delivered_so : (frames : List Flight) (v : View) → IsFirstDue Whole frames v.station.end → Expected (delivers Whole frames v)
+delivered_so : (frames : List Flight) (v : View) → IsFirstDue Whole frames v.station.end
+    → Expected (delivers Whole frames v)
 unfolding delivers receives
 delivered_so [] v due = tt
-delivered_so (frame ∷ rest) v due = stepped_so frame.info frame.place (record v { incoming = rest }) (Heard frame.control frame.role) (step Whole (Heard frame.control frame.role) v.station.end) refl due
+delivered_so (frame ∷ rest) v due =
+    stepped_so frame.info frame.place (record v { incoming = rest })
+    (Heard frame.control frame.role) (step Whole (Heard frame.control frame.role) v.station.end)
+    refl due
 
-admitted_so : (s : Side) (poll final : Option ℕ) (outcome : Result ViewStep Refusal) → Expected outcome → Expected (unless_under_way s poll final outcome)
+admitted_so : (s : Side) (poll final : Option ℕ) (outcome : Result ViewStep Refusal)
+    → Expected outcome → Expected (unless_under_way s poll final outcome)
 admitted_so s (Some at) final outcome e = tt
 admitted_so s None (Some at) outcome e = tt
 admitted_so s None None outcome e = e
@@ -76,28 +87,43 @@ busy_is_due : (on : Bool) (e : End) → IsDue Whole (busy_input on) e
 busy_is_due true e = tt
 busy_is_due false e = tt
 
-event_is_expected : (s : Side) (event : PairEvent) (v : View) → IsFirstDue Whole v.incoming v.station.end → Expected (acts Whole s event v)
+event_is_expected : (s : Side) (event : PairEvent) (v : View)
+    → IsFirstDue Whole v.incoming v.station.end → Expected (acts Whole s event v)
 unfolding acts loses expires_200 expires_203
 event_is_expected s (Give message) v due = own_so (input.Give message) [] v tt
 event_is_expected s Establish v due = own_so input.Establish [] v tt
 event_is_expected s Release v due = own_so input.Release [] v tt
 event_is_expected s Deliver v due = delivered_so v.incoming v due
-event_is_expected s (Lose at) v due = by_test (λ (r : Result ViewStep Refusal). Expected r) (nat_lt at (length v.incoming)) _ _ (λ _. tt) (λ _. tt)
-event_is_expected s Expire200 v due = by_test (λ (r : Result ViewStep Refusal). Expected r) v.station.end.t200 _ _
-    (λ _. admitted_so s (first_poll v.outgoing) (first_final v.incoming) (takes Whole (Expiry T200) [] v) (own_so (Expiry T200) [] v tt)) (λ _. tt)
-event_is_expected s Expire203 v due = by_test (λ (r : Result ViewStep Refusal). Expected r) v.station.end.t203 _ _ (λ _. own_so (Expiry T203) [] v tt) (λ _. tt)
+event_is_expected s (Lose at) v due =
+    by_test (λ (r : Result ViewStep Refusal). Expected r) (nat_lt at (length v.incoming)) _ _
+    (λ _. tt) (λ _. tt)
+event_is_expected s Expire200 v due =
+    by_test (λ (r : Result ViewStep Refusal). Expected r) v.station.end.t200 _ _
+    (λ _. admitted_so s (first_poll v.outgoing) (first_final v.incoming)
+    (takes Whole (Expiry T200) [] v) (own_so (Expiry T200) [] v tt)) (λ _. tt)
+event_is_expected s Expire203 v due =
+    by_test (λ (r : Result ViewStep Refusal). Expected r) v.station.end.t203 _ _
+    (λ _. own_so (Expiry T203) [] v tt) (λ _. tt)
 event_is_expected s (Busy on) v due = own_so (busy_input on) [] v (busy_is_due on v.station.end)
 event_is_expected s (UnitData octets) v due = own_so (input.UnitData (length octets)) octets v tt
 event_is_expected s Restart v due = tt
 
-pub in_world_so : (s : Side) (w : World) (r : Result ViewStep Refusal) → Expected r → ReportsExpected (in_world s w r)
+pub in_world_so : (s : Side) (w : World) (r : Result ViewStep Refusal) → Expected r
+    → ReportsExpected (in_world s w r)
 in_world_so s w (Ok acted) e = e
 in_world_so s w (Err refusal) e = tt
 
-pub each_report_is_expected : (move : Move) (w : World) → IsInvariant w → ReportsExpected (happens Whole move w)
+pub each_report_is_expected : (move : Move) (w : World) → IsInvariant w
+    → ReportsExpected (happens Whole move w)
 unfolding happens
 each_report_is_expected move w i = by_side move.side
   where
     by_side : (s : Side) → ReportsExpected (in_world s w (acts Whole s move.event (view_of s w)))
-    by_side side.User = in_world_so side.User w (acts Whole side.User move.event (view_of side.User w)) (event_is_expected side.User move.event (view_of side.User w) (due_by_invariant w i).to_user)
-    by_side side.Network = in_world_so side.Network w (acts Whole side.Network move.event (view_of side.Network w)) (event_is_expected side.Network move.event (view_of side.Network w) (due_by_invariant w i).to_network)
+    by_side side.User =
+        in_world_so side.User w (acts Whole side.User move.event (view_of side.User w))
+        (event_is_expected side.User move.event (view_of side.User w)
+        (due_by_invariant w i).to_user)
+    by_side side.Network =
+        in_world_so side.Network w (acts Whole side.Network move.event (view_of side.Network w))
+        (event_is_expected side.Network move.event (view_of side.Network w)
+        (due_by_invariant w i).to_network)

@@ -31,7 +31,9 @@ left_by v (Err refusal) = v
 
 -- a move keeps the invariant
 abbrev pub Preserves : PairEvent → Type 0
-Preserves event = (v : View) (peer : Station) → v.station.end.parameters.k ≤ 127 → Holds v peer → Holds (left_by v (acts Whole side.User event v)) peer
+Preserves event =
+    (v : View) (peer : Station) → v.station.end.parameters.k ≤ 127 → Holds v peer
+    → Holds (left_by v (acts Whole side.User event v)) peer
 
 -- ---- The two sides exchanged.
 
@@ -48,23 +50,33 @@ exchanged w i = record {
 
 -- ---- Safe.
 
-given_so : (given : List (List ℕ)) (received : List Receipt) → AreGiven given received → places.AreGiven given received
+given_so : (given : List (List ℕ)) (received : List Receipt) → AreGiven given received
+    → places.AreGiven given received
 given_so given [] are = tt
 given_so given (message ∷ received) are = (are.0, given_so given received are.1)
 
-row_so : (next establishment : ℕ) (received : List Receipt) → IsRow next establishment received → places.IsRow next establishment received
+row_so : (next establishment : ℕ) (received : List Receipt) → IsRow next establishment received
+    → places.IsRow next establishment received
 row_so next establishment [] row = tt
-row_so next establishment (message ∷ received) row = (row.0, row.1, row_so (message.place + 1) message.establishment received row.2)
+row_so next establishment (message ∷ received) row =
+    (row.0, row.1, row_so (message.place + 1) message.establishment received row.2)
 
-safe_so : (sender receiver : Station) → AreHistories sender.end.given sender.history.sent_in sender.history.acked receiver.history.received → IsSafeFrom sender receiver
-safe_so sender receiver h = safe_by_places sender.end.given sender.history.sent_in sender.history.acked receiver.history.received (given_so sender.end.given receiver.history.received h.as_given) (row_so 0 0 receiver.history.received h.row) h.prefix h.arrived
+safe_so : (sender receiver : Station)
+    → AreHistories sender.end.given sender.history.sent_in sender.history.acked
+    receiver.history.received → IsSafeFrom sender receiver
+safe_so sender receiver h =
+    safe_by_places sender.end.given sender.history.sent_in sender.history.acked
+    receiver.history.received (given_so sender.end.given receiver.history.received h.as_given)
+    (row_so 0 0 receiver.history.received h.row) h.prefix h.arrived
 
 pub safe_by_invariant : (w : World) → IsInvariant w → AreSafe w
-safe_by_invariant w i = (safe_so w.user w.network i.both.mine.histories, safe_so w.network w.user i.both.its.histories)
+safe_by_invariant w i =
+    (safe_so w.user w.network i.both.mine.histories, safe_so w.network w.user i.both.its.histories)
 
 -- ---- A new world.
 
-pub new_holds : (user network : Parameters) → user.k ≤ 127 → network.k ≤ 127 → IsInvariant (new_world user network)
+pub new_holds : (user network : Parameters) → user.k ≤ 127 → network.k ≤ 127
+    → IsInvariant (new_world user network)
 new_holds user network u n = record {
   user_base = 0;
   network_base = 0;
@@ -85,5 +97,10 @@ new_holds user network u n = record {
       below = λ holding. cc;
       reception = tt;
       exchange = record { one = omega arith; behind = tt; before = λ answer. refl; clean = refl };
-      histories = record { as_given = tt; row = tt; prefix = λ place smaller has less same. has; arrived = λ place among. among };
+      histories = record {
+        as_given = tt;
+        row = tt;
+        prefix = λ place smaller has less same. has;
+        arrived = λ place among. among;
+      };
     }

@@ -44,23 +44,41 @@ use Rattle.lapd_recovery_laws.proofs.Lone.{expires_203_at, due_203, still_swappe
 use Rattle.lapd_recovery_laws.proofs.Lost.{at, with_final, UserLost}
 use Rattle.lapd_recovery_laws.proofs.LostMoves.{moved_user, moved_network}
 use Rattle.lapd_recovery_laws.proofs.OpenLine.{tries_so, draining_begins, up_so}
-use Rattle.lapd_recovery_laws.proofs.Outage.{Facts, coming_moves}
+use Rattle.lapd_recovery_laws.proofs.Outage.{coming_moves}
+use Rattle.lapd_recovery_laws.proofs.OutageWorlds.{Facts}
 use Rattle.lapd_recovery_laws.proofs.OwnOnTags.{are_own_by_tags, rests_by_tags, ran_on_tags, are_level_on_tags, agreed_on_tags}
 use Rattle.lapd_recovery_laws.proofs.Releases.{empty_in_4}
 use Rattle.lapd_recovery_laws.proofs.Situations.{tries, attempt_in, attempt, gone_in, gone, again_in, again, finds_in, finds, polls_in, polls, MayTry, Establishing, Closed, Half, alone_4, alone_5, alone_6, asks_5, asks_6, accepted, crossed, refused, parting, closed, not_both, false_if, Coming}
 use Rattle.lapd_recovery_laws.proofs.TimersOfRuns.{new_has_timers, timers_after_move, timers_after_run}
 use Rattle.lapd_recovery_laws.proofs.Transitions.{timers_in}
 
--- ---- What each move keeps.
+-- ---- Properties that each move keeps.
 
-pub same_parameters : (move : Move) (w : World) → IsInvariant w → ((world_after w (happens Whole move w)).user.end.parameters ≡ w.user.end.parameters) × ((world_after w (happens Whole move w)).network.end.parameters ≡ w.network.end.parameters)
+pub same_parameters : (move : Move) (w : World) → IsInvariant w
+    → ((world_after w (happens Whole move w)).user.end.parameters ≡ w.user.end.parameters)
+    × ((world_after w (happens Whole move w)).network.end.parameters ≡ w.network.end.parameters)
 same_parameters move w i = by_side move.side move.event
   where
-    by_side : (s : Side) (event : PairEvent) → ((world_after w (happens Whole (record { side = s; event = event }) w)).user.end.parameters ≡ w.user.end.parameters) × ((world_after w (happens Whole (record { side = s; event = event }) w)).network.end.parameters ≡ w.network.end.parameters)
-    by_side side.User event = (ap (λ (u : World). u.user.end.parameters) (moved_user event w) ∙ (stays_sound (view_of side.User w) i.user_window i.user_sound event).parameters, ap (λ (u : World). u.network.end.parameters) (moved_user event w))
-    by_side side.Network event = (ap (λ (u : World). u.user.end.parameters) (moved_network event w), ap (λ (u : World). u.network.end.parameters) (moved_network event w) ∙ (stays_sound (view_of side.User (swapped w)) i.network_window i.network_sound event).parameters)
+    by_side : (s : Side) (event : PairEvent)
+        → ((world_after w
+        (happens Whole (record { side = s; event = event }) w)).user.end.parameters
+        ≡ w.user.end.parameters)
+        × ((world_after w (happens Whole (record { side = s; event = event })
+        w)).network.end.parameters ≡ w.network.end.parameters)
+    by_side side.User event = (
+      ap (λ (u : World). u.user.end.parameters) (moved_user event w)
+          ∙ (stays_sound (view_of side.User w) i.user_window i.user_sound event).parameters,
+      ap (λ (u : World). u.network.end.parameters) (moved_user event w),
+    )
+    by_side side.Network event = (
+      ap (λ (u : World). u.user.end.parameters) (moved_network event w),
+      ap (λ (u : World). u.network.end.parameters) (moved_network event w)
+          ∙ (stays_sound (view_of side.User (swapped w)) i.network_window i.network_sound
+          event).parameters,
+    )
 
-pub facts_after : (N : ℕ) (move : Move) (w : World) → Facts N w → Facts N (world_after w (happens Whole move w))
+pub facts_after : (N : ℕ) (move : Move) (w : World) → Facts N w
+    → Facts N (world_after w (happens Whole move w))
 facts_after N move w f =
     let same = same_parameters move w f.holds in
     record {
@@ -77,12 +95,17 @@ pub record Reaches (up : Bool) (N n : ℕ) (moves : List Move) (now : World) : T
   pub arriving : Coming N up (n - length moves) now
   pub facts : Facts N now
 
-pub own_moves_reach : (up : Bool) (N : ℕ) → 1 ≤ N → (n : ℕ) (w : World) (moves : List Move) → Coming N up n w → Facts N w → AreOwn Whole moves w → Reaches up N n moves (run Whole moves w)
-own_moves_reach up N some n w [] c f own = let same : n ≡ n - 0 = omega arith in record { few = omega arith; arriving = subst (λ m. Coming N up m w) same c; facts = f }
+pub own_moves_reach : (up : Bool) (N : ℕ) → 1 ≤ N → (n : ℕ) (w : World) (moves : List Move)
+    → Coming N up n w → Facts N w → AreOwn Whole moves w → Reaches up N n moves (run Whole moves w)
+own_moves_reach up N some n w [] c f own =
+    let same : n ≡ n - 0 = omega arith in
+    record { few = omega arith; arriving = subst (λ m. Coming N up m w) same c; facts = f }
 own_moves_reach up N some n w (move ∷ moves) c f own =
     let one = coming_moves N some up n move.side move.event w c f own.0 in
     let now = world_after w (happens Whole move w) in
-    let rest = own_moves_reach up N some (n - 1) now moves one.arriving (facts_after N move w f) own.1 in
+    let rest =
+    own_moves_reach up N some (n - 1) now moves one.arriving (facts_after N move w f)
+    own.1 in
     let fewer : n - 1 - length moves ≡ n - length (move ∷ moves) = omega arith in
     record {
       few = let some_left = one.some in let few = rest.few in omega (arith, some_left, few);
@@ -92,43 +115,70 @@ own_moves_reach up N some n w (move ∷ moves) c f own =
 
 -- ---- Where no own move is possible, the ends agree.
 
-half_rests : (up : Bool) (N n : ℕ) (w : World) → Half N up n w → HaveTimersOfStates w → IsStill w → (IsOwn Whole (user_move Expire203) w → ⊥) → Closed N n w × (up ≡ true → Establishing w.user.end w.network.end)
+half_rests : (up : Bool) (N n : ℕ) (w : World) → Half N up n w → HaveTimersOfStates w → IsStill w
+    → (IsOwn Whole (user_move Expire203) w → ⊥)
+    → Closed N n w × (up ≡ true → Establishing w.user.end w.network.end)
 half_rests up N n w (alone_4 s) have still rests = by_state w.user.end.state refl s.open_state
   where
-    by_state : (state : State) → w.user.end.state ≡ state → is_7_or_8 state ≡ true → Closed N n w × (up ≡ true → Establishing w.user.end w.network.end)
+    by_state : (state : State) → w.user.end.state ≡ state → is_7_or_8 state ≡ true
+        → Closed N n w × (up ≡ true → Establishing w.user.end w.network.end)
     by_state MultipleFrameEstablished is o =
-        let on : w.user.end.t203 ≡ true = (timers_in MultipleFrameEstablished w.user.end have.user is).0 ∙ ap not still.user in
-        absurd (rests (record { due = due_203 w still is s.network; admitted = expires_203_at side.User w on }))
-    by_state TimerRecovery is o = let on = (timers_in TimerRecovery w.user.end have.user is).0 in let off = still.user in cc
+        let on : w.user.end.t203 ≡ true =
+        (timers_in MultipleFrameEstablished w.user.end have.user is).0
+        ∙ ap not still.user in
+        absurd (rests (record {
+          due = due_203 w still is s.network;
+          admitted = expires_203_at side.User w on;
+        }))
+    by_state TimerRecovery is o =
+        let on = (timers_in TimerRecovery w.user.end have.user is).0 in let off = still.user in cc
     by_state TeiAssigned is o = cc
     by_state AwaitingEstablishment is o = cc
     by_state AwaitingRelease is o = cc
-half_rests up N n w (alone_5 s k) have still rests = let on = (timers_in AwaitingEstablishment w.network.end have.network s.network).0 in let off = still.network in cc
-half_rests up N n w (alone_6 s k) have still rests = let on = (timers_in AwaitingRelease w.network.end have.network s.network).0 in let off = still.network in cc
-half_rests up N n w (asks_5 s k) have still rests = let none = still.to_network in let some = s.to_network in cc
-half_rests up N n w (asks_6 s k) have still rests = let none = still.to_network in let some = s.to_network in cc
-half_rests up N n w (accepted s k) have still rests = let none = still.to_user in let some = s.to_user in cc
-half_rests up N n w (crossed s k) have still rests = let none = still.to_user in let some = s.to_user in cc
-half_rests up N n w (refused s k) have still rests = let none = still.to_user in let some = s.to_user in cc
-half_rests up N n w (parting s k) have still rests = let on = (timers_in AwaitingRelease w.user.end have.user s.user).0 in let off = still.user in cc
+half_rests up N n w (alone_5 s k) have still rests =
+    let on = (timers_in AwaitingEstablishment w.network.end have.network s.network).0 in
+    let off = still.network in cc
+half_rests up N n w (alone_6 s k) have still rests =
+    let on = (timers_in AwaitingRelease w.network.end have.network s.network).0 in
+    let off = still.network in cc
+half_rests up N n w (asks_5 s k) have still rests =
+    let none = still.to_network in let some = s.to_network in cc
+half_rests up N n w (asks_6 s k) have still rests =
+    let none = still.to_network in let some = s.to_network in cc
+half_rests up N n w (accepted s k) have still rests =
+    let none = still.to_user in let some = s.to_user in cc
+half_rests up N n w (crossed s k) have still rests =
+    let none = still.to_user in let some = s.to_user in cc
+half_rests up N n w (refused s k) have still rests =
+    let none = still.to_user in let some = s.to_user in cc
+half_rests up N n w (parting s k) have still rests =
+    let on = (timers_in AwaitingRelease w.user.end have.user s.user).0 in let off = still.user in cc
 half_rests up N n w (closed s k) have still rests = (s, k)
 
-in_state_4 : (e : End) → HasTimersOfState e → is_7_or_8 e.state ≡ false → e.t200 ≡ false → e.state ≡ TeiAssigned
+in_state_4 : (e : End) → HasTimersOfState e → is_7_or_8 e.state ≡ false → e.t200 ≡ false
+    → e.state ≡ TeiAssigned
 in_state_4 e has c off = by_state e.state refl c
   where
     by_state : (state : State) → e.state ≡ state → is_7_or_8 state ≡ false → e.state ≡ TeiAssigned
     by_state TeiAssigned is c = is
-    by_state AwaitingEstablishment is c = let on = (timers_in AwaitingEstablishment e has is).0 in cc
+    by_state AwaitingEstablishment is c =
+        let on = (timers_in AwaitingEstablishment e has is).0 in cc
     by_state AwaitingRelease is c = let on = (timers_in AwaitingRelease e has is).0 in cc
     by_state MultipleFrameEstablished is c = cc
     by_state TimerRecovery is c = cc
 
-closed_agree : (w : World) → IsInvariant w → IsConsistentWorld Whole w → HaveTimersOfStates w → IsStill w → is_7_or_8 w.user.end.state ≡ false → is_7_or_8 w.network.end.state ≡ false → AreAgreed w
+closed_agree : (w : World) → IsInvariant w → IsConsistentWorld Whole w → HaveTimersOfStates w
+    → IsStill w → is_7_or_8 w.user.end.state ≡ false → is_7_or_8 w.network.end.state ≡ false
+    → AreAgreed w
 closed_agree w i preserved have still user network =
     let mine = in_state_4 w.user.end have.user user still.user in
     let its = in_state_4 w.network.end have.network network still.network in
-    let left_x = empty_in_4 w.user (party i.user_base w.user) refl refl refl mine i.both.mine.preserved i.both.mine.passed preserved.user.settled in
-    let left_y = empty_in_4 w.network (party i.network_base w.network) refl refl refl its i.both.its.preserved i.both.its.passed preserved.network.settled in
+    let left_x =
+    empty_in_4 w.user (party i.user_base w.user) refl refl refl mine i.both.mine.preserved
+    i.both.mine.passed preserved.user.settled in
+    let left_y =
+    empty_in_4 w.network (party i.network_base w.network) refl refl refl its
+    i.both.its.preserved i.both.its.passed preserved.network.settled in
     record {
       to_user = still.to_user;
       to_network = still.to_network;
@@ -138,11 +188,19 @@ closed_agree w i preserved have still user network =
       ends = inl (record { mine = mine; its = its });
     }
 
-agreed_at_rest : (up : Bool) (N n : ℕ) (w : World) → Coming N up n w → Facts N w → IsConsistentWorld Whole w → IsStill w → Rests Whole w → AreAgreed w
-agreed_at_rest up N n w (inl d) f preserved still rests = (up_so n w w.user w.network w.to_user w.to_network preserved (rests_drained true n w d f.have still) still (record { user = refl; network = refl })).agreed
-agreed_at_rest up N n w (inr (inl l)) f preserved still rests = let s = half_rests up N n w l f.have still (λ own. rests (user_move Expire203) own) in closed_agree w f.holds preserved f.have still s.0.user s.0.network
+agreed_at_rest : (up : Bool) (N n : ℕ) (w : World) → Coming N up n w → Facts N w
+    → IsConsistentWorld Whole w → IsStill w → Rests Whole w → AreAgreed w
+agreed_at_rest up N n w (inl d) f preserved still rests = (up_so n
+    w w.user w.network w.to_user w.to_network preserved (rests_drained true n w d f.have still)
+    still (record { user = refl; network = refl })).agreed
+agreed_at_rest up N n w (inr (inl l)) f preserved still rests =
+    let s = half_rests up N n w l f.have still (λ own. rests (user_move Expire203) own) in
+    closed_agree w f.holds preserved f.have still s.0.user s.0.network
 agreed_at_rest up N n w (inr (inr l)) f preserved still rests =
-    let s = half_rests up N n (swapped w) l (record { user = f.have.network; network = f.have.user }) (still_swapped w still) (λ own. rests (network_move Expire203) (own_203_swapped w own)) in
+    let s =
+    half_rests up N n (swapped w) l
+    (record { user = f.have.network; network = f.have.user }) (still_swapped w still)
+    (λ own. rests (network_move Expire203) (own_203_swapped w own)) in
     closed_agree w f.holds preserved f.have still s.0.network s.0.user
 
 -- ---- The start.
@@ -154,26 +212,42 @@ unsent_sound e sound = by_state e.state refl
     by_unsent : AreUnsent e.first e.next (length e.given) → unsent e ≤ length e.given - e.first
     by_unsent a = let places = a.places in omega (arith, places)
 
-    by_outstanding : AreOutstanding Whole e.first e.next (length e.given) e.window.va e.window.vs → unsent e ≤ length e.given - e.first
+    by_outstanding : AreOutstanding Whole e.first e.next (length e.given) e.window.va e.window.vs
+        → unsent e ≤ length e.given - e.first
     by_outstanding a = let places = a.places in omega (arith, places)
 
-    by_awaiting : (asked leaving : Bool) → AreAwaiting Whole asked leaving e.first e.next (length e.given) e.window.va e.window.vs → unsent e ≤ length e.given - e.first
+    by_awaiting : (asked leaving : Bool)
+        → AreAwaiting Whole asked leaving e.first e.next (length e.given) e.window.va e.window.vs
+        → unsent e ≤ length e.given - e.first
     by_awaiting true leaving a = by_unsent a
     by_awaiting false true a = by_unsent a
     by_awaiting false false a = by_outstanding a
 
     by_state : (state : State) → e.state ≡ state → unsent e ≤ length e.given - e.first
     by_state TeiAssigned is = by_unsent (subst (λ st. IsSoundIn Whole st e) is sound)
-    by_state AwaitingEstablishment is = by_awaiting e.layer3_initiated e.release_pending (subst (λ st. IsSoundIn Whole st e) is sound)
+    by_state AwaitingEstablishment is =
+        by_awaiting e.layer3_initiated e.release_pending
+        (subst (λ st. IsSoundIn Whole st e) is sound)
     by_state AwaitingRelease is = by_unsent (subst (λ st. IsSoundIn Whole st e) is sound)
-    by_state MultipleFrameEstablished is = by_outstanding (subst (λ st. IsSoundIn Whole st e) is sound)
+    by_state MultipleFrameEstablished is =
+        by_outstanding (subst (λ st. IsSoundIn Whole st e) is sound)
     by_state TimerRecovery is = by_outstanding (subst (λ st. IsSoundIn Whole st e) is sound)
 
-user_left : (w : World) → IsInvariant w → AreSettled w.user.history → unsent w.user.end ≤ left_of w.user
-user_left w i settled = let all = left_settled w.user settled in let few = unsent_sound w.user.end i.user_sound in let passed : w.user.history.passed ≡ w.user.end.first = i.both.mine.passed in omega (arith, all, few, passed)
+user_left : (w : World) → IsInvariant w → AreSettled w.user.history
+    → unsent w.user.end ≤ left_of w.user
+user_left w i settled =
+    let all = left_settled w.user settled in
+    let few = unsent_sound w.user.end i.user_sound in
+    let passed : w.user.history.passed ≡ w.user.end.first = i.both.mine.passed in
+    omega (arith, all, few, passed)
 
-network_left : (w : World) → IsInvariant w → AreSettled w.network.history → unsent w.network.end ≤ left_of w.network
-network_left w i settled = let all = left_settled w.network settled in let few = unsent_sound w.network.end i.network_sound in let passed : w.network.history.passed ≡ w.network.end.first = i.both.its.passed in omega (arith, all, few, passed)
+network_left : (w : World) → IsInvariant w → AreSettled w.network.history
+    → unsent w.network.end ≤ left_of w.network
+network_left w i settled =
+    let all = left_settled w.network settled in
+    let few = unsent_sound w.network.end i.network_sound in
+    let passed : w.network.history.passed ≡ w.network.end.first = i.both.its.passed in
+    omega (arith, all, few, passed)
 
 -- bounds of the weights
 attempt_few : (state : State) (tried leaving : Bool) → attempt_in state tried leaving ≤ 5
@@ -182,7 +256,8 @@ attempt_few AwaitingRelease true leaving = omega arith
 attempt_few state tried leaving = omega arith
 
 -- an end at its last try has one attempt, else it leaves nobody alone
-last_few : (N : ℕ) (state : State) (tried leaving : Bool) → (gone_in N tried ≡ 0) ⊎ ((attempt_in state tried leaving ≤ 1) × (gone_in N tried ≡ 2 * N + 5))
+last_few : (N : ℕ) (state : State) (tried leaving : Bool)
+    → (gone_in N tried ≡ 0) ⊎ ((attempt_in state tried leaving ≤ 1) × (gone_in N tried ≡ 2 * N + 5))
 last_few N state true leaving = inl refl
 last_few N AwaitingEstablishment false leaving = inr (omega arith, refl)
 last_few N AwaitingRelease false leaving = inr (omega arith, refl)
@@ -190,7 +265,8 @@ last_few N TeiAssigned false leaving = inr (omega arith, refl)
 last_few N MultipleFrameEstablished false leaving = inr (omega arith, refl)
 last_few N TimerRecovery false leaving = inr (omega arith, refl)
 
-again_or_none : (N : ℕ) (same : Bool) (u : ℕ) → (again_in N same u ≡ 0) ⊎ ((again_in N same u ≡ 2 * N + 3) × (1 ≤ u))
+again_or_none : (N : ℕ) (same : Bool) (u : ℕ)
+    → (again_in N same u ≡ 0) ⊎ ((again_in N same u ≡ 2 * N + 3) × (1 ≤ u))
 again_or_none N true zero = inl refl
 again_or_none N true (suc u) = inr (refl, omega arith)
 again_or_none N false u = inl refl
@@ -199,13 +275,16 @@ finds_few : (N : ℕ) (state : State) (left : ℕ) → left ≤ N → finds_in N
 finds_few N TimerRecovery left few = omega (arith, few)
 finds_few N state left few = omega arith
 
-polls_few : (N : ℕ) (state : State) (t200 : Bool) (left : ℕ) → left ≤ N → polls_in N state t200 left ≤ 2 * N + 3
+polls_few : (N : ℕ) (state : State) (t200 : Bool) (left : ℕ) → left ≤ N
+    → polls_in N state t200 left ≤ 2 * N + 3
 polls_few N TimerRecovery t200 left few = omega (arith, few)
 polls_few N state true left few = omega arith
 polls_few N state t200 left few = omega arith
 
 -- p and q are at least as many messages as are unsent
-module _ (N : ℕ) (some : 1 ≤ N) (x y : Station) (p q : ℕ) (mine : unsent x.end ≤ p) (its : unsent y.end ≤ q) (few_x : x.end.parameters.n200 ≤ N) (few_y : y.end.parameters.n200 ≤ N) where
+module _ (N : ℕ) (some : 1 ≤ N) (x y : Station) (p q : ℕ) (mine : unsent x.end ≤ p)
+    (its : unsent y.end ≤ q) (few_x : x.end.parameters.n200 ≤ N)
+    (few_y : y.end.parameters.n200 ≤ N) where
   abbrev w : World
   w = at x y [] []
 
@@ -216,7 +295,8 @@ module _ (N : ℕ) (some : 1 ≤ N) (x y : Station) (p q : ℕ) (mine : unsent x
   finds_x = finds_few N x.end.state (x.end.parameters.n200 - x.end.rc) (omega (arith, few_x))
 
   polls_x : polls N x.end ≤ 2 * N + 3
-  polls_x = polls_few N x.end.state x.end.t200 (x.end.parameters.n200 - x.end.rc) (omega (arith, few_x))
+  polls_x =
+      polls_few N x.end.state x.end.t200 (x.end.parameters.n200 - x.end.rc) (omega (arith, few_x))
 
   attempt_x : attempt x.end ≤ 5
   attempt_x = attempt_few x.end.state (tries x.end) x.end.release_pending
@@ -224,22 +304,58 @@ module _ (N : ℕ) (some : 1 ≤ N) (x y : Station) (p q : ℕ) (mine : unsent x
   attempt_y : attempt y.end ≤ 5
   attempt_y = attempt_few y.end.state (tries y.end) y.end.release_pending
 
-  weight_5 : 2 * unsent x.end + 2 * unsent y.end + attempt y.end + gone N y.end + polls N x.end + again N x.end ≤ n
-  weight_5 = by_both (last_few N y.end.state (tries y.end) y.end.release_pending) (again_or_none N (x.end.window.vs == x.end.window.va) (unsent x.end))
+  weight_5 : 2 * unsent x.end + 2 * unsent y.end + attempt y.end + gone N y.end + polls N x.end
+      + again N x.end ≤ n
+  weight_5 =
+      by_both (last_few N y.end.state (tries y.end) y.end.release_pending)
+      (again_or_none N (x.end.window.vs == x.end.window.va) (unsent x.end))
     where
-      by_both : (gone N y.end ≡ 0) ⊎ ((attempt y.end ≤ 1) × (gone N y.end ≡ 2 * N + 5)) → (again N x.end ≡ 0) ⊎ ((again N x.end ≡ 2 * N + 3) × (1 ≤ unsent x.end)) → 2 * unsent x.end + 2 * unsent y.end + attempt y.end + gone N y.end + polls N x.end + again N x.end ≤ n
-      by_both (inl none) (inl nothing) = omega (arith, none, nothing, mine, its, polls_x, attempt_y, some)
-      by_both (inl none) (inr sends) = let a = sends.0 in omega (arith, none, a, mine, its, polls_x, attempt_y, some)
-      by_both (inr last) (inl nothing) = let a = last.0 in let g = last.1 in omega (arith, a, g, nothing, mine, its, polls_x, some)
-      by_both (inr last) (inr sends) = let a = last.0 in let g = last.1 in let b = sends.0 in let u = sends.1 in omega (arith, a, g, b, u, mine, its, polls_x, some)
+      by_both : (gone N y.end ≡ 0) ⊎ ((attempt y.end ≤ 1) × (gone N y.end ≡ 2 * N + 5))
+          → (again N x.end ≡ 0) ⊎ ((again N x.end ≡ 2 * N + 3) × (1 ≤ unsent x.end))
+          → 2 * unsent x.end + 2 * unsent y.end + attempt y.end + gone N y.end + polls N x.end
+          + again N x.end ≤ n
+      by_both (inl none) (inl nothing) =
+          omega (arith, none, nothing, mine, its, polls_x, attempt_y, some)
+      by_both (inl none) (inr sends) =
+          let a = sends.0 in omega (arith, none, a, mine, its, polls_x, attempt_y, some)
+      by_both (inr last) (inl nothing) =
+          let a = last.0 in let g = last.1 in omega (arith, a, g, nothing, mine, its, polls_x, some)
+      by_both (inr last) (inr sends) =
+          let a = last.0 in
+          let g = last.1 in
+          let b = sends.0 in let u = sends.1 in omega (arith, a, g, b, u, mine, its, polls_x, some)
 
-  pub alone_begins : (up : Bool) → is_7_or_8 x.end.state ≡ true → is_7_or_8 y.end.state ≡ false → (up ≡ true → IsKept y.end) → Half N up n w
+  pub alone_begins : (up : Bool) → is_7_or_8 x.end.state ≡ true → is_7_or_8 y.end.state ≡ false
+      → (up ≡ true → IsKept y.end) → Half N up n w
   alone_begins up opened c k = by_state y.end.state refl c
     where
       by_state : (state : State) → y.end.state ≡ state → is_7_or_8 state ≡ false → Half N up n w
-      by_state TeiAssigned is c = alone_4 (record { open_state = opened; network = is; to_user = refl; ignored = tt; most = omega (arith, mine, its, finds_x, some) })
-      by_state AwaitingEstablishment is c = alone_5 (record { open_state = opened; network = is; to_user = refl; ignored = tt; most = let le = weight_5 in omega (arith, le) }) (λ up_is. (k up_is).none_pending is)
-      by_state AwaitingRelease is c = alone_6 (record { open_state = opened; network = is; to_user = refl; ignored = tt; most = omega (arith, mine, its, finds_x, attempt_y, some) }) (false_if up (λ up_is. (k up_is).not_releasing is))
+      by_state TeiAssigned is c =
+          alone_4 (record {
+            open_state = opened;
+            network = is;
+            to_user = refl;
+            ignored = tt;
+            most = omega (arith, mine, its, finds_x, some);
+          })
+      by_state AwaitingEstablishment is c =
+          alone_5 (record {
+            open_state = opened;
+            network = is;
+            to_user = refl;
+            ignored = tt;
+            most = let le = weight_5 in omega (arith, le);
+          })
+          (λ up_is. (k up_is).none_pending is)
+      by_state AwaitingRelease is c =
+          alone_6 (record {
+            open_state = opened;
+            network = is;
+            to_user = refl;
+            ignored = tt;
+            most = omega (arith, mine, its, finds_x, attempt_y, some);
+          })
+          (false_if up (λ up_is. (k up_is).not_releasing is))
       by_state MultipleFrameEstablished is c = cc
       by_state TimerRecovery is c = cc
 
@@ -251,8 +367,10 @@ module _ (N : ℕ) (some : 1 ≤ N) (x y : Station) (p q : ℕ) (mine : unsent x
     one : (value ≡ a) ⊎ (value ≡ b)
 
   greater : (a b : ℕ) → a ≤ b ⊎ b ≤ a → Most a b
-  greater a b (inl less) = record { value = b; first_few = less; second_few = omega arith; one = inr refl }
-  greater a b (inr less) = record { value = a; first_few = omega arith; second_few = less; one = inl refl }
+  greater a b (inl less) =
+      record { value = b; first_few = less; second_few = omega arith; one = inr refl }
+  greater a b (inr less) =
+      record { value = a; first_few = omega arith; second_few = less; one = inl refl }
 
   ordered : (a b : ℕ) → a ≤ b ⊎ b ≤ a
   ordered a b = grind arith
@@ -282,17 +400,21 @@ module _ (N : ℕ) (some : 1 ≤ N) (x y : Station) (p q : ℕ) (mine : unsent x
         either_leaves = by_leaves l.value l.one;
       }
     where
-      by_sends : (v : ℕ) → (v ≡ again N x.end) ⊎ (v ≡ again N y.end) → (v ≡ 0) ⊎ ((v ≡ 2 * N + 3) × (1 ≤ unsent x.end + unsent y.end))
-      by_sends v (inl same) = elim (again_or_none N (x.end.window.vs == x.end.window.va) (unsent x.end)) [
-        | inl none ↦ inl (same ∙ none)
-        | inr sends ↦ inr (same ∙ sends.0, let u = sends.1 in omega (arith, u))
-      ]
-      by_sends v (inr same) = elim (again_or_none N (y.end.window.vs == y.end.window.va) (unsent y.end)) [
-        | inl none ↦ inl (same ∙ none)
-        | inr sends ↦ inr (same ∙ sends.0, let u = sends.1 in omega (arith, u))
-      ]
+      by_sends : (v : ℕ) → (v ≡ again N x.end) ⊎ (v ≡ again N y.end)
+          → (v ≡ 0) ⊎ ((v ≡ 2 * N + 3) × (1 ≤ unsent x.end + unsent y.end))
+      by_sends v (inl same) =
+          elim (again_or_none N (x.end.window.vs == x.end.window.va) (unsent x.end)) [
+            | inl none ↦ inl (same ∙ none)
+            | inr sends ↦ inr (same ∙ sends.0, let u = sends.1 in omega (arith, u))
+          ]
+      by_sends v (inr same) =
+          elim (again_or_none N (y.end.window.vs == y.end.window.va) (unsent y.end)) [
+            | inl none ↦ inl (same ∙ none)
+            | inr sends ↦ inr (same ∙ sends.0, let u = sends.1 in omega (arith, u))
+          ]
 
-      by_leaves : (v : ℕ) → (v ≡ gone N x.end) ⊎ (v ≡ gone N y.end) → (v ≡ 0) ⊎ ((v ≡ 2 * N + 5) × (attempt x.end + attempt y.end ≤ 6))
+      by_leaves : (v : ℕ) → (v ≡ gone N x.end) ⊎ (v ≡ gone N y.end)
+          → (v ≡ 0) ⊎ ((v ≡ 2 * N + 5) × (attempt x.end + attempt y.end ≤ 6))
       by_leaves v (inl same) = elim (last_few N x.end.state (tries x.end) x.end.release_pending) [
         | inl none ↦ inl (same ∙ none)
         | inr last ↦ inr (same ∙ last.1, let a = last.0 in omega (arith, a, attempt_y))
@@ -302,7 +424,8 @@ module _ (N : ℕ) (some : 1 ≤ N) (x y : Station) (p q : ℕ) (mine : unsent x
         | inr last ↦ inr (same ∙ last.1, let a = last.0 in omega (arith, a, attempt_x))
       ]
 
-  pub closed_begins : (up : Bool) → is_7_or_8 x.end.state ≡ false → is_7_or_8 y.end.state ≡ false → (up ≡ true → Establishing x.end y.end) → Half N up n w
+  pub closed_begins : (up : Bool) → is_7_or_8 x.end.state ≡ false → is_7_or_8 y.end.state ≡ false
+      → (up ≡ true → Establishing x.end y.end) → Half N up n w
   closed_begins up c d k =
       let e = extra in
       closed (record {
@@ -316,12 +439,20 @@ module _ (N : ℕ) (some : 1 ≤ N) (x y : Station) (p q : ℕ) (mine : unsent x
         most = by_both e.sends e.leaves e.either_sends e.either_leaves;
       }) k
     where
-      by_both : (sends leaves : ℕ) → (sends ≡ 0) ⊎ ((sends ≡ 2 * N + 3) × (1 ≤ unsent x.end + unsent y.end)) → (leaves ≡ 0) ⊎ ((leaves ≡ 2 * N + 5) × (attempt x.end + attempt y.end ≤ 6))
+      by_both : (sends leaves : ℕ)
+          → (sends ≡ 0) ⊎ ((sends ≡ 2 * N + 3) × (1 ≤ unsent x.end + unsent y.end))
+          → (leaves ≡ 0) ⊎ ((leaves ≡ 2 * N + 5) × (attempt x.end + attempt y.end ≤ 6))
           → attempt x.end + attempt y.end + 2 * unsent x.end + 2 * unsent y.end + sends + leaves ≤ n
-      by_both sends leaves (inl none) (inl nothing) = omega (arith, none, nothing, mine, its, attempt_x, attempt_y, some)
-      by_both sends leaves (inl none) (inr last) = let l = last.0 in let a = last.1 in omega (arith, none, l, a, mine, its, some)
-      by_both sends leaves (inr again_) (inl nothing) = let s = again_.0 in omega (arith, s, nothing, mine, its, attempt_x, attempt_y, some)
-      by_both sends leaves (inr again_) (inr last) = let s = again_.0 in let u = again_.1 in let l = last.0 in let a = last.1 in omega (arith, s, u, l, a, mine, its, some)
+      by_both sends leaves (inl none) (inl nothing) =
+          omega (arith, none, nothing, mine, its, attempt_x, attempt_y, some)
+      by_both sends leaves (inl none) (inr last) =
+          let l = last.0 in let a = last.1 in omega (arith, none, l, a, mine, its, some)
+      by_both sends leaves (inr again_) (inl nothing) =
+          let s = again_.0 in omega (arith, s, nothing, mine, its, attempt_x, attempt_y, some)
+      by_both sends leaves (inr again_) (inr last) =
+          let s = again_.0 in
+          let u = again_.1 in
+          let l = last.0 in let a = last.1 in omega (arith, s, u, l, a, mine, its, some)
 
 -- ---- The theorem, on whole numbers.
 
@@ -333,11 +464,29 @@ drains_more n m w less d =
     record {
       holds = d.holds;
       ends_settled = d.ends_settled;
-      sees = record { flow = record { a = f.a; b = f.b; mine = f.mine; its = f.its; most = let le = f.most in omega (arith, le, less) }; idle = s.idle; its_idle = s.its_idle; proceeding = s.proceeding; arriving = s.arriving };
+      sees = record {
+        flow = record {
+          a = f.a;
+          b = f.b;
+          mine = f.mine;
+          its = f.its;
+          most = let le = f.most in omega (arith, le, less);
+        };
+        idle = s.idle;
+        its_idle = s.its_idle;
+        proceeding = s.proceeding;
+        arriving = s.arriving;
+      };
     }
 
 lost_more : (n m : ℕ) (w : World) → n ≤ m → UserLost true n w → UserLost true m w
-lost_more n m w less l = record { holds = l.holds; in_8 = l.in_8; tries = l.tries; two = let two = l.two in omega (arith, two, less); drains = drains_more (n - 2) (m - 2) (with_final w) (omega (arith, less)) l.drains }
+lost_more n m w less l = record {
+  holds = l.holds;
+  in_8 = l.in_8;
+  tries = l.tries;
+  two = let two = l.two in omega (arith, two, less);
+  drains = drains_more (n - 2) (m - 2) (with_final w) (omega (arith, less)) l.drains;
+}
 
 weaker : (n m : ℕ) (w : World) → n ≤ m → Draining true n w → Draining true m w
 weaker n m w less (inl d) = inl (drains_more n m w less d)
@@ -358,7 +507,8 @@ weaker n m w less (inr (inr (inr l))) = inr (inr (inr (record {
 })))
 
 -- both ends are closed, and one wants the link
-establishing : (x y : End) → is_7_or_8 x.state ≡ false → is_7_or_8 y.state ≡ false → AreWanting x y → Establishing x y
+establishing : (x y : End) → is_7_or_8 x.state ≡ false → is_7_or_8 y.state ≡ false → AreWanting x y
+    → Establishing x y
 establishing x y c d w = record { mine = w.mine; its = w.its; either = by_either w.either }
   where
     may_try : (e : End) → is_7_or_8 e.state ≡ false → IsWanting e → MayTry e
@@ -370,67 +520,110 @@ establishing x y c d w = record { mine = w.mine; its = w.its; either = by_either
     by_either (inr w) = inr (may_try y d w)
 
 -- both ends are open, or one is closed; p and q are at least as many messages as are unsent
-pub half_begins : {C : Type 0} (N : ℕ) → 1 ≤ N → (x y : Station) (p q : ℕ) → unsent x.end ≤ p → unsent y.end ≤ q → x.end.parameters.n200 ≤ N → y.end.parameters.n200 ≤ N → (up : Bool) → (up ≡ true → AreWanting x.end y.end)
-    → (is_7_or_8 x.end.state ≡ true → is_7_or_8 y.end.state ≡ true → C) → (Coming N up (3 * (p + q) + 6 * N + 11) (at x y [] []) → C) → C
-half_begins {C = C} N some x y p q mine its few_x few_y up k both half = by_open (is_7_or_8 x.end.state) (is_7_or_8 y.end.state) refl refl
+pub half_begins : {C : Type 0} (N : ℕ) → 1 ≤ N → (x y : Station) (p q : ℕ) → unsent x.end ≤ p
+    → unsent y.end ≤ q → x.end.parameters.n200 ≤ N → y.end.parameters.n200 ≤ N → (up : Bool)
+    → (up ≡ true → AreWanting x.end y.end)
+    → (is_7_or_8 x.end.state ≡ true → is_7_or_8 y.end.state ≡ true → C)
+    → (Coming N up (3 * (p + q) + 6 * N + 11) (at x y [] []) → C) → C
+half_begins {C = C} N some x y p q mine its few_x few_y up k both half =
+    by_open (is_7_or_8 x.end.state) (is_7_or_8 y.end.state) refl refl
   where
     turned_bound : 3 * (q + p) + 6 * N + 11 ≡ 3 * (p + q) + 6 * N + 11
     turned_bound = omega arith
 
     by_open : (a b : Bool) → is_7_or_8 x.end.state ≡ a → is_7_or_8 y.end.state ≡ b → C
     by_open true true o p = both o p
-    by_open true false o c = half (inr (inl (alone_begins N some x y p q mine its few_x few_y up o c (λ wanted. (k wanted).its))))
-    by_open false true c o = half (inr (inr (subst (λ m. Half N up m (swapped (at x y [] []))) turned_bound (alone_begins N some y x q p its mine few_y few_x up o c (λ wanted. (k wanted).mine)))))
-    by_open false false c d = half (inr (inl (closed_begins N some x y p q mine its few_x few_y up c d (λ wanted. establishing x.end y.end c d (k wanted)))))
+    by_open true false o c =
+        half (inr (inl (alone_begins N some x y p q mine its few_x few_y up o c
+        (λ wanted. (k wanted).its))))
+    by_open false true c o =
+        half (inr (inr (subst (λ m. Half N up m (swapped (at x y [] []))) turned_bound
+        (alone_begins N some y x q p its mine few_y few_x up o c
+        (λ wanted. (k wanted).mine)))))
+    by_open false false c d =
+        half (inr (inl (closed_begins N some x y p q mine its few_x few_y up c d
+        (λ wanted. establishing x.end y.end c d (k wanted)))))
 
-both_begin : (N : ℕ) → 1 ≤ N → (x y : Station) → IsInvariant (at x y [] []) → IsConsistentWorld Whole (at x y [] []) → AreSettledEnds (at x y [] []) → IsFree x.end → IsFree y.end → x.end.parameters.n200 ≤ N → y.end.parameters.n200 ≤ N → Coming N false (most_own_moves N (at x y [] [])) (at x y [] [])
+both_begin : (N : ℕ) → 1 ≤ N → (x y : Station) → IsInvariant (at x y [] [])
+    → IsConsistentWorld Whole (at x y [] []) → AreSettledEnds (at x y [] []) → IsFree x.end
+    → IsFree y.end → x.end.parameters.n200 ≤ N → y.end.parameters.n200 ≤ N
+    → Coming N false (most_own_moves N (at x y [] [])) (at x y [] [])
 both_begin N some x y i preserved settled x_free y_free few_x few_y =
     let w = at x y [] [] in
-    half_begins N some x y (left_of x) (left_of y) (user_left w i preserved.user.settled) (network_left w i preserved.network.settled) few_x few_y false (λ no. cc)
-    (λ o p. inl (weaker (most_moves w) (most_own_moves N w) w (omega arith) (draining_begins x y i settled preserved.user.settled preserved.network.settled true o p (x_free o) (y_free p) (λ _. refl) (λ _. refl))))
+    half_begins N some x y (left_of x) (left_of y) (user_left w i preserved.user.settled)
+    (network_left w i preserved.network.settled) few_x few_y false (λ no. cc)
+    (λ o p. inl (weaker (most_moves w) (most_own_moves N w) w (omega arith)
+    (draining_begins x y i settled preserved.user.settled preserved.network.settled true
+    o p (x_free o) (y_free p) (λ _. refl) (λ _. refl))))
     (λ c. c)
 
-begins : (N : ℕ) → 1 ≤ N → (x y : Station) (to_user to_network : List Flight) → IsInvariant (at x y to_user to_network) → IsConsistentWorld Whole (at x y to_user to_network) → AreSettledEnds (at x y to_user to_network) → IsAfterOutage N (at x y to_user to_network) → Coming N false (most_own_moves N (at x y to_user to_network)) (at x y to_user to_network)
-begins N some x y [] [] i preserved settled a = both_begin N some x y i preserved settled a.user_free a.network_free a.user_retries a.network_retries
+begins : (N : ℕ) → 1 ≤ N → (x y : Station) (to_user to_network : List Flight)
+    → IsInvariant (at x y to_user to_network) → IsConsistentWorld Whole (at x y to_user to_network)
+    → AreSettledEnds (at x y to_user to_network) → IsAfterOutage N (at x y to_user to_network)
+    → Coming N false (most_own_moves N (at x y to_user to_network)) (at x y to_user to_network)
+begins N some x y [] [] i preserved settled a =
+    both_begin N some x y i preserved settled a.user_free a.network_free a.user_retries
+    a.network_retries
 begins N some x y (f ∷ fs) to_network i preserved settled a = let none = a.to_user in cc
 begins N some x y [] (f ∷ fs) i preserved settled a = let none = a.to_network in cc
 
 -- own moves are at most the weight of the start, and lead to ends that agree
 pub record Returns (n : ℕ) (w : World) : Type 0 where
   pub few : (moves : List Move) → AreOwn Whole moves w → length moves ≤ n
-  pub agreed : (moves : List Move) → AreOwn Whole moves w → Rests Whole (run Whole moves w) → AreAgreed (run Whole moves w)
+  pub agreed : (moves : List Move) → AreOwn Whole moves w → Rests Whole (run Whole moves w)
+      → AreAgreed (run Whole moves w)
 
-pub returns_from : (N : ℕ) → 1 ≤ N → (n : ℕ) (w : World) → Coming N false n w → Facts N w → IsConsistentWorld Whole w → Returns n w
+pub returns_from : (N : ℕ) → 1 ≤ N → (n : ℕ) (w : World) → Coming N false n w → Facts N w
+    → IsConsistentWorld Whole w → Returns n w
 returns_from N some n w c f preserved = record {
   few = λ moves own. (own_moves_reach false N some n w moves c f own).few;
   agreed = λ moves own rests.
       let now = run Whole moves w in
       let reached = own_moves_reach false N some n w moves c f own in
       let still = rests_still now.user now.network now.to_user now.to_network rests in
-      agreed_at_rest false N (n - length moves) now reached.arriving reached.facts (run_consistent Whole moves w preserved) still rests;
+      agreed_at_rest false N (n - length moves) now reached.arriving reached.facts
+      (run_consistent Whole moves w preserved) still rests;
 }
 
-line_comes_back : (N : ℕ) → 1 ≤ N → (w : World) → IsInvariant w → IsConsistentWorld Whole w → AreSettledEnds w → HaveTimersOfStates w → AreClearIn5 w → IsAfterOutage N w → ComesBack Whole N w
+line_comes_back : (N : ℕ) → 1 ≤ N → (w : World) → IsInvariant w → IsConsistentWorld Whole w
+    → AreSettledEnds w → HaveTimersOfStates w → AreClearIn5 w → IsAfterOutage N w
+    → ComesBack Whole N w
 line_comes_back N some w i preserved settled have clear a =
     let n = most_own_moves N w in
     let c = begins N some w.user w.network w.to_user w.to_network i preserved settled a in
-    let f : Facts N w = record { holds = i; settled = settled; have = have; clear = clear; few_user = a.user_retries; few_network = a.network_retries } in
+    let f : Facts N w =
+    record {
+      holds = i;
+      settled = settled;
+      have = have;
+      clear = clear;
+      few_user = a.user_retries;
+      few_network = a.network_retries;
+    } in
     let back = returns_from N some n w c f preserved in
-    record { few = λ moves own. back.few moves own; agreed = λ moves own rests. back.agreed moves own rests }
+    record {
+      few = λ moves own. back.few moves own;
+      agreed = λ moves own rests. back.agreed moves own rests;
+    }
 
 -- ---- After every run, on whole numbers and on tags.
 
-comes_back_on_tags : (N : ℕ) (w : World) → IsInvariant w → IsConsistentWorld Whole w → ComesBack Whole N w → ComesBack Tagged N (tag_world w)
+comes_back_on_tags : (N : ℕ) (w : World) → IsInvariant w → IsConsistentWorld Whole w
+    → ComesBack Whole N w → ComesBack Tagged N (tag_world w)
 comes_back_on_tags N w i preserved c = record {
   few = λ moves own.
-      let most : most_own_moves N (tag_world w) ≡ most_own_moves N w = ap (λ l. 3 * l + 6 * N + 11) (left_on_tags w) in
+      let most : most_own_moves N (tag_world w) ≡ most_own_moves N w =
+      ap (λ l. 3 * l + 6 * N + 11) (left_on_tags w) in
       let few = c.few moves (are_own_by_tags moves w i preserved own) in
       omega (arith, most, few);
   agreed = λ moves own rests.
       let now = run Whole moves w in
       let same : run Tagged moves (tag_world w) ≡ tag_world now = ran_on_tags moves w i preserved in
-      let still : Rests Whole now = rests_by_tags now (each_run_preserves moves w i) (run_consistent Whole moves w preserved) (subst (λ v. Rests Tagged v) same rests) in
-      subst AreAgreed (sym same) (agreed_on_tags now (c.agreed moves (are_own_by_tags moves w i preserved own) still));
+      let still : Rests Whole now =
+      rests_by_tags now (each_run_preserves moves w i)
+      (run_consistent Whole moves w preserved) (subst (λ v. Rests Tagged v) same rests) in
+      subst AreAgreed (sym same)
+      (agreed_on_tags now (c.agreed moves (are_own_by_tags moves w i preserved own) still));
 }
 
 pub free_by_tags : (e : End) → IsFree (tag_end e) → IsFree e
@@ -447,7 +640,9 @@ after_outage_by_tags N w a = record {
   network_retries = a.network_retries;
 }
 
-module _ (N : ℕ) (some : 1 ≤ N) (user network : Parameters) (user_small : user.k ≤ 127) (network_small : network.k ≤ 127) (user_some : 1 ≤ user.k) (network_some : 1 ≤ network.k) (moves : List Move) where
+module _ (N : ℕ) (some : 1 ≤ N) (user network : Parameters) (user_small : user.k ≤ 127)
+    (network_small : network.k ≤ 127) (user_some : 1 ≤ user.k) (network_some : 1 ≤ network.k)
+    (moves : List Move) where
   abbrev start : World
   start = new_world user network
 
@@ -458,24 +653,41 @@ module _ (N : ℕ) (some : 1 ≤ N) (user network : Parameters) (user_small : us
   holds = each_run_preserves moves start (new_holds user network user_small network_small)
 
   preserved : IsConsistentWorld Whole reached
-  preserved = run_consistent Whole moves start (new_world_consistent Whole user network user_small network_small)
+  preserved =
+      run_consistent Whole moves start
+      (new_world_consistent Whole user network user_small network_small)
 
   back_whole : IsAfterOutage N reached → ComesBack Whole N reached
-  back_whole a = let c = line_comes_back N some reached holds preserved (run_settles moves start (new_settles user network user_some network_some)) (timers_after_run moves start (new_has_timers user network)) (clear_after_run moves start (new_is_clear user network)) a in c
+  back_whole a =
+      let c =
+      line_comes_back N some reached holds preserved
+      (run_settles moves start (new_settles user network user_some network_some))
+      (timers_after_run moves start (new_has_timers user network))
+      (clear_after_run moves start (new_is_clear user network)) a in
+      c
 
-  comes_back_by : (r : Reading) → IsAfterOutage N (run r moves (new_world user network)) → ComesBack r N (run r moves (new_world user network))
+  comes_back_by : (r : Reading) → IsAfterOutage N (run r moves (new_world user network))
+      → ComesBack r N (run r moves (new_world user network))
   comes_back_by Whole a = back_whole a
   comes_back_by Tagged a =
-      let same : run Tagged moves (new_world user network) ≡ tag_world reached = reached_tags user network user_small network_small moves in
-      subst (λ w. ComesBack Tagged N w) (sym same) (comes_back_on_tags N reached holds preserved (back_whole (after_outage_by_tags N reached (subst (λ w. IsAfterOutage N w) same a))))
+      let same : run Tagged moves (new_world user network) ≡ tag_world reached =
+      reached_tags user network user_small network_small moves in
+      subst (λ w. ComesBack Tagged N w) (sym same)
+      (comes_back_on_tags N reached holds preserved
+      (back_whole (after_outage_by_tags N reached (subst (λ w. IsAfterOutage N w) same a))))
 
-pub every_line_comes_back : (r : Reading) (n200 : ℕ) → 1 ≤ n200 → (user network : Parameters) → user.k ≤ 127 → network.k ≤ 127 → 1 ≤ user.k → 1 ≤ network.k → (moves : List Move) → IsAfterOutage n200 (run r moves (new_world user network)) → ComesBack r n200 (run r moves (new_world user network))
-every_line_comes_back r n200 some user network u n us ns moves a = comes_back_by n200 some user network u n us ns moves r a
+pub every_line_comes_back : (r : Reading) (n200 : ℕ) → 1 ≤ n200 → (user network : Parameters)
+    → user.k ≤ 127 → network.k ≤ 127 → 1 ≤ user.k → 1 ≤ network.k → (moves : List Move)
+    → IsAfterOutage n200 (run r moves (new_world user network))
+    → ComesBack r n200 (run r moves (new_world user network))
+every_line_comes_back r n200 some user network u n us ns moves a =
+    comes_back_by n200 some user network u n us ns moves r a
 
 -- ---- A link that one end wants and nobody releases comes up.
 
 -- no own move is possible where an establishment is under way
-not_establishing : (w : World) → HaveTimersOfStates w → IsStill w → Establishing w.user.end w.network.end → ⊥
+not_establishing : (w : World) → HaveTimersOfStates w → IsStill w
+    → Establishing w.user.end w.network.end → ⊥
 not_establishing w have still k = by_either k.either
   where
     off_in_5 : (e : End) → HasTimersOfState e → e.t200 ≡ false → MayTry e → ⊥
@@ -485,22 +697,37 @@ not_establishing w have still k = by_either k.either
     by_either (inl may) = off_in_5 w.user.end have.user still.user may
     by_either (inr may) = off_in_5 w.network.end have.network still.network may
 
-pub level_at_rest : (N n : ℕ) (w : World) → Coming N true n w → Facts N w → IsConsistentWorld Whole w → IsStill w → Rests Whole w → AreLevel w.user.end w.network.end
-level_at_rest N n w (inl d) f preserved still rests = (up_so n w w.user w.network w.to_user w.to_network preserved (rests_drained true n w d f.have still) still (record { user = refl; network = refl })).level
-level_at_rest N n w (inr (inl l)) f _ still rests = let s = half_rests true N n w l f.have still (λ own. rests (user_move Expire203) own) in absurd (not_establishing w f.have still (s.1 refl))
+pub level_at_rest : (N n : ℕ) (w : World) → Coming N true n w → Facts N w
+    → IsConsistentWorld Whole w → IsStill w → Rests Whole w → AreLevel w.user.end w.network.end
+level_at_rest N n w (inl d) f preserved still rests = (up_so n
+    w w.user w.network w.to_user w.to_network preserved (rests_drained true n w d f.have still)
+    still (record { user = refl; network = refl })).level
+level_at_rest N n w (inr (inl l)) f _ still rests =
+    let s = half_rests true N n w l f.have still (λ own. rests (user_move Expire203) own) in
+    absurd (not_establishing w f.have still (s.1 refl))
 level_at_rest N n w (inr (inr l)) f _ still rests =
-    let s = half_rests true N n (swapped w) l (record { user = f.have.network; network = f.have.user }) (still_swapped w still) (λ own. rests (network_move Expire203) (own_203_swapped w own)) in
-    absurd (not_establishing (swapped w) (record { user = f.have.network; network = f.have.user }) (still_swapped w still) (s.1 refl))
+    let s =
+    half_rests true N n (swapped w) l
+    (record { user = f.have.network; network = f.have.user }) (still_swapped w still)
+    (λ own. rests (network_move Expire203) (own_203_swapped w own)) in
+    absurd (not_establishing (swapped w) (record { user = f.have.network; network = f.have.user })
+    (still_swapped w still) (s.1 refl))
 
-pub stays_up_on_tags : (w : World) → IsInvariant w → IsConsistentWorld Whole w → StaysUp Whole w → StaysUp Tagged (tag_world w)
+pub stays_up_on_tags : (w : World) → IsInvariant w → IsConsistentWorld Whole w → StaysUp Whole w
+    → StaysUp Tagged (tag_world w)
 stays_up_on_tags w i preserved up moves own rests =
     let now = run Whole moves w in
     let same : run Tagged moves (tag_world w) ≡ tag_world now = ran_on_tags moves w i preserved in
-    let still : Rests Whole now = rests_by_tags now (each_run_preserves moves w i) (run_consistent Whole moves w preserved) (subst (λ v. Rests Tagged v) same rests) in
-    subst (λ (v : World). AreLevel v.user.end v.network.end) (sym same) (are_level_on_tags now.user.end now.network.end (up moves (are_own_by_tags moves w i preserved own) still))
+    let still : Rests Whole now =
+    rests_by_tags now (each_run_preserves moves w i)
+    (run_consistent Whole moves w preserved) (subst (λ v. Rests Tagged v) same rests) in
+    subst (λ (v : World). AreLevel v.user.end v.network.end) (sym same)
+    (are_level_on_tags now.user.end now.network.end
+    (up moves (are_own_by_tags moves w i preserved own) still))
 
 kept_by_tags : (e : End) → IsKept (tag_end e) → IsKept e
 kept_by_tags e k = record { not_releasing = k.not_releasing; none_pending = k.none_pending }
 
 pub wanting_by_tags : (x y : End) → AreWanting (tag_end x) (tag_end y) → AreWanting x y
-wanting_by_tags x y w = record { mine = kept_by_tags x w.mine; its = kept_by_tags y w.its; either = w.either }
+wanting_by_tags x y w =
+    record { mine = kept_by_tags x w.mine; its = kept_by_tags y w.its; either = w.either }

@@ -26,9 +26,11 @@ use Rattle.lapd_recovery_laws.proofs.TimersOfRuns.{timers_after_move}
 
 -- neither end is lost, one is, or both are; n bounds the remaining work
 abbrev pub Draining : Bool → ℕ → World → Type 0
-Draining last n w = Drains n w ⊎ (UserLost last n w ⊎ (UserLost last n (swapped w) ⊎ BothLost last n w))
+Draining last n w =
+    Drains n w ⊎ (UserLost last n w ⊎ (UserLost last n (swapped w) ⊎ BothLost last n w))
 
-pub draining_swapped : (last : Bool) (n : ℕ) (w : World) → Draining last n w → Draining last n (swapped w)
+pub draining_swapped : (last : Bool) (n : ℕ) (w : World) → Draining last n w
+    → Draining last n (swapped w)
 draining_swapped last n w (inl d) = inl (drains_swapped n w d)
 draining_swapped last n w (inr (inl l)) = inr (inr (inl l))
 draining_swapped last n w (inr (inr (inl l))) = inr (inl l)
@@ -45,7 +47,10 @@ lost_or_not last n w (inl l) = inr (inl l)
 lost_or_not last n w (inr d) = inl d
 
 -- the same of the sides exchanged
-moves_swapped : (last : Bool) (n : ℕ) (event : PairEvent) (w : World) → Moves last n (swapped w) (world_after (swapped w) (happens Whole (user_move event) (swapped w))) → Moves last n w (world_after w (happens Whole (network_move event) w))
+moves_swapped : (last : Bool) (n : ℕ) (event : PairEvent) (w : World)
+    → Moves last n (swapped w)
+    (world_after (swapped w) (happens Whole (user_move event) (swapped w)))
+    → Moves last n w (world_after w (happens Whole (network_move event) w))
 moves_swapped last n event w m =
     let now = world_after (swapped w) (happens Whole (user_move event) (swapped w)) in
     subst (λ v. Moves last n w v) (sym (network_alike Whole event w)) (record {
@@ -57,19 +62,33 @@ moves_swapped last n event w m =
 -- ---- A frame is delivered.
 
 -- the other side is lost
-peer_receives : (last : Bool) (n : ℕ) (x y : Station) (back : List Flight) (frame : Flight) (rest : List Flight) → UserLost last n (at x y back (frame ∷ rest)) → Moves last n (at y x (frame ∷ rest) back) (world_after (at y x (frame ∷ rest) back) (happens Whole (user_move Deliver) (at y x (frame ∷ rest) back)))
+peer_receives : (last : Bool) (n : ℕ) (x y : Station) (back : List Flight) (frame : Flight)
+    (rest : List Flight) → UserLost last n (at x y back (frame ∷ rest))
+    → Moves last n (at y x (frame ∷ rest) back)
+    (world_after (at y x (frame ∷ rest) back)
+    (happens Whole (user_move Deliver) (at y x (frame ∷ rest) back)))
 peer_receives last n x y back frame rest l =
     let w = at x y back (frame ∷ rest) in
     let now = world_after w (happens Whole (network_move Deliver) w) in
-    let same : now ≡ swapped (world_after (swapped w) (happens Whole (user_move Deliver) (swapped w))) = network_alike Whole Deliver w in
-    let preserved = subst (λ v. SameDropped w v) same (lost_peer_receives_dropped last n x y back frame rest l) in
+    let same : now ≡ swapped
+    (world_after (swapped w) (happens Whole (user_move Deliver) (swapped w))) =
+    network_alike Whole Deliver w in
+    let preserved =
+    subst (λ v. SameDropped w v) same
+    (lost_peer_receives_dropped last n x y back frame rest l) in
     record {
       some = let two = l.two in omega (arith, two);
-      draining = inr (inr (inl (subst (λ v. UserLost last (n - 1) v) same (lost_peer_receives last n x y back frame rest l))));
+      draining =
+          inr (inr (inl (subst (λ v. UserLost last (n - 1) v) same
+          (lost_peer_receives last n x y back frame rest l))));
       preserved = record { user = preserved.network; network = preserved.user };
     }
 
-user_receives : (last : Bool) (n : ℕ) (x y : Station) (frame : Flight) (rest to_network : List Flight) → Draining last n (at x y (frame ∷ rest) to_network) → Moves last n (at x y (frame ∷ rest) to_network) (world_after (at x y (frame ∷ rest) to_network) (happens Whole (user_move Deliver) (at x y (frame ∷ rest) to_network)))
+user_receives : (last : Bool) (n : ℕ) (x y : Station) (frame : Flight)
+    (rest to_network : List Flight) → Draining last n (at x y (frame ∷ rest) to_network)
+    → Moves last n (at x y (frame ∷ rest) to_network)
+    (world_after (at x y (frame ∷ rest) to_network)
+    (happens Whole (user_move Deliver) (at x y (frame ∷ rest) to_network)))
 user_receives last n x y frame rest to_network (inl d) = record {
   some = let le = d.sees.flow.most in omega (arith, le);
   draining = inl (user_drains n Deliver (at x y (frame ∷ rest) to_network) d
@@ -84,20 +103,27 @@ user_receives last n x y frame rest to_network (inr (inl l)) = record {
   draining = inr (inl (lost_user_receives last n x y frame rest to_network l));
   preserved = lost_user_receives_dropped last n x y frame rest to_network l;
 }
-user_receives last n x y frame rest to_network (inr (inr (inl l))) = peer_receives last n y x to_network frame rest l
+user_receives last n x y frame rest to_network (inr (inr (inl l))) =
+    peer_receives last n y x to_network frame rest l
 user_receives last n x y frame rest to_network (inr (inr (inr l))) = let none = l.to_user in cc
 
 -- ---- T200 expires.
 
 -- the other side is lost
-peer_expires : (last : Bool) (n : ℕ) (x y : Station) → UserLost last n (at x y [] []) → y.end.t200 ≡ true → Moves last n (at y x [] []) (world_after (at y x [] []) (happens Whole (user_move Expire200) (at y x [] [])))
+peer_expires : (last : Bool) (n : ℕ) (x y : Station) → UserLost last n (at x y [] [])
+    → y.end.t200 ≡ true
+    → Moves last n (at y x [] [])
+    (world_after (at y x [] []) (happens Whole (user_move Expire200) (at y x [] [])))
 peer_expires last n x y l on =
     let w = at x y [] [] in
     let now = world_after w (happens Whole (network_move Expire200) w) in
-    let then = swapped (world_after (swapped w) (happens Whole (user_move Expire200) (swapped w))) in
+    let then =
+    swapped (world_after (swapped w) (happens Whole (user_move Expire200) (swapped w))) in
     let same : now ≡ then = network_alike Whole Expire200 w in
     let preserved = subst (λ v. SameDropped w v) same (lost_peer_expires_dropped last n x y l on) in
-    let after = subst (λ v. UserLost last (n - 1) v ⊎ Drains (n - 1) v) same (lost_peer_expires last n x y l on) in
+    let after =
+    subst (λ v. UserLost last (n - 1) v ⊎ Drains (n - 1) v) same
+    (lost_peer_expires last n x y l on) in
     record {
       some = let two = l.two in omega (arith, two);
       draining = draining_swapped last (n - 1) then (lost_or_not last (n - 1) then after);
@@ -108,13 +134,20 @@ peer_expires last n x y l on =
 abbrev pub MayRetry : Bool → End → Type 0
 MayRetry last e = last ≡ true → e.state ≡ TimerRecovery → nat_lt e.rc e.parameters.n200 ≡ true
 
-tries_now : (last : Bool) (e : End) → (last || nat_lt e.rc e.parameters.n200) ≡ true → MayRetry last e → e.state ≡ TimerRecovery → nat_lt e.rc e.parameters.n200 ≡ true
+tries_now : (last : Bool) (e : End) → (last || nat_lt e.rc e.parameters.n200) ≡ true
+    → MayRetry last e → e.state ≡ TimerRecovery → nat_lt e.rc e.parameters.n200 ≡ true
 tries_now true e tries may is = may refl is
 tries_now false e tries may is = tries
 
-user_expires : (last : Bool) (n : ℕ) (x y : Station) → Draining last n (at x y [] []) → x.end.t200 ≡ true → MayRetry last x.end → Moves last n (at x y [] []) (world_after (at x y [] []) (happens Whole (user_move Expire200) (at x y [] [])))
+user_expires : (last : Bool) (n : ℕ) (x y : Station) → Draining last n (at x y [] [])
+    → x.end.t200 ≡ true → MayRetry last x.end
+    → Moves last n (at x y [] [])
+    (world_after (at x y [] []) (happens Whole (user_move Expire200) (at x y [] [])))
 user_expires last n x y (inl d) on may = record {
-  some = let le = d.sees.flow.most in let some = some_at (source x.end) (sink y.end) d.sees.flow.a on d.sees.flow.mine in omega (arith, le, some);
+  some =
+      let le = d.sees.flow.most in
+      let some = some_at (source x.end) (sink y.end) d.sees.flow.a on d.sees.flow.mine in
+      omega (arith, le, some);
   draining = inl (user_drains n Expire200 (at x y [] []) d (seen_expired x y n on d.sees));
   preserved = user_preserved Expire200 (at x y [] []) (preserved_expired x y n on d.sees);
 }
@@ -128,17 +161,26 @@ user_expires last n x y (inr (inr (inr l))) on may =
     let now = world_after (at x y [] []) (happens Whole (user_move Expire200) (at x y [] [])) in
     record {
       some = let le = l.most in omega (arith, le);
-      draining = draining_swapped last (n - 1) (swapped now) (lost_or_not last (n - 1) (swapped now) (both_lost_expires last n x y l on (tries_now last x.end l.user_tries may l.user_in_8)));
-      preserved = both_lost_expires_dropped last n x y l on (tries_now last x.end l.user_tries may l.user_in_8);
+      draining =
+          draining_swapped last (n - 1) (swapped now)
+          (lost_or_not last (n - 1) (swapped now) (both_lost_expires last n
+          x y l on (tries_now last x.end l.user_tries may l.user_in_8)));
+      preserved =
+          both_lost_expires_dropped last n x y l on
+          (tries_now last x.end l.user_tries may l.user_in_8);
     }
 
 -- ---- Any own move.
 
 runs_in_8 : (e : End) → HasTimersOfState e → e.state ≡ TimerRecovery → e.t200 ≡ true
-runs_in_8 e has is = let t : AreTimersOf TimerRecovery e.t200 e.t203 (e.window.vs ≡ e.window.va) = subst (λ s. AreTimersOf s e.t200 e.t203 (e.window.vs ≡ e.window.va)) is has in t.0
+runs_in_8 e has is =
+    let t : AreTimersOf TimerRecovery e.t200 e.t203 (e.window.vs ≡ e.window.va) =
+    subst (λ s. AreTimersOf s e.t200 e.t203 (e.window.vs ≡ e.window.va)) is has in
+    t.0
 
 -- on an empty line an end that is not lost is in state 7
-pub in_state_7 : (x : Source) (y : Sink) (a : ℕ) → Stream x y [] [] a → x.state ≡ MultipleFrameEstablished
+pub in_state_7 : (x : Source) (y : Sink) (a : ℕ) → Stream x y [] [] a
+    → x.state ≡ MultipleFrameEstablished
 in_state_7 x y a s = by_stage s.stage s.so
   where
     by_stage : (stage : Stage) → IsAt stage x y [] [] → x.state ≡ MultipleFrameEstablished
@@ -153,13 +195,21 @@ neither_on true b is = cc
 neither_on false true is = cc
 
 -- T203 is not due: if T200 runs nowhere, both ends are in state 7
-together : (last : Bool) (n : ℕ) (x y : Station) → Draining last n (at x y [] []) → HaveTimersOfStates (at x y [] []) → x.end.t200 ≡ false → y.end.t200 ≡ false → (x.end.state ≡ MultipleFrameEstablished) × (y.end.state ≡ MultipleFrameEstablished)
-together last n x y (inl d) have off none = (in_state_7 (source x.end) (sink y.end) d.sees.flow.a d.sees.flow.mine, in_state_7 (source y.end) (sink x.end) d.sees.flow.b d.sees.flow.its)
+together : (last : Bool) (n : ℕ) (x y : Station) → Draining last n (at x y [] [])
+    → HaveTimersOfStates (at x y [] []) → x.end.t200 ≡ false → y.end.t200 ≡ false
+    → (x.end.state ≡ MultipleFrameEstablished) × (y.end.state ≡ MultipleFrameEstablished)
+together last n x y (inl d) have off none = (
+  in_state_7 (source x.end) (sink y.end) d.sees.flow.a d.sees.flow.mine,
+  in_state_7 (source y.end) (sink x.end) d.sees.flow.b d.sees.flow.its,
+)
 together last n x y (inr (inl l)) have off none = let on = runs_in_8 x.end have.user l.in_8 in cc
-together last n x y (inr (inr (inl l))) have off none = let on = runs_in_8 y.end have.network l.in_8 in cc
-together last n x y (inr (inr (inr l))) have off none = let on = runs_in_8 x.end have.user l.user_in_8 in cc
+together last n x y (inr (inr (inl l))) have off none =
+    let on = runs_in_8 y.end have.network l.in_8 in cc
+together last n x y (inr (inr (inr l))) have off none =
+    let on = runs_in_8 x.end have.user l.user_in_8 in cc
 
-not_apart : (last : Bool) (n : ℕ) (x y : Station) → Draining last n (at x y [] []) → HaveTimersOfStates (at x y [] []) → is_due Expire203 (at x y [] []) ≡ true → ⊥
+not_apart : (last : Bool) (n : ℕ) (x y : Station) → Draining last n (at x y [] [])
+    → HaveTimersOfStates (at x y [] []) → is_due Expire203 (at x y [] []) ≡ true → ⊥
 not_apart last n x y d have due =
     let both = both_true (not (x.end.t200 || y.end.t200)) (are_apart (at x y [] [])) due in
     let off = neither_on x.end.t200 y.end.t200 both.0 in
@@ -168,20 +218,24 @@ not_apart last n x y d have due =
     let never : are_apart (at x y [] []) ≡ false = rw (in_7.0, in_7.1) refl in
     cc
 
-pub ok_in_world : (s : Side) (w : World) (o : Result ViewStep Refusal) → is_ok (in_world s w o) ≡ is_ok o
+pub ok_in_world : (s : Side) (w : World) (o : Result ViewStep Refusal)
+    → is_ok (in_world s w o) ≡ is_ok o
 ok_in_world s w (Ok acted) = refl
 ok_in_world s w (Err refusal) = refl
 
 -- a delivery needs a frame, and T200 expires only if it runs
-pub none_there : (x y : Station) (to_network : List Flight) → is_ok (happens Whole (user_move Deliver) (at x y [] to_network)) ≡ false
+pub none_there : (x y : Station) (to_network : List Flight)
+    → is_ok (happens Whole (user_move Deliver) (at x y [] to_network)) ≡ false
 unfolding happens acts delivers
 none_there x y to_network = refl
 
-pub none_there_too : (x y : Station) (to_user : List Flight) → is_ok (happens Whole (network_move Deliver) (at x y to_user [])) ≡ false
+pub none_there_too : (x y : Station) (to_user : List Flight)
+    → is_ok (happens Whole (network_move Deliver) (at x y to_user [])) ≡ false
 unfolding happens acts delivers
 none_there_too x y to_user = refl
 
-only_if_on : (s : Side) (v : View) → is_ok (acts Whole s Expire200 v) ≡ true → v.station.end.t200 ≡ true
+only_if_on : (s : Side) (v : View) → is_ok (acts Whole s Expire200 v) ≡ true
+    → v.station.end.t200 ≡ true
 unfolding acts expires_200
 only_if_on s v ok = by_timer v.station.end.t200 refl
   where
@@ -189,42 +243,83 @@ only_if_on s v ok = by_timer v.station.end.t200 refl
     by_timer true on = on
     by_timer false off = let never : false ≡ true = rw off at ok in cc
 
-pub runs_if_expires : (s : Side) (w : World) → is_ok (happens Whole (record { side = s; event = Expire200 }) w) ≡ true → (view_of s w).station.end.t200 ≡ true
+pub runs_if_expires : (s : Side) (w : World)
+    → is_ok (happens Whole (record { side = s; event = Expire200 }) w) ≡ true
+    → (view_of s w).station.end.t200 ≡ true
 unfolding happens
-runs_if_expires s w ok = only_if_on s (view_of s w) (sym (ok_in_world s w (acts Whole s Expire200 (view_of s w))) ∙ ok)
+runs_if_expires s w ok =
+    only_if_on s (view_of s w) (sym (ok_in_world s w (acts Whole s Expire200 (view_of s w))) ∙ ok)
 
 module _ (last : Bool) (n : ℕ) (x y : Station) where
   abbrev After : Side → PairEvent → List Flight → List Flight → Type 0
-  After s event to_user to_network = Moves last n (at x y to_user to_network) (world_after (at x y to_user to_network) (happens Whole (record { side = s; event = event }) (at x y to_user to_network)))
+  After s event to_user to_network =
+      Moves last n (at x y to_user to_network)
+      (world_after (at x y to_user to_network)
+      (happens Whole (record { side = s; event = event }) (at x y to_user to_network)))
 
-  user_own_delivers : (to_user to_network : List Flight) → Draining last n (at x y to_user to_network) → is_ok (happens Whole (user_move Deliver) (at x y to_user to_network)) ≡ true → After side.User Deliver to_user to_network
+  user_own_delivers : (to_user to_network : List Flight)
+      → Draining last n (at x y to_user to_network)
+      → is_ok (happens Whole (user_move Deliver) (at x y to_user to_network)) ≡ true
+      → After side.User Deliver to_user to_network
   user_own_delivers [] to_network d ok = let never = none_there x y to_network in cc
-  user_own_delivers (frame ∷ rest) to_network d ok = user_receives last n x y frame rest to_network d
+  user_own_delivers (frame ∷ rest) to_network d ok =
+      user_receives last n x y frame rest to_network d
 
-  network_own_delivers : (to_user to_network : List Flight) → Draining last n (at x y to_user to_network) → is_ok (happens Whole (network_move Deliver) (at x y to_user to_network)) ≡ true → After side.Network Deliver to_user to_network
+  network_own_delivers : (to_user to_network : List Flight)
+      → Draining last n (at x y to_user to_network)
+      → is_ok (happens Whole (network_move Deliver) (at x y to_user to_network)) ≡ true
+      → After side.Network Deliver to_user to_network
   network_own_delivers to_user [] d ok = let never = none_there_too x y to_user in cc
-  network_own_delivers to_user (frame ∷ rest) d ok = moves_swapped last n Deliver (at x y to_user (frame ∷ rest)) (user_receives last n y x frame rest to_user (draining_swapped last n (at x y to_user (frame ∷ rest)) d))
+  network_own_delivers to_user (frame ∷ rest) d ok =
+      moves_swapped last n Deliver (at x y to_user (frame ∷ rest)) (user_receives last n
+      y x frame rest to_user (draining_swapped last n (at x y to_user (frame ∷ rest)) d))
 
-  own_expires : (s : Side) (to_user to_network : List Flight) → Draining last n (at x y to_user to_network) → MayRetry last (view_of s (at x y to_user to_network)).station.end → is_line_empty (at x y to_user to_network) ≡ true → is_ok (happens Whole (record { side = s; event = Expire200 }) (at x y to_user to_network)) ≡ true → After s Expire200 to_user to_network
-  own_expires side.User [] [] d may empty ok = user_expires last n x y d (runs_if_expires side.User (at x y [] []) ok) may
-  own_expires side.Network [] [] d may empty ok = moves_swapped last n Expire200 (at x y [] []) (user_expires last n y x (draining_swapped last n (at x y [] []) d) (runs_if_expires side.Network (at x y [] []) ok) may)
+  own_expires : (s : Side) (to_user to_network : List Flight)
+      → Draining last n (at x y to_user to_network)
+      → MayRetry last (view_of s (at x y to_user to_network)).station.end
+      → is_line_empty (at x y to_user to_network) ≡ true
+      → is_ok (happens Whole (record { side = s; event = Expire200 }) (at x y to_user to_network))
+      ≡ true → After s Expire200 to_user to_network
+  own_expires side.User [] [] d may empty ok =
+      user_expires last n x y d (runs_if_expires side.User (at x y [] []) ok) may
+  own_expires side.Network [] [] d may empty ok =
+      moves_swapped last n Expire200 (at x y [] []) (user_expires last n
+      y x (draining_swapped last n (at x y [] []) d)
+      (runs_if_expires side.Network (at x y [] []) ok) may)
   own_expires s (frame ∷ rest) to_network d may empty ok = cc
   own_expires s [] (frame ∷ rest) d may empty ok = cc
 
-  own_never : (s : Side) (to_user to_network : List Flight) → Draining last n (at x y to_user to_network) → HaveTimersOfStates (at x y to_user to_network) → is_due Expire203 (at x y to_user to_network) ≡ true → After s Expire203 to_user to_network
+  own_never : (s : Side) (to_user to_network : List Flight)
+      → Draining last n (at x y to_user to_network) → HaveTimersOfStates (at x y to_user to_network)
+      → is_due Expire203 (at x y to_user to_network) ≡ true → After s Expire203 to_user to_network
   own_never s [] [] d have due = absurd (not_apart last n x y d have due)
   own_never s (frame ∷ rest) to_network d have due = cc
   own_never s [] (frame ∷ rest) d have due = cc
 
-  own_event : (s : Side) (event : PairEvent) (to_user to_network : List Flight) → Draining last n (at x y to_user to_network) → (event ≡ Expire200 → MayRetry last (view_of s (at x y to_user to_network)).station.end) → HaveTimersOfStates (at x y to_user to_network) → is_due event (at x y to_user to_network) ≡ true → is_ok (happens Whole (record { side = s; event = event }) (at x y to_user to_network)) ≡ true → After s event to_user to_network
-  own_event side.User Deliver to_user to_network d may have due ok = user_own_delivers to_user to_network d ok
-  own_event side.Network Deliver to_user to_network d may have due ok = network_own_delivers to_user to_network d ok
-  own_event s Expire200 to_user to_network d may have due ok = own_expires s to_user to_network d (may refl) due ok
-  own_event s Expire203 to_user to_network d may have due ok = own_never s to_user to_network d have due
+  own_event : (s : Side) (event : PairEvent) (to_user to_network : List Flight)
+      → Draining last n (at x y to_user to_network)
+      → (event ≡ Expire200 → MayRetry last (view_of s (at x y to_user to_network)).station.end)
+      → HaveTimersOfStates (at x y to_user to_network)
+      → is_due event (at x y to_user to_network) ≡ true
+      → is_ok (happens Whole (record { side = s; event = event }) (at x y to_user to_network))
+      ≡ true → After s event to_user to_network
+  own_event side.User Deliver to_user to_network d may have due ok =
+      user_own_delivers to_user to_network d ok
+  own_event side.Network Deliver to_user to_network d may have due ok =
+      network_own_delivers to_user to_network d ok
+  own_event s Expire200 to_user to_network d may have due ok =
+      own_expires s to_user to_network d (may refl) due ok
+  own_event s Expire203 to_user to_network d may have due ok =
+      own_never s to_user to_network d have due
   own_event s event to_user to_network d may have due ok = cc
 
-pub own_moves_on : (last : Bool) (n : ℕ) (move : Move) (w : World) → Draining last n w → (move.event ≡ Expire200 → MayRetry last (view_of move.side w).station.end) → HaveTimersOfStates w → IsOwn Whole move w → Moves last n w (world_after w (happens Whole move w))
-own_moves_on last n move w d may have own = own_event last n w.user w.network move.side move.event w.to_user w.to_network d may have own.due own.admitted
+pub own_moves_on : (last : Bool) (n : ℕ) (move : Move) (w : World) → Draining last n w
+    → (move.event ≡ Expire200 → MayRetry last (view_of move.side w).station.end)
+    → HaveTimersOfStates w → IsOwn Whole move w
+    → Moves last n w (world_after w (happens Whole move w))
+own_moves_on last n move w d may have own =
+    own_event last n w.user w.network move.side move.event w.to_user w.to_network d may have own.due
+    own.admitted
 
 -- ---- All of them.
 
@@ -234,46 +329,71 @@ pub record Reaches (n : ℕ) (w : World) (moves : List Move) (now : World) : Typ
   pub have : HaveTimersOfStates now
   pub preserved : SameDropped w now
 
-pub own_moves_reach : (n : ℕ) (w : World) (moves : List Move) → Draining false n w → HaveTimersOfStates w → AreOwn Whole moves w → Reaches n w moves (run Whole moves w)
-own_moves_reach n w [] d have own = let same : n ≡ n - 0 = omega arith in record { few = omega arith; draining = subst (λ m. Draining false m w) same d; have = have; preserved = record { user = refl; network = refl } }
+pub own_moves_reach : (n : ℕ) (w : World) (moves : List Move) → Draining false n w
+    → HaveTimersOfStates w → AreOwn Whole moves w → Reaches n w moves (run Whole moves w)
+own_moves_reach n w [] d have own =
+    let same : n ≡ n - 0 = omega arith in
+    record {
+      few = omega arith;
+      draining = subst (λ m. Draining false m w) same d;
+      have = have;
+      preserved = record { user = refl; network = refl };
+    }
 own_moves_reach n w (move ∷ moves) d have own =
     let one = own_moves_on false n move w d (λ is last. cc) have own.0 in
     let now = world_after w (happens Whole move w) in
-    let rest = own_moves_reach (n - 1) now moves one.draining (timers_after_move move w have) own.1 in
+    let rest =
+    own_moves_reach (n - 1) now moves one.draining (timers_after_move move w have) own.1 in
     let fewer : n - 1 - length moves ≡ n - length (move ∷ moves) = omega arith in
     record {
       few = let some = one.some in let few = rest.few in omega (arith, some, few);
       draining = subst (λ m. Draining false m (run Whole moves now)) fewer rest.draining;
       have = rest.have;
-      preserved = record { user = rest.preserved.user ∙ one.preserved.user; network = rest.preserved.network ∙ one.preserved.network };
+      preserved = record {
+        user = rest.preserved.user ∙ one.preserved.user;
+        network = rest.preserved.network ∙ one.preserved.network;
+      };
     }
 
 -- ---- Where no own move is possible.
 
-delivers_to_user : (x y : Station) (frame : Flight) (rest to_network : List Flight) → is_ok (happens Whole (user_move Deliver) (at x y (frame ∷ rest) to_network)) ≡ true
+delivers_to_user : (x y : Station) (frame : Flight) (rest to_network : List Flight)
+    → is_ok (happens Whole (user_move Deliver) (at x y (frame ∷ rest) to_network)) ≡ true
 unfolding happens acts delivers receives step
 delivers_to_user x y frame rest to_network = refl
 
-delivers_to_network : (x y : Station) (to_user : List Flight) (frame : Flight) (rest : List Flight) → is_ok (happens Whole (network_move Deliver) (at x y to_user (frame ∷ rest))) ≡ true
+delivers_to_network : (x y : Station) (to_user : List Flight) (frame : Flight) (rest : List Flight)
+    → is_ok (happens Whole (network_move Deliver) (at x y to_user (frame ∷ rest))) ≡ true
 unfolding happens acts delivers receives step
 delivers_to_network x y to_user frame rest = refl
 
-expires_at_user : (x y : Station) → x.end.t200 ≡ true → is_ok (happens Whole (user_move Expire200) (at x y [] [])) ≡ true
+expires_at_user : (x y : Station) → x.end.t200 ≡ true
+    → is_ok (happens Whole (user_move Expire200) (at x y [] [])) ≡ true
 unfolding happens acts takes expires_200 step
 expires_at_user x y on = rw on refl
 
-expires_at_network : (x y : Station) → y.end.t200 ≡ true → is_ok (happens Whole (network_move Expire200) (at x y [] [])) ≡ true
+expires_at_network : (x y : Station) → y.end.t200 ≡ true
+    → is_ok (happens Whole (network_move Expire200) (at x y [] [])) ≡ true
 unfolding happens acts takes expires_200 step
 expires_at_network x y on = rw on refl
 
-pub rests_still : (x y : Station) (to_user to_network : List Flight) → Rests Whole (at x y to_user to_network) → IsStill (at x y to_user to_network)
-rests_still x y (frame ∷ rest) to_network rests = absurd (rests (user_move Deliver) (record { due = refl; admitted = delivers_to_user x y frame rest to_network }))
-rests_still x y [] (frame ∷ rest) rests = absurd (rests (network_move Deliver) (record { due = refl; admitted = delivers_to_network x y [] frame rest }))
+pub rests_still : (x y : Station) (to_user to_network : List Flight)
+    → Rests Whole (at x y to_user to_network) → IsStill (at x y to_user to_network)
+rests_still x y (frame ∷ rest) to_network rests =
+    absurd (rests (user_move Deliver)
+    (record { due = refl; admitted = delivers_to_user x y frame rest to_network }))
+rests_still x y [] (frame ∷ rest) rests =
+    absurd (rests (network_move Deliver)
+    (record { due = refl; admitted = delivers_to_network x y [] frame rest }))
 rests_still x y [] [] rests = record {
   to_user = refl;
   to_network = refl;
-  user = by_timer x.end.t200 (λ on. rests (user_move Expire200) (record { due = refl; admitted = expires_at_user x y on }));
-  network = by_timer y.end.t200 (λ on. rests (network_move Expire200) (record { due = refl; admitted = expires_at_network x y on }));
+  user =
+      by_timer x.end.t200 (λ on. rests (user_move Expire200)
+      (record { due = refl; admitted = expires_at_user x y on }));
+  network =
+      by_timer y.end.t200 (λ on. rests (network_move Expire200)
+      (record { due = refl; admitted = expires_at_network x y on }));
 }
   where
     by_timer : (b : Bool) → (b ≡ true → ⊥) → b ≡ false
@@ -281,8 +401,12 @@ rests_still x y [] [] rests = record {
     by_timer false never = refl
 
 -- then no end is lost
-pub rests_drained : (last : Bool) (n : ℕ) (w : World) → Draining last n w → HaveTimersOfStates w → IsStill w → Drains n w
+pub rests_drained : (last : Bool) (n : ℕ) (w : World) → Draining last n w → HaveTimersOfStates w
+    → IsStill w → Drains n w
 rests_drained last n w (inl d) have still = d
-rests_drained last n w (inr (inl l)) have still = let on = runs_in_8 w.user.end have.user l.in_8 in let off = still.user in cc
-rests_drained last n w (inr (inr (inl l))) have still = let on = runs_in_8 w.network.end have.network l.in_8 in let off = still.network in cc
-rests_drained last n w (inr (inr (inr l))) have still = let on = runs_in_8 w.user.end have.user l.user_in_8 in let off = still.user in cc
+rests_drained last n w (inr (inl l)) have still =
+    let on = runs_in_8 w.user.end have.user l.in_8 in let off = still.user in cc
+rests_drained last n w (inr (inr (inl l))) have still =
+    let on = runs_in_8 w.network.end have.network l.in_8 in let off = still.network in cc
+rests_drained last n w (inr (inr (inr l))) have still =
+    let on = runs_in_8 w.user.end have.user l.user_in_8 in let off = still.user in cc

@@ -16,13 +16,15 @@ use Rattle.lapd_recovery_laws.specs.Own.{IsOwn, IsFree}
 use Rattle.lapd_recovery_laws.proofs.AfterOutage.{facts_after}
 use Rattle.lapd_recovery_laws.proofs.LosesFrame.{frame_lost}
 use Rattle.lapd_recovery_laws.proofs.Lost.{at}
-use Rattle.lapd_recovery_laws.proofs.Outage.{Facts}
+use Rattle.lapd_recovery_laws.proofs.OutageWorlds.{Facts}
 use Rattle.lapd_recovery_laws.proofs.RunsEmpty as runs
 use Rattle.lapd_recovery_laws.proofs.RunsEmpty.{Flow}
 use Rattle.lapd_recovery_laws.proofs.TimersExpire.{Expires, t200_expires, t203_expires}
 
 flow_more : (m n : ℕ) (w : World) → m ≤ n → Flow m w → Flow n w
-flow_more m n w le f = let most = f.most in record { a = f.a; b = f.b; mine = f.mine; its = f.its; most = omega (arith, most, le) }
+flow_more m n w le f =
+    let most = f.most in
+    record { a = f.a; b = f.b; mine = f.mine; its = f.its; most = omega (arith, most, le) }
 
 abbrev pub after : Side → PairEvent → World → World
 after s event w = world_after w (happens Whole (record { side = s; event = event }) w)
@@ -48,12 +50,18 @@ pub record Lighter (Weight : ℕ → World → Type 0) (n : ℕ) (now : World) :
 -- A weight is bounded once the line is empty, and falls with each own move. `Holds` is a fact that
 -- own moves keep, and losses too if fewer may follow.
 pub record IsWeight (N l most : ℕ) (Holds Weight : ℕ → World → Type 0) : Type 0 where
-  pub own_holds : (b : ℕ) (s : Side) (event : PairEvent) (w : World) → Keeps N l w → Holds b w → IsOwn Whole (record { side = s; event = event }) w → Holds b (after s event w)
-  pub loss_holds : (b i : ℕ) (s : Side) (w : World) → Holds (b + 1) w → is_ok (happens Whole (record { side = s; event = Lose i }) w) ≡ true → Holds b (after s (Lose i) w)
-  pub begins : (b n : ℕ) (x y : Station) → Keeps N l (at x y [] []) → Holds b (at x y [] []) → Flow n (at x y [] []) → Weighs most Weight n (at x y [] [])
-  pub falls : (n : ℕ) (s : Side) (event : PairEvent) (w : World) → Weight n w → Keeps N l w → IsOwn Whole (record { side = s; event = event }) w → Lighter Weight n (after s event w)
+  pub own_holds : (b : ℕ) (s : Side) (event : PairEvent) (w : World) → Keeps N l w → Holds b w
+      → IsOwn Whole (record { side = s; event = event }) w → Holds b (after s event w)
+  pub loss_holds : (b i : ℕ) (s : Side) (w : World) → Holds (b + 1) w
+      → is_ok (happens Whole (record { side = s; event = Lose i }) w) ≡ true
+      → Holds b (after s (Lose i) w)
+  pub begins : (b n : ℕ) (x y : Station) → Keeps N l (at x y [] []) → Holds b (at x y [] [])
+      → Flow n (at x y [] []) → Weighs most Weight n (at x y [] [])
+  pub falls : (n : ℕ) (s : Side) (event : PairEvent) (w : World) → Weight n w → Keeps N l w
+      → IsOwn Whole (record { side = s; event = event }) w → Lighter Weight n (after s event w)
 
-module _ (N l most : ℕ) (Holds Weight : ℕ → World → Type 0) (h : IsWeight N l most Holds Weight) where
+module _ (N l most : ℕ) (Holds Weight : ℕ → World → Type 0)
+    (h : IsWeight N l most Holds Weight) where
   -- m bounds the deliveries that empty the line
   record Empties (n : ℕ) (w : World) : Type 0 where
     m : ℕ
@@ -85,7 +93,8 @@ module _ (N l most : ℕ) (Holds Weight : ℕ → World → Type 0) (h : IsWeigh
     keeps : Keeps N l now
 
   -- a frame is delivered
-  module _ (n : ℕ) (s : Side) (w : World) (k : Keeps N l w) (own : IsOwn Whole (record { side = s; event = Deliver }) w) where
+  module _ (n : ℕ) (s : Side) (w : World) (k : Keeps N l w)
+      (own : IsOwn Whole (record { side = s; event = Deliver }) w) where
     abbrev delivered : World
     delivered = after s Deliver w
 
@@ -100,7 +109,8 @@ module _ (N l most : ℕ) (Holds Weight : ℕ → World → Type 0) (h : IsWeigh
           flow = d.flow;
           keeps = record {
             facts = facts_after N (record { side = s; event = Deliver }) w k.facts;
-            preserved = run_consistent Whole (record { side = s; event = Deliver } ∷ []) w k.preserved;
+            preserved =
+                run_consistent Whole (record { side = s; event = Deliver } ∷ []) w k.preserved;
             user_free = d.user_free k.user_free;
             network_free = d.network_free k.network_free;
             few = omega (arith, few, u, v);
@@ -112,7 +122,11 @@ module _ (N l most : ℕ) (Holds Weight : ℕ → World → Type 0) (h : IsWeigh
         let d = by_flow e.m e.flow in
         let one = d.some_left in
         let few = e.few in
-        record { some_left = omega (arith, one, few); keeps = d.keeps; phase = inl (record { m = e.m - 1; flow = d.flow; few = omega (arith, one, few) }) }
+        record {
+          some_left = omega (arith, one, few);
+          keeps = d.keeps;
+          phase = inl (record { m = e.m - 1; flow = d.flow; few = omega (arith, one, few) });
+        }
     deliver (inr r) =
         let d = by_flow (3 * l + 6) r.flow in
         let c = h.falls r.m s Deliver w r.weight k own in
@@ -121,7 +135,13 @@ module _ (N l most : ℕ) (Holds Weight : ℕ → World → Type 0) (h : IsWeigh
         record {
           some_left = omega (arith, one, few);
           keeps = d.keeps;
-          phase = inr (record { m = r.m - 1; weight = c.weight; flow = flow_more (3 * l + 6 - 1) (3 * l + 6) delivered (omega arith) d.flow; few = omega (arith, one, few) });
+          phase =
+              inr (record {
+                m = r.m - 1;
+                weight = c.weight;
+                flow = flow_more (3 * l + 6 - 1) (3 * l + 6) delivered (omega arith) d.flow;
+                few = omega (arith, one, few);
+              });
         }
 
   -- a timer expires on an empty line
@@ -129,18 +149,27 @@ module _ (N l most : ℕ) (Holds Weight : ℕ → World → Type 0) (h : IsWeigh
   quiet_flow w k few =
       let all = runs.left_waits w k.preserved in
       let waits = k.few in
-      flow_more (most_deliveries w) (3 * l + 6) w (omega (arith, all, waits, few)) (runs.flow_begins w k.facts.holds k.preserved)
+      flow_more (most_deliveries w) (3 * l + 6) w (omega (arith, all, waits, few))
+      (runs.flow_begins w k.facts.holds k.preserved)
 
-  emptied : (b n : ℕ) (x y : Station) → Keeps N l (at x y [] []) → Holds b (at x y [] []) → Empties n (at x y [] []) ⊎ Returns n (at x y [] []) → Returns n (at x y [] [])
+  emptied : (b n : ℕ) (x y : Station) → Keeps N l (at x y [] []) → Holds b (at x y [] [])
+      → Empties n (at x y [] []) ⊎ Returns n (at x y [] []) → Returns n (at x y [] [])
   emptied b n x y k held (inr r) = r
   emptied b n x y k held (inl e) =
       let w = at x y [] [] in
       let back = h.begins b e.m x y k held e.flow in
       let some_few = back.few in
       let few = e.few in
-      record { m = back.m; weight = back.weight; flow = quiet_flow w k (omega arith); few = omega (arith, some_few, few) }
+      record {
+        m = back.m;
+        weight = back.weight;
+        flow = quiet_flow w k (omega arith);
+        few = omega (arith, some_few, few);
+      }
 
-  expire : (n : ℕ) (s : Side) (event : PairEvent) (w : World) → Keeps N l w → Returns n w → IsOwn Whole (record { side = s; event = event }) w → Expires w (after s event w) → Falls n (after s event w)
+  expire : (n : ℕ) (s : Side) (event : PairEvent) (w : World) → Keeps N l w → Returns n w
+      → IsOwn Whole (record { side = s; event = event }) w → Expires w (after s event w)
+      → Falls n (after s event w)
   expire n s event w k r own x =
       let now = after s event w in
       let c = h.falls r.m s event w r.weight k own in
@@ -159,16 +188,32 @@ module _ (N l most : ℕ) (Holds Weight : ℕ → World → Type 0) (h : IsWeigh
       record {
         some_left = omega (arith, one, most_few);
         keeps = still;
-        phase = inr (record { m = r.m - 1; weight = c.weight; flow = quiet_flow now still x.few; few = omega (arith, one, most_few) });
+        phase =
+            inr (record {
+              m = r.m - 1;
+              weight = c.weight;
+              flow = quiet_flow now still x.few;
+              few = omega (arith, one, most_few);
+            });
       }
 
-  own_expires_200 : (b n : ℕ) (s : Side) (x y : Station) (to_user to_network : List Flight) → Bounds b n (at x y to_user to_network) → IsOwn Whole (record { side = s; event = Expire200 }) (at x y to_user to_network) → Falls n (after s Expire200 (at x y to_user to_network))
-  own_expires_200 b n s x y [] [] w own = expire n s Expire200 (at x y [] []) w.keeps (emptied b n x y w.keeps w.holds w.phase) own (t200_expires s x y w.keeps.facts.have own.admitted)
+  own_expires_200 : (b n : ℕ) (s : Side) (x y : Station) (to_user to_network : List Flight)
+      → Bounds b n (at x y to_user to_network)
+      → IsOwn Whole (record { side = s; event = Expire200 }) (at x y to_user to_network)
+      → Falls n (after s Expire200 (at x y to_user to_network))
+  own_expires_200 b n s x y [] [] w own =
+      expire n s Expire200 (at x y [] []) w.keeps (emptied b n x y w.keeps w.holds w.phase) own
+      (t200_expires s x y w.keeps.facts.have own.admitted)
   own_expires_200 b n s x y (frame ∷ arriving) to_network w own = let due = own.due in cc
   own_expires_200 b n s x y [] (frame ∷ arriving) w own = let due = own.due in cc
 
-  own_expires_203 : (b n : ℕ) (s : Side) (x y : Station) (to_user to_network : List Flight) → Bounds b n (at x y to_user to_network) → IsOwn Whole (record { side = s; event = Expire203 }) (at x y to_user to_network) → Falls n (after s Expire203 (at x y to_user to_network))
-  own_expires_203 b n s x y [] [] w own = expire n s Expire203 (at x y [] []) w.keeps (emptied b n x y w.keeps w.holds w.phase) own (t203_expires s x y w.keeps.facts.have own.admitted)
+  own_expires_203 : (b n : ℕ) (s : Side) (x y : Station) (to_user to_network : List Flight)
+      → Bounds b n (at x y to_user to_network)
+      → IsOwn Whole (record { side = s; event = Expire203 }) (at x y to_user to_network)
+      → Falls n (after s Expire203 (at x y to_user to_network))
+  own_expires_203 b n s x y [] [] w own =
+      expire n s Expire203 (at x y [] []) w.keeps (emptied b n x y w.keeps w.holds w.phase) own
+      (t203_expires s x y w.keeps.facts.have own.admitted)
   own_expires_203 b n s x y (frame ∷ arriving) to_network w own = let due = own.due in cc
   own_expires_203 b n s x y [] (frame ∷ arriving) w own = let due = own.due in cc
 
@@ -177,7 +222,9 @@ module _ (N l most : ℕ) (Holds Weight : ℕ → World → Type 0) (h : IsWeigh
   abbrev pub rise : ℕ
   rise = 4 * l + 6 + most
 
-  lose : (b n i : ℕ) (s : Side) (w : World) → Bounds (b + 1) n w → is_ok (happens Whole (record { side = s; event = Lose i }) w) ≡ true → Bounds b (n + rise) (after s (Lose i) w)
+  lose : (b n i : ℕ) (s : Side) (w : World) → Bounds (b + 1) n w
+      → is_ok (happens Whole (record { side = s; event = Lose i }) w) ≡ true
+      → Bounds b (n + rise) (after s (Lose i) w)
   lose b n i s w bounds ok = by_phase bounds.phase
     where
       k : Keeps N l w
@@ -193,13 +240,24 @@ module _ (N l most : ℕ) (Holds Weight : ℕ → World → Type 0) (h : IsWeigh
           record {
             keeps = record {
               facts = facts_after N (record { side = s; event = Lose i }) w k.facts;
-              preserved = run_consistent Whole (record { side = s; event = Lose i } ∷ []) w k.preserved;
+              preserved =
+                  run_consistent Whole (record { side = s; event = Lose i } ∷ []) w k.preserved;
               user_free = subst IsFree (sym f.user) k.user_free;
               network_free = subst IsFree (sym f.network) k.network_free;
-              few = let u : waiting now.user.end ≡ waiting w.user.end = ap waiting f.user in let v : waiting now.network.end ≡ waiting w.network.end = ap waiting f.network in omega (arith, few, u, v);
+              few =
+                  let u : waiting now.user.end ≡ waiting w.user.end = ap waiting f.user in
+                  let v : waiting now.network.end ≡ waiting w.network.end = ap waiting f.network in
+                  omega (arith, few, u, v);
             };
             holds = h.loss_holds b i s w bounds.holds ok;
-            phase = inl (record { m = m + l; flow = flow_more (m + waiting w.user.end + waiting w.network.end) (m + l) now (omega (arith, few)) f.flow; few = enough });
+            phase =
+                inl (record {
+                  m = m + l;
+                  flow =
+                      flow_more (m + waiting w.user.end + waiting w.network.end) (m + l) now
+                      (omega (arith, few)) f.flow;
+                  few = enough;
+                });
           }
 
       by_phase : Empties n w ⊎ Returns n w → Bounds b (n + rise) now
@@ -214,39 +272,83 @@ module _ (N l most : ℕ) (Holds Weight : ℕ → World → Type 0) (h : IsWeigh
     pub keeps : Keeps N l (run Whole moves w)
 
   abbrev Rest : List Move → Type 0
-  Rest moves = (b n : ℕ) (w : World) → Bounds b n w → AreOwnOrLosses Whole moves w → losses moves ≤ b → Comes n w moves
+  Rest moves =
+      (b n : ℕ) (w : World) → Bounds b n w → AreOwnOrLosses Whole moves w → losses moves ≤ b
+      → Comes n w moves
 
-  falls_on : (b n : ℕ) (s : Side) (event : PairEvent) (w : World) (moves : List Move) → is_loss event ≡ false → Bounds b n w → IsOwn Whole (record { side = s; event = event }) w → Falls n (after s event w) → Rest moves → AreOwnOrLosses Whole moves (after s event w) → losses moves ≤ b
+  falls_on : (b n : ℕ) (s : Side) (event : PairEvent) (w : World) (moves : List Move)
+      → is_loss event ≡ false → Bounds b n w → IsOwn Whole (record { side = s; event = event }) w
+      → Falls n (after s event w) → Rest moves → AreOwnOrLosses Whole moves (after s event w)
+      → losses moves ≤ b
       → Comes n w (record { side = s; event = event } ∷ moves)
   falls_on b n s event w moves unlost bounds one_own f rest own le =
-      let r = rest b (n - 1) (after s event w) (record { keeps = f.keeps; holds = h.own_holds b s event w bounds.keeps bounds.holds one_own; phase = f.phase }) own le in
+      let r =
+      rest b (n - 1) (after s event w)
+      (record {
+        keeps = f.keeps;
+        holds = h.own_holds b s event w bounds.keeps bounds.holds one_own;
+        phase = f.phase;
+      }) own le in
       let one = f.some_left in
       let few = r.few in
       let none : one_if (is_loss event) ≡ 0 = ap one_if unlost in
-      record { few = subst (λ j. length (record { side = s; event = event } ∷ moves) ≤ n + (j + losses moves) * (rise + 1)) (sym none) (omega (arith, one, few)); keeps = r.keeps }
+      record {
+        few =
+            subst (λ j. length (record { side = s; event = event } ∷ moves) ≤ n
+            + (j + losses moves) * (rise + 1)) (sym none) (omega (arith, one, few));
+        keeps = r.keeps;
+      }
 
-  first : (b n : ℕ) (s : Side) (event : PairEvent) (w : World) (moves : List Move) → Bounds b n w → Rest moves → IsOwnOrLoss Whole (record { side = s; event = event }) w → AreOwnOrLosses Whole moves (after s event w) → one_if (is_loss event) + losses moves ≤ b → Comes n w (record { side = s; event = event } ∷ moves)
+  first : (b n : ℕ) (s : Side) (event : PairEvent) (w : World) (moves : List Move) → Bounds b n w
+      → Rest moves → IsOwnOrLoss Whole (record { side = s; event = event }) w
+      → AreOwnOrLosses Whole moves (after s event w) → one_if (is_loss event) + losses moves ≤ b
+      → Comes n w (record { side = s; event = event } ∷ moves)
   first b n s Deliver w moves bounds rest one own le =
-      let is_own : IsOwn Whole (record { side = s; event = Deliver }) w = record { due = refl; admitted = one.admitted } in
-      falls_on b n s Deliver w moves refl bounds is_own (deliver n s w bounds.keeps is_own bounds.phase) rest own (omega (arith, le))
+      let is_own : IsOwn Whole (record { side = s; event = Deliver }) w =
+      record { due = refl; admitted = one.admitted } in
+      falls_on b n s Deliver w moves refl bounds is_own
+      (deliver n s w bounds.keeps is_own bounds.phase) rest own (omega (arith, le))
   first b n s (Lose i) w moves bounds rest one own le =
       let some : b ≡ (b - 1) + 1 = omega (arith, le) in
-      let r = rest (b - 1) (n + rise) (after s (Lose i) w) (lose (b - 1) n i s w (subst (λ m. Bounds m n w) some bounds) one.admitted) own (omega (arith, le)) in
+      let r =
+      rest (b - 1) (n + rise) (after s (Lose i) w)
+      (lose (b - 1) n i s w (subst (λ m. Bounds m n w) some bounds) one.admitted) own
+      (omega (arith, le)) in
       let few = r.few in
       record { few = omega (arith, few); keeps = r.keeps }
   first b n s Expire200 w moves bounds rest one own le =
-      let is_own : IsOwn Whole (record { side = s; event = Expire200 }) w = record { due = one.due; admitted = one.admitted } in
-      falls_on b n s Expire200 w moves refl bounds is_own (own_expires_200 b n s w.user w.network w.to_user w.to_network bounds is_own) rest own (omega (arith, le))
+      let is_own : IsOwn Whole (record { side = s; event = Expire200 }) w =
+      record { due = one.due; admitted = one.admitted } in
+      falls_on b n s Expire200 w moves refl bounds is_own
+      (own_expires_200 b n s w.user w.network w.to_user w.to_network bounds is_own) rest own
+      (omega (arith, le))
   first b n s Expire203 w moves bounds rest one own le =
-      let is_own : IsOwn Whole (record { side = s; event = Expire203 }) w = record { due = one.due; admitted = one.admitted } in
-      falls_on b n s Expire203 w moves refl bounds is_own (own_expires_203 b n s w.user w.network w.to_user w.to_network bounds is_own) rest own (omega (arith, le))
+      let is_own : IsOwn Whole (record { side = s; event = Expire203 }) w =
+      record { due = one.due; admitted = one.admitted } in
+      falls_on b n s Expire203 w moves refl bounds is_own
+      (own_expires_203 b n s w.user w.network w.to_user w.to_network bounds is_own) rest own
+      (omega (arith, le))
   first b n s event w moves bounds rest one own le = let due = one.due in cc
 
-  comes : (moves : List Move) (b n : ℕ) (w : World) → Bounds b n w → AreOwnOrLosses Whole moves w → losses moves ≤ b → Comes n w moves
+  comes : (moves : List Move) (b n : ℕ) (w : World) → Bounds b n w → AreOwnOrLosses Whole moves w
+      → losses moves ≤ b → Comes n w moves
   comes [] b n w bounds own le = record { few = omega arith; keeps = bounds.keeps }
-  comes (move ∷ moves) b n w bounds own le = first b n move.side move.event w moves bounds (λ c m v bounds rest few. comes moves c m v bounds rest few) own.0 own.1 le
+  comes (move ∷ moves) b n w bounds own le =
+      first b n move.side move.event w moves bounds
+      (λ c m v bounds rest few. comes moves c m v bounds rest few) own.0 own.1 le
 
   -- from any world
-  pub moves_counted : (b : ℕ) (w : World) → Keeps N l w → Holds b w → (moves : List Move) → AreOwnOrLosses Whole moves w → losses moves ≤ b → Comes (most_deliveries w + most) w moves
+  pub moves_counted : (b : ℕ) (w : World) → Keeps N l w → Holds b w → (moves : List Move)
+      → AreOwnOrLosses Whole moves w → losses moves ≤ b → Comes (most_deliveries w + most) w moves
   moves_counted b w k held moves own le =
-      comes moves b (most_deliveries w + most) w (record { keeps = k; holds = held; phase = inl (record { m = most_deliveries w; flow = runs.flow_begins w k.facts.holds k.preserved; few = omega arith }) }) own le
+      comes moves b (most_deliveries w + most) w
+      (record {
+        keeps = k;
+        holds = held;
+        phase =
+            inl (record {
+              m = most_deliveries w;
+              flow = runs.flow_begins w k.facts.holds k.preserved;
+              few = omega arith;
+            });
+      }) own le

@@ -50,7 +50,7 @@ use Rattle.lapd_recovery_laws.proofs.Lost.{at}
 use Rattle.lapd_recovery_laws.proofs.LostMoves.{moved_user}
 use Rattle.lapd_recovery_laws.proofs.OpenAfterRuns.{up_on_tags}
 use Rattle.lapd_recovery_laws.proofs.OpenFrames.{Stays, open_delivered}
-use Rattle.lapd_recovery_laws.proofs.Outage.{Facts, second_of}
+use Rattle.lapd_recovery_laws.proofs.OutageWorlds.{Facts, second_of}
 use Rattle.lapd_recovery_laws.proofs.OwnOnTags.{rests_by_tags, ran_on_tags}
 use Rattle.lapd_recovery_laws.proofs.RunsEmpty as runs
 use Rattle.lapd_recovery_laws.proofs.Transitions.{timers_in}
@@ -59,7 +59,8 @@ use Rattle.lapd_recovery_laws.proofs.Transitions.{timers_in}
 record Tries (b : ℕ) (x : End) (out back : List Kind) : Type 0 where
   open_state : is_7_or_8 x.state ≡ true
   spare : b + 1 ≤ x.parameters.n200
-  tries : x.state ≡ TimerRecovery → x.rc + b + 1 ≤ x.parameters.n200 + tally poll_of out + tally final_of back
+  tries : x.state ≡ TimerRecovery
+      → x.rc + b + 1 ≤ x.parameters.n200 + tally poll_of out + tally final_of back
 
 record Lasts (b : ℕ) (w : World) : Type 0 where
   user : Tries b w.user.end (kinds w.to_network) (kinds w.to_user)
@@ -75,18 +76,33 @@ record Goes (b : ℕ) (w now : World) : Type 0 where
   network_dropped : now.network.history.dropped ≡ w.network.history.dropped
 
 goes_swapped : (b : ℕ) (w now : World) → Goes b (swapped w) now → Goes b w (swapped now)
-goes_swapped b w now g = record { lasts = lasts_swapped b now g.lasts; user_dropped = g.network_dropped; network_dropped = g.user_dropped }
+goes_swapped b w now g = record {
+  lasts = lasts_swapped b now g.lasts;
+  user_dropped = g.network_dropped;
+  network_dropped = g.user_dropped;
+}
 
-by_swap : (b : ℕ) (event : PairEvent) (w : World) → Goes b (swapped w) (after side.User event (swapped w)) → Goes b w (after side.Network event w)
-by_swap b event w g = subst (λ u. Goes b w u) (sym (network_alike Whole event w)) (goes_swapped b w (after side.User event (swapped w)) g)
+by_swap : (b : ℕ) (event : PairEvent) (w : World)
+    → Goes b (swapped w) (after side.User event (swapped w)) → Goes b w (after side.Network event w)
+by_swap b event w g =
+    subst (λ u. Goes b w u) (sym (network_alike Whole event w))
+    (goes_swapped b w (after side.User event (swapped w)) g)
 
 -- the values of an end that does not move
-fewer_lost : (b : ℕ) (x : End) (out out_now back back_now : List Kind) → tally poll_of out + tally final_of back ≤ tally poll_of out_now + tally final_of back_now → Tries b x out back → Tries b x out_now back_now
-fewer_lost b x out out_now back back_now le t = record { open_state = t.open_state; spare = t.spare; tries = λ is. let enough = t.tries is in omega (arith, enough, le) }
+fewer_lost : (b : ℕ) (x : End) (out out_now back back_now : List Kind)
+    → tally poll_of out + tally final_of back ≤ tally poll_of out_now + tally final_of back_now
+    → Tries b x out back → Tries b x out_now back_now
+fewer_lost b x out out_now back back_now le t = record {
+  open_state = t.open_state;
+  spare = t.spare;
+  tries = λ is. let enough = t.tries is in omega (arith, enough, le);
+}
 
 -- ---- A frame is delivered.
 
-module _ (x y : Station) (frame : Flight) (rest outgoing : List Flight) (i : IsInvariant (at x y (frame ∷ rest) outgoing)) (settled : IsSettledEnd x.end) (x_opened : is_7_or_8 x.end.state ≡ true) (y_opened : is_7_or_8 y.end.state ≡ true) where
+module _ (x y : Station) (frame : Flight) (rest outgoing : List Flight)
+    (i : IsInvariant (at x y (frame ∷ rest) outgoing)) (settled : IsSettledEnd x.end)
+    (x_opened : is_7_or_8 x.end.state ≡ true) (y_opened : is_7_or_8 y.end.state ≡ true) where
   abbrev v : View
   v = seeing x (frame ∷ rest) outgoing
 
@@ -97,18 +113,30 @@ module _ (x y : Station) (frame : Flight) (rest outgoing : List Flight) (i : IsI
       omega (arith, one, none)
 
   abbrev pub IsOpen : View → Type 0
-  IsOpen u = Stays x.end x.history.dropped (kind frame) outgoing u.station.end u.station.history.dropped u.outgoing × (u.incoming ≡ rest)
+  IsOpen u =
+      Stays x.end x.history.dropped (kind frame) outgoing u.station.end u.station.history.dropped
+      u.outgoing × (u.incoming ≡ rest)
 
   pub stays_open : IsOpen (left_by v (acts Whole side.User Deliver v))
   unfolding acts delivers receives step view_after
-  stays_open = ((open_delivered x y frame rest outgoing i.user_base i.network_base settled x_opened i.both).1.0 no_ask, refl)
+  stays_open = (
+    (open_delivered x y frame rest outgoing i.user_base i.network_base settled x_opened
+        i.both).1.0 no_ask,
+    refl,
+  )
 
-module _ (b : ℕ) (x y : Station) (frame : Flight) (rest outgoing : List Flight) (i : IsInvariant (at x y (frame ∷ rest) outgoing)) (settled : IsSettledEnd x.end) (l : Lasts b (at x y (frame ∷ rest) outgoing)) where
-  goes_on : (u : View) → u.station.end.parameters ≡ x.end.parameters → IsOpen x y frame rest outgoing i settled l.user.open_state l.network.open_state u → Goes b (at x y (frame ∷ rest) outgoing) (with_view side.User u (at x y (frame ∷ rest) outgoing))
+module _ (b : ℕ) (x y : Station) (frame : Flight) (rest outgoing : List Flight)
+    (i : IsInvariant (at x y (frame ∷ rest) outgoing)) (settled : IsSettledEnd x.end)
+    (l : Lasts b (at x y (frame ∷ rest) outgoing)) where
+  goes_on : (u : View) → u.station.end.parameters ≡ x.end.parameters
+      → IsOpen x y frame rest outgoing i settled l.user.open_state l.network.open_state u
+      → Goes b (at x y (frame ∷ rest) outgoing)
+      (with_view side.User u (at x y (frame ∷ rest) outgoing))
   goes_on u same o =
       let s = o.0 in
       let arriving = ap kinds o.1 in
-      let n200 : u.station.end.parameters.n200 ≡ x.end.parameters.n200 = ap (λ (p : Parameters). p.n200) same in
+      let n200 : u.station.end.parameters.n200 ≡ x.end.parameters.n200 =
+      ap (λ (p : Parameters). p.n200) same in
       let spare = l.user.spare in
       let finals = s.finals in
       let polls = s.polls in
@@ -117,28 +145,47 @@ module _ (b : ℕ) (x y : Station) (frame : Flight) (rest outgoing : List Flight
           user = subst (λ ks. Tries b u.station.end (kinds u.outgoing) ks) (sym arriving) (record {
             open_state = s.open_state;
             spare = omega (arith, n200, spare);
-            tries = λ is. let was = s.in_8 is in let enough = l.user.tries was.0 in let rc = was.1 in let none = was.2 in omega (arith, n200, enough, rc, none, polls);
+            tries =
+                λ is. let was =
+                s.in_8 is in let enough =
+                l.user.tries was.0 in let rc =
+                was.1 in let none = was.2 in omega (arith, n200, enough, rc, none, polls);
           });
-          network = subst (λ ks. Tries b y.end ks (kinds u.outgoing)) (sym arriving) (fewer_lost b y.end (kinds (frame ∷ rest)) (kinds rest) (kinds outgoing) (kinds u.outgoing) (omega (arith, finals)) l.network);
+          network =
+              subst (λ ks. Tries b y.end ks (kinds u.outgoing)) (sym arriving)
+              (fewer_lost b y.end (kinds (frame ∷ rest)) (kinds rest) (kinds outgoing)
+              (kinds u.outgoing) (omega (arith, finals)) l.network);
         };
         user_dropped = s.none_dropped;
         network_dropped = refl;
       }
 
-  user_delivered : Goes b (at x y (frame ∷ rest) outgoing) (after side.User Deliver (at x y (frame ∷ rest) outgoing))
+  user_delivered : Goes b (at x y (frame ∷ rest) outgoing)
+      (after side.User Deliver (at x y (frame ∷ rest) outgoing))
   user_delivered =
       let w = at x y (frame ∷ rest) outgoing in
-      let u = left_by (seeing x (frame ∷ rest) outgoing) (acts Whole side.User Deliver (seeing x (frame ∷ rest) outgoing)) in
-      let same : u.station.end.parameters ≡ x.end.parameters = ap (λ (n : World). n.user.end.parameters) (sym (moved_user Deliver w)) ∙ (same_parameters (user_move Deliver) w i).0 in
-      subst (λ n. Goes b w n) (sym (moved_user Deliver w)) (goes_on u same (stays_open x y frame rest outgoing i settled l.user.open_state l.network.open_state))
+      let u =
+      left_by (seeing x (frame ∷ rest) outgoing)
+      (acts Whole side.User Deliver (seeing x (frame ∷ rest) outgoing)) in
+      let same : u.station.end.parameters ≡ x.end.parameters =
+      ap (λ (n : World). n.user.end.parameters) (sym (moved_user Deliver w))
+      ∙ (same_parameters (user_move Deliver) w i).0 in
+      subst (λ n. Goes b w n) (sym (moved_user Deliver w))
+      (goes_on u same
+      (stays_open x y frame rest outgoing i settled l.user.open_state l.network.open_state))
 
-deliver : (N b : ℕ) (s : Side) (x y : Station) (to_user to_network : List Flight) → Facts N (at x y to_user to_network) → Lasts b (at x y to_user to_network) → is_ok (happens Whole (record { side = s; event = Deliver }) (at x y to_user to_network)) ≡ true → Goes b (at x y to_user to_network) (after s Deliver (at x y to_user to_network))
+deliver : (N b : ℕ) (s : Side) (x y : Station) (to_user to_network : List Flight)
+    → Facts N (at x y to_user to_network) → Lasts b (at x y to_user to_network)
+    → is_ok (happens Whole (record { side = s; event = Deliver }) (at x y to_user to_network))
+    ≡ true → Goes b (at x y to_user to_network) (after s Deliver (at x y to_user to_network))
 deliver N b side.User x y [] to_network f l ok = let none = none_there x y to_network in cc
-deliver N b side.User x y (frame ∷ rest) to_network f l ok = user_delivered b x y frame rest to_network f.holds f.settled.user l
+deliver N b side.User x y (frame ∷ rest) to_network f l ok =
+    user_delivered b x y frame rest to_network f.holds f.settled.user l
 deliver N b side.Network x y to_user [] f l ok = let none = none_there_too x y to_user in cc
 deliver N b side.Network x y to_user (frame ∷ rest) f l ok =
     let w = at x y to_user (frame ∷ rest) in
-    by_swap b Deliver w (user_delivered b y x frame rest to_user (exchanged w f.holds) f.settled.network (lasts_swapped b w l))
+    by_swap b Deliver w (user_delivered b y x frame rest to_user (exchanged w f.holds)
+    f.settled.network (lasts_swapped b w l))
 
 -- ---- T200 expires on an empty line.
 
@@ -149,46 +196,68 @@ module _ (b : ℕ) (x y : Station) (l : Lasts b (at x y [] [])) where
   abbrev empty : World
   empty = at x y [] []
 
-  polled : (rc : ℕ) (u : View) → rc + b ≤ x.end.parameters.n200 → Polls x rc u → Goes b empty (with_view side.User u empty)
+  polled : (rc : ℕ) (u : View) → rc + b ≤ x.end.parameters.n200 → Polls x rc u
+      → Goes b empty (with_view side.User u empty)
   polled rc u enough p =
-      let out : tally poll_of (kinds u.outgoing) ≡ poll_of (kind p.frame) + 0 = ap (λ fs. tally poll_of (kinds fs)) p.outgoing in
+      let out : tally poll_of (kinds u.outgoing) ≡ poll_of (kind p.frame) + 0 =
+      ap (λ fs. tally poll_of (kinds fs)) p.outgoing in
       let one = p.polls in
-      let n200 : u.station.end.parameters.n200 ≡ x.end.parameters.n200 = ap (λ (q : Parameters). q.n200) p.polled.parameters in
+      let n200 : u.station.end.parameters.n200 ≡ x.end.parameters.n200 =
+      ap (λ (q : Parameters). q.n200) p.polled.parameters in
       let rc_is = p.polled.rc_is in
       let spare = l.user.spare in
       record {
         lasts = record {
-          user = record { open_state = ap is_7_or_8 p.polled.in_8; spare = omega (arith, n200, spare); tries = λ _. omega (arith, out, one, n200, rc_is, enough) };
-          network = fewer_lost b y.end [] (kinds u.incoming) [] (kinds u.outgoing) (omega arith) l.network;
+          user = record {
+            open_state = ap is_7_or_8 p.polled.in_8;
+            spare = omega (arith, n200, spare);
+            tries = λ _. omega (arith, out, one, n200, rc_is, enough);
+          };
+          network =
+              fewer_lost b y.end [] (kinds u.incoming) [] (kinds u.outgoing) (omega arith)
+              l.network;
         };
         user_dropped = p.none_dropped;
         network_dropped = refl;
       }
 
   user_expires : x.end.t200 ≡ true → Goes b empty (after side.User Expire200 empty)
-  user_expires on = subst (λ n. Goes b empty n) (sym (moved_user Expire200 empty)) (by_state x.end.state refl l.user.open_state)
+  user_expires on =
+      subst (λ n. Goes b empty n) (sym (moved_user Expire200 empty))
+      (by_state x.end.state refl l.user.open_state)
     where
       u : View
       u = left_by (seeing x [] []) (acts Whole side.User Expire200 (seeing x [] []))
 
-      by_state : (state : State) → x.end.state ≡ state → is_7_or_8 state ≡ true → Goes b empty (with_view side.User u empty)
-      by_state MultipleFrameEstablished is o = let spare = l.user.spare in polled 1 u (omega (arith, spare)) (polls_by_t200 x is on)
+      by_state : (state : State) → x.end.state ≡ state → is_7_or_8 state ≡ true
+          → Goes b empty (with_view side.User u empty)
+      by_state MultipleFrameEstablished is o =
+          let spare = l.user.spare in polled 1 u (omega (arith, spare)) (polls_by_t200 x is on)
       by_state TimerRecovery is o =
           let enough = l.user.tries is in
-          polled (x.end.rc + 1) u (omega (arith, enough)) (polls_again x is on (less x.end.rc x.end.parameters.n200 (omega (arith, enough))))
+          polled (x.end.rc + 1) u (omega (arith, enough))
+          (polls_again x is on (less x.end.rc x.end.parameters.n200 (omega (arith, enough))))
       by_state TeiAssigned is o = cc
       by_state AwaitingEstablishment is o = cc
       by_state AwaitingRelease is o = cc
 
-expire : (b : ℕ) (s : Side) (x y : Station) (to_user to_network : List Flight) → Lasts b (at x y to_user to_network) → is_due Expire200 (at x y to_user to_network) ≡ true → is_ok (happens Whole (record { side = s; event = Expire200 }) (at x y to_user to_network)) ≡ true → Goes b (at x y to_user to_network) (after s Expire200 (at x y to_user to_network))
-expire b side.User x y [] [] l due ok = user_expires b x y l (t200_runs (seeing x [] []) (ok_of_side side.User Expire200 (at x y [] []) ok))
-expire b side.Network x y [] [] l due ok = by_swap b Expire200 (at x y [] []) (user_expires b y x (lasts_swapped b (at x y [] []) l) (t200_runs (seeing y [] []) (ok_of_side side.Network Expire200 (at x y [] []) ok)))
+expire : (b : ℕ) (s : Side) (x y : Station) (to_user to_network : List Flight)
+    → Lasts b (at x y to_user to_network) → is_due Expire200 (at x y to_user to_network) ≡ true
+    → is_ok (happens Whole (record { side = s; event = Expire200 }) (at x y to_user to_network))
+    ≡ true → Goes b (at x y to_user to_network) (after s Expire200 (at x y to_user to_network))
+expire b side.User x y [] [] l due ok =
+    user_expires b x y l
+    (t200_runs (seeing x [] []) (ok_of_side side.User Expire200 (at x y [] []) ok))
+expire b side.Network x y [] [] l due ok =
+    by_swap b Expire200 (at x y [] []) (user_expires b y x (lasts_swapped b (at x y [] []) l)
+    (t200_runs (seeing y [] []) (ok_of_side side.Network Expire200 (at x y [] []) ok)))
 expire b s x y (frame ∷ rest) to_network l due ok = cc
 expire b s x y [] (frame ∷ rest) l due ok = cc
 
 -- T203 does not: both ends are in state 7, or T200 runs
 never_203 : (b : ℕ) (w : World) → Lasts b w → HaveTimersOfStates w → is_due Expire203 w ≡ true → ⊥
-never_203 b w l have due = by_states w.user.end.state w.network.end.state refl refl l.user.open_state l.network.open_state
+never_203 b w l have due =
+    by_states w.user.end.state w.network.end.state refl refl l.user.open_state l.network.open_state
   where
     off : not (w.user.end.t200 || w.network.end.t200) ≡ true
     off = second_of (is_line_empty w) _ (are_apart w) due
@@ -205,10 +274,16 @@ never_203 b w l have due = by_states w.user.end.state w.network.end.state refl r
     network_off false true is on = cc
     network_off false false is on = cc
 
-    by_states : (one other : State) → w.user.end.state ≡ one → w.network.end.state ≡ other → is_7_or_8 one ≡ true → is_7_or_8 other ≡ true → ⊥
-    by_states TimerRecovery other is its_is o p = user_off w.user.end.t200 w.network.end.t200 off (timers_in TimerRecovery w.user.end have.user is).0
-    by_states MultipleFrameEstablished TimerRecovery is its_is o p = network_off w.user.end.t200 w.network.end.t200 off (timers_in TimerRecovery w.network.end have.network its_is).0
-    by_states MultipleFrameEstablished MultipleFrameEstablished is its_is o p = let never : are_apart w ≡ false = rw (is, its_is) refl in let yes_ = apart in cc
+    by_states : (one other : State) → w.user.end.state ≡ one → w.network.end.state ≡ other
+        → is_7_or_8 one ≡ true → is_7_or_8 other ≡ true → ⊥
+    by_states TimerRecovery other is its_is o p =
+        user_off w.user.end.t200 w.network.end.t200 off
+        (timers_in TimerRecovery w.user.end have.user is).0
+    by_states MultipleFrameEstablished TimerRecovery is its_is o p =
+        network_off w.user.end.t200 w.network.end.t200 off
+        (timers_in TimerRecovery w.network.end have.network its_is).0
+    by_states MultipleFrameEstablished MultipleFrameEstablished is its_is o p =
+        let never : are_apart w ≡ false = rw (is, its_is) refl in let yes_ = apart in cc
     by_states one other is its_is o p = cc
 
 -- ---- A frame is lost.
@@ -226,16 +301,26 @@ one_final : (k : Kind) → final_of k ≤ 1
 one_final (Final nr) = omega arith
 one_final k = omega arith
 
-tally_lost : (f : Kind → ℕ) → ((k : Kind) → f k ≤ 1) → (at : ℕ) (line : List Flight) → at + 1 ≤ length line → tally f (kinds line) ≤ tally f (kinds (without_lost at line)) + 1
+tally_lost : (f : Kind → ℕ) → ((k : Kind) → f k ≤ 1) → (at : ℕ) (line : List Flight)
+    → at + 1 ≤ length line → tally f (kinds line) ≤ tally f (kinds (without_lost at line)) + 1
 tally_lost f one at [] there = absurd (omega (arith, there))
 tally_lost f one zero (g ∷ gs) there = let few = one (kind g) in omega (arith, few)
-tally_lost f one (suc at) (g ∷ gs) there = let rest = tally_lost f one at gs (omega (arith, there)) in omega (arith, rest)
+tally_lost f one (suc at) (g ∷ gs) there =
+    let rest = tally_lost f one at gs (omega (arith, there)) in omega (arith, rest)
 
 -- one loss less may follow
-one_less : (b : ℕ) (x : End) (out out_now back back_now : List Kind) → tally poll_of out + tally final_of back ≤ tally poll_of out_now + tally final_of back_now + 1 → Tries (b + 1) x out back → Tries b x out_now back_now
-one_less b x out out_now back back_now le t = record { open_state = t.open_state; spare = (let spare = t.spare in omega (arith, spare)); tries = λ is. let enough = t.tries is in omega (arith, enough, le) }
+one_less : (b : ℕ) (x : End) (out out_now back back_now : List Kind)
+    → tally poll_of out + tally final_of back ≤ tally poll_of out_now + tally final_of back_now + 1
+    → Tries (b + 1) x out back → Tries b x out_now back_now
+one_less b x out out_now back back_now le t = record {
+  open_state = t.open_state;
+  spare = (let spare = t.spare in omega (arith, spare));
+  tries = λ is. let enough = t.tries is in omega (arith, enough, le);
+}
 
-user_lost : (b i : ℕ) (w : World) → Lasts (b + 1) w → is_ok (acts Whole side.User (Lose i) (view_of side.User w)) ≡ true → Goes b w (after side.User (Lose i) w)
+user_lost : (b i : ℕ) (w : World) → Lasts (b + 1) w
+    → is_ok (acts Whole side.User (Lose i) (view_of side.User w)) ≡ true
+    → Goes b w (after side.User (Lose i) w)
 user_lost b i w l ok =
     let v = view_of side.User w in
     let g = user_loses i v ok in
@@ -244,16 +329,24 @@ user_lost b i w l ok =
     let F : View → Type 0 = λ u. Goes b w (with_view side.User u w) in
     subst (λ u. Goes b w u) (sym (moved_user (Lose i) w)) (subst F (sym g.same) (record {
       lasts = record {
-        user = one_less b w.user.end (kinds w.to_network) (kinds w.to_network) (kinds w.to_user) (kinds (without_lost i w.to_user)) (omega (arith, finals)) l.user;
-        network = one_less b w.network.end (kinds w.to_user) (kinds (without_lost i w.to_user)) (kinds w.to_network) (kinds w.to_network) (omega (arith, polls)) l.network;
+        user =
+            one_less b w.user.end (kinds w.to_network) (kinds w.to_network) (kinds w.to_user)
+            (kinds (without_lost i w.to_user)) (omega (arith, finals)) l.user;
+        network =
+            one_less b w.network.end (kinds w.to_user) (kinds (without_lost i w.to_user))
+            (kinds w.to_network) (kinds w.to_network) (omega (arith, polls)) l.network;
       };
       user_dropped = refl;
       network_dropped = refl;
     }))
 
-lose : (b i : ℕ) (s : Side) (w : World) → Lasts (b + 1) w → is_ok (happens Whole (record { side = s; event = Lose i }) w) ≡ true → Goes b w (after s (Lose i) w)
+lose : (b i : ℕ) (s : Side) (w : World) → Lasts (b + 1) w
+    → is_ok (happens Whole (record { side = s; event = Lose i }) w) ≡ true
+    → Goes b w (after s (Lose i) w)
 lose b i side.User w l ok = user_lost b i w l (ok_of_side side.User (Lose i) w ok)
-lose b i side.Network w l ok = by_swap b (Lose i) w (user_lost b i (swapped w) (lasts_swapped (b + 1) w l) (ok_of_side side.Network (Lose i) w ok))
+lose b i side.Network w l ok =
+    by_swap b (Lose i) w
+    (user_lost b i (swapped w) (lasts_swapped (b + 1) w l) (ok_of_side side.Network (Lose i) w ok))
 
 -- ---- All of them.
 
@@ -265,36 +358,70 @@ record Through (w now : World) : Type 0 where
 
 module _ (N : ℕ) where
   abbrev Rest : List Move → Type 0
-  Rest moves = (b : ℕ) (w : World) → Facts N w → Lasts b w → AreOwnOrLosses Whole moves w → losses moves ≤ b → Through w (run Whole moves w)
+  Rest moves =
+      (b : ℕ) (w : World) → Facts N w → Lasts b w → AreOwnOrLosses Whole moves w → losses moves ≤ b
+      → Through w (run Whole moves w)
 
-  then_on : (b : ℕ) (s : Side) (event : PairEvent) (w : World) (moves : List Move) → Facts N w → Goes b w (after s event w) → Rest moves → AreOwnOrLosses Whole moves (after s event w) → losses moves ≤ b → Through w (run Whole moves (after s event w))
+  then_on : (b : ℕ) (s : Side) (event : PairEvent) (w : World) (moves : List Move) → Facts N w
+      → Goes b w (after s event w) → Rest moves → AreOwnOrLosses Whole moves (after s event w)
+      → losses moves ≤ b → Through w (run Whole moves (after s event w))
   then_on b s event w moves f g rest own le =
-      let r = rest b (after s event w) (facts_after N (record { side = s; event = event }) w f) g.lasts own le in
-      record { user = r.user; network = r.network; user_dropped = r.user_dropped ∙ g.user_dropped; network_dropped = r.network_dropped ∙ g.network_dropped }
+      let r =
+      rest b (after s event w) (facts_after N (record { side = s; event = event }) w f)
+      g.lasts own le in
+      record {
+        user = r.user;
+        network = r.network;
+        user_dropped = r.user_dropped ∙ g.user_dropped;
+        network_dropped = r.network_dropped ∙ g.network_dropped;
+      }
 
-  first : (b : ℕ) (s : Side) (event : PairEvent) (w : World) (moves : List Move) → Facts N w → Lasts b w → Rest moves → IsOwnOrLoss Whole (record { side = s; event = event }) w → AreOwnOrLosses Whole moves (after s event w) → one_if (is_loss event) + losses moves ≤ b → Through w (run Whole moves (after s event w))
-  first b s Deliver w moves f l rest one own le = then_on b s Deliver w moves f (deliver N b s w.user w.network w.to_user w.to_network f l one.admitted) rest own (omega (arith, le))
+  first : (b : ℕ) (s : Side) (event : PairEvent) (w : World) (moves : List Move) → Facts N w
+      → Lasts b w → Rest moves → IsOwnOrLoss Whole (record { side = s; event = event }) w
+      → AreOwnOrLosses Whole moves (after s event w) → one_if (is_loss event) + losses moves ≤ b
+      → Through w (run Whole moves (after s event w))
+  first b s Deliver w moves f l rest one own le =
+      then_on b s Deliver w moves f
+      (deliver N b s w.user w.network w.to_user w.to_network f l one.admitted) rest own
+      (omega (arith, le))
   first b s (Lose i) w moves f l rest one own le =
       let some : b ≡ (b - 1) + 1 = omega (arith, le) in
-      then_on (b - 1) s (Lose i) w moves f (lose (b - 1) i s w (subst (λ n. Lasts n w) some l) one.admitted) rest own (omega (arith, le))
-  first b s Expire200 w moves f l rest one own le = then_on b s Expire200 w moves f (expire b s w.user w.network w.to_user w.to_network l one.due one.admitted) rest own (omega (arith, le))
+      then_on (b - 1) s (Lose i) w moves f
+      (lose (b - 1) i s w (subst (λ n. Lasts n w) some l) one.admitted) rest own
+      (omega (arith, le))
+  first b s Expire200 w moves f l rest one own le =
+      then_on b s Expire200 w moves f
+      (expire b s w.user w.network w.to_user w.to_network l one.due one.admitted) rest own
+      (omega (arith, le))
   first b s Expire203 w moves f l rest one own le = absurd (never_203 b w l f.have one.due)
   first b s event w moves f l rest one own le = let due = one.due in cc
 
-  goes_through : (moves : List Move) (b : ℕ) (w : World) → Facts N w → Lasts b w → AreOwnOrLosses Whole moves w → losses moves ≤ b → Through w (run Whole moves w)
-  goes_through [] b w f l own le = record { user = l.user.open_state; network = l.network.open_state; user_dropped = refl; network_dropped = refl }
-  goes_through (move ∷ moves) b w f l own le = first b move.side move.event w moves f l (λ m v facts lasts rest few. goes_through moves m v facts lasts rest few) own.0 own.1 le
+  goes_through : (moves : List Move) (b : ℕ) (w : World) → Facts N w → Lasts b w
+      → AreOwnOrLosses Whole moves w → losses moves ≤ b → Through w (run Whole moves w)
+  goes_through [] b w f l own le = record {
+    user = l.user.open_state;
+    network = l.network.open_state;
+    user_dropped = refl;
+    network_dropped = refl;
+  }
+  goes_through (move ∷ moves) b w f l own le =
+      first b move.side move.event w moves f l
+      (λ m v facts lasts rest few. goes_through moves m v facts lasts rest few) own.0 own.1 le
 
 -- ---- From an open world.
 
 open_level : (x y : End) → is_7_or_8 x.state ≡ true → AreReleased x y ⊎ AreLevel x y → AreLevel x y
-open_level x y o (inl r) = absurd (let closed : is_7_or_8 x.state ≡ false = ap is_7_or_8 r.mine in cc)
+open_level x y o (inl r) =
+    absurd (let closed : is_7_or_8 x.state ≡ false = ap is_7_or_8 r.mine in cc)
 open_level x y o (inr l) = l
 
 -- the weight of an open line
-own_lasts : (b : ℕ) (s : Side) (event : PairEvent) (w : World) (N l : ℕ) → Keeps N l w → Lasts b w → IsOwn Whole (record { side = s; event = event }) w → Lasts b (after s event w)
-own_lasts b s Deliver w N l k held own = (deliver N b s w.user w.network w.to_user w.to_network k.facts held own.admitted).lasts
-own_lasts b s Expire200 w N l k held own = (expire b s w.user w.network w.to_user w.to_network held own.due own.admitted).lasts
+own_lasts : (b : ℕ) (s : Side) (event : PairEvent) (w : World) (N l : ℕ) → Keeps N l w → Lasts b w
+    → IsOwn Whole (record { side = s; event = event }) w → Lasts b (after s event w)
+own_lasts b s Deliver w N l k held own =
+    (deliver N b s w.user w.network w.to_user w.to_network k.facts held own.admitted).lasts
+own_lasts b s Expire200 w N l k held own =
+    (expire b s w.user w.network w.to_user w.to_network held own.due own.admitted).lasts
 own_lasts b s Expire203 w N l k held own = absurd (never_203 b w held k.facts.have own.due)
 own_lasts b s event w N l k held own = let due = own.due in cc
 
@@ -307,71 +434,133 @@ open_weight N some l = record {
       let v = held.network in
       record {
         m = n + 8;
-        weight = drains_at N some n x y (record { facts = k.facts; preserved = k.preserved; flow = flow; user_free = k.user_free; network_free = k.network_free }) u.open_state v.open_state
-            (λ is. let enough = u.tries is in less x.end.rc x.end.parameters.n200 (omega (arith, enough)))
-            (λ is. let enough = v.tries is in less y.end.rc y.end.parameters.n200 (omega (arith, enough)));
+        weight =
+            drains_at N some n x y (record {
+              facts = k.facts;
+              preserved = k.preserved;
+              flow = flow;
+              user_free = k.user_free;
+              network_free = k.network_free;
+            }) u.open_state
+            v.open_state
+            (λ is. let enough =
+            u.tries is in less x.end.rc x.end.parameters.n200 (omega (arith, enough)))
+            (λ is. let enough =
+            v.tries is in less y.end.rc y.end.parameters.n200 (omega (arith, enough)));
         few = omega arith;
       };
-  falls = λ n s event w weight k own. let m = own_moves_on false n (record { side = s; event = event }) w weight (λ is last. cc) k.facts.have own in record { some_left = m.some; weight = m.draining };
+  falls =
+      λ n s event w weight k own. let m =
+      own_moves_on false n (record { side = s; event = event }) w weight (λ is last. cc)
+      k.facts.have own in record { some_left = m.some; weight = m.draining };
 }
 
-few_losses : (N lost : ℕ) → 1 ≤ N → (w : World) → Facts N w → IsConsistentWorld Whole w → OutlastLosses lost w → KeepsAll Whole lost w
+few_losses : (N lost : ℕ) → 1 ≤ N → (w : World) → Facts N w → IsConsistentWorld Whole w
+    → OutlastLosses lost w → KeepsAll Whole lost w
 few_losses N lost some w f preserved o = record {
   few = λ moves own le.
       let all = runs.left_waits w preserved in
-      let k : Keeps N (left w) w = record { facts = f; preserved = preserved; user_free = o.user.free; network_free = o.network.free; few = omega (arith, all) } in
-      let few = (moves_counted N (left w) 8 Lasts (λ n v. Draining false n v) (open_weight N some (left w)) lost w k begins moves own le).few in
+      let k : Keeps N (left w) w =
+      record {
+        facts = f;
+        preserved = preserved;
+        user_free = o.user.free;
+        network_free = o.network.free;
+        few = omega (arith, all);
+      } in
+      let few =
+      (moves_counted N (left w) 8 Lasts (λ n v. Draining false n v)
+      (open_weight N some (left w)) lost w k begins moves own le).few in
       let more = mul-le (losses moves) (4 * left w + 15) lost (4 * left w + 15) le (omega arith) in
       omega (arith, few, more);
-  stays = λ moves own le. let t = through moves own le in record { user = t.user; network = t.network; user_dropped = t.user_dropped; network_dropped = t.network_dropped };
+  stays =
+      λ moves own le. let t =
+      through moves own le in record {
+        user = t.user;
+        network = t.network;
+        user_dropped = t.user_dropped;
+        network_dropped = t.network_dropped;
+      };
   up = λ moves own le rests.
       let now = run Whole moves w in
       let t = through moves own le in
-      let agreed = (despite_losses N some w f preserved o.user.free o.network.free).agreed moves own rests in
+      let agreed =
+      (despite_losses N some w f preserved o.user.free o.network.free).agreed moves own
+      rests in
       let kept = run_consistent Whole moves w preserved in
       let empty = agreed.empty in
       record {
         agreed = agreed;
         level = open_level now.user.end now.network.end t.user agreed.ends;
         user = side_served w.user now.user kept.user.settled (omega (arith, empty)) t.user_dropped;
-        network = side_served w.network now.network kept.network.settled (omega (arith, empty)) t.network_dropped;
+        network =
+            side_served w.network now.network kept.network.settled (omega (arith, empty))
+            t.network_dropped;
         safe = safe_by_invariant now (each_run_preserves moves w f.holds);
       };
 }
   where
     tries_so : (e : End) (out back : List Kind) → Outlasts lost e → Tries lost e out back
-    tries_so e out back u = record { open_state = u.open_state; spare = (let retries = u.retries in omega (arith, retries)); tries = λ is. let enough = u.tries is in omega (arith, enough) }
+    tries_so e out back u = record {
+      open_state = u.open_state;
+      spare = (let retries = u.retries in omega (arith, retries));
+      tries = λ is. let enough = u.tries is in omega (arith, enough);
+    }
 
     begins : Lasts lost w
-    begins = record { user = tries_so w.user.end (kinds w.to_network) (kinds w.to_user) o.user; network = tries_so w.network.end (kinds w.to_user) (kinds w.to_network) o.network }
+    begins = record {
+      user = tries_so w.user.end (kinds w.to_network) (kinds w.to_user) o.user;
+      network = tries_so w.network.end (kinds w.to_user) (kinds w.to_network) o.network;
+    }
 
-    through : (moves : List Move) → AreOwnOrLosses Whole moves w → losses moves ≤ lost → Through w (run Whole moves w)
+    through : (moves : List Move) → AreOwnOrLosses Whole moves w → losses moves ≤ lost
+        → Through w (run Whole moves w)
     through moves own le = goes_through N moves lost w f begins own le
 
 -- ---- After every run, on whole numbers and on tags.
 
-on_tags : (lost : ℕ) (w : World) → IsInvariant w → IsConsistentWorld Whole w → KeepsAll Whole lost w → KeepsAll Tagged lost (tag_world w)
+on_tags : (lost : ℕ) (w : World) → IsInvariant w → IsConsistentWorld Whole w → KeepsAll Whole lost w
+    → KeepsAll Tagged lost (tag_world w)
 on_tags lost w i preserved k = record {
   few = λ moves own le.
-      let same : most_open_moves lost (tag_world w) ≡ most_open_moves lost w = let l = left_on_tags w in let f = runs.frames_on_tags w in ap (λ j. 2 * j + 3 * left (tag_world w) + 12 + lost * (4 * left (tag_world w) + 15)) f ∙ ap (λ j. 2 * frames w + 3 * j + 12 + lost * (4 * j + 15)) l in
+      let same : most_open_moves lost (tag_world w) ≡ most_open_moves lost w =
+      let l = left_on_tags w in
+      let f = runs.frames_on_tags w in
+      ap (λ j. 2 * j + 3 * left (tag_world w) + 12 + lost * (4 * left (tag_world w) + 15)) f
+      ∙ ap (λ j. 2 * frames w + 3 * j + 12 + lost * (4 * j + 15)) l in
       let few = k.few moves (own_or_losses_by_tags moves w i preserved own) le in
       omega (arith, same, few);
   stays = λ moves own le.
       let now = run Whole moves w in
       let same : run Tagged moves (tag_world w) ≡ tag_world now = ran_on_tags moves w i preserved in
       let s = k.stays moves (own_or_losses_by_tags moves w i preserved own) le in
-      subst (λ v. StaysOpen (tag_world w) v) (sym same) (record { user = s.user; network = s.network; user_dropped = s.user_dropped; network_dropped = s.network_dropped });
+      subst (λ v. StaysOpen (tag_world w) v) (sym same)
+      (record {
+        user = s.user;
+        network = s.network;
+        user_dropped = s.user_dropped;
+        network_dropped = s.network_dropped;
+      });
   up = λ moves own le rests.
       let now = run Whole moves w in
       let same : run Tagged moves (tag_world w) ≡ tag_world now = ran_on_tags moves w i preserved in
-      let still : Rests Whole now = rests_by_tags now (each_run_preserves moves w i) (run_consistent Whole moves w preserved) (subst (λ v. Rests Tagged v) same rests) in
-      subst (λ v. IsUp (tag_world w) v) (sym same) (up_on_tags w now (k.up moves (own_or_losses_by_tags moves w i preserved own) le still));
+      let still : Rests Whole now =
+      rests_by_tags now (each_run_preserves moves w i)
+      (run_consistent Whole moves w preserved) (subst (λ v. Rests Tagged v) same rests) in
+      subst (λ v. IsUp (tag_world w) v) (sym same)
+      (up_on_tags w now (k.up moves (own_or_losses_by_tags moves w i preserved own) le still));
 }
 
 outlasts_by_tags : (lost : ℕ) (e : End) → Outlasts lost (tag_end e) → Outlasts lost e
-outlasts_by_tags lost e o = record { open_state = o.open_state; free = free_by_tags e o.free; retries = o.retries; tries = o.tries }
+outlasts_by_tags lost e o = record {
+  open_state = o.open_state;
+  free = free_by_tags e o.free;
+  retries = o.retries;
+  tries = o.tries;
+}
 
-module _ (user network : Parameters) (user_small : user.k ≤ 127) (network_small : network.k ≤ 127) (user_some : 1 ≤ user.k) (network_some : 1 ≤ network.k) (moves : List Move) (lost : ℕ) where
+module _ (user network : Parameters) (user_small : user.k ≤ 127) (network_small : network.k ≤ 127)
+    (user_some : 1 ≤ user.k) (network_some : 1 ≤ network.k) (moves : List Move) (lost : ℕ) where
   abbrev reached : World
   reached = run Whole moves (new_world user network)
 
@@ -385,15 +574,30 @@ module _ (user network : Parameters) (user_small : user.k ≤ 127) (network_smal
   keeps_whole o =
       let N = reached.user.end.parameters.n200 + reached.network.end.parameters.n200 in
       let some = o.user.retries in
-      let k = few_losses N lost (omega (arith, some)) reached (runs.facts user network user_small network_small user_some network_some moves N (omega arith) (omega arith)) preserved o in
+      let k =
+      few_losses N lost (omega (arith, some)) reached
+      (runs.facts user network user_small network_small user_some network_some moves N
+      (omega arith) (omega arith)) preserved o in
       k
 
-  keeps_by : (r : Reading) → OutlastLosses lost (run r moves (new_world user network)) → KeepsAll r lost (run r moves (new_world user network))
+  keeps_by : (r : Reading) → OutlastLosses lost (run r moves (new_world user network))
+      → KeepsAll r lost (run r moves (new_world user network))
   keeps_by Whole o = keeps_whole o
   keeps_by Tagged o =
-      let same : run Tagged moves (new_world user network) ≡ tag_world reached = reached_tags user network user_small network_small moves in
-      let there : OutlastLosses lost (tag_world reached) = subst (λ w. OutlastLosses lost w) same o in
-      subst (λ w. KeepsAll Tagged lost w) (sym same) (on_tags lost reached holds preserved (keeps_whole (record { user = outlasts_by_tags lost reached.user.end there.user; network = outlasts_by_tags lost reached.network.end there.network })))
+      let same : run Tagged moves (new_world user network) ≡ tag_world reached =
+      reached_tags user network user_small network_small moves in
+      let there : OutlastLosses lost (tag_world reached) =
+      subst (λ w. OutlastLosses lost w) same o in
+      subst (λ w. KeepsAll Tagged lost w) (sym same)
+      (on_tags lost reached holds preserved
+      (keeps_whole (record {
+        user = outlasts_by_tags lost reached.user.end there.user;
+        network = outlasts_by_tags lost reached.network.end there.network;
+      })))
 
-pub few_losses_drop_nothing : (r : Reading) (user network : Parameters) → user.k ≤ 127 → network.k ≤ 127 → 1 ≤ user.k → 1 ≤ network.k → (moves : List Move) (lost : ℕ) → OutlastLosses lost (run r moves (new_world user network)) → KeepsAll r lost (run r moves (new_world user network))
-few_losses_drop_nothing r user network u n us ns moves lost o = keeps_by user network u n us ns moves lost r o
+pub few_losses_drop_nothing : (r : Reading) (user network : Parameters) → user.k ≤ 127
+    → network.k ≤ 127 → 1 ≤ user.k → 1 ≤ network.k → (moves : List Move) (lost : ℕ)
+    → OutlastLosses lost (run r moves (new_world user network))
+    → KeepsAll r lost (run r moves (new_world user network))
+few_losses_drop_nothing r user network u n us ns moves lost o =
+    keeps_by user network u n us ns moves lost r o

@@ -37,7 +37,10 @@ disc = without_info Command (Disc true)
 -- ---- Outputs with counted messages.
 
 -- the frames of these outputs, with some test in place of the count
-given_up_line : (c leaving : Bool) (n : ℕ) (o : Occasion) (t : Story) → (after_outputs o ((out_where c (Dropped n) ++ Report letter.G ∷ []) ++ release_primitive leaving ∷ []) t).line ≡ t.line
+given_up_line : (c leaving : Bool) (n : ℕ) (o : Occasion) (t : Story)
+    → (after_outputs o
+    ((out_where c (Dropped n) ++ Report letter.G ∷ []) ++ release_primitive leaving ∷ [])
+    t).line ≡ t.line
 given_up_line true true n o t = refl
 given_up_line true false n o t = refl
 given_up_line false true n o t = refl
@@ -56,7 +59,10 @@ refused_line false true false n o t = refl
 refused_line false false true n o t = refl
 refused_line false false false n o t = refl
 
-disconnected_line : (c a b : Bool) (n : ℕ) (o : Occasion) (t : Story) → (after_outputs o ((((out_where c (Dropped n) ++ Send Answer (Ua true) ∷ []) ++ Released ∷ []) ++ out_where a (Stop T200)) ++ out_where b (Stop T203)) t).line ≡ t.line ++ ua ∷ []
+disconnected_line : (c a b : Bool) (n : ℕ) (o : Occasion) (t : Story)
+    → (after_outputs o ((((out_where c (Dropped n) ++ Send Answer (Ua true) ∷ []) ++ Released ∷ [])
+    ++ out_where a (Stop T200)) ++ out_where b (Stop T203)) t).line ≡ t.line ++ ua
+    ∷ []
 disconnected_line true true true n o t = refl
 disconnected_line true true false n o t = refl
 disconnected_line true false true n o t = refl
@@ -70,122 +76,250 @@ disconnected_line false false false n o t = refl
 
 module _ (e : End) (is : e.state ≡ AwaitingEstablishment) where
   -- the SABME and DISC of the peer are answered
-  sabme_yields_5 : Yields e (end_step Whole (row Whole AwaitingEstablishment (Heard (Sabme true) Command) (begin e))) e (ua ∷ [])
+  sabme_yields_5 : Yields e
+      (end_step Whole (row Whole AwaitingEstablishment (Heard (Sabme true) Command) (begin e))) e
+      (ua ∷ [])
   unfolding row by_state awaiting_establishment put begin story_after
-  sabme_yields_5 = subst (λ (t : StepState). Yields e t e (ua ∷ [])) (sym (closes_nothing (put (Send Answer (Ua true)) (begin e)) (ap is_7_or_8 is))) (record { end = refl; line = λ octets place v same. refl })
+  sabme_yields_5 =
+      subst (λ (t : StepState). Yields e t e (ua ∷ []))
+      (sym (closes_nothing (put (Send Answer (Ua true)) (begin e)) (ap is_7_or_8 is)))
+      (record { end = refl; line = λ octets place v same. refl })
 
-  pub sabme_in_5 : Yields e (end_step Whole (row Whole e.state (Heard (Sabme true) Command) (begin e))) e (ua ∷ [])
-  sabme_in_5 = subst (λ st. Yields e (end_step Whole (row Whole st (Heard (Sabme true) Command) (begin e))) e (ua ∷ [])) (sym is) sabme_yields_5
+  pub sabme_in_5 : Yields e
+      (end_step Whole (row Whole e.state (Heard (Sabme true) Command) (begin e))) e (ua ∷ [])
+  sabme_in_5 =
+      subst (λ st. Yields e (end_step Whole (row Whole st (Heard (Sabme true) Command) (begin e))) e
+      (ua ∷ [])) (sym is) sabme_yields_5
 
-  disc_yields_5 : Yields e (end_step Whole (row Whole AwaitingEstablishment (Heard (Disc true) Command) (begin e))) e (dm ∷ [])
+  disc_yields_5 : Yields e
+      (end_step Whole (row Whole AwaitingEstablishment (Heard (Disc true) Command) (begin e))) e
+      (dm ∷ [])
   unfolding row by_state awaiting_establishment put begin story_after
-  disc_yields_5 = subst (λ (t : StepState). Yields e t e (dm ∷ [])) (sym (closes_nothing (put (Send Answer (Dm true)) (begin e)) (ap is_7_or_8 is))) (record { end = refl; line = λ octets place v same. refl })
+  disc_yields_5 =
+      subst (λ (t : StepState). Yields e t e (dm ∷ []))
+      (sym (closes_nothing (put (Send Answer (Dm true)) (begin e)) (ap is_7_or_8 is)))
+      (record { end = refl; line = λ octets place v same. refl })
 
-  pub disc_in_5 : Yields e (end_step Whole (row Whole e.state (Heard (Disc true) Command) (begin e))) e (dm ∷ [])
-  disc_in_5 = subst (λ st. Yields e (end_step Whole (row Whole st (Heard (Disc true) Command) (begin e))) e (dm ∷ [])) (sym is) disc_yields_5
+  pub disc_in_5 : Yields e
+      (end_step Whole (row Whole e.state (Heard (Disc true) Command) (begin e))) e (dm ∷ [])
+  disc_in_5 =
+      subst (λ st. Yields e (end_step Whole (row Whole st (Heard (Disc true) Command) (begin e))) e
+      (dm ∷ [])) (sym is) disc_yields_5
 
   -- T200 expires: the SABME is retransmitted, or the end gives up
   abbrev pub asked_again : End
   asked_again = record e { rc = e.rc + 1; t200 = true }
 
   abbrev pub abandoned : End
-  abandoned = record e { t200 = false; first = length e.given; next = length e.given; release_pending = false; state = TeiAssigned }
+  abandoned = record e {
+    t200 = false;
+    first = length e.given;
+    next = length e.given;
+    release_pending = false;
+    state = TeiAssigned;
+  }
 
-  retry_yields_5 : e.t200 ≡ true → nat_lt e.rc e.parameters.n200 ≡ true → Yields e (end_step Whole (row Whole AwaitingEstablishment (Expiry T200) (begin e))) asked_again (sabme ∷ [])
-  unfolding row by_state awaiting_establishment awaiting_establishment_t200 increment_rc expired put start begin story_after
-  retry_yields_5 on tries = by_test (λ (t : StepState). Yields e (end_step Whole t) asked_again (sabme ∷ [])) e.t200 _ _
-      (λ _. by_test (λ (t : StepState). Yields e (end_step Whole t) asked_again (sabme ∷ [])) (nat_lt e.rc e.parameters.n200) _ _
-      (λ _. let s : StepState = record { end = asked_again; outs = Send Command (Sabme true) ∷ Start T200 ∷ [] } in
-      subst (λ (t : StepState). Yields e t asked_again (sabme ∷ [])) (sym (closes_nothing s (ap is_7_or_8 is))) (record { end = refl; line = λ octets place v same. refl }))
+  retry_yields_5 : e.t200 ≡ true → nat_lt e.rc e.parameters.n200 ≡ true
+      → Yields e (end_step Whole (row Whole AwaitingEstablishment (Expiry T200) (begin e)))
+      asked_again (sabme ∷ [])
+  unfolding row by_state awaiting_establishment awaiting_establishment_t200 increment_rc expired put
+      start begin story_after
+  retry_yields_5 on tries =
+      by_test (λ (t : StepState). Yields e (end_step Whole t) asked_again (sabme ∷ [])) e.t200 _ _
+      (λ _. by_test (λ (t : StepState). Yields e (end_step Whole t) asked_again (sabme ∷ []))
+      (nat_lt e.rc e.parameters.n200) _ _
+      (λ _. let s : StepState =
+      record { end = asked_again; outs = Send Command (Sabme true) ∷ Start T200 ∷ [] } in
+      subst (λ (t : StepState). Yields e t asked_again (sabme ∷ []))
+      (sym (closes_nothing s (ap is_7_or_8 is)))
+      (record { end = refl; line = λ octets place v same. refl }))
       (λ none. cc)) (λ off. cc)
 
-  pub retry_in_5 : e.t200 ≡ true → nat_lt e.rc e.parameters.n200 ≡ true → Yields e (end_step Whole (row Whole e.state (Expiry T200) (begin e))) asked_again (sabme ∷ [])
-  retry_in_5 on tries = subst (λ st. Yields e (end_step Whole (row Whole st (Expiry T200) (begin e))) asked_again (sabme ∷ [])) (sym is) (retry_yields_5 on tries)
+  pub retry_in_5 : e.t200 ≡ true → nat_lt e.rc e.parameters.n200 ≡ true
+      → Yields e (end_step Whole (row Whole e.state (Expiry T200) (begin e))) asked_again
+      (sabme ∷ [])
+  retry_in_5 on tries =
+      subst (λ st. Yields e
+      (end_step Whole (row Whole st (Expiry T200) (begin e))) asked_again (sabme ∷ [])) (sym is)
+      (retry_yields_5 on tries)
 
-  give_up_yields_5 : e.t200 ≡ true → nat_lt e.rc e.parameters.n200 ≡ false → Yields e (end_step Whole (row Whole AwaitingEstablishment (Expiry T200) (begin e))) abandoned []
-  unfolding row by_state awaiting_establishment awaiting_establishment_t200 expired discard_i_queue end_establishment put release_pending_to state_to begin story_after
-  give_up_yields_5 on last = by_test (λ (t : StepState). Yields e (end_step Whole t) abandoned []) e.t200 _ _
-      (λ _. by_test (λ (t : StepState). Yields e (end_step Whole t) abandoned []) (nat_lt e.rc e.parameters.n200) _ _
+  give_up_yields_5 : e.t200 ≡ true → nat_lt e.rc e.parameters.n200 ≡ false
+      → Yields e (end_step Whole (row Whole AwaitingEstablishment (Expiry T200) (begin e)))
+      abandoned []
+  unfolding row by_state awaiting_establishment awaiting_establishment_t200 expired discard_i_queue
+      end_establishment put release_pending_to state_to begin story_after
+  give_up_yields_5 on last =
+      by_test (λ (t : StepState). Yields e (end_step Whole t) abandoned []) e.t200 _ _
+      (λ _. by_test (λ (t : StepState). Yields e (end_step Whole t) abandoned [])
+      (nat_lt e.rc e.parameters.n200) _ _
       (λ some. cc)
-      (λ _. let s : StepState = record { end = abandoned; outs = (out_where (nat_lt 0 (waiting e)) (Dropped (waiting e)) ++ Report letter.G ∷ []) ++ release_primitive e.release_pending ∷ [] } in
+      (λ _. let s : StepState =
+      record {
+        end = abandoned;
+        outs =
+            (out_where (nat_lt 0 (waiting e)) (Dropped (waiting e)) ++ Report letter.G ∷ [])
+            ++ release_primitive e.release_pending ∷ [];
+      } in
       subst (λ (t : StepState). Yields e t abandoned []) (sym (closes_nothing s refl))
-      (record { end = refl; line = λ octets place v same. given_up_line (nat_lt 0 (waiting e)) e.release_pending (waiting e) _ _ ∙ sym (append-nil v.outgoing) })))
+      (record {
+        end = refl;
+        line =
+            λ octets place v same. given_up_line (nat_lt 0 (waiting e)) e.release_pending
+            (waiting e) _ _ ∙ sym (append-nil v.outgoing);
+      })))
       (λ off. cc)
 
-  pub give_up_in_5 : e.t200 ≡ true → nat_lt e.rc e.parameters.n200 ≡ false → Yields e (end_step Whole (row Whole e.state (Expiry T200) (begin e))) abandoned []
-  give_up_in_5 on last = subst (λ st. Yields e (end_step Whole (row Whole st (Expiry T200) (begin e))) abandoned []) (sym is) (give_up_yields_5 on last)
+  pub give_up_in_5 : e.t200 ≡ true → nat_lt e.rc e.parameters.n200 ≡ false
+      → Yields e (end_step Whole (row Whole e.state (Expiry T200) (begin e))) abandoned []
+  give_up_in_5 on last =
+      subst (λ st. Yields e (end_step Whole (row Whole st (Expiry T200) (begin e))) abandoned [])
+      (sym is) (give_up_yields_5 on last)
 
   -- the DM arrives
-  dm_yields_5 : Yields e (end_step Whole (row Whole AwaitingEstablishment (Heard (Dm true) Answer) (begin e))) abandoned []
-  unfolding row by_state awaiting_establishment discard_i_queue stop end_establishment put release_pending_to state_to begin story_after
+  dm_yields_5 : Yields e
+      (end_step Whole (row Whole AwaitingEstablishment (Heard (Dm true) Answer) (begin e)))
+      abandoned []
+  unfolding row by_state awaiting_establishment discard_i_queue stop end_establishment put
+      release_pending_to state_to begin story_after
   dm_yields_5 =
-      let s : StepState = record { end = abandoned; outs = (out_where (nat_lt 0 (waiting e)) (Dropped (waiting e)) ++ out_where e.t200 (Stop T200)) ++ release_primitive e.release_pending ∷ [] } in
+      let s : StepState =
+      record {
+        end = abandoned;
+        outs =
+            (out_where (nat_lt 0 (waiting e)) (Dropped (waiting e))
+            ++ out_where e.t200 (Stop T200)) ++ release_primitive e.release_pending ∷ [];
+      }
+      in
       subst (λ (t : StepState). Yields e t abandoned []) (sym (closes_nothing s refl))
-      (record { end = refl; line = λ octets place v same. refused_line (nat_lt 0 (waiting e)) e.t200 e.release_pending (waiting e) _ _ ∙ sym (append-nil v.outgoing) })
+      (record {
+        end = refl;
+        line =
+            λ octets place v same. refused_line (nat_lt 0 (waiting e)) e.t200
+            e.release_pending (waiting e) _ _ ∙ sym (append-nil v.outgoing);
+      })
 
-  pub dm_in_5 : Yields e (end_step Whole (row Whole e.state (Heard (Dm true) Answer) (begin e))) abandoned []
-  dm_in_5 = subst (λ st. Yields e (end_step Whole (row Whole st (Heard (Dm true) Answer) (begin e))) abandoned []) (sym is) dm_yields_5
+  pub dm_in_5 : Yields e (end_step Whole (row Whole e.state (Heard (Dm true) Answer) (begin e)))
+      abandoned []
+  dm_in_5 =
+      subst (λ st. Yields e
+      (end_step Whole (row Whole st (Heard (Dm true) Answer) (begin e))) abandoned []) (sym is)
+      dm_yields_5
 
   -- the UA arrives, and a release is pending
   abbrev pub leaving : End
   leaving = record e { release_pending = false; rc = 0; t200 = true; state = AwaitingRelease }
 
-  ua_yields_5 : e.release_pending ≡ true → Yields e (end_step Whole (row Whole AwaitingEstablishment (Heard (Ua true) Answer) (begin e))) leaving (disc ∷ [])
-  unfolding row by_state awaiting_establishment ua_final release_pending_to rc_to put start state_to begin story_after
-  ua_yields_5 pending = by_test (λ (t : StepState). Yields e (end_step Whole t) leaving (disc ∷ [])) e.release_pending _ _
-      (λ _. let s : StepState = record { end = leaving; outs = Send Command (Disc true) ∷ Start T200 ∷ [] } in
-      subst (λ (t : StepState). Yields e t leaving (disc ∷ [])) (sym (closes_nothing s refl)) (record { end = refl; line = λ octets place v same. refl }))
+  ua_yields_5 : e.release_pending ≡ true
+      → Yields e
+      (end_step Whole (row Whole AwaitingEstablishment (Heard (Ua true) Answer) (begin e)))
+      leaving (disc ∷ [])
+  unfolding row by_state awaiting_establishment ua_final release_pending_to rc_to put start state_to
+      begin story_after
+  ua_yields_5 pending =
+      by_test (λ (t : StepState). Yields e (end_step Whole t) leaving (disc ∷ [])) e.release_pending
+      _ _
+      (λ _. let s : StepState =
+      record { end = leaving; outs = Send Command (Disc true) ∷ Start T200 ∷ [] } in
+      subst (λ (t : StepState). Yields e t leaving (disc ∷ [])) (sym (closes_nothing s refl))
+      (record { end = refl; line = λ octets place v same. refl }))
       (λ none. cc)
 
-  pub ua_in_5 : e.release_pending ≡ true → Yields e (end_step Whole (row Whole e.state (Heard (Ua true) Answer) (begin e))) leaving (disc ∷ [])
-  ua_in_5 pending = subst (λ st. Yields e (end_step Whole (row Whole st (Heard (Ua true) Answer) (begin e))) leaving (disc ∷ [])) (sym is) (ua_yields_5 pending)
+  pub ua_in_5 : e.release_pending ≡ true
+      → Yields e (end_step Whole (row Whole e.state (Heard (Ua true) Answer) (begin e))) leaving
+      (disc ∷ [])
+  ua_in_5 pending =
+      subst (λ st. Yields e
+      (end_step Whole (row Whole st (Heard (Ua true) Answer) (begin e))) leaving (disc ∷ []))
+      (sym is) (ua_yields_5 pending)
 
 -- ---- Rows of state 6.
 
-sabme_yields_6 : (e : End) → e.state ≡ AwaitingRelease → Yields e (end_step Whole (row Whole AwaitingRelease (Heard (Sabme true) Command) (begin e))) e (dm ∷ [])
+sabme_yields_6 : (e : End) → e.state ≡ AwaitingRelease
+    → Yields e (end_step Whole (row Whole AwaitingRelease (Heard (Sabme true) Command) (begin e))) e
+    (dm ∷ [])
 unfolding row by_state awaiting_release put begin story_after
-sabme_yields_6 e is = subst (λ (t : StepState). Yields e t e (dm ∷ [])) (sym (closes_nothing (put (Send Answer (Dm true)) (begin e)) (ap is_7_or_8 is))) (record { end = refl; line = λ octets place v same. refl })
+sabme_yields_6 e is =
+    subst (λ (t : StepState). Yields e t e (dm ∷ []))
+    (sym (closes_nothing (put (Send Answer (Dm true)) (begin e)) (ap is_7_or_8 is)))
+    (record { end = refl; line = λ octets place v same. refl })
 
-pub sabme_in_6 : (e : End) → e.state ≡ AwaitingRelease → Yields e (end_step Whole (row Whole e.state (Heard (Sabme true) Command) (begin e))) e (dm ∷ [])
-sabme_in_6 e is = subst (λ st. Yields e (end_step Whole (row Whole st (Heard (Sabme true) Command) (begin e))) e (dm ∷ [])) (sym is) (sabme_yields_6 e is)
+pub sabme_in_6 : (e : End) → e.state ≡ AwaitingRelease
+    → Yields e (end_step Whole (row Whole e.state (Heard (Sabme true) Command) (begin e))) e
+    (dm ∷ [])
+sabme_in_6 e is =
+    subst (λ st. Yields e (end_step Whole (row Whole st (Heard (Sabme true) Command) (begin e))) e
+    (dm ∷ [])) (sym is) (sabme_yields_6 e is)
 
 -- ---- Frames that a closed end ignores.
 
-ignores : (control : Control) (role : Role) (state : State) (s : StepState) → s.end.state ≡ state → is_7_or_8 state ≡ false → is_ignored control ≡ true → end_step Whole (row Whole state (Heard control role) s) ≡ s
+ignores : (control : Control) (role : Role) (state : State) (s : StepState) → s.end.state ≡ state
+    → is_7_or_8 state ≡ false → is_ignored control ≡ true
+    → end_step Whole (row Whole state (Heard control role) s) ≡ s
 unfolding row by_state tei_assigned awaiting_establishment awaiting_release
 ignores (I ns nr p) role TeiAssigned s is closed ignored = closes_nothing s (ap is_7_or_8 is)
-ignores (I ns nr p) role AwaitingEstablishment s is closed ignored = closes_nothing s (ap is_7_or_8 is)
+ignores (I ns nr p) role AwaitingEstablishment s is closed ignored =
+    closes_nothing s (ap is_7_or_8 is)
 ignores (I ns nr p) role AwaitingRelease s is closed ignored = closes_nothing s (ap is_7_or_8 is)
 ignores (Rr nr pf) role TeiAssigned s is closed ignored = closes_nothing s (ap is_7_or_8 is)
-ignores (Rr nr pf) role AwaitingEstablishment s is closed ignored = closes_nothing s (ap is_7_or_8 is)
+ignores (Rr nr pf) role AwaitingEstablishment s is closed ignored =
+    closes_nothing s (ap is_7_or_8 is)
 ignores (Rr nr pf) role AwaitingRelease s is closed ignored = closes_nothing s (ap is_7_or_8 is)
 ignores (Rnr nr pf) role TeiAssigned s is closed ignored = closes_nothing s (ap is_7_or_8 is)
-ignores (Rnr nr pf) role AwaitingEstablishment s is closed ignored = closes_nothing s (ap is_7_or_8 is)
+ignores (Rnr nr pf) role AwaitingEstablishment s is closed ignored =
+    closes_nothing s (ap is_7_or_8 is)
 ignores (Rnr nr pf) role AwaitingRelease s is closed ignored = closes_nothing s (ap is_7_or_8 is)
 ignores (Rej nr pf) role TeiAssigned s is closed ignored = closes_nothing s (ap is_7_or_8 is)
-ignores (Rej nr pf) role AwaitingEstablishment s is closed ignored = closes_nothing s (ap is_7_or_8 is)
+ignores (Rej nr pf) role AwaitingEstablishment s is closed ignored =
+    closes_nothing s (ap is_7_or_8 is)
 ignores (Rej nr pf) role AwaitingRelease s is closed ignored = closes_nothing s (ap is_7_or_8 is)
 ignores control role MultipleFrameEstablished s is closed ignored = cc
 ignores control role TimerRecovery s is closed ignored = cc
 ignores control role state s is closed ignored = cc
 
-pub ignored_if_closed : (e : End) (control : Control) (role : Role) → is_7_or_8 e.state ≡ false → is_ignored control ≡ true → Yields e (end_step Whole (row Whole e.state (Heard control role) (begin e))) e []
+pub ignored_if_closed : (e : End) (control : Control) (role : Role) → is_7_or_8 e.state ≡ false
+    → is_ignored control ≡ true
+    → Yields e (end_step Whole (row Whole e.state (Heard control role) (begin e))) e []
 ignored_if_closed e control role closed ignored =
-    subst (λ (t : StepState). Yields e t e []) (sym (ignores control role e.state (begin e) (ap (λ (d : End). d.state) (same_end e)) closed ignored)) (record { end = same_end e; line = λ octets place v same. no_frame e octets place v })
+    subst (λ (t : StepState). Yields e t e [])
+    (sym (ignores control role e.state (begin e) (ap (λ (d : End). d.state) (same_end e)) closed
+    ignored))
+    (record { end = same_end e; line = λ octets place v same. no_frame e octets place v })
 
 -- ---- A DISC in states 7 and 8.
 
 abbrev pub disconnected : End → End
-disconnected e = record e { first = length e.given; next = length e.given; t200 = false; t203 = false; state = TeiAssigned }
+disconnected e = record e {
+  first = length e.given;
+  next = length e.given;
+  t200 = false;
+  t203 = false;
+  state = TeiAssigned;
+}
 
-disc_closes : (e : End) → Yields e (end_step Whole (in_7_and_8 (Heard (Disc true) Command) (begin e))) (disconnected e) (ua ∷ [])
+disc_closes : (e : End)
+    → Yields e (end_step Whole (in_7_and_8 (Heard (Disc true) Command) (begin e))) (disconnected e)
+    (ua ∷ [])
 unfolding in_7_and_8 discard_i_queue put stop state_to begin story_after
 disc_closes e =
-    let s : StepState = record { end = disconnected e; outs = (((out_where (nat_lt 0 (waiting e)) (Dropped (waiting e)) ++ Send Answer (Ua true) ∷ []) ++ Released ∷ []) ++ out_where e.t200 (Stop T200)) ++ out_where e.t203 (Stop T203) } in
+    let s : StepState =
+    record {
+      end = disconnected e;
+      outs =
+          (((out_where (nat_lt 0 (waiting e)) (Dropped (waiting e)) ++ Send Answer (Ua true)
+          ∷ []) ++ Released ∷ []) ++ out_where e.t200 (Stop T200))
+          ++ out_where e.t203 (Stop T203);
+    } in
     subst (λ (t : StepState). Yields e t (disconnected e) (ua ∷ [])) (sym (closes_nothing s refl))
-    (record { end = refl; line = λ octets place v same. disconnected_line (nat_lt 0 (waiting e)) e.t200 e.t203 (waiting e) _ _ })
+    (record {
+      end = refl;
+      line =
+          λ octets place v same. disconnected_line (nat_lt 0 (waiting e)) e.t200 e.t203
+          (waiting e) _ _;
+    })
 
-disc_by_state : (e : End) (state : State) → is_7_or_8 state ≡ true → Yields e (end_step Whole (row Whole state (Heard (Disc true) Command) (begin e))) (disconnected e) (ua ∷ [])
+disc_by_state : (e : End) (state : State) → is_7_or_8 state ≡ true
+    → Yields e (end_step Whole (row Whole state (Heard (Disc true) Command) (begin e)))
+    (disconnected e) (ua ∷ [])
 unfolding row by_state multiple_frame_established timer_recovery
 disc_by_state e MultipleFrameEstablished opened = disc_closes e
 disc_by_state e TimerRecovery opened = disc_closes e
@@ -193,5 +327,7 @@ disc_by_state e TeiAssigned opened = cc
 disc_by_state e AwaitingEstablishment opened = cc
 disc_by_state e AwaitingRelease opened = cc
 
-pub disc_in_7_8 : (e : End) → is_7_or_8 e.state ≡ true → Yields e (end_step Whole (row Whole e.state (Heard (Disc true) Command) (begin e))) (disconnected e) (ua ∷ [])
+pub disc_in_7_8 : (e : End) → is_7_or_8 e.state ≡ true
+    → Yields e (end_step Whole (row Whole e.state (Heard (Disc true) Command) (begin e)))
+    (disconnected e) (ua ∷ [])
 disc_in_7_8 e opened = disc_by_state e e.state opened

@@ -26,15 +26,21 @@ use Rattle.lapd_recovery_laws.specs.QuickRestart.{exchange_in, restarts_keeping,
 -- ---- The side that restarts is closed, and sends no frame.
 
 abbrev restarting : Party → Party
-restarting x = still TeiAssigned false false (length x.sends.given) (length x.sends.given) (x.sends.passed + (length x.sends.given - x.sends.passed)) false x
+restarting x =
+    still TeiAssigned false false (length x.sends.given) (length x.sends.given)
+    (x.sends.passed + (length x.sends.given - x.sends.passed)) false x
 
-restarts_both : (x y : Party) (out back : List Kind) → tally ask_of out + tally answer_of back ≡ 0 → Both x y out back → Both (restarting x) y out back
+restarts_both : (x y : Party) (out back : List Kind) → tally ask_of out + tally answer_of back ≡ 0
+    → Both x y out back → Both (restarting x) y out back
 restarts_both x y out back none b =
     let passes = passes_all x y out back b in
-    settling x y out back back TeiAssigned false false (length x.sends.given) (length x.sends.given) (x.sends.passed + (length x.sends.given - x.sends.passed)) false (part_whole back) b
-    refl (omega (arith, none)) (empties _ _ _ x.sends refl refl) (omega (arith, passes, b.mine.passed)) (λ holding. cc) (deaf refl)
+    settling x y out back back TeiAssigned false false (length x.sends.given) (length x.sends.given)
+    (x.sends.passed + (length x.sends.given - x.sends.passed)) false (part_whole back) b
+    refl (omega (arith, none)) (empties _ _ _ x.sends refl refl)
+    (omega (arith, passes, b.mine.passed)) (λ holding. cc) (deaf refl)
 
-restart_holds : (v : View) (peer : Station) → exchange_in v ≡ 0 → Holds v peer → Holds (left_by v (quietly (restarts_keeping v))) peer
+restart_holds : (v : View) (peer : Station) → exchange_in v ≡ 0 → Holds v peer
+    → Holds (left_by v (quietly (restarts_keeping v))) peer
 unfolding restarts_keeping without_exceptions
 restart_holds v peer none h = record {
   base = h.base;
@@ -44,36 +50,53 @@ restart_holds v peer none h = record {
 
 restart_is_sound : (v : View) → Left v (quietly (restarts_keeping v))
 unfolding restarts_keeping
-restart_is_sound v = record { sound = record { places = refl; within = omega arith }; parameters = refl }
+restart_is_sound v =
+    record { sound = record { places = refl; within = omega arith }; parameters = refl }
 
 -- ---- A move.
 
 -- a predicate that holds of a keeping restart without frames of an exchange, and of the eager move,
 -- holds of the move
-by_event : (P : Result ViewStep Refusal → Type 0) (who : Side) (event : PairEvent) (v : View) → (exchange_in v ≡ 0 → P (quietly (restarts_keeping v))) → P (acts_eagerly Whole who event v) → P (acts_keeping Whole who event v)
+by_event : (P : Result ViewStep Refusal → Type 0) (who : Side) (event : PairEvent) (v : View)
+    → (exchange_in v ≡ 0 → P (quietly (restarts_keeping v))) → P (acts_eagerly Whole who event v)
+    → P (acts_keeping Whole who event v)
 unfolding acts
-by_event P who Restart v kept before = by_test (λ u. P (quietly u)) (exchange_in v == 0) _ _ (λ test. kept (grind (arith, test, nat_tests))) (λ _. before)
+by_event P who Restart v kept before =
+    by_test (λ u. P (quietly u)) (exchange_in v == 0) _ _
+    (λ test. kept (grind (arith, test, nat_tests))) (λ _. before)
 by_event P who event v kept before = before
 
-pub keeping_move_preserves : (move : Move) (w : World) → IsInvariant w → IsInvariant (world_after w (happens_keeping Whole move w))
+pub keeping_move_preserves : (move : Move) (w : World) → IsInvariant w
+    → IsInvariant (world_after w (happens_keeping Whole move w))
 unfolding happens_eagerly happens_keeping
 keeping_move_preserves move w i =
     let v = view_of move.side w in
     by_event (λ r. IsInvariant (world_after w (in_world move.side w r))) move.side move.event v
-    (λ none. side_preserves move.side w (quietly (restarts_keeping v)) i (λ peer h. restart_holds v peer none h) (restart_is_sound v))
+    (λ none. side_preserves move.side w (quietly (restarts_keeping v)) i
+    (λ peer h. restart_holds v peer none h) (restart_is_sound v))
     (eager_move_preserves move w i)
 
-keeping_report_is_expected : (move : Move) (w : World) → IsInvariant w → ReportsExpected (happens_keeping Whole move w)
+keeping_report_is_expected : (move : Move) (w : World) → IsInvariant w
+    → ReportsExpected (happens_keeping Whole move w)
 unfolding happens_eagerly happens_keeping
 keeping_report_is_expected move w i =
-    by_event (λ r. ReportsExpected (in_world move.side w r)) move.side move.event (view_of move.side w) (λ _. tt) (eager_reports (move ∷ []) w i).0
+    by_event (λ r. ReportsExpected (in_world move.side w r)) move.side move.event
+    (view_of move.side w) (λ _. tt) (eager_reports (move ∷ []) w i).0
 
 -- ---- A run.
 
-pub keeping_run_preserves : (moves : List Move) (w : World) → IsInvariant w → IsInvariant (run_keeping Whole moves w)
+pub keeping_run_preserves : (moves : List Move) (w : World) → IsInvariant w
+    → IsInvariant (run_keeping Whole moves w)
 keeping_run_preserves [] w i = i
-keeping_run_preserves (move ∷ moves) w i = keeping_run_preserves moves (world_after w (happens_keeping Whole move w)) (keeping_move_preserves move w i)
+keeping_run_preserves (move ∷ moves) w i =
+    keeping_run_preserves moves (world_after w (happens_keeping Whole move w))
+    (keeping_move_preserves move w i)
 
-pub keeping_reports : (moves : List Move) (w : World) → IsInvariant w → AllReportsExpected (outcomes_keeping Whole moves w)
+pub keeping_reports : (moves : List Move) (w : World) → IsInvariant w
+    → AllReportsExpected (outcomes_keeping Whole moves w)
 keeping_reports [] w i = tt
-keeping_reports (move ∷ moves) w i = (keeping_report_is_expected move w i, keeping_reports moves (world_after w (happens_keeping Whole move w)) (keeping_move_preserves move w i))
+keeping_reports (move ∷ moves) w i = (
+  keeping_report_is_expected move w i,
+  keeping_reports moves (world_after w (happens_keeping Whole move w))
+      (keeping_move_preserves move w i),
+)

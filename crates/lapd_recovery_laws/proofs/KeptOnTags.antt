@@ -37,41 +37,62 @@ kept_on_tags : (v : View) → restarts_keeping (tag_view v) ≡ tag_view (restar
 unfolding restarts_keeping
 kept_on_tags v = rw (without_exceptions_on_tags v.station.end.window) refl
 
-either_on_tags : (test : Bool) (a b : View) (u v : View) → a ≡ tag_view u → quietly b ≡ tag_acted (quietly v) → quietly (if test then a else b) ≡ tag_acted (quietly (if test then u else v))
+either_on_tags : (test : Bool) (a b : View) (u v : View) → a ≡ tag_view u
+    → quietly b ≡ tag_acted (quietly v)
+    → quietly (if test then a else b) ≡ tag_acted (quietly (if test then u else v))
 either_on_tags true a b u v kept dropped = ap (λ x. quietly x) kept
 either_on_tags false a b u v kept dropped = dropped
 
-restart_on_tags : (who : Side) (v : View) → v.station.end.parameters.k ≤ 127 → IsSound Whole v.station.end → acts_keeping Tagged who Restart (tag_view v) ≡ tag_acted (acts_keeping Whole who Restart v)
+restart_on_tags : (who : Side) (v : View) → v.station.end.parameters.k ≤ 127
+    → IsSound Whole v.station.end
+    → acts_keeping Tagged who Restart (tag_view v) ≡ tag_acted (acts_keeping Whole who Restart v)
 unfolding acts
 restart_on_tags who v small sound =
     let same = exchange_on_tags v in
-    rw same (either_on_tags (exchange_in v == 0) (restarts_keeping (tag_view v)) (restarts (tag_view v)) (restarts_keeping v) (restarts v) (kept_on_tags v) (acts_on_tags who v small sound Restart tt))
+    rw same (either_on_tags (exchange_in v == 0) (restarts_keeping (tag_view v))
+    (restarts (tag_view v)) (restarts_keeping v) (restarts v) (kept_on_tags v)
+    (acts_on_tags who v small sound Restart tt))
 
 -- ---- A move, and a run.
 
 first_of_one : {A : Type 0} (x y : A) → x ∷ [] ≡ y ∷ [] → x ≡ y
 first_of_one x y same = cc
 
-event_on_tags : (who : Side) (event : PairEvent) (w : World) → IsInvariant w → happens_keeping Tagged (record { side = who; event = event }) (tag_world w) ≡ tag_outcome (happens_keeping Whole (record { side = who; event = event }) w)
+event_on_tags : (who : Side) (event : PairEvent) (w : World) → IsInvariant w
+    → happens_keeping Tagged (record { side = who; event = event }) (tag_world w)
+    ≡ tag_outcome (happens_keeping Whole (record { side = who; event = event }) w)
 unfolding happens_keeping happens_eagerly
 event_on_tags who Restart w i =
     let v = view_of who w in
     ap (λ u. in_world who (tag_world w) (acts_keeping Tagged who Restart u)) (view_of_on_tags who w)
-    ∙ ap (λ r. in_world who (tag_world w) r) (restart_on_tags who v (small_by_invariant who w i) (sound_by_invariant who w i))
+    ∙ ap (λ r. in_world who (tag_world w) r)
+    (restart_on_tags who v (small_by_invariant who w i) (sound_by_invariant who w i))
     ∙ in_world_on_tags who w (acts_keeping Whole who Restart v)
-event_on_tags who event w i = first_of_one _ _ (eager_outcomes_on_tags (record { side = who; event = event } ∷ []) w i)
+event_on_tags who event w i =
+    first_of_one _ _ (eager_outcomes_on_tags (record { side = who; event = event } ∷ []) w i)
 
-keeping_move_on_tags : (move : Move) (w : World) → IsInvariant w → happens_keeping Tagged move (tag_world w) ≡ tag_outcome (happens_keeping Whole move w)
+keeping_move_on_tags : (move : Move) (w : World) → IsInvariant w
+    → happens_keeping Tagged move (tag_world w) ≡ tag_outcome (happens_keeping Whole move w)
 keeping_move_on_tags move w i = event_on_tags move.side move.event w i
 
-keeping_run_on_tags : (moves : List Move) (w : World) → IsInvariant w → run_keeping Tagged moves (tag_world w) ≡ tag_world (run_keeping Whole moves w)
+keeping_run_on_tags : (moves : List Move) (w : World) → IsInvariant w
+    → run_keeping Tagged moves (tag_world w) ≡ tag_world (run_keeping Whole moves w)
 keeping_run_on_tags [] w i = refl
-keeping_run_on_tags (move ∷ moves) w i = rw (keeping_move_on_tags move w i, after_on_tags w (happens_keeping Whole move w)) (keeping_run_on_tags moves (world_after w (happens_keeping Whole move w)) (keeping_move_preserves move w i))
+keeping_run_on_tags (move ∷ moves) w i =
+    rw (keeping_move_on_tags move w i, after_on_tags w (happens_keeping Whole move w))
+    (keeping_run_on_tags moves (world_after w (happens_keeping Whole move w))
+    (keeping_move_preserves move w i))
 
-keeping_outcomes_on_tags : (moves : List Move) (w : World) → IsInvariant w → outcomes_keeping Tagged moves (tag_world w) ≡ map tag_outcome (outcomes_keeping Whole moves w)
+keeping_outcomes_on_tags : (moves : List Move) (w : World) → IsInvariant w
+    → outcomes_keeping Tagged moves (tag_world w) ≡ map tag_outcome (outcomes_keeping Whole moves w)
 keeping_outcomes_on_tags [] w i = refl
 keeping_outcomes_on_tags (move ∷ moves) w i =
-    rw (keeping_move_on_tags move w i, after_on_tags w (happens_keeping Whole move w), keeping_outcomes_on_tags moves (world_after w (happens_keeping Whole move w)) (keeping_move_preserves move w i)) refl
+    rw (
+      keeping_move_on_tags move w i,
+      after_on_tags w (happens_keeping Whole move w),
+      keeping_outcomes_on_tags moves (world_after w (happens_keeping Whole move w))
+          (keeping_move_preserves move w i),
+    ) refl
 
 -- ---- Reports on tags.
 
@@ -84,41 +105,75 @@ outs_on_tags : (outs : List Out) → AreExpected outs → AreExpected (map tag_o
 outs_on_tags [] e = tt
 outs_on_tags (out ∷ outs) e = (out_on_tags out e.0, outs_on_tags outs e.1)
 
-outcome_on_tags : (r : Result Happened Refusal) → ReportsExpected r → ReportsExpected (tag_outcome r)
+outcome_on_tags : (r : Result Happened Refusal) → ReportsExpected r
+    → ReportsExpected (tag_outcome r)
 outcome_on_tags (Ok happened) e = outs_on_tags happened.outs e
 outcome_on_tags (Err refusal) e = tt
 
-reports_on_tags : (rs : List (Result Happened Refusal)) → AllReportsExpected rs → AllReportsExpected (map tag_outcome rs)
+reports_on_tags : (rs : List (Result Happened Refusal)) → AllReportsExpected rs
+    → AllReportsExpected (map tag_outcome rs)
 reports_on_tags [] e = tt
 reports_on_tags (r ∷ rs) e = (outcome_on_tags r e.0, reports_on_tags rs e.1)
 
 -- ---- From a new world.
 
-module _ (user network : Parameters) (user_window : user.k ≤ 127) (network_window : network.k ≤ 127) (moves : List Move) where
+module _ (user network : Parameters) (user_window : user.k ≤ 127) (network_window : network.k ≤ 127)
+    (moves : List Move) where
   begins : IsInvariant (new_world user network)
   begins = new_holds user network user_window network_window
 
   pub reached : IsInvariant (run_keeping Whole moves (new_world user network))
   reached = keeping_run_preserves moves (new_world user network) begins
 
-  pub world_on_tags : run_keeping Tagged moves (new_world user network) ≡ tag_world (run_keeping Whole moves (new_world user network))
-  world_on_tags = ap (λ w. run_keeping Tagged moves w) (sym (new_world_on_tags user network)) ∙ keeping_run_on_tags moves (new_world user network) begins
+  pub world_on_tags : run_keeping Tagged moves (new_world user network)
+      ≡ tag_world (run_keeping Whole moves (new_world user network))
+  world_on_tags =
+      ap (λ w. run_keeping Tagged moves w) (sym (new_world_on_tags user network))
+      ∙ keeping_run_on_tags moves (new_world user network) begins
 
-  reports_same : outcomes_keeping Tagged moves (new_world user network) ≡ map tag_outcome (outcomes_keeping Whole moves (new_world user network))
-  reports_same = ap (λ w. outcomes_keeping Tagged moves w) (sym (new_world_on_tags user network)) ∙ keeping_outcomes_on_tags moves (new_world user network) begins
+  reports_same : outcomes_keeping Tagged moves (new_world user network)
+      ≡ map tag_outcome (outcomes_keeping Whole moves (new_world user network))
+  reports_same =
+      ap (λ w. outcomes_keeping Tagged moves w) (sym (new_world_on_tags user network))
+      ∙ keeping_outcomes_on_tags moves (new_world user network) begins
 
-pub keeping_run_safe : (r : Reading) (user network : Parameters) → user.k ≤ 127 → network.k ≤ 127 → (moves : List Move) → AreSafe (run_keeping r moves (new_world user network))
-keeping_run_safe Whole user network u n moves = safe_by_invariant (run_keeping Whole moves (new_world user network)) (reached user network u n moves)
-keeping_run_safe Tagged user network u n moves = subst (λ w. AreSafe w) (sym (world_on_tags user network u n moves)) ((safe_on_tags (run_keeping Whole moves (new_world user network))).1 (safe_by_invariant (run_keeping Whole moves (new_world user network)) (reached user network u n moves)))
+pub keeping_run_safe : (r : Reading) (user network : Parameters) → user.k ≤ 127 → network.k ≤ 127
+    → (moves : List Move) → AreSafe (run_keeping r moves (new_world user network))
+keeping_run_safe Whole user network u n moves =
+    safe_by_invariant (run_keeping Whole moves (new_world user network))
+    (reached user network u n moves)
+keeping_run_safe Tagged user network u n moves =
+    subst (λ w. AreSafe w) (sym (world_on_tags user network u n moves))
+    ((safe_on_tags (run_keeping Whole moves (new_world user network))).1
+    (safe_by_invariant (run_keeping Whole moves (new_world user network))
+    (reached user network u n moves)))
 
-pub keeping_run_reports : (r : Reading) (user network : Parameters) → user.k ≤ 127 → network.k ≤ 127 → (moves : List Move) → AllReportsExpected (outcomes_keeping r moves (new_world user network))
-keeping_run_reports Whole user network u n moves = keeping_reports moves (new_world user network) (begins user network u n moves)
-keeping_run_reports Tagged user network u n moves = subst (λ rs. AllReportsExpected rs) (sym (reports_same user network u n moves)) (reports_on_tags (outcomes_keeping Whole moves (new_world user network)) (keeping_reports moves (new_world user network) (begins user network u n moves)))
+pub keeping_run_reports : (r : Reading) (user network : Parameters) → user.k ≤ 127 → network.k ≤ 127
+    → (moves : List Move) → AllReportsExpected (outcomes_keeping r moves (new_world user network))
+keeping_run_reports Whole user network u n moves =
+    keeping_reports moves (new_world user network) (begins user network u n moves)
+keeping_run_reports Tagged user network u n moves =
+    subst (λ rs. AllReportsExpected rs) (sym (reports_same user network u n moves))
+    (reports_on_tags (outcomes_keeping Whole moves (new_world user network))
+    (keeping_reports moves (new_world user network) (begins user network u n moves)))
 
-pub keeping_run_is_due : (r : Reading) (user network : Parameters) → user.k ≤ 127 → network.k ≤ 127 → (moves : List Move) → AreFirstDue r (run_keeping r moves (new_world user network))
-keeping_run_is_due Whole user network u n moves = due_by_invariant (run_keeping Whole moves (new_world user network)) (reached user network u n moves)
-keeping_run_is_due Tagged user network u n moves = subst (λ w. AreFirstDue Tagged w) (sym (world_on_tags user network u n moves)) (due_in_tags (run_keeping Whole moves (new_world user network)) (reached user network u n moves))
+pub keeping_run_is_due : (r : Reading) (user network : Parameters) → user.k ≤ 127 → network.k ≤ 127
+    → (moves : List Move) → AreFirstDue r (run_keeping r moves (new_world user network))
+keeping_run_is_due Whole user network u n moves =
+    due_by_invariant (run_keeping Whole moves (new_world user network))
+    (reached user network u n moves)
+keeping_run_is_due Tagged user network u n moves =
+    subst (λ w. AreFirstDue Tagged w) (sym (world_on_tags user network u n moves))
+    (due_in_tags (run_keeping Whole moves (new_world user network))
+    (reached user network u n moves))
 
-pub keeping_run_is_fresh : (r : Reading) (user network : Parameters) → user.k ≤ 127 → network.k ≤ 127 → (moves : List Move) → AllAreFresh (run_keeping r moves (new_world user network))
-keeping_run_is_fresh Whole user network u n moves = fresh_by_invariant (run_keeping Whole moves (new_world user network)) (reached user network u n moves)
-keeping_run_is_fresh Tagged user network u n moves = subst (λ w. AllAreFresh w) (sym (world_on_tags user network u n moves)) (fresh_in_tags (run_keeping Whole moves (new_world user network)) (reached user network u n moves))
+pub keeping_run_is_fresh : (r : Reading) (user network : Parameters) → user.k ≤ 127
+    → network.k ≤ 127 → (moves : List Move)
+    → AllAreFresh (run_keeping r moves (new_world user network))
+keeping_run_is_fresh Whole user network u n moves =
+    fresh_by_invariant (run_keeping Whole moves (new_world user network))
+    (reached user network u n moves)
+keeping_run_is_fresh Tagged user network u n moves =
+    subst (λ w. AllAreFresh w) (sym (world_on_tags user network u n moves))
+    (fresh_in_tags (run_keeping Whole moves (new_world user network))
+    (reached user network u n moves))

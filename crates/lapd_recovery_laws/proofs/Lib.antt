@@ -1,8 +1,10 @@
 pub mod AfterOutage
+pub mod AgreementAfterRuns
 pub mod AnyOrder
 pub mod Beside
 pub mod Cleared
 pub mod ClosedDelivers
+pub mod ClosedInputs
 pub mod ClosedSteps
 pub mod CountedMoves
 pub mod DespiteLosses
@@ -30,6 +32,7 @@ pub mod OpenDelivers
 pub mod OpenFrames
 pub mod OpenLine
 pub mod Outage
+pub mod OutageWorlds
 pub mod OwnOnTags
 pub mod Proceeding
 pub mod QuickRuns
@@ -37,6 +40,7 @@ pub mod QuickSchedule
 pub mod Releases
 pub mod ReleasesAfterRuns
 pub mod Replies
+pub mod RepliesOfRows
 pub mod RetriesLeft
 pub mod Retry
 pub mod RunsEmpty

@@ -44,9 +44,11 @@ is_ignored control = false
 
 ignored_status : (w : StateVariables) → is_ignored (status_frame true w) ≡ true
 unfolding status_frame
-ignored_status w = by_test (λ control. is_ignored control ≡ true) w.own_busy _ _ (λ _. refl) (λ _. refl)
+ignored_status w =
+    by_test (λ control. is_ignored control ≡ true) w.own_busy _ _ (λ _. refl) (λ _. refl)
 
-passes_over : (control : Control) (role : Role) (s : StepState) → s.end.state ≡ TeiAssigned → is_ignored control ≡ true → end_step Whole (row Whole TeiAssigned (Heard control role) s) ≡ s
+passes_over : (control : Control) (role : Role) (s : StepState) → s.end.state ≡ TeiAssigned
+    → is_ignored control ≡ true → end_step Whole (row Whole TeiAssigned (Heard control role) s) ≡ s
 unfolding row by_state tei_assigned
 passes_over (I ns nr p) role s is ignored = closes_nothing s (ap is_7_or_8 is)
 passes_over (Rr nr pf) role s is ignored = closes_nothing s (ap is_7_or_8 is)
@@ -67,10 +69,15 @@ same_state : (e : End) → (begin e).end.state ≡ e.state
 unfolding begin
 same_state e = refl
 
-pub ignored_in_4 : (e : End) (control : Control) (role : Role) → e.state ≡ TeiAssigned → is_ignored control ≡ true → Yields e (end_step Whole (row Whole e.state (Heard control role) (begin e))) e []
+pub ignored_in_4 : (e : End) (control : Control) (role : Role) → e.state ≡ TeiAssigned
+    → is_ignored control ≡ true
+    → Yields e (end_step Whole (row Whole e.state (Heard control role) (begin e))) e []
 ignored_in_4 e control role is ignored =
-    subst (λ st. Yields e (end_step Whole (row Whole st (Heard control role) (begin e))) e []) (sym is)
-    (subst (λ (t : StepState). Yields e t e []) (sym (passes_over control role (begin e) (same_state e ∙ is) ignored)) (record { end = same_end e; line = λ octets place v same. no_frame e octets place v }))
+    subst (λ st. Yields e (end_step Whole (row Whole st (Heard control role) (begin e))) e [])
+    (sym is)
+    (subst (λ (t : StepState). Yields e t e [])
+    (sym (passes_over control role (begin e) (same_state e ∙ is) ignored))
+    (record { end = same_end e; line = λ octets place v same. no_frame e octets place v }))
 
 -- ---- A poll that nobody answers.
 
@@ -88,12 +95,15 @@ and_off true b off on = cc
 and_off false b off on = cc
 
 -- the end of a step in state 8 with no pending acknowledgement
-pub closes_in_8 : (s : StepState) → s.end.state ≡ TimerRecovery → s.end.window.ack_pending ≡ false → end_step Whole s ≡ s
+pub closes_in_8 : (s : StepState) → s.end.state ≡ TimerRecovery → s.end.window.ack_pending ≡ false
+    → end_step Whole s ≡ s
 unfolding end_step acknowledge_pending
 closes_in_8 s is none =
     let nothing : may_send_next Whole s ≡ false = rw is refl in
     ap (λ t. acknowledge_pending t) (sends_none Whole (unsent s.end) s nothing)
-    ∙ by_test (λ (t : StepState). t ≡ s) (is_7_or_8 s.end.state && s.end.window.ack_pending) _ _ (λ both. absurd (and_off (is_7_or_8 s.end.state) s.end.window.ack_pending none both)) (λ _. refl)
+    ∙ by_test (λ (t : StepState). t ≡ s) (is_7_or_8 s.end.state && s.end.window.ack_pending) _ _
+    (λ both. absurd (and_off (is_7_or_8 s.end.state) s.end.window.ack_pending none both))
+    (λ _. refl)
 
 -- a step on an empty line, by its last state
 pub record Polls (x : Station) (rc : ℕ) (v : View) : Type 0 where
@@ -122,15 +132,33 @@ module _ (x : Station) where
 
   polls_view : (rc : ℕ) (s : StepState) → PollsBy rc s → Polls x rc (view_after [] 0 v s)
   unfolding view_after
-  polls_view rc s p = record { polled = p.polled; frame = p.frame; ignored = p.ignored; polls = p.polls; outgoing = p.line; incoming = refl; none_dropped = p.none_dropped }
+  polls_view rc s p = record {
+    polled = p.polled;
+    frame = p.frame;
+    ignored = p.ignored;
+    polls = p.polls;
+    outgoing = p.line;
+    incoming = refl;
+    none_dropped = p.none_dropped;
+  }
 
-  enquires : (s : StepState) (rc : ℕ) → s.end.parameters ≡ x.end.parameters → unsent s.end ≡ unsent x.end → waiting s.end ≡ waiting x.end → s.end.window ≡ x.end.window → s.end.rc ≡ rc → (story c s).line ≡ [] → (story c s).history.dropped ≡ x.history.dropped → PollsBy rc (end_step Whole (state_to TimerRecovery (transmit_enquiry s)))
+  enquires : (s : StepState) (rc : ℕ) → s.end.parameters ≡ x.end.parameters
+      → unsent s.end ≡ unsent x.end → waiting s.end ≡ waiting x.end → s.end.window ≡ x.end.window
+      → s.end.rc ≡ rc → (story c s).line ≡ [] → (story c s).history.dropped ≡ x.history.dropped
+      → PollsBy rc (end_step Whole (state_to TimerRecovery (transmit_enquiry s)))
   unfolding state_to transmit_enquiry without_ack_pending story_after
   enquires s rc same_parameters same_unsent same_waiting same_window same_rc none same_dropped =
       let t = state_to TimerRecovery (transmit_enquiry s) in
       let u = without_info Command (status_frame true s.end.window) in
       subst (λ (t : StepState). PollsBy rc t) (sym (closes_in_8 t refl refl)) (record {
-        polled = record { in_8 = refl; rc_is = same_rc; parameters = same_parameters; unsent_is = same_unsent; waiting_is = same_waiting; window = ap (λ w. without_ack_pending w) same_window };
+        polled = record {
+          in_8 = refl;
+          rc_is = same_rc;
+          parameters = same_parameters;
+          unsent_is = same_unsent;
+          waiting_is = same_waiting;
+          window = ap (λ w. without_ack_pending w) same_window;
+        };
         frame = u;
         ignored = ignored_status s.end.window;
         polls = ap poll_of (enquiry_kind s.end.window);
@@ -140,15 +168,24 @@ module _ (x : Station) where
 
   -- T200 expires in state 7
   retransmits : PollsBy 1 (end_step Whole (established_t200 Whole (begin x.end)))
-  unfolding established_t200 story_after expired transmit_enquiry retransmit_last_i_frame last_i_frame without_ack_pending before rc_to state_to begin
+  unfolding established_t200 story_after expired transmit_enquiry retransmit_last_i_frame
+      last_i_frame without_ack_pending before rc_to state_to begin
   retransmits =
-      by_test (λ (t : StepState). PollsBy 1 (end_step Whole t)) (sends_last x.end.parameters.recovery x.end.window) _ _
+      by_test (λ (t : StepState). PollsBy 1 (end_step Whole t))
+      (sends_last x.end.parameters.recovery x.end.window) _ _
       (λ _.
       let s = begin x.end in
       let t = state_to TimerRecovery (rc_to 1 (retransmit_last_i_frame Whole (expired T200 s))) in
       let u = last_sent c (expired T200 s) in
       subst (λ (t : StepState). PollsBy 1 t) (sym (closes_in_8 t refl refl)) (record {
-        polled = record { in_8 = refl; rc_is = refl; parameters = refl; unsent_is = refl; waiting_is = refl; window = refl };
+        polled = record {
+          in_8 = refl;
+          rc_is = refl;
+          parameters = refl;
+          unsent_is = refl;
+          waiting_is = refl;
+          window = refl;
+        };
         frame = u;
         ignored = refl;
         polls = refl;
@@ -160,7 +197,14 @@ module _ (x : Station) where
       let t = state_to TimerRecovery (rc_to 1 (transmit_enquiry (expired T200 s))) in
       let u = without_info Command (status_frame true x.end.window) in
       subst (λ (t : StepState). PollsBy 1 t) (sym (closes_in_8 t refl refl)) (record {
-        polled = record { in_8 = refl; rc_is = refl; parameters = refl; unsent_is = refl; waiting_is = refl; window = refl };
+        polled = record {
+          in_8 = refl;
+          rc_is = refl;
+          parameters = refl;
+          unsent_is = refl;
+          waiting_is = refl;
+          window = refl;
+        };
         frame = u;
         ignored = ignored_status x.end.window;
         polls = ap poll_of (enquiry_kind x.end.window);
@@ -168,21 +212,37 @@ module _ (x : Station) where
         none_dropped = (enquiry_puts c (expired T200 s)).dropped;
       }))
 
-  t200_in_7 : x.end.t200 ≡ true → PollsBy 1 (end_step Whole (row Whole MultipleFrameEstablished (Expiry T200) (begin x.end)))
+  t200_in_7 : x.end.t200 ≡ true
+      → PollsBy 1 (end_step Whole (row Whole MultipleFrameEstablished (Expiry T200) (begin x.end)))
   unfolding row by_state multiple_frame_established begin
-  t200_in_7 on = by_test (λ (t : StepState). PollsBy 1 (end_step Whole t)) x.end.t200 _ _ (λ _. retransmits) (λ off. cc)
+  t200_in_7 on =
+      by_test (λ (t : StepState). PollsBy 1 (end_step Whole t)) x.end.t200 _ _ (λ _. retransmits)
+      (λ off. cc)
 
-  t203_in_7 : x.end.t203 ≡ true → PollsBy 0 (end_step Whole (row Whole MultipleFrameEstablished (Expiry T203) (begin x.end)))
+  t203_in_7 : x.end.t203 ≡ true
+      → PollsBy 0 (end_step Whole (row Whole MultipleFrameEstablished (Expiry T203) (begin x.end)))
   unfolding row by_state multiple_frame_established begin rc_to expired story_after
-  t203_in_7 on = by_test (λ (t : StepState). PollsBy 0 (end_step Whole t)) x.end.t203 _ _ (λ _. enquires (rc_to 0 (expired T203 (begin x.end))) 0 refl refl refl refl refl refl refl) (λ off. cc)
+  t203_in_7 on =
+      by_test (λ (t : StepState). PollsBy 0 (end_step Whole t)) x.end.t203 _ _
+      (λ _. enquires (rc_to 0 (expired T203 (begin x.end))) 0 refl refl refl refl refl refl refl)
+      (λ off. cc)
 
-  retries_in_8 : x.end.state ≡ TimerRecovery → PollsBy (x.end.rc + 1) (end_step Whole (transmit_enquiry (expired T200 (increment_rc (begin x.end)))))
+  retries_in_8 : x.end.state ≡ TimerRecovery
+      → PollsBy (x.end.rc + 1)
+      (end_step Whole (transmit_enquiry (expired T200 (increment_rc (begin x.end)))))
   unfolding increment_rc expired transmit_enquiry without_ack_pending story_after begin
   retries_in_8 is =
       let s = expired T200 (increment_rc (begin x.end)) in
       let t = transmit_enquiry s in
       subst (λ (t : StepState). PollsBy (x.end.rc + 1) t) (sym (closes_in_8 t is refl)) (record {
-        polled = record { in_8 = is; rc_is = refl; parameters = refl; unsent_is = refl; waiting_is = refl; window = refl };
+        polled = record {
+          in_8 = is;
+          rc_is = refl;
+          parameters = refl;
+          unsent_is = refl;
+          waiting_is = refl;
+          window = refl;
+        };
         frame = without_info Command (status_frame true x.end.window);
         ignored = ignored_status x.end.window;
         polls = ap poll_of (enquiry_kind x.end.window);
@@ -190,27 +250,54 @@ module _ (x : Station) where
         none_dropped = (enquiry_puts c s).dropped;
       })
 
-  t200_in_8 : x.end.state ≡ TimerRecovery → x.end.t200 ≡ true → nat_lt x.end.rc x.end.parameters.n200 ≡ true → PollsBy (x.end.rc + 1) (end_step Whole (row Whole TimerRecovery (Expiry T200) (begin x.end)))
+  t200_in_8 : x.end.state ≡ TimerRecovery → x.end.t200 ≡ true
+      → nat_lt x.end.rc x.end.parameters.n200 ≡ true
+      → PollsBy (x.end.rc + 1)
+      (end_step Whole (row Whole TimerRecovery (Expiry T200) (begin x.end)))
   unfolding row by_state timer_recovery timer_recovery_t200 begin
-  t200_in_8 is on tries = by_test (λ (t : StepState). PollsBy (x.end.rc + 1) (end_step Whole t)) x.end.t200 _ _
-      (λ _. by_test (λ (t : StepState). PollsBy (x.end.rc + 1) (end_step Whole t)) (nat_lt x.end.rc x.end.parameters.n200) _ _ (λ _. retries_in_8 is) (λ last. cc)) (λ off. cc)
+  t200_in_8 is on tries =
+      by_test (λ (t : StepState). PollsBy (x.end.rc + 1) (end_step Whole t)) x.end.t200 _ _
+      (λ _. by_test (λ (t : StepState). PollsBy (x.end.rc + 1) (end_step Whole t))
+      (nat_lt x.end.rc x.end.parameters.n200) _ _ (λ _. retries_in_8 is) (λ last. cc))
+      (λ off. cc)
 
-  by_t200 : (rc : ℕ) → x.end.t200 ≡ true → PollsBy rc (end_step Whole (row Whole x.end.state (Expiry T200) (begin x.end))) → Polls x rc (left_by v (acts Whole side.User Expire200 v))
+  by_t200 : (rc : ℕ) → x.end.t200 ≡ true
+      → PollsBy rc (end_step Whole (row Whole x.end.state (Expiry T200) (begin x.end)))
+      → Polls x rc (left_by v (acts Whole side.User Expire200 v))
   unfolding acts expires_200 takes step
-  by_t200 rc on p = by_test (λ (o : Result ViewStep Refusal). Polls x rc (left_by v o)) x.end.t200 _ _ (λ _. polls_view rc _ p) (λ off. cc)
+  by_t200 rc on p =
+      by_test (λ (o : Result ViewStep Refusal). Polls x rc (left_by v o)) x.end.t200 _ _
+      (λ _. polls_view rc _ p) (λ off. cc)
 
-  by_t203 : (rc : ℕ) → x.end.t203 ≡ true → PollsBy rc (end_step Whole (row Whole x.end.state (Expiry T203) (begin x.end))) → Polls x rc (left_by v (acts Whole side.User Expire203 v))
+  by_t203 : (rc : ℕ) → x.end.t203 ≡ true
+      → PollsBy rc (end_step Whole (row Whole x.end.state (Expiry T203) (begin x.end)))
+      → Polls x rc (left_by v (acts Whole side.User Expire203 v))
   unfolding acts expires_203 takes step
-  by_t203 rc on p = by_test (λ (o : Result ViewStep Refusal). Polls x rc (left_by v o)) x.end.t203 _ _ (λ _. polls_view rc _ p) (λ off. cc)
+  by_t203 rc on p =
+      by_test (λ (o : Result ViewStep Refusal). Polls x rc (left_by v o)) x.end.t203 _ _
+      (λ _. polls_view rc _ p) (λ off. cc)
 
-  pub polls_by_t200 : x.end.state ≡ MultipleFrameEstablished → x.end.t200 ≡ true → Polls x 1 (left_by v (acts Whole side.User Expire200 v))
-  polls_by_t200 is on = by_t200 1 on (subst (λ st. PollsBy 1 (end_step Whole (row Whole st (Expiry T200) (begin x.end)))) (sym is) (t200_in_7 on))
+  pub polls_by_t200 : x.end.state ≡ MultipleFrameEstablished → x.end.t200 ≡ true
+      → Polls x 1 (left_by v (acts Whole side.User Expire200 v))
+  polls_by_t200 is on =
+      by_t200 1 on (subst
+      (λ st. PollsBy 1 (end_step Whole (row Whole st (Expiry T200) (begin x.end)))) (sym is)
+      (t200_in_7 on))
 
-  pub polls_by_t203 : x.end.state ≡ MultipleFrameEstablished → x.end.t203 ≡ true → Polls x 0 (left_by v (acts Whole side.User Expire203 v))
-  polls_by_t203 is on = by_t203 0 on (subst (λ st. PollsBy 0 (end_step Whole (row Whole st (Expiry T203) (begin x.end)))) (sym is) (t203_in_7 on))
+  pub polls_by_t203 : x.end.state ≡ MultipleFrameEstablished → x.end.t203 ≡ true
+      → Polls x 0 (left_by v (acts Whole side.User Expire203 v))
+  polls_by_t203 is on =
+      by_t203 0 on (subst
+      (λ st. PollsBy 0 (end_step Whole (row Whole st (Expiry T203) (begin x.end)))) (sym is)
+      (t203_in_7 on))
 
-  pub polls_again : x.end.state ≡ TimerRecovery → x.end.t200 ≡ true → nat_lt x.end.rc x.end.parameters.n200 ≡ true → Polls x (x.end.rc + 1) (left_by v (acts Whole side.User Expire200 v))
-  polls_again is on tries = by_t200 (x.end.rc + 1) on (subst (λ st. PollsBy (x.end.rc + 1) (end_step Whole (row Whole st (Expiry T200) (begin x.end)))) (sym is) (t200_in_8 is on tries))
+  pub polls_again : x.end.state ≡ TimerRecovery → x.end.t200 ≡ true
+      → nat_lt x.end.rc x.end.parameters.n200 ≡ true
+      → Polls x (x.end.rc + 1) (left_by v (acts Whole side.User Expire200 v))
+  polls_again is on tries =
+      by_t200 (x.end.rc + 1) on (subst
+      (λ st. PollsBy (x.end.rc + 1) (end_step Whole (row Whole st (Expiry T200) (begin x.end))))
+      (sym is) (t200_in_8 is on tries))
 
 -- ---- At the last try the end establishes anew.
 
@@ -237,26 +324,57 @@ asking e = record e {
   state = AwaitingEstablishment;
 }
 
-asking_line : (b : Bool) (e : End) (octets : List ℕ) (place : ℕ) (v : View) → (story_after octets place v (record { end = asking e; outs = Report letter.I ∷ Send Command (Sabme true) ∷ out_where b (Stop T203) ++ Start T200 ∷ [] })).line ≡ v.outgoing ++ sabme ∷ []
+asking_line : (b : Bool) (e : End) (octets : List ℕ) (place : ℕ) (v : View)
+    → (story_after octets place v (record {
+      end = asking e;
+      outs =
+          Report letter.I ∷ Send Command (Sabme true) ∷ out_where b (Stop T203)
+          ++ Start T200 ∷ [];
+    })).line ≡ v.outgoing ++ sabme ∷ []
 unfolding story_after
 asking_line true e octets place v = refl
 asking_line false e octets place v = refl
 
-last_try_yields : (e : End) → e.t200 ≡ true → nat_lt e.rc e.parameters.n200 ≡ false → Yields e (end_step Whole (row Whole TimerRecovery (Expiry T200) (begin e))) (asking e) (sabme ∷ [])
-unfolding row by_state timer_recovery timer_recovery_t200 expired put reestablish_data_link layer3_initiated_to establish_data_link clear_exception_conditions release_pending_to rc_to stop start state_to begin
-last_try_yields e on last = by_test (λ (t : StepState). Yields e (end_step Whole t) (asking e) (sabme ∷ [])) e.t200 _ _
-    (λ _. by_test (λ (t : StepState). Yields e (end_step Whole t) (asking e) (sabme ∷ [])) (nat_lt e.rc e.parameters.n200) _ _
+last_try_yields : (e : End) → e.t200 ≡ true → nat_lt e.rc e.parameters.n200 ≡ false
+    → Yields e (end_step Whole (row Whole TimerRecovery (Expiry T200) (begin e))) (asking e)
+    (sabme ∷ [])
+unfolding row by_state timer_recovery timer_recovery_t200 expired put reestablish_data_link
+    layer3_initiated_to establish_data_link clear_exception_conditions release_pending_to rc_to stop
+    start state_to begin
+last_try_yields e on last =
+    by_test (λ (t : StepState). Yields e (end_step Whole t) (asking e) (sabme ∷ [])) e.t200 _ _
+    (λ _. by_test (λ (t : StepState). Yields e (end_step Whole t) (asking e) (sabme ∷ []))
+    (nat_lt e.rc e.parameters.n200) _ _
     (λ some. cc)
-    (λ _. let s : StepState = record { end = asking e; outs = Report letter.I ∷ Send Command (Sabme true) ∷ out_where e.t203 (Stop T203) ++ Start T200 ∷ [] } in
-    subst (λ (t : StepState). Yields e t (asking e) (sabme ∷ [])) (sym (closes_nothing s refl)) (record { end = refl; line = λ octets place v same. asking_line e.t203 e octets place v })))
+    (λ _. let s : StepState =
+    record {
+      end = asking e;
+      outs =
+          Report letter.I ∷ Send Command (Sabme true) ∷ out_where e.t203 (Stop T203)
+          ++ Start T200 ∷ [];
+    } in
+    subst (λ (t : StepState). Yields e t (asking e) (sabme ∷ [])) (sym (closes_nothing s refl))
+    (record { end = refl; line = λ octets place v same. asking_line e.t203 e octets place v })))
     (λ off. cc)
 
-pub last_try_in_8 : (e : End) → e.state ≡ TimerRecovery → e.t200 ≡ true → nat_lt e.rc e.parameters.n200 ≡ false → Yields e (end_step Whole (row Whole e.state (Expiry T200) (begin e))) (asking e) (sabme ∷ [])
-last_try_in_8 e is on last = subst (λ st. Yields e (end_step Whole (row Whole st (Expiry T200) (begin e))) (asking e) (sabme ∷ [])) (sym is) (last_try_yields e on last)
+pub last_try_in_8 : (e : End) → e.state ≡ TimerRecovery → e.t200 ≡ true
+    → nat_lt e.rc e.parameters.n200 ≡ false
+    → Yields e (end_step Whole (row Whole e.state (Expiry T200) (begin e))) (asking e) (sabme ∷ [])
+last_try_in_8 e is on last =
+    subst
+    (λ st. Yields e (end_step Whole (row Whole st (Expiry T200) (begin e))) (asking e) (sabme ∷ []))
+    (sym is) (last_try_yields e on last)
 
 pub asks_itself : (e : End) → AsksItself (asking e)
 unfolding without_exceptions
-asks_itself e = record { in_5 = refl; itself = refl; stays = refl; idle = refl; free = refl; none_pending = refl }
+asks_itself e = record {
+  in_5 = refl;
+  itself = refl;
+  stays = refl;
+  idle = refl;
+  free = refl;
+  none_pending = refl;
+}
 
 -- ---- A SABME in state 4.
 
@@ -282,11 +400,15 @@ established e = record e {
   state = MultipleFrameEstablished;
 }
 
-pub sends_nothing : (s : StepState) → length s.end.given ≡ s.end.next → s.end.window.ack_pending ≡ false → end_step Whole s ≡ s
+pub sends_nothing : (s : StepState) → length s.end.given ≡ s.end.next
+    → s.end.window.ack_pending ≡ false → end_step Whole s ≡ s
 unfolding end_step acknowledge_pending
 sends_nothing s all none =
-    ap (λ t. acknowledge_pending t) (sends_none Whole (unsent s.end) s (no_more (is_established s.end.state) _ (not_less s.end.next (length s.end.given) all)))
-    ∙ by_test (λ (t : StepState). t ≡ s) (is_7_or_8 s.end.state && s.end.window.ack_pending) _ _ (λ both. absurd (and_off (is_7_or_8 s.end.state) s.end.window.ack_pending none both)) (λ _. refl)
+    ap (λ t. acknowledge_pending t) (sends_none Whole (unsent s.end) s
+    (no_more (is_established s.end.state) _ (not_less s.end.next (length s.end.given) all)))
+    ∙ by_test (λ (t : StepState). t ≡ s) (is_7_or_8 s.end.state && s.end.window.ack_pending) _ _
+    (λ both. absurd (and_off (is_7_or_8 s.end.state) s.end.window.ack_pending none both))
+    (λ _. refl)
   where
     not_less : (a b : ℕ) → b ≡ a → nat_lt a b ≡ false
     not_less a b same = grind (arith, nat_tests, same)
@@ -299,15 +421,37 @@ sends_nothing s all none =
         by_bools true false c none = refl
         by_bools false b c none = refl
 
-sabme_yields : (e : End) → length e.given ≡ e.next → Yields e (end_step Whole (row Whole TeiAssigned (Heard (Sabme true) Command) (begin e))) (established e) (ua ∷ [])
-unfolding row by_state tei_assigned put clear_exception_conditions zero_state_variables start state_to begin without_exceptions with_zero_counters story_after
+sabme_yields : (e : End) → length e.given ≡ e.next
+    → Yields e (end_step Whole (row Whole TeiAssigned (Heard (Sabme true) Command) (begin e)))
+    (established e) (ua ∷ [])
+unfolding row by_state tei_assigned put clear_exception_conditions zero_state_variables start
+    state_to begin without_exceptions with_zero_counters story_after
 sabme_yields e all =
-    let s : StepState = record { end = established e; outs = Send Answer (Ua true) ∷ Established ∷ Start T203 ∷ [] } in
-    subst (λ (t : StepState). Yields e t (established e) (ua ∷ [])) (sym (sends_nothing s all refl)) (record { end = refl; line = λ octets place v same. refl })
+    let s : StepState =
+    record {
+      end = established e;
+      outs = Send Answer (Ua true) ∷ Established ∷ Start T203 ∷ [];
+    } in
+    subst (λ (t : StepState). Yields e t (established e) (ua ∷ [])) (sym (sends_nothing s all refl))
+    (record { end = refl; line = λ octets place v same. refl })
 
-pub sabme_in_4 : (e : End) → e.state ≡ TeiAssigned → length e.given ≡ e.next → Yields e (end_step Whole (row Whole e.state (Heard (Sabme true) Command) (begin e))) (established e) (ua ∷ [])
-sabme_in_4 e is all = subst (λ st. Yields e (end_step Whole (row Whole st (Heard (Sabme true) Command) (begin e))) (established e) (ua ∷ [])) (sym is) (sabme_yields e all)
+pub sabme_in_4 : (e : End) → e.state ≡ TeiAssigned → length e.given ≡ e.next
+    → Yields e (end_step Whole (row Whole e.state (Heard (Sabme true) Command) (begin e)))
+    (established e) (ua ∷ [])
+sabme_in_4 e is all =
+    subst (λ st. Yields e
+    (end_step Whole (row Whole st (Heard (Sabme true) Command) (begin e))) (established e)
+    (ua ∷ [])) (sym is) (sabme_yields e all)
 
 pub is_new : (e : End) → e.t200 ≡ false → length e.given ≡ e.next → IsNew (established e)
 unfolding without_exceptions with_zero_counters
-is_new e off all = record { in_7 = refl; off = off; vs = refl; va = refl; vr = refl; idle = refl; free = refl; none = omega (arith, all) }
+is_new e off all = record {
+  in_7 = refl;
+  off = off;
+  vs = refl;
+  va = refl;
+  vr = refl;
+  idle = refl;
+  free = refl;
+  none = omega (arith, all);
+}

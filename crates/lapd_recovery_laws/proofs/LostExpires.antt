@@ -28,15 +28,25 @@ use Rattle.lapd_recovery_laws.proofs.Retry.{Retries, seen_retried, preserved_ret
 -- ---- A lost end, as its peer's stream sees it: it waits for T200.
 
 abbrev pub stand_in : Station → Station
-stand_in x = record x { end = record (x.end) { state = MultipleFrameEstablished; t200 = true; window = record (x.end.window) { peer_busy = true } } }
+stand_in x = record x {
+  end
+      = record (x.end) {
+        state = MultipleFrameEstablished;
+        t200 = true;
+        window = record (x.end.window) { peer_busy = true };
+      };
+}
 
-waits : (x : Station) (y : Sink) (out back : List Kind) → Stream (source (stand_in x).end) y out back (burden 3 (source x.end) y)
+waits : (x : Station) (y : Sink) (out back : List Kind)
+    → Stream (source (stand_in x).end) y out back (burden 3 (source x.end) y)
 waits x y out back = record { stage = Waiting; so = (refl, refl); most = omega arith }
 
-still_waits : (x : Station) (y : Sink) (out back : List Kind) (n : ℕ) → Stream (source (stand_in x).end) y out back n → burden 3 (source x.end) y ≤ n
+still_waits : (x : Station) (y : Sink) (out back : List Kind) (n : ℕ)
+    → Stream (source (stand_in x).end) y out back n → burden 3 (source x.end) y ≤ n
 still_waits x y out back n s = by_stage s.stage s.so s.most
   where
-    by_stage : (stage : Stage) → IsAt stage (source (stand_in x).end) y out back → weight stage (source (stand_in x).end) y ≤ n → burden 3 (source x.end) y ≤ n
+    by_stage : (stage : Stage) → IsAt stage (source (stand_in x).end) y out back
+        → weight stage (source (stand_in x).end) y ≤ n → burden 3 (source x.end) y ≤ n
     by_stage Clean c most = let free = c.free in cc
     by_stage Waiting w most = most
     by_stage Polling w most = let in_8 = w.0 in cc
@@ -46,9 +56,13 @@ none_or_one : (n : ℕ) → n ≤ 1 → (n ≡ 0) ⊎ (n ≡ 1)
 none_or_one n few = grind (arith, few)
 
 -- The peer of the lost user has moved. The frames in transit to the user may have a final.
-pub peer_moved : (last : Bool) (n : ℕ) (w : World) → IsInvariant w → AreSettledEnds w → w.user.end.state ≡ TimerRecovery → (last || nat_lt w.user.end.rc w.user.end.parameters.n200) ≡ true → w.to_network ≡ []
+pub peer_moved : (last : Bool) (n : ℕ) (w : World) → IsInvariant w → AreSettledEnds w
+    → w.user.end.state ≡ TimerRecovery
+    → (last || nat_lt w.user.end.rc w.user.end.parameters.n200) ≡ true → w.to_network ≡ []
     → Seen n (view_of side.Network w) (stand_in w.user) → UserLost last n w ⊎ Drains n w
-peer_moved last n w i ends_settled in_8 tries none s = by_finals (none_or_one (tally final_of (kinds w.to_user)) (let one = asked.one in omega (arith, one)))
+peer_moved last n w i ends_settled in_8 tries none s =
+    by_finals
+    (none_or_one (tally final_of (kinds w.to_user)) (let one = asked.one in omega (arith, one)))
   where
     x : Station
     x = w.user
@@ -62,21 +76,29 @@ peer_moved last n w i ends_settled in_8 tries none s = by_finals (none_or_one (t
     heavy : burden 3 (source x.end) (sink y.end) ≤ s.flow.b
     heavy = still_waits x (sink y.end) (kinds w.to_network) (kinds w.to_user) s.flow.b s.flow.its
 
-    by_finals : (tally final_of (kinds w.to_user) ≡ 0) ⊎ (tally final_of (kinds w.to_user) ≡ 1) → UserLost last n w ⊎ Drains n w
+    by_finals : (tally final_of (kinds w.to_user) ≡ 0) ⊎ (tally final_of (kinds w.to_user) ≡ 1)
+        → UserLost last n w ⊎ Drains n w
     by_finals (inl lost) = inl (lost_so last n w (record {
       holds = i;
       ends_settled = ends_settled;
       in_8 = in_8;
       tries = tries;
       peer_open = mine_open s.flow;
-      lost = record { polls = ap (λ fs. tally poll_of (kinds fs)) none; finals = lost; no_message = ap (λ fs. messages (kinds fs)) none };
+      lost = record {
+        polls = ap (λ fs. tally poll_of (kinds fs)) none;
+        finals = lost;
+        no_message = ap (λ fs. messages (kinds fs)) none;
+      };
       b = s.flow.a;
       its = s.flow.mine;
       idle = s.its_idle;
       its_idle = s.idle;
       proceeding = s.arriving;
       arriving = s.proceeding;
-      most = let le = s.flow.most in let l = kinds_length w.to_user in let k = kinds_length w.to_network in omega (arith, le, heavy, l, k);
+      most =
+          let le = s.flow.most in
+          let l = kinds_length w.to_user in
+          let k = kinds_length w.to_network in omega (arith, le, heavy, l, k);
     }))
     by_finals (inr one) = inr (record {
       holds = i;
@@ -97,9 +119,12 @@ peer_moved last n w i ends_settled in_8 tries none s = by_finals (none_or_one (t
     })
 
 -- T200 alone brings nothing to the side
-nothing_comes : (x : Station) → (left_by (seeing x [] []) (acts Whole side.User Expire200 (seeing x [] []))).incoming ≡ []
+nothing_comes : (x : Station)
+    → (left_by (seeing x [] []) (acts Whole side.User Expire200 (seeing x [] []))).incoming ≡ []
 unfolding acts expires_200 takes step view_after
-nothing_comes x = by_test (λ (o : Result ViewStep Refusal). (left_by (seeing x [] []) o).incoming ≡ []) x.end.t200 _ _ (λ _. refl) (λ _. refl)
+nothing_comes x =
+    by_test (λ (o : Result ViewStep Refusal). (left_by (seeing x [] []) o).incoming ≡ []) x.end.t200
+    _ _ (λ _. refl) (λ _. refl)
 
 abbrev expired_at : Station → View
 expired_at x = left_by (seeing x [] []) (acts Whole side.User Expire200 (seeing x [] []))
@@ -111,19 +136,32 @@ module _ (last : Bool) (n : ℕ) (x y : Station) (l : UserLost last n (at x y []
   w = at x y [] []
 
   pub stream : Stream (source y.end) (sink x.end) [] [] l.drains.sees.flow.b
-  stream = speaks.as_sent (source y.end) (sink x.end) (Final y.end.window.vr ∷ []) [] [] [] l.drains.sees.flow.b refl refl refl refl refl l.drains.sees.flow.its
+  stream =
+      speaks.as_sent (source y.end) (sink x.end) (Final y.end.window.vr ∷ []) [] [] []
+      l.drains.sees.flow.b refl refl refl refl refl l.drains.sees.flow.its
 
   heavy : burden 0 (source x.end) (sink y.end) ≤ l.drains.sees.flow.a
-  heavy = weight_in_8 (source x.end) (sink y.end) [] (Final y.end.window.vr ∷ []) l.drains.sees.flow.a l.in_8 refl l.drains.sees.flow.mine
+  heavy =
+      weight_in_8 (source x.end) (sink y.end) [] (Final y.end.window.vr ∷ []) l.drains.sees.flow.a
+      l.in_8 refl l.drains.sees.flow.mine
 
   ends : AreSettledEnds w
   ends = record { user = l.drains.ends_settled.user; network = l.drains.ends_settled.network }
 
   -- T200 of the lost user expires: it polls
   retries : nat_lt x.end.rc x.end.parameters.n200 ≡ true → Retries x.end y.end (n - 1)
-  retries tries = record { in_8 = l.in_8; tries = tries; idle = l.drains.sees.idle; b = l.drains.sees.flow.b; its = stream; most = let le = l.drains.sees.flow.most in let two = l.two in omega (arith, le, two, heavy) }
+  retries tries = record {
+    in_8 = l.in_8;
+    tries = tries;
+    idle = l.drains.sees.idle;
+    b = l.drains.sees.flow.b;
+    its = stream;
+    most =
+        let le = l.drains.sees.flow.most in let two = l.two in omega (arith, le, two, heavy);
+  }
 
-  pub lost_user_expires : x.end.t200 ≡ true → nat_lt x.end.rc x.end.parameters.n200 ≡ true → Drains (n - 1) (world_after w (happens Whole (user_move Expire200) w))
+  pub lost_user_expires : x.end.t200 ≡ true → nat_lt x.end.rc x.end.parameters.n200 ≡ true
+      → Drains (n - 1) (world_after w (happens Whole (user_move Expire200) w))
   lost_user_expires on tries =
       let same = moved_user Expire200 w in
       subst (λ v. Drains (n - 1) v) (sym same) (record {
@@ -132,8 +170,11 @@ module _ (last : Bool) (n : ℕ) (x y : Station) (l : UserLost last n (at x y []
         sees = seen_retried x y (n - 1) on l.drains.sees.its_idle (retries tries);
       })
 
-  pub lost_user_expires_dropped : x.end.t200 ≡ true → nat_lt x.end.rc x.end.parameters.n200 ≡ true → SameDropped w (world_after w (happens Whole (user_move Expire200) w))
-  lost_user_expires_dropped on tries = subst (λ v. SameDropped w v) (sym (moved_user Expire200 w)) (record { user = preserved_retried x y (n - 1) on (retries tries); network = refl })
+  pub lost_user_expires_dropped : x.end.t200 ≡ true → nat_lt x.end.rc x.end.parameters.n200 ≡ true
+      → SameDropped w (world_after w (happens Whole (user_move Expire200) w))
+  lost_user_expires_dropped on tries =
+      subst (λ v. SameDropped w v) (sym (moved_user Expire200 w))
+      (record { user = preserved_retried x y (n - 1) on (retries tries); network = refl })
 
   -- T200 of its peer expires
   stands_in : Seen n (seeing y [] []) (stand_in x)
@@ -151,15 +192,23 @@ module _ (last : Bool) (n : ℕ) (x y : Station) (l : UserLost last n (at x y []
     arriving = tt;
   }
 
-  pub lost_peer_expires : y.end.t200 ≡ true → UserLost last (n - 1) (world_after w (happens Whole (network_move Expire200) w)) ⊎ Drains (n - 1) (world_after w (happens Whole (network_move Expire200) w))
+  pub lost_peer_expires : y.end.t200 ≡ true
+      → UserLost last (n - 1) (world_after w (happens Whole (network_move Expire200) w))
+      ⊎ Drains (n - 1) (world_after w (happens Whole (network_move Expire200) w))
   lost_peer_expires on =
       let same = moved_network Expire200 w in
       subst (λ v. UserLost last (n - 1) v ⊎ Drains (n - 1) v) (sym same)
-      (peer_moved last (n - 1) (seen_by_network (expired_at y) w) (subst IsInvariant same (each_move_preserves (network_move Expire200) w l.holds)) (subst AreSettledEnds same (move_settles (network_move Expire200) w ends)) l.in_8 l.tries (nothing_comes y)
+      (peer_moved last (n - 1) (seen_by_network (expired_at y) w)
+      (subst IsInvariant same (each_move_preserves (network_move Expire200) w l.holds))
+      (subst AreSettledEnds same (move_settles (network_move Expire200) w ends)) l.in_8
+      l.tries (nothing_comes y)
       (seen_expired y (stand_in x) n on stands_in))
 
-  pub lost_peer_expires_dropped : y.end.t200 ≡ true → SameDropped w (world_after w (happens Whole (network_move Expire200) w))
-  lost_peer_expires_dropped on = subst (λ v. SameDropped w v) (sym (moved_network Expire200 w)) (record { user = refl; network = preserved_expired y (stand_in x) n on stands_in })
+  pub lost_peer_expires_dropped : y.end.t200 ≡ true
+      → SameDropped w (world_after w (happens Whole (network_move Expire200) w))
+  lost_peer_expires_dropped on =
+      subst (λ v. SameDropped w v) (sym (moved_network Expire200 w))
+      (record { user = refl; network = preserved_expired y (stand_in x) n on stands_in })
 
 -- ---- Both ends are lost.
 
@@ -174,9 +223,11 @@ pub record BothLost (last : Bool) (n : ℕ) (w : World) : Type 0 where
   pub network_tries : (last || nat_lt w.network.end.rc w.network.end.parameters.n200) ≡ true
   pub user_idle : w.user.end.window.own_busy ≡ false
   pub network_idle : w.network.end.window.own_busy ≡ false
-  pub most : burden 3 (source w.user.end) (sink w.network.end) + burden 3 (source w.network.end) (sink w.user.end) ≤ n
+  pub most : burden 3 (source w.user.end) (sink w.network.end)
+      + burden 3 (source w.network.end) (sink w.user.end) ≤ n
 
-pub both_swapped : (last : Bool) (n : ℕ) (w : World) → BothLost last n w → BothLost last n (swapped w)
+pub both_swapped : (last : Bool) (n : ℕ) (w : World) → BothLost last n w
+    → BothLost last n (swapped w)
 both_swapped last n w l = record {
   to_user = l.to_network;
   to_network = l.to_user;
@@ -191,22 +242,40 @@ both_swapped last n w l = record {
   most = let le = l.most in omega (arith, le);
 }
 
-module _ (last : Bool) (n : ℕ) (x y : Station) (l : BothLost last n (at x y [] [])) (on : x.end.t200 ≡ true) (tries : nat_lt x.end.rc x.end.parameters.n200 ≡ true) where
+module _ (last : Bool) (n : ℕ) (x y : Station) (l : BothLost last n (at x y [] []))
+    (on : x.end.t200 ≡ true) (tries : nat_lt x.end.rc x.end.parameters.n200 ≡ true) where
   abbrev both : World
   both = at x y [] []
 
   both_retries : Retries x.end (stand_in y).end (n - 1)
-  both_retries = record { in_8 = l.user_in_8; tries = tries; idle = l.user_idle; b = burden 3 (source y.end) (sink x.end); its = waits y (sink x.end) [] []; most = let le = l.most in omega (arith, le) }
+  both_retries = record {
+    in_8 = l.user_in_8;
+    tries = tries;
+    idle = l.user_idle;
+    b = burden 3 (source y.end) (sink x.end);
+    its = waits y (sink x.end) [] [];
+    most = let le = l.most in omega (arith, le);
+  }
 
   -- T200 of the user expires: the other stays lost, unless an answer to it is in transit
-  pub both_lost_expires : UserLost last (n - 1) (swapped (world_after both (happens Whole (user_move Expire200) both))) ⊎ Drains (n - 1) (swapped (world_after both (happens Whole (user_move Expire200) both)))
+  pub both_lost_expires : UserLost last (n - 1)
+      (swapped (world_after both (happens Whole (user_move Expire200) both)))
+      ⊎ Drains (n - 1) (swapped (world_after both (happens Whole (user_move Expire200) both)))
   both_lost_expires =
       let same = moved_user Expire200 both in
       let now = with_view side.User (expired_at x) both in
-      let ends = subst AreSettledEnds same (move_settles (user_move Expire200) both l.ends_settled) in
+      let ends =
+      subst AreSettledEnds same (move_settles (user_move Expire200) both l.ends_settled) in
       subst (λ v. UserLost last (n - 1) (swapped v) ⊎ Drains (n - 1) (swapped v)) (sym same)
-      (peer_moved last (n - 1) (swapped now) (exchanged now (subst IsInvariant same (each_move_preserves (user_move Expire200) both l.holds))) (record { user = ends.network; network = ends.user }) l.network_in_8 l.network_tries (nothing_comes x)
+      (peer_moved last (n - 1) (swapped now)
+      (exchanged now
+      (subst IsInvariant same (each_move_preserves (user_move Expire200) both l.holds)))
+      (record { user = ends.network; network = ends.user }) l.network_in_8 l.network_tries
+      (nothing_comes x)
       (seen_retried x (stand_in y) (n - 1) on l.network_idle both_retries))
 
-  pub both_lost_expires_dropped : SameDropped both (world_after both (happens Whole (user_move Expire200) both))
-  both_lost_expires_dropped = subst (λ v. SameDropped both v) (sym (moved_user Expire200 both)) (record { user = preserved_retried x (stand_in y) (n - 1) on both_retries; network = refl })
+  pub both_lost_expires_dropped : SameDropped both
+      (world_after both (happens Whole (user_move Expire200) both))
+  both_lost_expires_dropped =
+      subst (λ v. SameDropped both v) (sym (moved_user Expire200 both))
+      (record { user = preserved_retried x (stand_in y) (n - 1) on both_retries; network = refl })

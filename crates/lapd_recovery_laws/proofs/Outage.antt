@@ -1,5 +1,5 @@
 -- The own moves of a line after an outage, in any order.
-use Rattle.std.proofs.Common.{◌≡◌, ◌⊎◌, inl, inr, ℕ, ◌+◌, ◌*◌, ◌-◌, ◌≤◌, not, ◌&&◌, ◌||◌, Bool, true, false, List, [], ◌∷◌, length, is_ok, refl, sym, ap, subst, ◌∙◌, arith}
+use Rattle.std.proofs.Common.{◌≡◌, ◌⊎◌, inl, inr, ℕ, ◌+◌, ◌*◌, ◌-◌, ◌≤◌, not, ◌&&◌, ◌||◌, Bool, true, false, List, ◌∷◌, length, is_ok, refl, sym, ap, subst, ◌∙◌, arith, []}
 use Rattle.lapd_frame.specs.declared.Side.{Side}
 use Rattle.lapd_frame.specs.declared.Side.TheVariants as side
 use Rattle.lapd_mod128.specs.Counting.{Whole}
@@ -8,26 +8,21 @@ use Rattle.lapd_link_definition.specs.declared.state.State.TheVariants.{TeiAssig
 use Rattle.lapd_link_definition.specs.EndOfStep.{is_7_or_8}
 use Rattle.lapd_link_definition.specs.End.{End, unsent}
 use Rattle.lapd_link_definition.specs.RunningTimers.{HasTimersOfState}
-use Rattle.lapd_pair_laws.specs.Conjuncts.{IsEmpty, IsConsistentSender}
 use Rattle.lapd_pair_laws.specs.Invariant.{IsInvariant}
 use Rattle.lapd_pair_laws.specs.Line.{Flight}
 use Rattle.lapd_pair_laws.specs.Move.{PairEvent, Deliver, Expire200, Expire203, Station, View, acts}
-use Rattle.lapd_pair_laws.specs.Parties.{party}
 use Rattle.lapd_pair_laws.specs.Timed.{AreSettledEnds}
 use Rattle.lapd_pair_laws.specs.World.{World, swapped, view_of, world_after, happens}
-use Rattle.lapd_pair_laws.specs.Kinds.{Kind, Final}
-use Rattle.lapd_pair_laws.proofs.Flow.{Source, Sink, source, sink, Stage, Clean, Waiting, Polling, Answered, IsAt, weight, Stream}
+use Rattle.lapd_pair_laws.specs.Kinds.{Final}
+use Rattle.lapd_pair_laws.proofs.Flow.{source, sink}
 use Rattle.lapd_pair_laws.proofs.SettledEnds.{move_settles}
 use Rattle.lapd_pair_laws.proofs.Stepping.{user_move, network_move}
 use Rattle.lapd_pair_laws.proofs.Swaps.{network_alike}
 use Rattle.lapd_pair_laws.proofs.Whole.{each_move_preserves}
-use Rattle.lapd_pair_laws.proofs.Worlds.{left_by, exchanged}
-use Rattle.lapd_recovery_laws.specs.AfterOutage.{IsKept}
+use Rattle.lapd_pair_laws.proofs.Worlds.{left_by}
 use Rattle.lapd_recovery_laws.specs.Own.{are_apart, is_empty, is_line_empty, is_due, IsOwn}
-use Rattle.lapd_recovery_laws.specs.Timers.{HaveTimersOfStates}
-use Rattle.lapd_recovery_laws.proofs.AnyOrder.{Draining, draining_swapped, MayRetry, own_moves_on, in_state_7, ok_in_world}
+use Rattle.lapd_recovery_laws.proofs.AnyOrder.{Draining, draining_swapped, MayRetry, own_moves_on, in_state_7}
 use Rattle.lapd_recovery_laws.proofs.Beside.{seeing}
-use Rattle.lapd_recovery_laws.proofs.Cleared.{AreClearIn5}
 use Rattle.lapd_recovery_laws.proofs.ClosedSteps.{Sees, seen_after_t200, retry_in_6, give_up_in_6, released, retried}
 use Rattle.lapd_recovery_laws.proofs.HalfSteps.{dm, disc, retry_in_5, give_up_in_5, asked_again, abandoned}
 use Rattle.lapd_recovery_laws.proofs.Lone.{no_delivery, t200_runs, t203_runs, ok_of_side, due_swapped, last_of, not_apart}
@@ -39,121 +34,58 @@ use Rattle.lapd_recovery_laws.proofs.SendsOn.{AreIgnored}
 use Rattle.lapd_recovery_laws.proofs.Situations.{tries, twice, attempt_in, attempt, gone, again, MayTry, Establishing, Alone4, Alone5, Alone6, by_peer_5, EndInAnswer, Closed, Half, alone_4, alone_5, alone_6, asks_5, asks_6, accepted, crossed, refused, parting, closed, not_both, false_if, Coming, ComesOn}
 use Rattle.lapd_recovery_laws.proofs.Transitions.{literally, timers_in, attempt_is, state_of, by_user, by_network, open_peer_5, closed_peer_6, none_left, alone4_t200, alone5_t200, alone6_t200, alone4_t203, alone5_peer, alone6_peer, alone4_ignores, alone5_ignores, alone6_ignores}
 use Rattle.lapd_recovery_laws.proofs.Exchanges.{asks5_delivered, asks6_delivered, asks6_ignores, parting_moves, refused_moves, accepted_moves, crossed_moves}
-
--- ---- What every world keeps.
-
-pub record Facts (N : ℕ) (w : World) : Type 0 where
-  pub holds : IsInvariant w
-  pub settled : AreSettledEnds w
-  pub have : HaveTimersOfStates w
-  pub clear : AreClearIn5 w
-  pub few_user : w.user.end.parameters.n200 ≤ N
-  pub few_network : w.network.end.parameters.n200 ≤ N
-
-pub facts_swapped : (N : ℕ) (w : World) → Facts N w → Facts N (swapped w)
-facts_swapped N w f = record {
-  holds = exchanged w f.holds;
-  settled = record { user = f.settled.network; network = f.settled.user };
-  have = record { user = f.have.network; network = f.have.user };
-  clear = record { user = f.clear.network; network = f.clear.user };
-  few_user = f.few_network;
-  few_network = f.few_user;
-}
-
--- a message in state 5, if layer 3 initiated the establishment: there is none
-empty_5 : (w : World) → IsInvariant w → w.user.end.state ≡ AwaitingEstablishment → w.user.end.layer3_initiated ≡ true → unsent w.user.end ≡ 0
-empty_5 w i is asked =
-    let x = party i.user_base w.user in
-    let preserved : IsConsistentSender AwaitingEstablishment true x.leaving x.sends = subst (λ b. IsConsistentSender AwaitingEstablishment b x.leaving x.sends) asked (subst (λ st. IsConsistentSender st x.asked x.leaving x.sends) is i.both.mine.preserved) in
-    let none : IsEmpty x.sends = preserved in
-    let all : w.user.end.next ≡ length w.user.end.given = none.next in
-    omega (arith, all)
-
--- an end in state 6 has none
-empty_6 : (w : World) → IsInvariant w → w.user.end.state ≡ AwaitingRelease → length w.user.end.given ≡ w.user.end.next
-empty_6 w i is =
-    let x = party i.user_base w.user in
-    let none : IsEmpty x.sends = subst (λ st. IsConsistentSender st x.asked x.leaving x.sends) is i.both.mine.preserved in
-    sym none.next
-
-empty_6_too : (w : World) → IsInvariant w → w.network.end.state ≡ AwaitingRelease → length w.network.end.given ≡ w.network.end.next
-empty_6_too w i is = empty_6 (swapped w) (exchanged w i) is
-
-not_empty : (a : List Flight) (f : Flight) (fs : List Flight) → (is_empty a && is_empty (f ∷ fs)) ≡ true → ⊥
-not_empty [] f fs empty = cc
-not_empty (g ∷ gs) f fs empty = cc
-
-first_of : (a b c : Bool) → (a && b && c) ≡ true → a ≡ true
-first_of true b c all = refl
-first_of false b c all = cc
-
-pub second_of : (a b c : Bool) → (a && b && c) ≡ true → b ≡ true
-second_of true true c all = refl
-second_of true false c all = cc
-second_of false b c all = cc
-
-neither_on : (a b : Bool) → not (a || b) ≡ true → b ≡ true → ⊥
-neither_on false true is on = cc
-neither_on true b is on = cc
-neither_on false false is on = cc
-
-stream_unsent : (x : Source) (y : Sink) (out back : List Kind) (n : ℕ) → Stream x y out back n → 2 * x.unsent ≤ n
-stream_unsent x y out back n s = by_stage s.stage s.so s.most
-  where
-    by_stage : (stage : Stage) → IsAt stage x y out back → weight stage x y ≤ n → 2 * x.unsent ≤ n
-    by_stage Clean c most = omega (arith, most)
-    by_stage Waiting w most = omega (arith, most)
-    by_stage Polling w most = omega (arith, most)
-    by_stage Answered w most = omega (arith, most)
-
-pub no_t203_if_closed : (e : End) → HasTimersOfState e → is_7_or_8 e.state ≡ false → e.t203 ≡ false
-no_t203_if_closed e has c = by_state e.state refl c
-  where
-    by_state : (state : State) → e.state ≡ state → is_7_or_8 state ≡ false → e.t203 ≡ false
-    by_state TeiAssigned is c = (timers_in TeiAssigned e has is).1
-    by_state AwaitingEstablishment is c = (timers_in AwaitingEstablishment e has is).1
-    by_state AwaitingRelease is c = (timers_in AwaitingRelease e has is).1
-    by_state MultipleFrameEstablished is c = cc
-    by_state TimerRecovery is c = cc
-
-user_ok : (event : PairEvent) (w : World) → is_ok (happens Whole (user_move event) w) ≡ is_ok (acts Whole side.User event (view_of side.User w))
-unfolding happens
-user_ok event w = ok_in_world side.User w (acts Whole side.User event (view_of side.User w))
-
-released_is_kept : (e : End) → e.state ≡ TeiAssigned → IsKept e
-released_is_kept e is = record { not_releasing = λ in_6. let never : TeiAssigned ≡ AwaitingRelease = sym is ∙ in_6 in cc; none_pending = λ in_5. let never : TeiAssigned ≡ AwaitingEstablishment = sym is ∙ in_5 in cc }
-
-pub turned : {A B : Type 0} → A ⊎ B → B ⊎ A
-turned (inl a) = inr a
-turned (inr b) = inl b
-
-establishing_swapped : (x y : End) → Establishing x y → Establishing y x
-establishing_swapped x y w = record { mine = w.its; its = w.mine; either = turned w.either }
+use Rattle.lapd_recovery_laws.proofs.OutageWorlds.{Facts, facts_swapped, empty_5, empty_6, empty_6_too, not_empty, first_of, second_of, neither_on, stream_unsent, no_t203_if_closed, user_ok, released_is_kept, establishing_swapped}
 
 module _ (N : ℕ) (some_retries : 1 ≤ N) (up : Bool) where
   -- ---- Both ends are closed: T200 of the user expires.
 
-  peer_bound : (n : ℕ) (x y : Station) (s : Closed N n (at x y [] [])) → x.end.state ≡ AwaitingEstablishment → by_peer_5 N y.end.state (attempt y.end + gone N y.end + again N x.end) (attempt y.end) ≤ attempt y.end + s.sends + s.leaves
+  peer_bound : (n : ℕ) (x y : Station) (s : Closed N n (at x y [] []))
+      → x.end.state ≡ AwaitingEstablishment
+      → by_peer_5 N y.end.state (attempt y.end + gone N y.end + again N x.end) (attempt y.end)
+      ≤ attempt y.end + s.sends + s.leaves
   peer_bound n x y s is = by_state y.end.state refl s.network
     where
-      by_state : (state : State) → y.end.state ≡ state → is_7_or_8 state ≡ false → by_peer_5 N y.end.state (attempt y.end + gone N y.end + again N x.end) (attempt y.end) ≤ attempt y.end + s.sends + s.leaves
-      by_state TeiAssigned its_is c = let none : by_peer_5 N y.end.state (attempt y.end + gone N y.end + again N x.end) (attempt y.end) ≡ 0 = ap (λ st. by_peer_5 N st (attempt y.end + gone N y.end + again N x.end) (attempt y.end)) its_is in omega (arith, none)
-      by_state AwaitingEstablishment its_is c = let all : by_peer_5 N y.end.state (attempt y.end + gone N y.end + again N x.end) (attempt y.end) ≡ attempt y.end + gone N y.end + again N x.end = ap (λ st. by_peer_5 N st (attempt y.end + gone N y.end + again N x.end) (attempt y.end)) its_is in let b = s.both is its_is in let p = b.0 in let q = b.3 in omega (arith, all, p, q)
-      by_state AwaitingRelease its_is c = let only : by_peer_5 N y.end.state (attempt y.end + gone N y.end + again N x.end) (attempt y.end) ≡ attempt y.end = ap (λ st. by_peer_5 N st (attempt y.end + gone N y.end + again N x.end) (attempt y.end)) its_is in omega (arith, only)
+      by_state : (state : State) → y.end.state ≡ state → is_7_or_8 state ≡ false
+          → by_peer_5 N y.end.state (attempt y.end + gone N y.end + again N x.end) (attempt y.end)
+          ≤ attempt y.end + s.sends + s.leaves
+      by_state TeiAssigned its_is c =
+          let none : by_peer_5 N y.end.state (attempt y.end + gone N y.end + again N x.end)
+          (attempt y.end) ≡ 0 =
+          ap
+          (λ st. by_peer_5 N st (attempt y.end + gone N y.end + again N x.end) (attempt y.end))
+          its_is in
+          omega (arith, none)
+      by_state AwaitingEstablishment its_is c =
+          let all : by_peer_5 N y.end.state (attempt y.end + gone N y.end + again N x.end)
+          (attempt y.end) ≡ attempt y.end + gone N y.end + again N x.end =
+          ap
+          (λ st. by_peer_5 N st (attempt y.end + gone N y.end + again N x.end) (attempt y.end))
+          its_is in
+          let b = s.both is its_is in let p = b.0 in let q = b.3 in omega (arith, all, p, q)
+      by_state AwaitingRelease its_is c =
+          let only : by_peer_5 N y.end.state (attempt y.end + gone N y.end + again N x.end)
+          (attempt y.end) ≡ attempt y.end =
+          ap
+          (λ st. by_peer_5 N st (attempt y.end + gone N y.end + again N x.end) (attempt y.end))
+          its_is in
+          omega (arith, only)
       by_state MultipleFrameEstablished its_is c = cc
       by_state TimerRecovery its_is c = cc
 
-  module _ (n : ℕ) (x y : Station) (s : Closed N n (at x y [] [])) (k : up ≡ true → Establishing x.end y.end) (on : x.end.t200 ≡ true) where
+  module _ (n : ℕ) (x y : Station) (s : Closed N n (at x y [] []))
+      (k : up ≡ true → Establishing x.end y.end) (on : x.end.t200 ≡ true) where
     abbrev now : World
     now = by_user N some_retries up Expire200 x y [] []
 
     abbrev v : View
     v = left_by (seeing x [] []) (acts Whole side.User Expire200 (seeing x [] []))
 
-    gives_up : (e : End) → Sees v e [] [] → e.state ≡ TeiAssigned → unsent e ≤ unsent x.end → 1 ≤ attempt x.end → (up ≡ true → MayTry y.end) → ComesOn N up n now
+    gives_up : (e : End) → Sees v e [] [] → e.state ≡ TeiAssigned → unsent e ≤ unsent x.end
+        → 1 ≤ attempt x.end → (up ≡ true → MayTry y.end) → ComesOn N up n now
     gives_up e seen is few some other =
         let le = s.most in
-        let none : attempt now.user.end ≡ 0 = ap attempt seen.end ∙ ap (λ st. attempt_in st (tries e) e.release_pending) is in
+        let none : attempt now.user.end ≡ 0 =
+        ap attempt seen.end ∙ ap (λ st. attempt_in st (tries e) e.release_pending) is in
         let same : unsent now.user.end ≡ unsent e = ap unsent seen.end in
         let in_4 : now.user.end.state ≡ TeiAssigned = ap state_of seen.end ∙ is in
         record {
@@ -165,9 +97,17 @@ module _ (N : ℕ) (some_retries : 1 ≤ N) (up : Bool) where
             to_network = seen.outgoing;
             sends = 0;
             leaves = 0;
-            both = λ in_5 its_in_5. absurd (let never : TeiAssigned ≡ AwaitingEstablishment = sym in_4 ∙ in_5 in cc);
+            both =
+                λ in_5 its_in_5. absurd
+                (let never : TeiAssigned ≡ AwaitingEstablishment = sym in_4 ∙ in_5 in cc);
             most = omega (arith, le, some, none, same, few);
-          }) (λ holds. record { mine = released_is_kept now.user.end in_4; its = (k holds).its; either = inr (other holds) })));
+          }) (λ holds. record {
+            mine =
+                released_is_kept now.user.end in_4;
+            its =
+                (k holds).its;
+            either = inr (other holds);
+          })));
         }
 
     from_5 : x.end.state ≡ AwaitingEstablishment → ComesOn N up n now
@@ -179,41 +119,83 @@ module _ (N : ℕ) (some_retries : 1 ≤ N) (up : Bool) where
 
         by_tries : (b : Bool) → tries x.end ≡ b → ComesOn N up n now
         by_tries true more =
-            let seen = seen_after_t200 x (asked_again x.end is) (sabme ∷ []) on (retry_in_5 x.end is on more) in
+            let seen =
+            seen_after_t200 x (asked_again x.end is) (sabme ∷ []) on
+            (retry_in_5 x.end is on more) in
             let le = s.most in
             let three = attempt_is AwaitingEstablishment true x.end is more in
-            let bit : twice now.user.end.release_pending ≡ twice x.end.release_pending = ap (λ (e : End). twice e.release_pending) seen.end in
+            let bit : twice now.user.end.release_pending ≡ twice x.end.release_pending =
+            ap (λ (e : End). twice e.release_pending) seen.end in
             let same : unsent now.user.end ≡ unsent x.end = ap unsent seen.end in
             let same_again : again N now.user.end ≡ again N x.end = ap (again N) seen.end in
             let bound = peer_bound n x y s is in
-            let peer : by_peer_5 N y.end.state (attempt y.end + gone N y.end + again N now.user.end) (attempt y.end) ≡ by_peer_5 N y.end.state (attempt y.end + gone N y.end + again N x.end) (attempt y.end)
-            = ap (λ a. by_peer_5 N y.end.state (attempt y.end + gone N y.end + a) (attempt y.end)) same_again in
+            let peer : by_peer_5 N y.end.state (attempt y.end + gone N y.end + again N now.user.end)
+            (attempt y.end)
+            ≡ by_peer_5 N y.end.state (attempt y.end + gone N y.end + again N x.end)
+            (attempt y.end)
+            =
+            ap (λ a. by_peer_5 N y.end.state (attempt y.end + gone N y.end + a) (attempt y.end))
+            same_again in
             record {
               some = omega (arith, le, three);
-              arriving = inr (inl (asks_5 (record { user = ap state_of seen.end ∙ is; to_user = seen.incoming; to_network = seen.outgoing; most = omega (arith, le, three, bit, same, peer, bound) }) (λ holds. let w = k holds in record { user = ap (λ (e : End). e.release_pending) seen.end ∙ w.mine.none_pending is; not_6 = w.its.not_releasing; network = w.its.none_pending })));
+              arriving =
+                  inr (inl (asks_5 (record {
+                    user = ap state_of seen.end ∙ is;
+                    to_user = seen.incoming;
+                    to_network = seen.outgoing;
+                    most = omega (arith, le, three, bit, same, peer, bound);
+                  })
+                  (λ holds. let w =
+                  k holds in record {
+                    user =
+                        ap (λ (e : End). e.release_pending) seen.end
+                        ∙ w.mine.none_pending is;
+                    not_6 = w.its.not_releasing;
+                    network = w.its.none_pending;
+                  })));
             }
-        by_tries false last = let one = attempt_is AwaitingEstablishment false x.end is last in gives_up (abandoned x.end is) (seen_after_t200 x (abandoned x.end is) [] on (give_up_in_5 x.end is on last)) refl (omega arith) (omega (arith, one)) (λ holds. other_tries last (k holds).either)
+        by_tries false last =
+            let one = attempt_is AwaitingEstablishment false x.end is last in
+            gives_up (abandoned x.end is)
+            (seen_after_t200 x (abandoned x.end is) [] on (give_up_in_5 x.end is on last)) refl
+            (omega arith) (omega (arith, one)) (λ holds. other_tries last (k holds).either)
 
     from_6 : x.end.state ≡ AwaitingRelease → ComesOn N up n now
     from_6 is = by_tries (tries x.end) refl
       where
         by_tries : (b : Bool) → tries x.end ≡ b → ComesOn N up n now
         by_tries true more =
-            let seen = seen_after_t200 x (retried x.end is) (disc ∷ []) on (retry_in_6 x.end is on more) in
+            let seen =
+            seen_after_t200 x (retried x.end is) (disc ∷ []) on
+            (retry_in_6 x.end is on more) in
             let le = s.most in
             let three = attempt_is AwaitingRelease true x.end is more in
             let len : length now.to_user ≡ 0 = ap (λ fs. length fs) seen.incoming in
-            let all = closed_peer_6 N some_retries up y.end.state (attempt y.end + 2 * unsent y.end) s.network in
+            let all =
+            closed_peer_6 N some_retries up y.end.state (attempt y.end + 2 * unsent y.end)
+            s.network in
             record {
               some = omega (arith, le, three);
-              arriving = inr (inl (asks_6 (record { user = ap state_of seen.end ∙ is; ignored = subst AreIgnored (sym seen.incoming) tt; to_network = seen.outgoing; most = omega (arith, le, three, len, all) }) (false_if up (λ holds. (k holds).mine.not_releasing is))));
+              arriving =
+                  inr (inl (asks_6 (record {
+                    user = ap state_of seen.end ∙ is;
+                    ignored = subst AreIgnored (sym seen.incoming) tt;
+                    to_network = seen.outgoing;
+                    most = omega (arith, le, three, len, all);
+                  })
+                  (false_if up (λ holds. (k holds).mine.not_releasing is))));
             }
-        by_tries false last = let one = attempt_is AwaitingRelease false x.end is last in gives_up (released x.end is) (seen_after_t200 x (released x.end is) [] on (give_up_in_6 x.end is on last)) refl (omega arith) (omega (arith, one)) (λ holds. absurd ((k holds).mine.not_releasing is))
+        by_tries false last =
+            let one = attempt_is AwaitingRelease false x.end is last in
+            gives_up (released x.end is)
+            (seen_after_t200 x (released x.end is) [] on (give_up_in_6 x.end is on last)) refl
+            (omega arith) (omega (arith, one)) (λ holds. absurd ((k holds).mine.not_releasing is))
 
     closed_t200 : HasTimersOfState x.end → ComesOn N up n now
     closed_t200 has = by_state x.end.state refl s.user
       where
-        by_state : (state : State) → x.end.state ≡ state → is_7_or_8 state ≡ false → ComesOn N up n now
+        by_state : (state : State) → x.end.state ≡ state → is_7_or_8 state ≡ false
+            → ComesOn N up n now
         by_state TeiAssigned is c = let off = (timers_in TeiAssigned x.end has is).0 in cc
         by_state AwaitingEstablishment is c = from_5 is
         by_state AwaitingRelease is c = from_6 is
@@ -236,144 +218,325 @@ module _ (N : ℕ) (some_retries : 1 ≤ N) (up : Bool) where
 
   module _ (n : ℕ) (x y : Station) where
     abbrev Admits : PairEvent → Station → List Flight → List Flight → Type 0
-    Admits event s incoming outgoing = is_ok (acts Whole side.User event (seeing s incoming outgoing)) ≡ true
+    Admits event s incoming outgoing =
+        is_ok (acts Whole side.User event (seeing s incoming outgoing)) ≡ true
 
     abbrev ByUser : PairEvent → List Flight → List Flight → Type 0
-    ByUser event to_user to_network = is_due event (at x y to_user to_network) ≡ true → Admits event x to_user to_network → ComesOn N up n (by_user N some_retries up event x y to_user to_network)
+    ByUser event to_user to_network =
+        is_due event (at x y to_user to_network) ≡ true → Admits event x to_user to_network
+        → ComesOn N up n (by_user N some_retries up event x y to_user to_network)
 
     abbrev ByNetwork : PairEvent → List Flight → List Flight → Type 0
-    ByNetwork event to_user to_network = is_due event (at x y to_user to_network) ≡ true → Admits event y to_network to_user → ComesOn N up n (by_network N some_retries up event x y to_user to_network)
+    ByNetwork event to_user to_network =
+        is_due event (at x y to_user to_network) ≡ true → Admits event y to_network to_user
+        → ComesOn N up n (by_network N some_retries up event x y to_user to_network)
 
-    holds_after : (to_user to_network : List Flight) → IsInvariant (at x y to_user to_network) → IsInvariant (by_user N some_retries up Deliver x y to_user to_network)
-    holds_after to_user to_network i = subst IsInvariant (moved_user Deliver (at x y to_user to_network)) (each_move_preserves (user_move Deliver) (at x y to_user to_network) i)
+    holds_after : (to_user to_network : List Flight) → IsInvariant (at x y to_user to_network)
+        → IsInvariant (by_user N some_retries up Deliver x y to_user to_network)
+    holds_after to_user to_network i =
+        subst IsInvariant (moved_user Deliver (at x y to_user to_network))
+        (each_move_preserves (user_move Deliver) (at x y to_user to_network) i)
 
-    settled_after : (to_user to_network : List Flight) → AreSettledEnds (at x y to_user to_network) → AreSettledEnds (by_user N some_retries up Deliver x y to_user to_network)
-    settled_after to_user to_network s = subst AreSettledEnds (moved_user Deliver (at x y to_user to_network)) (move_settles (user_move Deliver) (at x y to_user to_network) s)
+    settled_after : (to_user to_network : List Flight) → AreSettledEnds (at x y to_user to_network)
+        → AreSettledEnds (by_user N some_retries up Deliver x y to_user to_network)
+    settled_after to_user to_network s =
+        subst AreSettledEnds (moved_user Deliver (at x y to_user to_network))
+        (move_settles (user_move Deliver) (at x y to_user to_network) s)
 
-    none_to_user : (to_user to_network : List Flight) → to_user ≡ [] → ByUser Deliver to_user to_network
-    none_to_user to_user to_network none = literally (ByUser Deliver) to_user to_network [] to_network none refl (λ due ok. absurd (no_delivery x to_network ok))
+    none_to_user : (to_user to_network : List Flight) → to_user ≡ []
+        → ByUser Deliver to_user to_network
+    none_to_user to_user to_network none =
+        literally (ByUser Deliver) to_user to_network [] to_network none refl
+        (λ due ok. absurd (no_delivery x to_network ok))
 
-    none_to_network : (to_user to_network : List Flight) → to_network ≡ [] → ByNetwork Deliver to_user to_network
-    none_to_network to_user to_network none = literally (ByNetwork Deliver) to_user to_network to_user [] refl none (λ due ok. absurd (no_delivery y to_user ok))
+    none_to_network : (to_user to_network : List Flight) → to_network ≡ []
+        → ByNetwork Deliver to_user to_network
+    none_to_network to_user to_network none =
+        literally (ByNetwork Deliver) to_user to_network to_user [] refl none
+        (λ due ok. absurd (no_delivery y to_user ok))
 
-    user_delivers : (to_user to_network : List Flight) → Half N up n (at x y to_user to_network) → Facts N (at x y to_user to_network) → ByUser Deliver to_user to_network
+    user_delivers : (to_user to_network : List Flight) → Half N up n (at x y to_user to_network)
+        → Facts N (at x y to_user to_network) → ByUser Deliver to_user to_network
     user_delivers to_user to_network (alone_4 s) f = none_to_user to_user to_network s.to_user
     user_delivers to_user to_network (alone_5 s k) f = none_to_user to_user to_network s.to_user
     user_delivers to_user to_network (alone_6 s k) f = none_to_user to_user to_network s.to_user
     user_delivers to_user to_network (asks_5 s k) f = none_to_user to_user to_network s.to_user
     user_delivers [] to_network (asks_6 s k) f = none_to_user [] to_network refl
-    user_delivers (frame ∷ rest) to_network (asks_6 s k) f = literally (ByUser Deliver) (frame ∷ rest) to_network (frame ∷ rest) (disc ∷ []) refl s.to_network
-        (λ due ok. asks6_ignores N some_retries up n x y frame rest (record { user = s.user; ignored = s.ignored; to_network = refl; most = s.most }) k)
-    user_delivers to_user to_network (accepted s k) f = literally (λ a b. Facts N (at x y a b) → ByUser Deliver a b) to_user to_network (ua ∷ s.frames) [] s.to_user s.to_network
-        (λ f due ok. accepted_moves N some_retries up n x y s.frames (record { user = s.user; frames = s.frames; network = s.network; to_user = refl; to_network = refl; most = s.most }) k refl
-        (λ is asked. empty_5 (at x y (ua ∷ s.frames) []) f.holds is asked) (f.clear.user s.user) f.settled.user.timed (holds_after (ua ∷ s.frames) [] f.holds) (settled_after (ua ∷ s.frames) [] f.settled)) f
-    user_delivers to_user to_network (crossed s k) f = literally (λ a b. Facts N (at x y a b) → ByUser Deliver a b) to_user to_network (ua ∷ []) [] s.to_user s.to_network
-        (λ f due ok. crossed_moves N some_retries up n x y (record { user = s.user; network = s.network; to_user = refl; to_network = refl; most = s.most }) k
-        (λ is asked. empty_5 (at x y (ua ∷ []) []) f.holds is asked) (f.clear.user s.user) f.settled.user.timed (settled_after (ua ∷ []) [] f.settled)) f
+    user_delivers (frame ∷ rest) to_network (asks_6 s k) f =
+        literally (ByUser Deliver) (frame ∷ rest) to_network (frame ∷ rest) (disc ∷ []) refl
+        s.to_network
+        (λ due ok. asks6_ignores N some_retries up n
+        x y frame rest
+        (record { user = s.user; ignored = s.ignored; to_network = refl; most = s.most }) k)
+    user_delivers to_user to_network (accepted s k) f =
+        literally (λ a b. Facts N (at x y a b) → ByUser Deliver a b) to_user to_network
+        (ua ∷ s.frames) [] s.to_user s.to_network
+        (λ f due ok. accepted_moves N some_retries up n
+        x y s.frames (record {
+          user = s.user;
+          frames = s.frames;
+          network = s.network;
+          to_user = refl;
+          to_network = refl;
+          most = s.most;
+        }) k refl
+        (λ is asked. empty_5 (at x y (ua ∷ s.frames) []) f.holds is asked) (f.clear.user s.user)
+        f.settled.user.timed (holds_after (ua ∷ s.frames) [] f.holds)
+        (settled_after (ua ∷ s.frames) [] f.settled)) f
+    user_delivers to_user to_network (crossed s k) f =
+        literally (λ a b. Facts N (at x y a b) → ByUser Deliver a b) to_user to_network (ua ∷ []) []
+        s.to_user s.to_network
+        (λ f due ok. crossed_moves N some_retries up n
+        x y (record {
+          user = s.user;
+          network = s.network;
+          to_user = refl;
+          to_network = refl;
+          most = s.most;
+        }) k
+        (λ is asked. empty_5 (at x y (ua ∷ []) []) f.holds is asked) (f.clear.user s.user)
+        f.settled.user.timed (settled_after (ua ∷ []) [] f.settled)) f
     user_delivers to_user to_network (refused s k) f =
-        let none = none_left N some_retries up y.end (empty_6_too (at x y to_user to_network) f.holds s.network) in
-        literally (ByUser Deliver) to_user to_network (dm ∷ []) [] s.to_user s.to_network (λ due ok. refused_moves N some_retries up n x y (record { user = s.user; network = s.network; to_user = refl; to_network = refl; most = s.most }) k none)
+        let none =
+        none_left N some_retries up y.end
+        (empty_6_too (at x y to_user to_network) f.holds s.network) in
+        literally (ByUser Deliver) to_user to_network (dm ∷ []) [] s.to_user s.to_network
+        (λ due ok. refused_moves N some_retries up n
+        x y (record {
+          user = s.user;
+          network = s.network;
+          to_user = refl;
+          to_network = refl;
+          most = s.most;
+        }) k none)
     user_delivers [] to_network (parting s k) f = absurd s.to_user
     user_delivers (frame ∷ rest) to_network (parting s k) f =
         let none = empty_6 (at x y (frame ∷ rest) to_network) f.holds s.user in
-        literally (ByUser Deliver) (frame ∷ rest) to_network (frame ∷ rest) [] refl s.to_network (λ due ok. parting_moves N some_retries up n x y frame rest (record { user = s.user; network = s.network; to_user = s.to_user; to_network = refl; most = s.most }) k none)
+        literally (ByUser Deliver) (frame ∷ rest) to_network (frame ∷ rest) [] refl s.to_network
+        (λ due ok. parting_moves N some_retries up n
+        x y frame rest (record {
+          user = s.user;
+          network = s.network;
+          to_user = s.to_user;
+          to_network = refl;
+          most = s.most;
+        }) k none)
     user_delivers to_user to_network (closed s k) f = none_to_user to_user to_network s.to_user
 
-    network_delivers : (to_user to_network : List Flight) → Half N up n (at x y to_user to_network) → Facts N (at x y to_user to_network) → ByNetwork Deliver to_user to_network
+    network_delivers : (to_user to_network : List Flight) → Half N up n (at x y to_user to_network)
+        → Facts N (at x y to_user to_network) → ByNetwork Deliver to_user to_network
     network_delivers to_user [] (alone_4 s) f = none_to_network to_user [] refl
     network_delivers to_user [] (alone_5 s k) f = none_to_network to_user [] refl
     network_delivers to_user [] (alone_6 s k) f = none_to_network to_user [] refl
-    network_delivers to_user (frame ∷ rest) (alone_4 s) f = literally (ByNetwork Deliver) to_user (frame ∷ rest) [] (frame ∷ rest) s.to_user refl
-        (λ due ok. alone4_ignores N some_retries up n x y frame rest (record { open_state = s.open_state; network = s.network; to_user = refl; ignored = s.ignored; most = s.most }))
-    network_delivers to_user (frame ∷ rest) (alone_5 s k) f = literally (ByNetwork Deliver) to_user (frame ∷ rest) [] (frame ∷ rest) s.to_user refl
-        (λ due ok. alone5_ignores N some_retries up n x y frame rest (record { open_state = s.open_state; network = s.network; to_user = refl; ignored = s.ignored; most = s.most }) k)
-    network_delivers to_user (frame ∷ rest) (alone_6 s k) f = literally (ByNetwork Deliver) to_user (frame ∷ rest) [] (frame ∷ rest) s.to_user refl
-        (λ due ok. alone6_ignores N some_retries up n x y frame rest (record { open_state = s.open_state; network = s.network; to_user = refl; ignored = s.ignored; most = s.most }) k)
-    network_delivers to_user to_network (asks_5 s k) f = literally (λ a b. Facts N (at x y a b) → ByNetwork Deliver a b) to_user to_network [] (sabme ∷ []) s.to_user s.to_network
-        (λ f due ok. asks5_delivered N some_retries up n x y (record { user = s.user; to_user = refl; to_network = refl; most = s.most }) (λ is. let e = k is in record { user = e.user; not_6 = e.not_6; network = e.network }) f.holds f.have.network) f
-    network_delivers to_user to_network (asks_6 s k) f = literally (ByNetwork Deliver) to_user to_network to_user (disc ∷ []) refl s.to_network
-        (λ due ok. asks6_delivered N some_retries up n x y to_user (record { user = s.user; ignored = s.ignored; to_network = refl; most = s.most }) k)
-    network_delivers to_user to_network (accepted s k) f = none_to_network to_user to_network s.to_network
-    network_delivers to_user to_network (crossed s k) f = none_to_network to_user to_network s.to_network
-    network_delivers to_user to_network (refused s k) f = none_to_network to_user to_network s.to_network
-    network_delivers to_user to_network (parting s k) f = none_to_network to_user to_network s.to_network
-    network_delivers to_user to_network (closed s k) f = none_to_network to_user to_network s.to_network
+    network_delivers to_user (frame ∷ rest) (alone_4 s) f =
+        literally (ByNetwork Deliver) to_user (frame ∷ rest) [] (frame ∷ rest) s.to_user refl
+        (λ due ok. alone4_ignores N some_retries up n
+        x y frame rest (record {
+          open_state = s.open_state;
+          network = s.network;
+          to_user = refl;
+          ignored = s.ignored;
+          most = s.most;
+        }))
+    network_delivers to_user (frame ∷ rest) (alone_5 s k) f =
+        literally (ByNetwork Deliver) to_user (frame ∷ rest) [] (frame ∷ rest) s.to_user refl
+        (λ due ok. alone5_ignores N some_retries up n
+        x y frame rest (record {
+          open_state = s.open_state;
+          network = s.network;
+          to_user = refl;
+          ignored = s.ignored;
+          most = s.most;
+        }) k)
+    network_delivers to_user (frame ∷ rest) (alone_6 s k) f =
+        literally (ByNetwork Deliver) to_user (frame ∷ rest) [] (frame ∷ rest) s.to_user refl
+        (λ due ok. alone6_ignores N some_retries up n
+        x y frame rest (record {
+          open_state = s.open_state;
+          network = s.network;
+          to_user = refl;
+          ignored = s.ignored;
+          most = s.most;
+        }) k)
+    network_delivers to_user to_network (asks_5 s k) f =
+        literally (λ a b. Facts N (at x y a b) → ByNetwork Deliver a b) to_user to_network []
+        (sabme ∷ []) s.to_user s.to_network
+        (λ f due ok. asks5_delivered N some_retries up n
+        x y (record { user = s.user; to_user = refl; to_network = refl; most = s.most })
+        (λ is. let e
+        = k is in record { user = e.user; not_6 = e.not_6; network = e.network })
+        f.holds f.have.network) f
+    network_delivers to_user to_network (asks_6 s k) f =
+        literally (ByNetwork Deliver) to_user to_network to_user (disc ∷ []) refl s.to_network
+        (λ due ok. asks6_delivered N some_retries up n
+        x y to_user
+        (record { user = s.user; ignored = s.ignored; to_network = refl; most = s.most }) k)
+    network_delivers to_user to_network (accepted s k) f =
+        none_to_network to_user to_network s.to_network
+    network_delivers to_user to_network (crossed s k) f =
+        none_to_network to_user to_network s.to_network
+    network_delivers to_user to_network (refused s k) f =
+        none_to_network to_user to_network s.to_network
+    network_delivers to_user to_network (parting s k) f =
+        none_to_network to_user to_network s.to_network
+    network_delivers to_user to_network (closed s k) f =
+        none_to_network to_user to_network s.to_network
 
     -- a line with a frame for the other side is not empty
-    full_network : (event : PairEvent) (to_user to_network : List Flight) (f : Flight) (fs : List Flight) → to_network ≡ f ∷ fs → is_line_empty (at x y to_user to_network) ≡ true → ⊥
-    full_network event to_user to_network f fs is empty = not_empty to_user f fs (subst (λ l. (is_empty to_user && is_empty l) ≡ true) is empty)
+    full_network : (event : PairEvent) (to_user to_network : List Flight) (f : Flight)
+        (fs : List Flight) → to_network ≡ f ∷ fs → is_line_empty (at x y to_user to_network) ≡ true
+        → ⊥
+    full_network event to_user to_network f fs is empty =
+        not_empty to_user f fs (subst (λ l. (is_empty to_user && is_empty l) ≡ true) is empty)
 
-    full_user : (to_user to_network : List Flight) (f : Flight) (fs : List Flight) → to_user ≡ f ∷ fs → is_line_empty (at x y to_user to_network) ≡ true → ⊥
-    full_user to_user to_network f fs is empty = let never : false ≡ true = subst (λ l. (is_empty l && is_empty to_network) ≡ true) is empty in cc
+    full_user : (to_user to_network : List Flight) (f : Flight) (fs : List Flight)
+        → to_user ≡ f ∷ fs → is_line_empty (at x y to_user to_network) ≡ true → ⊥
+    full_user to_user to_network f fs is empty =
+        let never : false ≡ true =
+        subst (λ l. (is_empty l && is_empty to_network) ≡ true) is empty in
+        cc
 
-    full_parting : (to_user to_network : List Flight) → EndInAnswer N to_user → is_line_empty (at x y to_user to_network) ≡ true → ⊥
+    full_parting : (to_user to_network : List Flight) → EndInAnswer N to_user
+        → is_line_empty (at x y to_user to_network) ≡ true → ⊥
     full_parting [] to_network end empty = absurd end
     full_parting (f ∷ fs) to_network end empty = cc
 
     -- only these situations have an empty line
     data Quiet (to_user to_network : List Flight) : Type 0 where
-      quiet_4 : Alone4 N n (at x y [] []) → to_user ≡ [] → to_network ≡ [] → Quiet to_user to_network
-      quiet_5 : Alone5 N n (at x y [] []) → (up ≡ true → y.end.release_pending ≡ false) → to_user ≡ [] → to_network ≡ [] → Quiet to_user to_network
-      quiet_6 : Alone6 N n (at x y [] []) → up ≡ false → to_user ≡ [] → to_network ≡ [] → Quiet to_user to_network
-      quiet_closed : Closed N n (at x y [] []) → (up ≡ true → Establishing x.end y.end) → to_user ≡ [] → to_network ≡ [] → Quiet to_user to_network
+      quiet_4 : Alone4 N n (at x y [] []) → to_user ≡ [] → to_network ≡ []
+          → Quiet to_user to_network
+      quiet_5 : Alone5 N n (at x y [] []) → (up ≡ true → y.end.release_pending ≡ false)
+          → to_user ≡ [] → to_network ≡ [] → Quiet to_user to_network
+      quiet_6 : Alone6 N n (at x y [] []) → up ≡ false → to_user ≡ [] → to_network ≡ []
+          → Quiet to_user to_network
+      quiet_closed : Closed N n (at x y [] []) → (up ≡ true → Establishing x.end y.end)
+          → to_user ≡ [] → to_network ≡ [] → Quiet to_user to_network
 
-    none_in : (to_user to_network : List Flight) → is_line_empty (at x y to_user to_network) ≡ true → (to_user ≡ []) × (to_network ≡ [])
+    none_in : (to_user to_network : List Flight) → is_line_empty (at x y to_user to_network) ≡ true
+        → (to_user ≡ []) × (to_network ≡ [])
     none_in [] [] empty = (refl, refl)
     none_in (f ∷ fs) to_network empty = cc
     none_in [] (f ∷ fs) empty = cc
 
-    quiet_of : (to_user to_network : List Flight) → Half N up n (at x y to_user to_network) → is_line_empty (at x y to_user to_network) ≡ true → Quiet to_user to_network
-    quiet_of to_user to_network (alone_4 s) empty = let none = none_in to_user to_network empty in quiet_4 (subst (λ l. Alone4 N n (at x y [] l)) none.1 (subst (λ l. Alone4 N n (at x y l to_network)) none.0 s)) none.0 none.1
-    quiet_of to_user to_network (alone_5 s k) empty = let none = none_in to_user to_network empty in quiet_5 (subst (λ l. Alone5 N n (at x y [] l)) none.1 (subst (λ l. Alone5 N n (at x y l to_network)) none.0 s)) k none.0 none.1
-    quiet_of to_user to_network (alone_6 s k) empty = let none = none_in to_user to_network empty in quiet_6 (subst (λ l. Alone6 N n (at x y [] l)) none.1 (subst (λ l. Alone6 N n (at x y l to_network)) none.0 s)) k none.0 none.1
-    quiet_of to_user to_network (closed s k) empty = let none = none_in to_user to_network empty in quiet_closed (subst (λ l. Closed N n (at x y [] l)) none.1 (subst (λ l. Closed N n (at x y l to_network)) none.0 s)) k none.0 none.1
-    quiet_of to_user to_network (asks_5 s k) empty = absurd (full_network Expire200 to_user to_network sabme [] s.to_network empty)
-    quiet_of to_user to_network (asks_6 s k) empty = absurd (full_network Expire200 to_user to_network disc [] s.to_network empty)
-    quiet_of to_user to_network (accepted s k) empty = absurd (full_user to_user to_network ua s.frames s.to_user empty)
-    quiet_of to_user to_network (crossed s k) empty = absurd (full_user to_user to_network ua [] s.to_user empty)
-    quiet_of to_user to_network (refused s k) empty = absurd (full_user to_user to_network dm [] s.to_user empty)
-    quiet_of to_user to_network (parting s k) empty = absurd (full_parting to_user to_network s.to_user empty)
+    quiet_of : (to_user to_network : List Flight) → Half N up n (at x y to_user to_network)
+        → is_line_empty (at x y to_user to_network) ≡ true → Quiet to_user to_network
+    quiet_of to_user to_network (alone_4 s) empty =
+        let none = none_in to_user to_network empty in
+        quiet_4 (subst (λ l. Alone4 N n (at x y [] l)) none.1
+        (subst (λ l. Alone4 N n (at x y l to_network)) none.0 s)) none.0 none.1
+    quiet_of to_user to_network (alone_5 s k) empty =
+        let none = none_in to_user to_network empty in
+        quiet_5 (subst (λ l. Alone5 N n (at x y [] l)) none.1
+        (subst (λ l. Alone5 N n (at x y l to_network)) none.0 s)) k none.0 none.1
+    quiet_of to_user to_network (alone_6 s k) empty =
+        let none = none_in to_user to_network empty in
+        quiet_6 (subst (λ l. Alone6 N n (at x y [] l)) none.1
+        (subst (λ l. Alone6 N n (at x y l to_network)) none.0 s)) k none.0 none.1
+    quiet_of to_user to_network (closed s k) empty =
+        let none = none_in to_user to_network empty in
+        quiet_closed (subst (λ l. Closed N n (at x y [] l)) none.1
+        (subst (λ l. Closed N n (at x y l to_network)) none.0 s)) k none.0 none.1
+    quiet_of to_user to_network (asks_5 s k) empty =
+        absurd (full_network Expire200 to_user to_network sabme [] s.to_network empty)
+    quiet_of to_user to_network (asks_6 s k) empty =
+        absurd (full_network Expire200 to_user to_network disc [] s.to_network empty)
+    quiet_of to_user to_network (accepted s k) empty =
+        absurd (full_user to_user to_network ua s.frames s.to_user empty)
+    quiet_of to_user to_network (crossed s k) empty =
+        absurd (full_user to_user to_network ua [] s.to_user empty)
+    quiet_of to_user to_network (refused s k) empty =
+        absurd (full_user to_user to_network dm [] s.to_user empty)
+    quiet_of to_user to_network (parting s k) empty =
+        absurd (full_parting to_user to_network s.to_user empty)
 
     -- T200 of the user
-    user_t200 : (to_user to_network : List Flight) → Quiet to_user to_network → Facts N (at x y to_user to_network) → ByUser Expire200 to_user to_network
-    user_t200 to_user to_network (quiet_4 s a b) f = literally (ByUser Expire200) to_user to_network [] [] a b (λ due ok. alone4_t200 N some_retries up n x y f.few_user (t200_runs (seeing x [] []) ok) s)
-    user_t200 to_user to_network (quiet_5 s k a b) f = literally (ByUser Expire200) to_user to_network [] [] a b (λ due ok. alone5_t200 N some_retries up n x y f.few_user (t200_runs (seeing x [] []) ok) s k)
-    user_t200 to_user to_network (quiet_6 s k a b) f = literally (ByUser Expire200) to_user to_network [] [] a b (λ due ok. alone6_t200 N some_retries up n x y f.few_user (t200_runs (seeing x [] []) ok) s k)
-    user_t200 to_user to_network (quiet_closed s k a b) f = literally (ByUser Expire200) to_user to_network [] [] a b (λ due ok. closed_t200 n x y s k (t200_runs (seeing x [] []) ok) f.have.user)
+    user_t200 : (to_user to_network : List Flight) → Quiet to_user to_network
+        → Facts N (at x y to_user to_network) → ByUser Expire200 to_user to_network
+    user_t200 to_user to_network (quiet_4 s a b) f =
+        literally (ByUser Expire200) to_user to_network [] [] a b
+        (λ due ok. alone4_t200 N some_retries up n x y f.few_user (t200_runs (seeing x [] []) ok) s)
+    user_t200 to_user to_network (quiet_5 s k a b) f =
+        literally (ByUser Expire200) to_user to_network [] [] a b
+        (λ due ok. alone5_t200 N some_retries up n
+        x y f.few_user (t200_runs (seeing x [] []) ok) s k)
+    user_t200 to_user to_network (quiet_6 s k a b) f =
+        literally (ByUser Expire200) to_user to_network [] [] a b
+        (λ due ok. alone6_t200 N some_retries up n
+        x y f.few_user (t200_runs (seeing x [] []) ok) s k)
+    user_t200 to_user to_network (quiet_closed s k a b) f =
+        literally (ByUser Expire200) to_user to_network [] [] a b
+        (λ due ok. closed_t200 n x y s k (t200_runs (seeing x [] []) ok) f.have.user)
 
     -- T200 of the network, but for two closed ends
-    network_t200 : (to_user to_network : List Flight) → Quiet to_user to_network → Facts N (at x y to_user to_network) → (Closed N n (at x y [] []) → (up ≡ true → Establishing x.end y.end) → ByNetwork Expire200 [] []) → ByNetwork Expire200 to_user to_network
-    network_t200 to_user to_network (quiet_4 s a b) f other = literally (ByNetwork Expire200) to_user to_network [] [] a b (λ due ok. absurd (let off = (timers_in TeiAssigned y.end f.have.network s.network).0 in let on = t200_runs (seeing y [] []) ok in cc))
-    network_t200 to_user to_network (quiet_5 s k a b) f other = literally (ByNetwork Expire200) to_user to_network [] [] a b (λ due ok. alone5_peer N some_retries up n x y s k (t200_runs (seeing y [] []) ok))
+    network_t200 : (to_user to_network : List Flight) → Quiet to_user to_network
+        → Facts N (at x y to_user to_network)
+        → (Closed N n
+        (at x y [] []) → (up ≡ true → Establishing x.end y.end) → ByNetwork Expire200 [] [])
+        → ByNetwork Expire200 to_user to_network
+    network_t200 to_user to_network (quiet_4 s a b) f other =
+        literally (ByNetwork Expire200) to_user to_network [] [] a b
+        (λ due ok. absurd (let off = (timers_in TeiAssigned y.end f.have.network s.network).0 in
+        let on = t200_runs (seeing y [] []) ok in cc))
+    network_t200 to_user to_network (quiet_5 s k a b) f other =
+        literally (ByNetwork Expire200) to_user to_network [] [] a b
+        (λ due ok. alone5_peer N some_retries up n x y s k (t200_runs (seeing y [] []) ok))
     network_t200 to_user to_network (quiet_6 s k a b) f other =
         let empty = empty_6_too (at x y to_user to_network) f.holds s.network in
-        literally (ByNetwork Expire200) to_user to_network [] [] a b (λ due ok. alone6_peer N some_retries up n x y s k empty (t200_runs (seeing y [] []) ok))
-    network_t200 to_user to_network (quiet_closed s k a b) f other = literally (ByNetwork Expire200) to_user to_network [] [] a b (other s k)
+        literally (ByNetwork Expire200) to_user to_network [] [] a b
+        (λ due ok. alone6_peer N some_retries up n
+        x y s k empty (t200_runs (seeing y [] []) ok))
+    network_t200 to_user to_network (quiet_closed s k a b) f other =
+        literally (ByNetwork Expire200) to_user to_network [] [] a b (other s k)
 
     -- T203 of the user: only if its peer is in state 4
-    both_off : (to_user to_network : List Flight) → is_due Expire203 (at x y to_user to_network) ≡ true → not (x.end.t200 || y.end.t200) ≡ true
-    both_off to_user to_network due = second_of (is_line_empty (at x y to_user to_network)) (not (x.end.t200 || y.end.t200)) (are_apart (at x y to_user to_network)) due
+    both_off : (to_user to_network : List Flight)
+        → is_due Expire203 (at x y to_user to_network) ≡ true
+        → not (x.end.t200 || y.end.t200) ≡ true
+    both_off to_user to_network due =
+        second_of (is_line_empty (at x y to_user to_network)) (not (x.end.t200 || y.end.t200))
+        (are_apart (at x y to_user to_network)) due
 
-    user_t203 : (to_user to_network : List Flight) → Quiet to_user to_network → Facts N (at x y to_user to_network) → ByUser Expire203 to_user to_network
-    user_t203 to_user to_network (quiet_4 s a b) f = λ due ok. by_state x.end.state refl s.open_state due ok
+    user_t203 : (to_user to_network : List Flight) → Quiet to_user to_network
+        → Facts N (at x y to_user to_network) → ByUser Expire203 to_user to_network
+    user_t203 to_user to_network (quiet_4 s a b) f =
+        λ due ok. by_state x.end.state refl s.open_state due ok
       where
-        by_state : (state : State) → x.end.state ≡ state → is_7_or_8 state ≡ true → ByUser Expire203 to_user to_network
-        by_state MultipleFrameEstablished is o = literally (ByUser Expire203) to_user to_network [] [] a b (λ due ok. alone4_t203 N some_retries up n x y s f.few_user is (t203_runs (seeing x [] []) ok))
-        by_state TimerRecovery is o = λ due ok. absurd (not_apart x.end y.end is s.network (last_of (is_line_empty (at x y to_user to_network)) (not (x.end.t200 || y.end.t200)) _ due))
+        by_state : (state : State) → x.end.state ≡ state → is_7_or_8 state ≡ true
+            → ByUser Expire203 to_user to_network
+        by_state MultipleFrameEstablished is o =
+            literally (ByUser Expire203) to_user to_network [] [] a b
+            (λ due ok. alone4_t203 N some_retries up n
+            x y s f.few_user is (t203_runs (seeing x [] []) ok))
+        by_state TimerRecovery is o =
+            λ due ok. absurd (not_apart x.end y.end is s.network
+            (last_of (is_line_empty (at x y to_user to_network))
+            (not (x.end.t200 || y.end.t200)) _ due))
         by_state TeiAssigned is o = cc
         by_state AwaitingEstablishment is o = cc
         by_state AwaitingRelease is o = cc
-    user_t203 to_user to_network (quiet_5 s k a b) f = λ due ok. absurd (neither_on x.end.t200 y.end.t200 (both_off to_user to_network due) (timers_in AwaitingEstablishment y.end f.have.network s.network).0)
-    user_t203 to_user to_network (quiet_6 s k a b) f = λ due ok. absurd (neither_on x.end.t200 y.end.t200 (both_off to_user to_network due) (timers_in AwaitingRelease y.end f.have.network s.network).0)
-    user_t203 to_user to_network (quiet_closed s k a b) f = λ due ok. absurd (let off = no_t203_if_closed x.end f.have.user s.user in let on = t203_runs (seeing x to_user to_network) ok in cc)
+    user_t203 to_user to_network (quiet_5 s k a b) f =
+        λ due ok. absurd (neither_on x.end.t200 y.end.t200 (both_off to_user to_network due)
+        (timers_in AwaitingEstablishment y.end f.have.network s.network).0)
+    user_t203 to_user to_network (quiet_6 s k a b) f =
+        λ due ok. absurd (neither_on x.end.t200 y.end.t200 (both_off to_user to_network due)
+        (timers_in AwaitingRelease y.end f.have.network s.network).0)
+    user_t203 to_user to_network (quiet_closed s k a b) f =
+        λ due ok. absurd (let off = no_t203_if_closed x.end f.have.user s.user in
+        let on = t203_runs (seeing x to_user to_network) ok in cc)
 
-    network_t203 : (to_user to_network : List Flight) → Quiet to_user to_network → Facts N (at x y to_user to_network) → ByNetwork Expire203 to_user to_network
-    network_t203 to_user to_network q f = λ due ok. absurd (let off = closed_peer q in let on = t203_runs (seeing y to_network to_user) ok in cc)
+    network_t203 : (to_user to_network : List Flight) → Quiet to_user to_network
+        → Facts N (at x y to_user to_network) → ByNetwork Expire203 to_user to_network
+    network_t203 to_user to_network q f =
+        λ due ok. absurd
+        (let off = closed_peer q in let on = t203_runs (seeing y to_network to_user) ok in cc)
       where
         closed_peer : Quiet to_user to_network → y.end.t203 ≡ false
-        closed_peer (quiet_4 s a b) = no_t203_if_closed y.end f.have.network (ap is_7_or_8 s.network)
-        closed_peer (quiet_5 s k a b) = no_t203_if_closed y.end f.have.network (ap is_7_or_8 s.network)
-        closed_peer (quiet_6 s k a b) = no_t203_if_closed y.end f.have.network (ap is_7_or_8 s.network)
+        closed_peer (quiet_4 s a b) =
+            no_t203_if_closed y.end f.have.network (ap is_7_or_8 s.network)
+        closed_peer (quiet_5 s k a b) =
+            no_t203_if_closed y.end f.have.network (ap is_7_or_8 s.network)
+        closed_peer (quiet_6 s k a b) =
+            no_t203_if_closed y.end f.have.network (ap is_7_or_8 s.network)
         closed_peer (quiet_closed s k a b) = no_t203_if_closed y.end f.have.network s.network
 
   -- ---- The two sides exchanged.
@@ -389,99 +552,198 @@ module _ (N : ℕ) (some_retries : 1 ≤ N) (up : Bool) where
       by_coming (inr (inl l)) = inr (inr l)
       by_coming (inr (inr l)) = inr (inl l)
 
-  to_network_of : (n : ℕ) (event : PairEvent) (w : World) → ComesOn N up n (after side.User event (swapped w)) → ComesOn N up n (after side.Network event w)
-  to_network_of n event w c = subst (λ v. ComesOn N up n v) (sym (network_alike Whole event w)) (coming_swapped n (after side.User event (swapped w)) c)
+  to_network_of : (n : ℕ) (event : PairEvent) (w : World)
+      → ComesOn N up n (after side.User event (swapped w))
+      → ComesOn N up n (after side.Network event w)
+  to_network_of n event w c =
+      subst (λ v. ComesOn N up n v) (sym (network_alike Whole event w))
+      (coming_swapped n (after side.User event (swapped w)) c)
 
-  to_user_of : (n : ℕ) (event : PairEvent) (w : World) → ComesOn N up n (after side.Network event (swapped w)) → ComesOn N up n (after side.User event w)
-  to_user_of n event w c = subst (λ v. ComesOn N up n v) (ap swapped (network_alike Whole event (swapped w))) (coming_swapped n (after side.Network event (swapped w)) c)
+  to_user_of : (n : ℕ) (event : PairEvent) (w : World)
+      → ComesOn N up n (after side.Network event (swapped w))
+      → ComesOn N up n (after side.User event w)
+  to_user_of n event w c =
+      subst (λ v. ComesOn N up n v) (ap swapped (network_alike Whole event (swapped w)))
+      (coming_swapped n (after side.Network event (swapped w)) c)
 
   -- T200 of the network, with both ends closed
-  closed_network_t200 : (n : ℕ) (x y : Station) → Closed N n (at x y [] []) → (up ≡ true → Establishing x.end y.end) → HasTimersOfState y.end → is_ok (acts Whole side.User Expire200 (seeing y [] [])) ≡ true → ComesOn N up n (by_network N some_retries up Expire200 x y [] [])
+  closed_network_t200 : (n : ℕ) (x y : Station) → Closed N n (at x y [] [])
+      → (up ≡ true → Establishing x.end y.end) → HasTimersOfState y.end
+      → is_ok (acts Whole side.User Expire200 (seeing y [] [])) ≡ true
+      → ComesOn N up n (by_network N some_retries up Expire200 x y [] [])
   closed_network_t200 n x y s k has ok =
       let w = at x y [] [] in
-      let here : ComesOn N up n (by_user N some_retries up Expire200 y x [] []) = closed_t200 n y x (closed_swapped n w s) (λ holds. establishing_swapped x.end y.end (k holds)) (t200_runs (seeing y [] []) ok) has in
+      let here : ComesOn N up n (by_user N some_retries up Expire200 y x [] []) =
+      closed_t200 n y x (closed_swapped n w s)
+      (λ holds. establishing_swapped x.end y.end (k holds)) (t200_runs (seeing y [] []) ok)
+      has in
       coming_swapped n (by_user N some_retries up Expire200 y x [] []) here
 
-  half_moves : (n : ℕ) (s : Side) (event : PairEvent) (w : World) → Half N up n w → Facts N w → is_due event w ≡ true → is_ok (acts Whole side.User event (view_of s w)) ≡ true → ComesOn N up n (after s event w)
-  half_moves n side.User Deliver w l f due ok = subst (λ v. ComesOn N up n v) (sym (moved_user Deliver w)) (user_delivers n w.user w.network w.to_user w.to_network l f due ok)
-  half_moves n side.Network Deliver w l f due ok = subst (λ v. ComesOn N up n v) (sym (moved_network Deliver w)) (network_delivers n w.user w.network w.to_user w.to_network l f due ok)
-  half_moves n side.User Expire200 w l f due ok = subst (λ v. ComesOn N up n v) (sym (moved_user Expire200 w)) (user_t200 n w.user w.network w.to_user w.to_network (quiet_of n w.user w.network w.to_user w.to_network l due) f due ok)
-  half_moves n side.Network Expire200 w l f due ok = subst (λ v. ComesOn N up n v) (sym (moved_network Expire200 w)) (network_t200 n w.user w.network w.to_user w.to_network (quiet_of n w.user w.network w.to_user w.to_network l due) f (λ s k due ok. closed_network_t200 n w.user w.network s k f.have.network ok) due ok)
-  half_moves n side.User Expire203 w l f due ok = subst (λ v. ComesOn N up n v) (sym (moved_user Expire203 w)) (user_t203 n w.user w.network w.to_user w.to_network (quiet_of n w.user w.network w.to_user w.to_network l (first_of (is_line_empty w) _ _ due)) f due ok)
-  half_moves n side.Network Expire203 w l f due ok = subst (λ v. ComesOn N up n v) (sym (moved_network Expire203 w)) (network_t203 n w.user w.network w.to_user w.to_network (quiet_of n w.user w.network w.to_user w.to_network l (first_of (is_line_empty w) _ _ due)) f due ok)
+  half_moves : (n : ℕ) (s : Side) (event : PairEvent) (w : World) → Half N up n w → Facts N w
+      → is_due event w ≡ true → is_ok (acts Whole side.User event (view_of s w)) ≡ true
+      → ComesOn N up n (after s event w)
+  half_moves n side.User Deliver w l f due ok =
+      subst (λ v. ComesOn N up n v) (sym (moved_user Deliver w))
+      (user_delivers n w.user w.network w.to_user w.to_network l f due ok)
+  half_moves n side.Network Deliver w l f due ok =
+      subst (λ v. ComesOn N up n v) (sym (moved_network Deliver w))
+      (network_delivers n w.user w.network w.to_user w.to_network l f due ok)
+  half_moves n side.User Expire200 w l f due ok =
+      subst (λ v. ComesOn N up n v) (sym (moved_user Expire200 w)) (user_t200 n
+      w.user w.network w.to_user w.to_network
+      (quiet_of n w.user w.network w.to_user w.to_network l due) f due ok)
+  half_moves n side.Network Expire200 w l f due ok =
+      subst (λ v. ComesOn N up n v) (sym (moved_network Expire200 w)) (network_t200 n
+      w.user w.network w.to_user w.to_network
+      (quiet_of n w.user w.network w.to_user w.to_network l due) f
+      (λ s k due ok. closed_network_t200 n w.user w.network s k f.have.network ok) due ok)
+  half_moves n side.User Expire203 w l f due ok =
+      subst (λ v. ComesOn N up n v) (sym (moved_user Expire203 w)) (user_t203 n
+      w.user w.network w.to_user w.to_network (quiet_of n
+      w.user w.network w.to_user w.to_network l (first_of (is_line_empty w) _ _ due)) f due
+      ok)
+  half_moves n side.Network Expire203 w l f due ok =
+      subst (λ v. ComesOn N up n v) (sym (moved_network Expire203 w)) (network_t203 n
+      w.user w.network w.to_user w.to_network (quiet_of n
+      w.user w.network w.to_user w.to_network l (first_of (is_line_empty w) _ _ due)) f due
+      ok)
   half_moves n s event w l f due ok = cc
 
   -- ---- Both ends are open, and T200 expires at the last try.
 
-  module _ (n : ℕ) (x y : Station) (is : x.end.state ≡ TimerRecovery) (on : x.end.t200 ≡ true) (last : tries x.end ≡ false) where
+  module _ (n : ℕ) (x y : Station) (is : x.end.state ≡ TimerRecovery) (on : x.end.t200 ≡ true)
+      (last : tries x.end ≡ false) where
     abbrev then : World
     then = by_user N some_retries up Expire200 x y [] []
 
-    asks : is_7_or_8 y.end.state ≡ true → 2 + 2 * unsent x.end + 2 * unsent y.end + 1 ≤ n → ComesOn N up n then
+    asks : is_7_or_8 y.end.state ≡ true → 2 + 2 * unsent x.end + 2 * unsent y.end + 1 ≤ n
+        → ComesOn N up n then
     asks opened most =
-        let seen = seen_after_t200 x (asking x.end) (sabme ∷ []) on (last_try_in_8 x.end is on last) in
+        let seen =
+        seen_after_t200 x (asking x.end) (sabme ∷ []) on (last_try_in_8 x.end is on last) in
         let same : unsent then.user.end ≡ unsent x.end = ap unsent seen.end in
-        let bit : twice then.user.end.release_pending ≡ 0 = ap (λ (e : End). twice e.release_pending) seen.end in
-        let none = open_peer_5 N some_retries up y.end.state (attempt y.end + gone N y.end + again N then.user.end) (attempt y.end) opened in
+        let bit : twice then.user.end.release_pending ≡ 0 =
+        ap (λ (e : End). twice e.release_pending) seen.end in
+        let none =
+        open_peer_5 N some_retries up y.end.state
+        (attempt y.end + gone N y.end + again N then.user.end) (attempt y.end) opened in
         record {
           some = omega (arith, most);
-          arriving = inr (inl (asks_5 (record { user = ap state_of seen.end; to_user = seen.incoming; to_network = seen.outgoing; most = omega (arith, most, same, bit, none) }) (λ _. record {
-            user = ap (λ (e : End). e.release_pending) seen.end;
-            not_6 = λ in_6. let never : is_7_or_8 y.end.state ≡ false = ap is_7_or_8 in_6 in cc;
-            network = λ in_5. absurd (let never : is_7_or_8 y.end.state ≡ false = ap is_7_or_8 in_5 in cc);
-          })));
+          arriving =
+              inr (inl (asks_5 (record {
+                user = ap state_of seen.end;
+                to_user = seen.incoming;
+                to_network = seen.outgoing;
+                most = omega (arith, most, same, bit, none);
+              }) (λ _. record {
+                user = ap (λ (e : End). e.release_pending) seen.end;
+                not_6 = λ in_6. let never : is_7_or_8 y.end.state ≡ false = ap is_7_or_8 in_6 in cc;
+                network =
+                    λ in_5. absurd
+                    (let never : is_7_or_8 y.end.state ≡ false = ap is_7_or_8 in_5 in cc);
+              })));
         }
 
     last_try : Draining true n (at x y [] []) → ComesOn N up n then
-    last_try (inl d) = let in_7 = in_state_7 (source x.end) (sink y.end) d.sees.flow.a d.sees.flow.mine in absurd (let never : TimerRecovery ≡ MultipleFrameEstablished = sym is ∙ in_7 in cc)
+    last_try (inl d) =
+        let in_7 = in_state_7 (source x.end) (sink y.end) d.sees.flow.a d.sees.flow.mine in
+        absurd (let never : TimerRecovery ≡ MultipleFrameEstablished = sym is ∙ in_7 in cc)
     last_try (inr (inl l)) =
         let flow = l.drains.sees.flow in
         let le = flow.most in
         let two = l.two in
-        let heavy = weight_in_8 (source x.end) (sink y.end) [] (Final y.end.window.vr ∷ []) flow.a is refl flow.mine in
-        let its = stream_unsent (source y.end) (sink x.end) (Final y.end.window.vr ∷ []) [] flow.b flow.its in
+        let heavy =
+        weight_in_8 (source x.end) (sink y.end) [] (Final y.end.window.vr ∷ []) flow.a is
+        refl flow.mine in
+        let its =
+        stream_unsent (source y.end) (sink x.end) (Final y.end.window.vr ∷ []) [] flow.b
+        flow.its in
         let in_7 = in_state_7 (source y.end) (sink x.end) flow.b (stream true n x y l) in
         asks (ap is_7_or_8 in_7) (omega (arith, le, two, heavy, its))
-    last_try (inr (inr (inl l))) = let in_7 = in_state_7 (source x.end) (sink y.end) l.drains.sees.flow.b (stream true n y x l) in absurd (let never : TimerRecovery ≡ MultipleFrameEstablished = sym is ∙ in_7 in cc)
-    last_try (inr (inr (inr l))) = let le = l.most in asks (ap is_7_or_8 l.network_in_8) (omega (arith, le))
+    last_try (inr (inr (inl l))) =
+        let in_7 =
+        in_state_7 (source x.end) (sink y.end) l.drains.sees.flow.b (stream true n y x l) in
+        absurd (let never : TimerRecovery ≡ MultipleFrameEstablished = sym is ∙ in_7 in cc)
+    last_try (inr (inr (inr l))) =
+        let le = l.most in asks (ap is_7_or_8 l.network_in_8) (omega (arith, le))
 
-  last_try_at : (n : ℕ) (x y : Station) (to_user to_network : List Flight) → Draining true n (at x y to_user to_network) → is_line_empty (at x y to_user to_network) ≡ true → x.end.state ≡ TimerRecovery → tries x.end ≡ false → x.end.t200 ≡ true → ComesOn N up n (by_user N some_retries up Expire200 x y to_user to_network)
+  last_try_at : (n : ℕ) (x y : Station) (to_user to_network : List Flight)
+      → Draining true n (at x y to_user to_network)
+      → is_line_empty (at x y to_user to_network) ≡ true → x.end.state ≡ TimerRecovery
+      → tries x.end ≡ false → x.end.t200 ≡ true
+      → ComesOn N up n (by_user N some_retries up Expire200 x y to_user to_network)
   last_try_at n x y [] [] d empty is last on = last_try n x y is on last d
   last_try_at n x y (f ∷ fs) to_network d empty is last on = cc
   last_try_at n x y [] (f ∷ fs) d empty is last on = cc
 
   -- ---- Any own move.
 
-  from_draining : (n : ℕ) (s : Side) (event : PairEvent) (w : World) → Draining true n w → (event ≡ Expire200 → MayRetry true (view_of s w).station.end) → Facts N w → IsOwn Whole (record { side = s; event = event }) w → ComesOn N up n (after s event w)
-  from_draining n s event w d may f own = let m = own_moves_on true n (record { side = s; event = event }) w d may f.have own in record { some = m.some; arriving = inl m.draining }
+  from_draining : (n : ℕ) (s : Side) (event : PairEvent) (w : World) → Draining true n w
+      → (event ≡ Expire200 → MayRetry true (view_of s w).station.end) → Facts N w
+      → IsOwn Whole (record { side = s; event = event }) w → ComesOn N up n (after s event w)
+  from_draining n s event w d may f own =
+      let m = own_moves_on true n (record { side = s; event = event }) w d may f.have own in
+      record { some = m.some; arriving = inl m.draining }
 
-  user_t200_open : (n : ℕ) (w : World) → Draining true n w → Facts N w → IsOwn Whole (user_move Expire200) w → ComesOn N up n (after side.User Expire200 w)
+  user_t200_open : (n : ℕ) (w : World) → Draining true n w → Facts N w
+      → IsOwn Whole (user_move Expire200) w → ComesOn N up n (after side.User Expire200 w)
   user_t200_open n w d f own = by_tries (tries w.user.end) refl
     where
-      by_state : (state : State) → w.user.end.state ≡ state → tries w.user.end ≡ false → ComesOn N up n (after side.User Expire200 w)
+      by_state : (state : State) → w.user.end.state ≡ state → tries w.user.end ≡ false
+          → ComesOn N up n (after side.User Expire200 w)
       by_state TimerRecovery is last = subst (λ v. ComesOn N up n v) (sym (moved_user Expire200 w))
-          (last_try_at n w.user w.network w.to_user w.to_network d own.due is last (t200_runs (view_of side.User w) (ok_of_side side.User Expire200 w own.admitted)))
-      by_state MultipleFrameEstablished is last = from_draining n side.User Expire200 w d (λ _ _ in_8. absurd (let never : MultipleFrameEstablished ≡ TimerRecovery = sym is ∙ in_8 in cc)) f own
-      by_state TeiAssigned is last = from_draining n side.User Expire200 w d (λ _ _ in_8. absurd (let never : TeiAssigned ≡ TimerRecovery = sym is ∙ in_8 in cc)) f own
-      by_state AwaitingEstablishment is last = from_draining n side.User Expire200 w d (λ _ _ in_8. absurd (let never : AwaitingEstablishment ≡ TimerRecovery = sym is ∙ in_8 in cc)) f own
-      by_state AwaitingRelease is last = from_draining n side.User Expire200 w d (λ _ _ in_8. absurd (let never : AwaitingRelease ≡ TimerRecovery = sym is ∙ in_8 in cc)) f own
+          (last_try_at n w.user w.network w.to_user w.to_network d
+          own.due is last
+          (t200_runs (view_of side.User w) (ok_of_side side.User Expire200 w own.admitted)))
+      by_state MultipleFrameEstablished is last =
+          from_draining n side.User Expire200 w d
+          (λ _ _ in_8. absurd
+          (let never : MultipleFrameEstablished ≡ TimerRecovery = sym is ∙ in_8 in cc)) f own
+      by_state TeiAssigned is last =
+          from_draining n side.User Expire200 w d
+          (λ _ _ in_8. absurd (let never : TeiAssigned ≡ TimerRecovery = sym is ∙ in_8 in cc)) f own
+      by_state AwaitingEstablishment is last =
+          from_draining n side.User Expire200 w d
+          (λ _ _ in_8. absurd
+          (let never : AwaitingEstablishment ≡ TimerRecovery = sym is ∙ in_8 in cc)) f own
+      by_state AwaitingRelease is last =
+          from_draining n side.User Expire200 w d
+          (λ _ _ in_8. absurd (let never : AwaitingRelease ≡ TimerRecovery = sym is ∙ in_8 in cc)) f
+          own
 
       by_tries : (b : Bool) → tries w.user.end ≡ b → ComesOn N up n (after side.User Expire200 w)
       by_tries true more = from_draining n side.User Expire200 w d (λ _ _ _. more) f own
       by_tries false last = by_state w.user.end.state refl last
 
-  own_of_swapped : (w : World) → IsOwn Whole (network_move Expire200) w → IsOwn Whole (user_move Expire200) (swapped w)
-  own_of_swapped w own = record { due = sym (due_swapped Expire200 w) ∙ own.due; admitted = ok_swapped w (ok_of_side side.Network Expire200 w own.admitted) }
+  own_of_swapped : (w : World) → IsOwn Whole (network_move Expire200) w
+      → IsOwn Whole (user_move Expire200) (swapped w)
+  own_of_swapped w own = record {
+    due = sym (due_swapped Expire200 w) ∙ own.due;
+    admitted = ok_swapped w (ok_of_side side.Network Expire200 w own.admitted);
+  }
     where
-      ok_swapped : (w : World) → is_ok (acts Whole side.User Expire200 (view_of side.Network w)) ≡ true → is_ok (happens Whole (user_move Expire200) (swapped w)) ≡ true
+      ok_swapped : (w : World)
+          → is_ok (acts Whole side.User Expire200 (view_of side.Network w)) ≡ true
+          → is_ok (happens Whole (user_move Expire200) (swapped w)) ≡ true
       ok_swapped w ok = user_ok Expire200 (swapped w) ∙ ok
 
-  pub coming_moves : (n : ℕ) (s : Side) (event : PairEvent) (w : World) → Coming N up n w → Facts N w → IsOwn Whole (record { side = s; event = event }) w → ComesOn N up n (after s event w)
+  pub coming_moves : (n : ℕ) (s : Side) (event : PairEvent) (w : World) → Coming N up n w
+      → Facts N w → IsOwn Whole (record { side = s; event = event }) w
+      → ComesOn N up n (after s event w)
   coming_moves n side.User Expire200 w (inl d) f own = user_t200_open n w d f own
-  coming_moves n side.Network Expire200 w (inl d) f own = to_network_of n Expire200 w (user_t200_open n (swapped w) (draining_swapped true n w d) (facts_swapped N w f) (own_of_swapped w own))
+  coming_moves n side.Network Expire200 w (inl d) f own =
+      to_network_of n Expire200 w (user_t200_open n
+      (swapped w) (draining_swapped true n w d) (facts_swapped N w f) (own_of_swapped w own))
   coming_moves n s Deliver w (inl d) f own = from_draining n s Deliver w d (λ is. cc) f own
   coming_moves n s Expire203 w (inl d) f own = from_draining n s Expire203 w d (λ is. cc) f own
   coming_moves n s event w (inl d) f own = let due = own.due in cc
-  coming_moves n s event w (inr (inl l)) f own = half_moves n s event w l f own.due (ok_of_side s event w own.admitted)
-  coming_moves n side.User event w (inr (inr l)) f own = to_user_of n event w (half_moves n side.Network event (swapped w) l (facts_swapped N w f) (sym (due_swapped event w) ∙ own.due) (ok_of_side side.User event w own.admitted))
-  coming_moves n side.Network event w (inr (inr l)) f own = to_network_of n event w (half_moves n side.User event (swapped w) l (facts_swapped N w f) (sym (due_swapped event w) ∙ own.due) (ok_of_side side.Network event w own.admitted))
+  coming_moves n s event w (inr (inl l)) f own =
+      half_moves n s event w l f own.due (ok_of_side s event w own.admitted)
+  coming_moves n side.User event w (inr (inr l)) f own =
+      to_user_of n event w (half_moves n
+      side.Network event (swapped w) l (facts_swapped N w f)
+      (sym (due_swapped event w) ∙ own.due) (ok_of_side side.User event w own.admitted))
+  coming_moves n side.Network event w (inr (inr l)) f own =
+      to_network_of n event w (half_moves n
+      side.User event (swapped w) l (facts_swapped N w f) (sym (due_swapped event w) ∙ own.due)
+      (ok_of_side side.Network event w own.admitted))

@@ -20,8 +20,12 @@ use Rattle.lapd_recovery_laws.specs.Agreed.{IsLevel, AreLevel, AreReleased, AreA
 
 -- ---- Moves.
 
-pub world_on_tags : (move : Move) (w : World) → IsInvariant w → IsConsistentWorld Whole w → world_after (tag_world w) (happens Tagged move (tag_world w)) ≡ tag_world (world_after w (happens Whole move w))
-world_on_tags move w i preserved = ap (λ r. world_after (tag_world w) r) (move_tagged move w i preserved) ∙ after_on_tags w (happens Whole move w)
+pub world_on_tags : (move : Move) (w : World) → IsInvariant w → IsConsistentWorld Whole w
+    → world_after (tag_world w) (happens Tagged move (tag_world w))
+    ≡ tag_world (world_after w (happens Whole move w))
+world_on_tags move w i preserved =
+    ap (λ r. world_after (tag_world w) r) (move_tagged move w i preserved)
+    ∙ after_on_tags w (happens Whole move w)
 
 empty_on_tags : (l : List Flight) → is_empty (map tag_flight l) ≡ is_empty l
 empty_on_tags [] = refl
@@ -32,35 +36,53 @@ due_on_tags Expire200 w = rw (empty_on_tags w.to_user, empty_on_tags w.to_networ
 due_on_tags Expire203 w = rw (empty_on_tags w.to_user, empty_on_tags w.to_network) refl
 due_on_tags event w = refl
 
-pub ok_on_tags : (move : Move) (w : World) → IsInvariant w → IsConsistentWorld Whole w → is_ok (happens Tagged move (tag_world w)) ≡ is_ok (happens Whole move w)
-ok_on_tags move w i preserved = ap is_ok (move_tagged move w i preserved) ∙ admitted_on_tags (happens Whole move w)
+pub ok_on_tags : (move : Move) (w : World) → IsInvariant w → IsConsistentWorld Whole w
+    → is_ok (happens Tagged move (tag_world w)) ≡ is_ok (happens Whole move w)
+ok_on_tags move w i preserved =
+    ap is_ok (move_tagged move w i preserved) ∙ admitted_on_tags (happens Whole move w)
 
-own_by_tags : (move : Move) (w : World) → IsInvariant w → IsConsistentWorld Whole w → IsOwn Tagged move (tag_world w) → IsOwn Whole move w
-own_by_tags move w i preserved own = record { due = sym (due_on_tags move.event w) ∙ own.due; admitted = sym (ok_on_tags move w i preserved) ∙ own.admitted }
+own_by_tags : (move : Move) (w : World) → IsInvariant w → IsConsistentWorld Whole w
+    → IsOwn Tagged move (tag_world w) → IsOwn Whole move w
+own_by_tags move w i preserved own = record {
+  due = sym (due_on_tags move.event w) ∙ own.due;
+  admitted = sym (ok_on_tags move w i preserved) ∙ own.admitted;
+}
 
-own_on_tags : (move : Move) (w : World) → IsInvariant w → IsConsistentWorld Whole w → IsOwn Whole move w → IsOwn Tagged move (tag_world w)
-own_on_tags move w i preserved own = record { due = due_on_tags move.event w ∙ own.due; admitted = ok_on_tags move w i preserved ∙ own.admitted }
+own_on_tags : (move : Move) (w : World) → IsInvariant w → IsConsistentWorld Whole w
+    → IsOwn Whole move w → IsOwn Tagged move (tag_world w)
+own_on_tags move w i preserved own = record {
+  due = due_on_tags move.event w ∙ own.due;
+  admitted = ok_on_tags move w i preserved ∙ own.admitted;
+}
 
-pub are_own_by_tags : (moves : List Move) (w : World) → IsInvariant w → IsConsistentWorld Whole w → AreOwn Tagged moves (tag_world w) → AreOwn Whole moves w
+pub are_own_by_tags : (moves : List Move) (w : World) → IsInvariant w → IsConsistentWorld Whole w
+    → AreOwn Tagged moves (tag_world w) → AreOwn Whole moves w
 are_own_by_tags [] w i preserved own = tt
 are_own_by_tags (move ∷ moves) w i preserved own =
     let now = world_after w (happens Whole move w) in (
       own_by_tags move w i preserved own.0,
-      are_own_by_tags moves now (each_move_preserves move w i) (run_consistent Whole (move ∷ []) w preserved)
+      are_own_by_tags moves now (each_move_preserves move w i)
+          (run_consistent Whole (move ∷ []) w preserved)
           (subst (λ v. AreOwn Tagged moves v) (world_on_tags move w i preserved) own.1),
     )
 
-pub rests_by_tags : (w : World) → IsInvariant w → IsConsistentWorld Whole w → Rests Tagged (tag_world w) → Rests Whole w
+pub rests_by_tags : (w : World) → IsInvariant w → IsConsistentWorld Whole w
+    → Rests Tagged (tag_world w) → Rests Whole w
 rests_by_tags w i preserved rests = λ move own. rests move (own_on_tags move w i preserved own)
 
-pub ran_on_tags : (moves : List Move) (w : World) → IsInvariant w → IsConsistentWorld Whole w → run Tagged moves (tag_world w) ≡ tag_world (run Whole moves w)
+pub ran_on_tags : (moves : List Move) (w : World) → IsInvariant w → IsConsistentWorld Whole w
+    → run Tagged moves (tag_world w) ≡ tag_world (run Whole moves w)
 ran_on_tags moves w i preserved = run_on_tags moves w preserved (near_moves moves w i preserved)
 
 -- ---- Worlds.
 
 level_on_tags : (x y : End) → IsLevel x y → IsLevel (tag_end x) (tag_end y)
 unfolding tag_variables
-level_on_tags x y l = record { established = l.established; acknowledged = ap tag l.acknowledged; received = ap tag l.received }
+level_on_tags x y l = record {
+  established = l.established;
+  acknowledged = ap tag l.acknowledged;
+  received = ap tag l.received;
+}
 
 pub are_level_on_tags : (x y : End) → AreLevel x y → AreLevel (tag_end x) (tag_end y)
 are_level_on_tags x y l = record { mine = level_on_tags x y l.mine; its = level_on_tags y x l.its }
@@ -75,6 +97,8 @@ agreed_on_tags w a = record {
   ends = by_ends a.ends;
 }
   where
-    by_ends : AreReleased w.user.end w.network.end ⊎ AreLevel w.user.end w.network.end → AreReleased (tag_end w.user.end) (tag_end w.network.end) ⊎ AreLevel (tag_end w.user.end) (tag_end w.network.end)
+    by_ends : AreReleased w.user.end w.network.end ⊎ AreLevel w.user.end w.network.end
+        → AreReleased (tag_end w.user.end) (tag_end w.network.end)
+        ⊎ AreLevel (tag_end w.user.end) (tag_end w.network.end)
     by_ends (inl released) = inl (record { mine = released.mine; its = released.its })
     by_ends (inr level) = inr (are_level_on_tags w.user.end w.network.end level)

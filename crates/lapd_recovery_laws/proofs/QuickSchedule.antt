@@ -21,20 +21,82 @@ use Rattle.lapd_pair_laws.specs.Schedule as worked
 use Rattle.lapd_pair_laws.specs.World.{happens}
 use Rattle.lapd_recovery_laws.specs.QuickRestart.{restarts_quickly, happens_quickly, run_quickly, across_a_restart, user_at_end, network_at_end, with_a_command, with_an_answer}
 
-pub ending_user : (r : Reading) → figures (run_quickly r across_a_restart worked.start).user ≡ user_at_end
-unfolding story_after view_after receives takes delivers loses expires_200 expires_203 restarts acts happens expires_eagerly happens_quickly restarts_quickly begin put state_to rc_to increment_rc layer3_initiated_to release_pending_to start stop expired clear_exception_conditions zero_state_variables set_peer_busy set_own_busy enquiry_response transmit_enquiry queue_up discard_i_queue acknowledge invoke_retransmission i_frame_ns discard_unacknowledged transmit_i_frame ensure_t200 transmit_rr establish_data_link reestablish_data_link end_establishment tei_assigned confirm_or_indicate ua_final awaiting_establishment_t200 awaiting_establishment confirm_release awaiting_release_t200 awaiting_release acknowledge_with_timers nr_error_recovery i_frame_nr i_frame_nr_in_recovery poll_or_final poll rr_nr rej_nr rnr_nr rr_nr_in_recovery rnr_nr_in_recovery timer_recovery_t200 busy_on busy_off in_7_and_8 established_t200 multiple_frame_established timer_recovery by_state report_fault row send_all acknowledge_pending end_step step initial_variables without_exceptions with_zero_counters status_frame acknowledgement without_ack_pending poll_response is_accepted is_rejected after_i_frame i_frame_response is_valid_nr with_va acknowledged_count acknowledges_all with_vs may_send next_i_frame after_sending with_own_busy with_peer_busy after steps lies_within
+pub ending_user : (r : Reading)
+    → figures (run_quickly r across_a_restart worked.start).user ≡ user_at_end
+unfolding story_after view_after receives takes delivers loses expires_200 expires_203 restarts acts
+    happens expires_eagerly happens_quickly restarts_quickly begin put state_to rc_to increment_rc
+    layer3_initiated_to release_pending_to start stop expired clear_exception_conditions
+    zero_state_variables set_peer_busy set_own_busy enquiry_response transmit_enquiry queue_up
+    discard_i_queue acknowledge invoke_retransmission i_frame_ns discard_unacknowledged
+    transmit_i_frame ensure_t200 transmit_rr establish_data_link reestablish_data_link
+    end_establishment tei_assigned confirm_or_indicate ua_final awaiting_establishment_t200
+    awaiting_establishment confirm_release awaiting_release_t200 awaiting_release
+    acknowledge_with_timers nr_error_recovery i_frame_nr i_frame_nr_in_recovery poll_or_final poll
+    rr_nr rej_nr rnr_nr rr_nr_in_recovery rnr_nr_in_recovery timer_recovery_t200 busy_on busy_off
+    in_7_and_8 established_t200 multiple_frame_established timer_recovery by_state report_fault row
+    send_all acknowledge_pending end_step step initial_variables without_exceptions
+    with_zero_counters status_frame acknowledgement without_ack_pending poll_response is_accepted
+    is_rejected after_i_frame i_frame_response is_valid_nr with_va acknowledged_count
+    acknowledges_all with_vs may_send next_i_frame after_sending with_own_busy with_peer_busy after
+    steps lies_within
 ending_user Whole = refl
 ending_user Tagged = refl
 
-pub ending_network : (r : Reading) → figures (run_quickly r across_a_restart worked.start).network ≡ network_at_end
-unfolding story_after view_after receives takes delivers loses expires_200 expires_203 restarts acts happens expires_eagerly happens_quickly restarts_quickly begin put state_to rc_to increment_rc layer3_initiated_to release_pending_to start stop expired clear_exception_conditions zero_state_variables set_peer_busy set_own_busy enquiry_response transmit_enquiry queue_up discard_i_queue acknowledge invoke_retransmission i_frame_ns discard_unacknowledged transmit_i_frame ensure_t200 transmit_rr establish_data_link reestablish_data_link end_establishment tei_assigned confirm_or_indicate ua_final awaiting_establishment_t200 awaiting_establishment confirm_release awaiting_release_t200 awaiting_release acknowledge_with_timers nr_error_recovery i_frame_nr i_frame_nr_in_recovery poll_or_final poll rr_nr rej_nr rnr_nr rr_nr_in_recovery rnr_nr_in_recovery timer_recovery_t200 busy_on busy_off in_7_and_8 established_t200 multiple_frame_established timer_recovery by_state report_fault row send_all acknowledge_pending end_step step initial_variables without_exceptions with_zero_counters status_frame acknowledgement without_ack_pending poll_response is_accepted is_rejected after_i_frame i_frame_response is_valid_nr with_va acknowledged_count acknowledges_all with_vs may_send next_i_frame after_sending with_own_busy with_peer_busy after steps lies_within
+pub ending_network : (r : Reading)
+    → figures (run_quickly r across_a_restart worked.start).network ≡ network_at_end
+unfolding story_after view_after receives takes delivers loses expires_200 expires_203 restarts acts
+    happens expires_eagerly happens_quickly restarts_quickly begin put state_to rc_to increment_rc
+    layer3_initiated_to release_pending_to start stop expired clear_exception_conditions
+    zero_state_variables set_peer_busy set_own_busy enquiry_response transmit_enquiry queue_up
+    discard_i_queue acknowledge invoke_retransmission i_frame_ns discard_unacknowledged
+    transmit_i_frame ensure_t200 transmit_rr establish_data_link reestablish_data_link
+    end_establishment tei_assigned confirm_or_indicate ua_final awaiting_establishment_t200
+    awaiting_establishment confirm_release awaiting_release_t200 awaiting_release
+    acknowledge_with_timers nr_error_recovery i_frame_nr i_frame_nr_in_recovery poll_or_final poll
+    rr_nr rej_nr rnr_nr rr_nr_in_recovery rnr_nr_in_recovery timer_recovery_t200 busy_on busy_off
+    in_7_and_8 established_t200 multiple_frame_established timer_recovery by_state report_fault row
+    send_all acknowledge_pending end_step step initial_variables without_exceptions
+    with_zero_counters status_frame acknowledgement without_ack_pending poll_response is_accepted
+    is_rejected after_i_frame i_frame_response is_valid_nr with_va acknowledged_count
+    acknowledges_all with_vs may_send next_i_frame after_sending with_own_busy with_peer_busy after
+    steps lies_within
 ending_network Whole = refl
 ending_network Tagged = refl
 
-pub a_command_outlasts : ReportsExpected (freely (Admitted (of_network Deliver)) (run_freely with_a_command worked.start)) → ⊥
-unfolding story_after view_after receives takes delivers loses expires_200 expires_203 restarts acts happens begin put state_to rc_to increment_rc layer3_initiated_to release_pending_to start stop expired clear_exception_conditions zero_state_variables set_peer_busy set_own_busy enquiry_response transmit_enquiry queue_up discard_i_queue acknowledge invoke_retransmission i_frame_ns discard_unacknowledged transmit_i_frame ensure_t200 transmit_rr establish_data_link reestablish_data_link end_establishment tei_assigned confirm_or_indicate ua_final awaiting_establishment_t200 awaiting_establishment confirm_release awaiting_release_t200 awaiting_release acknowledge_with_timers nr_error_recovery i_frame_nr i_frame_nr_in_recovery poll_or_final poll rr_nr rej_nr rnr_nr rr_nr_in_recovery rnr_nr_in_recovery timer_recovery_t200 busy_on busy_off in_7_and_8 established_t200 multiple_frame_established timer_recovery by_state report_fault row send_all acknowledge_pending end_step step initial_variables without_exceptions with_zero_counters status_frame acknowledgement without_ack_pending poll_response is_accepted is_rejected after_i_frame i_frame_response is_valid_nr with_va acknowledged_count acknowledges_all with_vs may_send next_i_frame after_sending with_own_busy with_peer_busy after steps lies_within
+pub a_command_outlasts : ReportsExpected
+    (freely (Admitted (of_network Deliver)) (run_freely with_a_command worked.start)) → ⊥
+unfolding story_after view_after receives takes delivers loses expires_200 expires_203 restarts acts
+    happens begin put state_to rc_to increment_rc layer3_initiated_to release_pending_to start stop
+    expired clear_exception_conditions zero_state_variables set_peer_busy set_own_busy
+    enquiry_response transmit_enquiry queue_up discard_i_queue acknowledge invoke_retransmission
+    i_frame_ns discard_unacknowledged transmit_i_frame ensure_t200 transmit_rr establish_data_link
+    reestablish_data_link end_establishment tei_assigned confirm_or_indicate ua_final
+    awaiting_establishment_t200 awaiting_establishment confirm_release awaiting_release_t200
+    awaiting_release acknowledge_with_timers nr_error_recovery i_frame_nr i_frame_nr_in_recovery
+    poll_or_final poll rr_nr rej_nr rnr_nr rr_nr_in_recovery rnr_nr_in_recovery timer_recovery_t200
+    busy_on busy_off in_7_and_8 established_t200 multiple_frame_established timer_recovery by_state
+    report_fault row send_all acknowledge_pending end_step step initial_variables without_exceptions
+    with_zero_counters status_frame acknowledgement without_ack_pending poll_response is_accepted
+    is_rejected after_i_frame i_frame_response is_valid_nr with_va acknowledged_count
+    acknowledges_all with_vs may_send next_i_frame after_sending with_own_busy with_peer_busy after
+    steps lies_within
 a_command_outlasts e = e.0
 
-pub an_answer_outlasts : ReportsExpected (freely (Admitted (of_network Deliver)) (run_freely with_an_answer worked.start)) → ⊥
-unfolding story_after view_after receives takes delivers loses expires_200 expires_203 restarts acts happens begin put state_to rc_to increment_rc layer3_initiated_to release_pending_to start stop expired clear_exception_conditions zero_state_variables set_peer_busy set_own_busy enquiry_response transmit_enquiry queue_up discard_i_queue acknowledge invoke_retransmission i_frame_ns discard_unacknowledged transmit_i_frame ensure_t200 transmit_rr establish_data_link reestablish_data_link end_establishment tei_assigned confirm_or_indicate ua_final awaiting_establishment_t200 awaiting_establishment confirm_release awaiting_release_t200 awaiting_release acknowledge_with_timers nr_error_recovery i_frame_nr i_frame_nr_in_recovery poll_or_final poll rr_nr rej_nr rnr_nr rr_nr_in_recovery rnr_nr_in_recovery timer_recovery_t200 busy_on busy_off in_7_and_8 established_t200 multiple_frame_established timer_recovery by_state report_fault row send_all acknowledge_pending end_step step initial_variables without_exceptions with_zero_counters status_frame acknowledgement without_ack_pending poll_response is_accepted is_rejected after_i_frame i_frame_response is_valid_nr with_va acknowledged_count acknowledges_all with_vs may_send next_i_frame after_sending with_own_busy with_peer_busy after steps lies_within
+pub an_answer_outlasts : ReportsExpected
+    (freely (Admitted (of_network Deliver)) (run_freely with_an_answer worked.start)) → ⊥
+unfolding story_after view_after receives takes delivers loses expires_200 expires_203 restarts acts
+    happens begin put state_to rc_to increment_rc layer3_initiated_to release_pending_to start stop
+    expired clear_exception_conditions zero_state_variables set_peer_busy set_own_busy
+    enquiry_response transmit_enquiry queue_up discard_i_queue acknowledge invoke_retransmission
+    i_frame_ns discard_unacknowledged transmit_i_frame ensure_t200 transmit_rr establish_data_link
+    reestablish_data_link end_establishment tei_assigned confirm_or_indicate ua_final
+    awaiting_establishment_t200 awaiting_establishment confirm_release awaiting_release_t200
+    awaiting_release acknowledge_with_timers nr_error_recovery i_frame_nr i_frame_nr_in_recovery
+    poll_or_final poll rr_nr rej_nr rnr_nr rr_nr_in_recovery rnr_nr_in_recovery timer_recovery_t200
+    busy_on busy_off in_7_and_8 established_t200 multiple_frame_established timer_recovery by_state
+    report_fault row send_all acknowledge_pending end_step step initial_variables without_exceptions
+    with_zero_counters status_frame acknowledgement without_ack_pending poll_response is_accepted
+    is_rejected after_i_frame i_frame_response is_valid_nr with_va acknowledged_count
+    acknowledges_all with_vs may_send next_i_frame after_sending with_own_busy with_peer_busy after
+    steps lies_within
 an_answer_outlasts e = e.0

@@ -80,10 +80,18 @@ record Answered (n : ℕ) (w : World) : Type 0 where
   most : 1 + attempts w.network.end ≤ n
 
 abbrev Releasing : ℕ → World → Type 0
-Releasing n w = Still n w ⊎ ((Asked n w ⊎ Asked n (swapped w)) ⊎ (Answered n w ⊎ Answered n (swapped w)))
+Releasing n w =
+    Still n w ⊎ ((Asked n w ⊎ Asked n (swapped w)) ⊎ (Answered n w ⊎ Answered n (swapped w)))
 
 releasing_swapped : (n : ℕ) (w : World) → Releasing n w → Releasing n (swapped w)
-releasing_swapped n w (inl s) = inl (record { user = s.network; network = s.user; to_user = s.to_network; to_network = s.to_user; most = let le = s.most in omega (arith, le) })
+releasing_swapped n w (inl s) =
+    inl (record {
+      user = s.network;
+      network = s.user;
+      to_user = s.to_network;
+      to_network = s.to_user;
+      most = let le = s.most in omega (arith, le);
+    })
 releasing_swapped n w (inr (inl (inl a))) = inr (inl (inr a))
 releasing_swapped n w (inr (inl (inr a))) = inr (inl (inl a))
 releasing_swapped n w (inr (inr (inl a))) = inr (inr (inr a))
@@ -96,20 +104,34 @@ record MovesOn (n : ℕ) (now : World) : Type 0 where
 -- ---- A step of the user.
 
 abbrev After : PairEvent → ℕ → Station → Station → List Flight → List Flight → Type 0
-After event n x y to_user to_network = is_ok (happens Whole (user_move event) (at x y to_user to_network)) ≡ true → MovesOn n (world_after (at x y to_user to_network) (happens Whole (user_move event) (at x y to_user to_network)))
+After event n x y to_user to_network =
+    is_ok (happens Whole (user_move event) (at x y to_user to_network)) ≡ true
+    → MovesOn n (world_after (at x y to_user to_network)
+    (happens Whole (user_move event) (at x y to_user to_network)))
 
 off_in_4 : (e : End) → HasTimersOfState e → e.state ≡ TeiAssigned → e.t200 ≡ false
-off_in_4 e has is = let t : AreTimersOf TeiAssigned e.t200 e.t203 (e.window.vs ≡ e.window.va) = subst (λ s. AreTimersOf s e.t200 e.t203 (e.window.vs ≡ e.window.va)) is has in t.0
+off_in_4 e has is =
+    let t : AreTimersOf TeiAssigned e.t200 e.t203 (e.window.vs ≡ e.window.va) =
+    subst (λ s. AreTimersOf s e.t200 e.t203 (e.window.vs ≡ e.window.va)) is has in
+    t.0
 
 on_in_6 : (e : End) → HasTimersOfState e → e.state ≡ AwaitingRelease → e.t200 ≡ true
-on_in_6 e has is = let t : AreTimersOf AwaitingRelease e.t200 e.t203 (e.window.vs ≡ e.window.va) = subst (λ s. AreTimersOf s e.t200 e.t203 (e.window.vs ≡ e.window.va)) is has in t.0
+on_in_6 e has is =
+    let t : AreTimersOf AwaitingRelease e.t200 e.t203 (e.window.vs ≡ e.window.va) =
+    subst (λ s. AreTimersOf s e.t200 e.t203 (e.window.vs ≡ e.window.va)) is has in
+    t.0
 
 -- the weight of an end by its state
-in_6 : (e : End) (tries : Bool) → e.state ≡ AwaitingRelease → nat_lt e.rc e.parameters.n200 ≡ tries → attempts e ≡ attempts_in AwaitingRelease tries
-in_6 e tries is some = ap (λ st. attempts_in st (nat_lt e.rc e.parameters.n200)) is ∙ ap (λ b. attempts_in AwaitingRelease b) some
+in_6 : (e : End) (tries : Bool) → e.state ≡ AwaitingRelease → nat_lt e.rc e.parameters.n200 ≡ tries
+    → attempts e ≡ attempts_in AwaitingRelease tries
+in_6 e tries is some =
+    ap (λ st. attempts_in st (nat_lt e.rc e.parameters.n200)) is
+    ∙ ap (λ b. attempts_in AwaitingRelease b) some
 
 at_most_three : (e : End) → IsReleasing e → attempts e ≤ 3
-at_most_three e (inl is) = let none : attempts e ≡ 0 = ap (λ st. attempts_in st (nat_lt e.rc e.parameters.n200)) is in omega (arith, none)
+at_most_three e (inl is) =
+    let none : attempts e ≡ 0 = ap (λ st. attempts_in st (nat_lt e.rc e.parameters.n200)) is in
+    omega (arith, none)
 at_most_three e (inr is) = by_tries (nat_lt e.rc e.parameters.n200) refl
   where
     by_tries : (b : Bool) → nat_lt e.rc e.parameters.n200 ≡ b → attempts e ≤ 3
@@ -118,23 +140,40 @@ at_most_three e (inr is) = by_tries (nat_lt e.rc e.parameters.n200) refl
 
 module _ (n : ℕ) (x y : Station) where
   abbrev now : PairEvent → List Flight → List Flight → World
-  now event to_user to_network = with_view side.User (left_by (seeing x to_user to_network) (acts Whole side.User event (seeing x to_user to_network))) (at x y to_user to_network)
+  now event to_user to_network =
+      with_view side.User (left_by (seeing x to_user to_network)
+      (acts Whole side.User event (seeing x to_user to_network))) (at x y to_user to_network)
 
-  moved_to : (event : PairEvent) (to_user to_network : List Flight) → MovesOn n (now event to_user to_network) → MovesOn n (world_after (at x y to_user to_network) (happens Whole (user_move event) (at x y to_user to_network)))
-  moved_to event to_user to_network m = subst (λ v. MovesOn n v) (sym (moved_user event (at x y to_user to_network))) m
+  moved_to : (event : PairEvent) (to_user to_network : List Flight)
+      → MovesOn n (now event to_user to_network)
+      → MovesOn n (world_after (at x y to_user to_network)
+      (happens Whole (user_move event) (at x y to_user to_network)))
+  moved_to event to_user to_network m =
+      subst (λ v. MovesOn n v) (sym (moved_user event (at x y to_user to_network))) m
 
   -- T200 of the user expires
-  expires : Still n (at x y [] []) → HasTimersOfState x.end → x.end.t200 ≡ true → MovesOn n (now Expire200 [] [])
+  expires : Still n (at x y [] []) → HasTimersOfState x.end → x.end.t200 ≡ true
+      → MovesOn n (now Expire200 [] [])
   expires s has on = by_state s.user
     where
-      by_tries : (b : Bool) → nat_lt x.end.rc x.end.parameters.n200 ≡ b → x.end.state ≡ AwaitingRelease → MovesOn n (now Expire200 [] [])
+      by_tries : (b : Bool) → nat_lt x.end.rc x.end.parameters.n200 ≡ b
+          → x.end.state ≡ AwaitingRelease → MovesOn n (now Expire200 [] [])
       by_tries true some is =
           let three = in_6 x.end true is some in
           let le = s.most in
-          let v = seen_after_t200 x (retried x.end is) (disc ∷ []) on (retry_in_6 x.end is on some) in
+          let v =
+          seen_after_t200 x (retried x.end is) (disc ∷ []) on
+          (retry_in_6 x.end is on some) in
           record {
             some = omega (arith, three, le);
-            releasing = inr (inl (inl (record { user = ap (λ (e : End). e.state) v.end ∙ is; network = s.network; to_user = v.incoming; to_network = v.outgoing; most = omega (arith, three, le) })));
+            releasing =
+                inr (inl (inl (record {
+                  user = ap (λ (e : End). e.state) v.end ∙ is;
+                  network = s.network;
+                  to_user = v.incoming;
+                  to_network = v.outgoing;
+                  most = omega (arith, three, le);
+                })));
           }
       by_tries false none is =
           let one = in_6 x.end false is none in
@@ -143,7 +182,14 @@ module _ (n : ℕ) (x y : Station) where
           let over : attempts (now Expire200 [] []).user.end ≡ 0 = ap attempts v.end in
           record {
             some = omega (arith, one, le);
-            releasing = inl (record { user = inl (ap (λ (e : End). e.state) v.end); network = s.network; to_user = v.incoming; to_network = v.outgoing; most = omega (arith, one, le, over) });
+            releasing =
+                inl (record {
+                  user = inl (ap (λ (e : End). e.state) v.end);
+                  network = s.network;
+                  to_user = v.incoming;
+                  to_network = v.outgoing;
+                  most = omega (arith, one, le, over);
+                });
           }
 
       by_state : IsReleasing x.end → MovesOn n (now Expire200 [] [])
@@ -154,57 +200,135 @@ module _ (n : ℕ) (x y : Station) where
   answers : Asked n (at y x [] (disc ∷ [])) → MovesOn n (now Deliver (disc ∷ []) [])
   answers a = by_state a.network
     where
-      done : (f : Flight) → IsAnswer f → Sees (left_by (seeing x (disc ∷ []) []) (acts Whole side.User Deliver (seeing x (disc ∷ []) []))) x.end [] (f ∷ []) → MovesOn n (now Deliver (disc ∷ []) [])
+      done : (f : Flight) → IsAnswer f
+          → Sees (left_by (seeing x (disc ∷ []) [])
+          (acts Whole side.User Deliver (seeing x (disc ∷ []) []))) x.end [] (f ∷ [])
+          → MovesOn n (now Deliver (disc ∷ []) [])
       done f is v =
           let le = a.most in
-          let same : attempts (now Deliver (disc ∷ []) []).user.end ≡ attempts x.end = ap attempts v.end in
+          let same : attempts (now Deliver (disc ∷ []) []).user.end ≡ attempts x.end =
+          ap attempts v.end in
           record {
             some = omega (arith, le);
-            releasing = inr (inr (inr (record { user = a.user; network = subst IsReleasing (sym v.end) a.network; frame = f; answer = is; to_user = v.outgoing; to_network = v.incoming; most = omega (arith, le, same) })));
+            releasing =
+                inr (inr (inr (record {
+                  user = a.user;
+                  network = subst IsReleasing (sym v.end) a.network;
+                  frame = f;
+                  answer = is;
+                  to_user = v.outgoing;
+                  to_network = v.incoming;
+                  most = omega (arith, le, same);
+                })));
           }
 
       by_state : IsReleasing x.end → MovesOn n (now Deliver (disc ∷ []) [])
-      by_state (inl is) = done (without_info Answer (Dm true)) (inr refl) (seen_after_frame x disc [] [] x.end (without_info Answer (Dm true) ∷ []) (disc_in_4 x.end is))
-      by_state (inr is) = done (without_info Answer (Ua true)) (inl refl) (seen_after_frame x disc [] [] x.end (without_info Answer (Ua true) ∷ []) (disc_in_6 x.end is))
+      by_state (inl is) =
+          done (without_info Answer (Dm true)) (inr refl)
+          (seen_after_frame x disc [] [] x.end (without_info Answer (Dm true) ∷ [])
+          (disc_in_4 x.end is))
+      by_state (inr is) =
+          done (without_info Answer (Ua true)) (inl refl)
+          (seen_after_frame x disc [] [] x.end (without_info Answer (Ua true) ∷ [])
+          (disc_in_6 x.end is))
 
   -- the answer is delivered to the user
-  ends : (f : Flight) → IsAnswer f → Answered n (at x y (f ∷ []) []) → MovesOn n (now Deliver (f ∷ []) [])
+  ends : (f : Flight) → IsAnswer f → Answered n (at x y (f ∷ []) [])
+      → MovesOn n (now Deliver (f ∷ []) [])
   ends f answer a = by_answer answer
     where
-      done : Sees (left_by (seeing x (f ∷ []) []) (acts Whole side.User Deliver (seeing x (f ∷ []) []))) (released x.end a.user) [] [] → MovesOn n (now Deliver (f ∷ []) [])
+      done : Sees
+          (left_by (seeing x (f ∷ []) []) (acts Whole side.User Deliver (seeing x (f ∷ []) [])))
+          (released x.end a.user) [] [] → MovesOn n (now Deliver (f ∷ []) [])
       done v =
           let le = a.most in
           let over : attempts (now Deliver (f ∷ []) []).user.end ≡ 0 = ap attempts v.end in
           record {
             some = omega (arith, le);
-            releasing = inl (record { user = inl (ap (λ (e : End). e.state) v.end); network = a.network; to_user = v.incoming; to_network = v.outgoing; most = omega (arith, le, over) });
+            releasing =
+                inl (record {
+                  user = inl (ap (λ (e : End). e.state) v.end);
+                  network = a.network;
+                  to_user = v.incoming;
+                  to_network = v.outgoing;
+                  most = omega (arith, le, over);
+                });
           }
 
       by_answer : IsAnswer f → MovesOn n (now Deliver (f ∷ []) [])
-      by_answer (inl ua) = done (subst (λ g. Sees (left_by (seeing x (g ∷ []) []) (acts Whole side.User Deliver (seeing x (g ∷ []) []))) (released x.end a.user) [] []) (sym ua) (seen_after_frame x (without_info Answer (Ua true)) [] [] (released x.end a.user) [] (ua_in_6 x.end a.user)))
-      by_answer (inr dm) = done (subst (λ g. Sees (left_by (seeing x (g ∷ []) []) (acts Whole side.User Deliver (seeing x (g ∷ []) []))) (released x.end a.user) [] []) (sym dm) (seen_after_frame x (without_info Answer (Dm true)) [] [] (released x.end a.user) [] (dm_in_6 x.end a.user)))
+      by_answer (inl ua) =
+          done (subst (λ g. Sees (left_by (seeing x (g ∷ []) [])
+          (acts Whole side.User Deliver (seeing x (g ∷ []) []))) (released x.end a.user)
+          [] []) (sym ua) (seen_after_frame x (without_info Answer (Ua true)) [] []
+          (released x.end a.user) [] (ua_in_6 x.end a.user)))
+      by_answer (inr dm) =
+          done (subst (λ g. Sees (left_by (seeing x (g ∷ []) [])
+          (acts Whole side.User Deliver (seeing x (g ∷ []) []))) (released x.end a.user)
+          [] []) (sym dm) (seen_after_frame x (without_info Answer (Dm true)) [] []
+          (released x.end a.user) [] (dm_in_6 x.end a.user)))
 
   -- ---- The user delivers, or its T200 expires.
 
-  user_delivers : (to_user to_network : List Flight) → Releasing n (at x y to_user to_network) → After Deliver n x y to_user to_network
-  user_delivers to_user to_network (inl s) = literally (After Deliver n x y) to_user to_network [] to_network s.to_user refl (λ ok. let never = none_there x y to_network in cc)
-  user_delivers to_user to_network (inr (inl (inl a))) = literally (After Deliver n x y) to_user to_network [] to_network a.to_user refl (λ ok. let never = none_there x y to_network in cc)
-  user_delivers to_user to_network (inr (inl (inr a))) = literally (After Deliver n x y) to_user to_network (disc ∷ []) [] a.to_network a.to_user
-      (λ ok. moved_to Deliver (disc ∷ []) [] (answers (record { user = a.user; network = a.network; to_user = refl; to_network = refl; most = a.most })))
-  user_delivers to_user to_network (inr (inr (inl a))) = literally (After Deliver n x y) to_user to_network (a.frame ∷ []) [] a.to_user a.to_network
-      (λ ok. moved_to Deliver (a.frame ∷ []) [] (ends a.frame a.answer (record { user = a.user; network = a.network; frame = a.frame; answer = a.answer; to_user = refl; to_network = refl; most = a.most })))
-  user_delivers to_user to_network (inr (inr (inr a))) = literally (After Deliver n x y) to_user to_network [] to_network a.to_network refl (λ ok. let never = none_there x y to_network in cc)
+  user_delivers : (to_user to_network : List Flight) → Releasing n (at x y to_user to_network)
+      → After Deliver n x y to_user to_network
+  user_delivers to_user to_network (inl s) =
+      literally (After Deliver n x y) to_user to_network [] to_network s.to_user refl
+      (λ ok. let never = none_there x y to_network in cc)
+  user_delivers to_user to_network (inr (inl (inl a))) =
+      literally (After Deliver n x y) to_user to_network [] to_network a.to_user refl
+      (λ ok. let never = none_there x y to_network in cc)
+  user_delivers to_user to_network (inr (inl (inr a))) =
+      literally (After Deliver n x y) to_user to_network (disc ∷ []) [] a.to_network a.to_user
+      (λ ok. moved_to Deliver (disc ∷ []) []
+      (answers (record {
+        user = a.user;
+        network = a.network;
+        to_user = refl;
+        to_network = refl;
+        most = a.most;
+      })))
+  user_delivers to_user to_network (inr (inr (inl a))) =
+      literally (After Deliver n x y) to_user to_network (a.frame ∷ []) [] a.to_user a.to_network
+      (λ ok. moved_to Deliver (a.frame ∷ []) []
+      (ends a.frame a.answer (record {
+        user = a.user;
+        network = a.network;
+        frame = a.frame;
+        answer = a.answer;
+        to_user = refl;
+        to_network = refl;
+        most = a.most;
+      })))
+  user_delivers to_user to_network (inr (inr (inr a))) =
+      literally (After Deliver n x y) to_user to_network [] to_network a.to_network refl
+      (λ ok. let never = none_there x y to_network in cc)
 
   abbrev AfterT200 : List Flight → List Flight → Type 0
-  AfterT200 to_user to_network = is_line_empty (at x y to_user to_network) ≡ true → MovesOn n (world_after (at x y to_user to_network) (happens Whole (user_move Expire200) (at x y to_user to_network)))
+  AfterT200 to_user to_network =
+      is_line_empty (at x y to_user to_network) ≡ true
+      → MovesOn n (world_after (at x y to_user to_network)
+      (happens Whole (user_move Expire200) (at x y to_user to_network)))
 
-  user_expires : (to_user to_network : List Flight) → Releasing n (at x y to_user to_network) → HasTimersOfState x.end → x.end.t200 ≡ true → AfterT200 to_user to_network
-  user_expires to_user to_network (inl s) has on = literally AfterT200 to_user to_network [] [] s.to_user s.to_network
-      (λ empty. moved_to Expire200 [] [] (expires (record { user = s.user; network = s.network; to_user = refl; to_network = refl; most = s.most }) has on))
-  user_expires to_user to_network (inr (inl (inl a))) has on = literally AfterT200 to_user to_network [] (disc ∷ []) a.to_user a.to_network (λ empty. cc)
-  user_expires to_user to_network (inr (inl (inr a))) has on = literally AfterT200 to_user to_network (disc ∷ []) [] a.to_network a.to_user (λ empty. cc)
-  user_expires to_user to_network (inr (inr (inl a))) has on = literally AfterT200 to_user to_network (a.frame ∷ []) [] a.to_user a.to_network (λ empty. cc)
-  user_expires to_user to_network (inr (inr (inr a))) has on = literally AfterT200 to_user to_network [] (a.frame ∷ []) a.to_network a.to_user (λ empty. cc)
+  user_expires : (to_user to_network : List Flight) → Releasing n (at x y to_user to_network)
+      → HasTimersOfState x.end → x.end.t200 ≡ true → AfterT200 to_user to_network
+  user_expires to_user to_network (inl s) has on =
+      literally AfterT200 to_user to_network [] [] s.to_user s.to_network
+      (λ empty. moved_to Expire200 [] []
+      (expires (record {
+        user = s.user;
+        network = s.network;
+        to_user = refl;
+        to_network = refl;
+        most = s.most;
+      }) has on))
+  user_expires to_user to_network (inr (inl (inl a))) has on =
+      literally AfterT200 to_user to_network [] (disc ∷ []) a.to_user a.to_network (λ empty. cc)
+  user_expires to_user to_network (inr (inl (inr a))) has on =
+      literally AfterT200 to_user to_network (disc ∷ []) [] a.to_network a.to_user (λ empty. cc)
+  user_expires to_user to_network (inr (inr (inl a))) has on =
+      literally AfterT200 to_user to_network (a.frame ∷ []) [] a.to_user a.to_network (λ empty. cc)
+  user_expires to_user to_network (inr (inr (inr a))) has on =
+      literally AfterT200 to_user to_network [] (a.frame ∷ []) a.to_network a.to_user (λ empty. cc)
 
 -- ---- Any own move.
 
@@ -212,7 +336,8 @@ not_in_7 : (e : End) → IsReleasing e → is_established e.state ≡ false
 not_in_7 e (inl is) = ap is_established is
 not_in_7 e (inr is) = ap is_established is
 
-releasing_ends : (n : ℕ) (w : World) → Releasing n w → IsReleasing w.user.end × IsReleasing w.network.end
+releasing_ends : (n : ℕ) (w : World) → Releasing n w
+    → IsReleasing w.user.end × IsReleasing w.network.end
 releasing_ends n w (inl s) = (s.user, s.network)
 releasing_ends n w (inr (inl (inl a))) = (inr a.user, a.network)
 releasing_ends n w (inr (inl (inr a))) = (a.network, inr a.user)
@@ -222,8 +347,11 @@ releasing_ends n w (inr (inr (inr a))) = (a.network, inr a.user)
 never_203 : (n : ℕ) (w : World) → Releasing n w → is_due Expire203 w ≡ true → ⊥
 never_203 n w r due =
     let e = releasing_ends n w r in
-    let apart : are_apart w ≡ true = last (is_line_empty w) (not (w.user.end.t200 || w.network.end.t200)) (are_apart w) due in
-    let together : are_apart w ≡ false = rw (not_in_7 w.user.end e.0, not_in_7 w.network.end e.1) refl in
+    let apart : are_apart w ≡ true =
+    last (is_line_empty w) (not (w.user.end.t200 || w.network.end.t200)) (are_apart w)
+    due in
+    let together : are_apart w ≡ false =
+    rw (not_in_7 w.user.end e.0, not_in_7 w.network.end e.1) refl in
     cc
   where
     last : (a b c : Bool) → (a && b && c) ≡ true → c ≡ true
@@ -234,23 +362,48 @@ never_203 n w r due =
 empty_swapped : (w : World) → is_line_empty w ≡ true → is_line_empty (swapped w) ≡ true
 empty_swapped w empty = by_lists w.to_user w.to_network empty
   where
-    by_lists : (a b : List Flight) → (is_line_empty (at w.user w.network a b)) ≡ true → is_line_empty (at w.network w.user b a) ≡ true
+    by_lists : (a b : List Flight) → (is_line_empty (at w.user w.network a b)) ≡ true
+        → is_line_empty (at w.network w.user b a) ≡ true
     by_lists [] [] empty = refl
     by_lists (f ∷ fs) b empty = cc
     by_lists [] (f ∷ fs) empty = cc
 
-by_network : (n : ℕ) (event : PairEvent) (w : World) → MovesOn n (world_after (swapped w) (happens Whole (user_move event) (swapped w))) → MovesOn n (world_after w (happens Whole (network_move event) w))
-by_network n event w m = subst (λ v. MovesOn n v) (sym (network_alike Whole event w)) (record { some = m.some; releasing = releasing_swapped (n - 1) (world_after (swapped w) (happens Whole (user_move event) (swapped w))) m.releasing })
+by_network : (n : ℕ) (event : PairEvent) (w : World)
+    → MovesOn n (world_after (swapped w) (happens Whole (user_move event) (swapped w)))
+    → MovesOn n (world_after w (happens Whole (network_move event) w))
+by_network n event w m =
+    subst (λ v. MovesOn n v) (sym (network_alike Whole event w))
+    (record {
+      some = m.some;
+      releasing =
+          releasing_swapped (n - 1)
+          (world_after (swapped w) (happens Whole (user_move event) (swapped w))) m.releasing;
+    })
 
-delivers_alike : (w : World) → is_ok (happens Whole (user_move Deliver) (swapped w)) ≡ is_ok (happens Whole (network_move Deliver) w)
+delivers_alike : (w : World)
+    → is_ok (happens Whole (user_move Deliver) (swapped w))
+    ≡ is_ok (happens Whole (network_move Deliver) w)
 unfolding happens acts
-delivers_alike w = ok_in_world side.User (swapped w) (acts Whole side.User Deliver (view_of side.User (swapped w))) ∙ sym (ok_in_world side.Network w (acts Whole side.Network Deliver (view_of side.Network w)))
+delivers_alike w =
+    ok_in_world side.User (swapped w) (acts Whole side.User Deliver (view_of side.User (swapped w)))
+    ∙ sym (ok_in_world side.Network w (acts Whole side.Network Deliver (view_of side.Network w)))
 
-own_event : (n : ℕ) (s : Side) (event : PairEvent) (w : World) → Releasing n w → HaveTimersOfStates w → is_due event w ≡ true → is_ok (happens Whole (record { side = s; event = event }) w) ≡ true → MovesOn n (world_after w (happens Whole (record { side = s; event = event }) w))
-own_event n side.User Deliver w r have due ok = user_delivers n w.user w.network w.to_user w.to_network r ok
-own_event n side.User Expire200 w r have due ok = user_expires n w.user w.network w.to_user w.to_network r have.user (runs_if_expires side.User w ok) due
-own_event n side.Network Deliver w r have due ok = by_network n Deliver w (user_delivers n w.network w.user w.to_network w.to_user (releasing_swapped n w r) (delivers_alike w ∙ ok))
-own_event n side.Network Expire200 w r have due ok = by_network n Expire200 w (user_expires n w.network w.user w.to_network w.to_user (releasing_swapped n w r) have.network (runs_if_expires side.Network w ok) (empty_swapped w due))
+own_event : (n : ℕ) (s : Side) (event : PairEvent) (w : World) → Releasing n w
+    → HaveTimersOfStates w → is_due event w ≡ true
+    → is_ok (happens Whole (record { side = s; event = event }) w) ≡ true
+    → MovesOn n (world_after w (happens Whole (record { side = s; event = event }) w))
+own_event n side.User Deliver w r have due ok =
+    user_delivers n w.user w.network w.to_user w.to_network r ok
+own_event n side.User Expire200 w r have due ok =
+    user_expires n w.user w.network w.to_user w.to_network r have.user
+    (runs_if_expires side.User w ok) due
+own_event n side.Network Deliver w r have due ok =
+    by_network n Deliver w (user_delivers n
+    w.network w.user w.to_network w.to_user (releasing_swapped n w r) (delivers_alike w ∙ ok))
+own_event n side.Network Expire200 w r have due ok =
+    by_network n Expire200 w (user_expires n
+    w.network w.user w.to_network w.to_user (releasing_swapped n w r) have.network
+    (runs_if_expires side.Network w ok) (empty_swapped w due))
 own_event n s Expire203 w r have due ok = absurd (never_203 n w r due)
 own_event n s event w r have due ok = cc
 
@@ -261,12 +414,16 @@ record Reaches (n : ℕ) (moves : List Move) (now : World) : Type 0 where
   releasing : Releasing (n - length moves) now
   have : HaveTimersOfStates now
 
-own_moves_reach : (n : ℕ) (w : World) (moves : List Move) → Releasing n w → HaveTimersOfStates w → AreOwn Whole moves w → Reaches n moves (run Whole moves w)
-own_moves_reach n w [] r have own = let same : n ≡ n - 0 = omega arith in record { few = omega arith; releasing = subst (λ m. Releasing m w) same r; have = have }
+own_moves_reach : (n : ℕ) (w : World) (moves : List Move) → Releasing n w → HaveTimersOfStates w
+    → AreOwn Whole moves w → Reaches n moves (run Whole moves w)
+own_moves_reach n w [] r have own =
+    let same : n ≡ n - 0 = omega arith in
+    record { few = omega arith; releasing = subst (λ m. Releasing m w) same r; have = have }
 own_moves_reach n w (move ∷ moves) r have own =
     let one = own_event n move.side move.event w r have own.0.due own.0.admitted in
     let now = world_after w (happens Whole move w) in
-    let rest = own_moves_reach (n - 1) now moves one.releasing (timers_after_move move w have) own.1 in
+    let rest =
+    own_moves_reach (n - 1) now moves one.releasing (timers_after_move move w have) own.1 in
     let fewer : n - 1 - length moves ≡ n - length (move ∷ moves) = omega arith in
     record {
       few = let some = one.some in let few = rest.few in omega (arith, some, few);
@@ -283,43 +440,78 @@ at_rest n w (inr (inl (inr a))) still = let none = still.to_user in let some = a
 at_rest n w (inr (inr (inl a))) still = let none = still.to_user in let some = a.to_user in cc
 at_rest n w (inr (inr (inr a))) still = let none = still.to_network in let some = a.to_user in cc
 
-released_so : (e : End) → HasTimersOfState e → e.t200 ≡ false → IsReleasing e → e.state ≡ TeiAssigned
+released_so : (e : End) → HasTimersOfState e → e.t200 ≡ false → IsReleasing e
+    → e.state ≡ TeiAssigned
 released_so e has off (inl is) = is
 released_so e has off (inr is) = let on = on_in_6 e has is in cc
 
-pub empty_in_4 : (s : Station) (x : Party) → x.sends.given ≡ s.end.given → x.sends.first ≡ s.end.first → x.sends.passed ≡ s.history.passed → x.state ≡ TeiAssigned → IsConsistentSender x.state x.asked x.leaving x.sends → x.sends.passed ≡ x.sends.first → AreSettled s.history → left_of s ≡ 0
+pub empty_in_4 : (s : Station) (x : Party) → x.sends.given ≡ s.end.given
+    → x.sends.first ≡ s.end.first → x.sends.passed ≡ s.history.passed → x.state ≡ TeiAssigned
+    → IsConsistentSender x.state x.asked x.leaving x.sends → x.sends.passed ≡ x.sends.first
+    → AreSettled s.history → left_of s ≡ 0
 empty_in_4 s x given first gone is preserved passed settled =
-    let none : IsEmpty x.sends = subst (λ st. IsConsistentSender st x.asked x.leaving x.sends) is preserved in
+    let none : IsEmpty x.sends =
+    subst (λ st. IsConsistentSender st x.asked x.leaving x.sends) is preserved in
     let all : x.sends.first ≡ length x.sends.given = none.first in
     let same : length x.sends.given ≡ length s.end.given = ap length given in
     left_settled s settled ∙ omega (arith, all, same, passed, gone)
 
-down_at : (x y : Station) (n : ℕ) → Still n (at x y [] []) → IsInvariant (at x y [] []) → IsConsistentWorld Whole (at x y [] []) → HaveTimersOfStates (at x y [] []) → x.end.t200 ≡ false → y.end.t200 ≡ false → IsDown (at x y [] [])
+down_at : (x y : Station) (n : ℕ) → Still n (at x y [] []) → IsInvariant (at x y [] [])
+    → IsConsistentWorld Whole (at x y [] []) → HaveTimersOfStates (at x y [] [])
+    → x.end.t200 ≡ false → y.end.t200 ≡ false → IsDown (at x y [] [])
 down_at x y n s i preserved have off none =
     let mine = released_so x.end have.user off s.user in
     let its = released_so y.end have.network none s.network in
-    let left_x = empty_in_4 x (party i.user_base x) refl refl refl mine i.both.mine.preserved i.both.mine.passed preserved.user.settled in
-    let left_y = empty_in_4 y (party i.network_base y) refl refl refl its i.both.its.preserved i.both.its.passed preserved.network.settled in
+    let left_x =
+    empty_in_4 x (party i.user_base x) refl refl refl mine i.both.mine.preserved
+    i.both.mine.passed preserved.user.settled in
+    let left_y =
+    empty_in_4 y (party i.network_base y) refl refl refl its i.both.its.preserved
+    i.both.its.passed preserved.network.settled in
     let released : AreReleased x.end y.end = record { mine = mine; its = its } in
     record {
-      agreed = record { to_user = refl; to_network = refl; empty = omega (arith, left_x, left_y); user_stopped = off; network_stopped = none; ends = inl released };
+      agreed = record {
+        to_user = refl;
+        to_network = refl;
+        empty = omega (arith, left_x, left_y);
+        user_stopped = off;
+        network_stopped = none;
+        ends = inl released;
+      };
       released = released;
     }
 
-down_so : (x y : Station) (to_user to_network : List Flight) (n : ℕ) → Still n (at x y to_user to_network) → IsInvariant (at x y to_user to_network) → IsConsistentWorld Whole (at x y to_user to_network) → HaveTimersOfStates (at x y to_user to_network) → IsStill (at x y to_user to_network) → IsDown (at x y to_user to_network)
-down_so x y [] [] n s i preserved have still = down_at x y n s i preserved have still.user still.network
+down_so : (x y : Station) (to_user to_network : List Flight) (n : ℕ)
+    → Still n (at x y to_user to_network) → IsInvariant (at x y to_user to_network)
+    → IsConsistentWorld Whole (at x y to_user to_network)
+    → HaveTimersOfStates (at x y to_user to_network) → IsStill (at x y to_user to_network)
+    → IsDown (at x y to_user to_network)
+down_so x y [] [] n s i preserved have still =
+    down_at x y n s i preserved have still.user still.network
 down_so x y (f ∷ fs) to_network n s i preserved have still = let none = still.to_user in cc
 down_so x y [] (f ∷ fs) n s i preserved have still = let none = still.to_network in cc
 
 begins : (w : World) → IsReleasedLine w → Releasing 6 w
-begins w l = let a = at_most_three w.user.end l.user in let b = at_most_three w.network.end l.network in inl (record { user = l.user; network = l.network; to_user = l.to_user; to_network = l.to_network; most = omega (arith, a, b) })
+begins w l =
+    let a = at_most_three w.user.end l.user in
+    let b = at_most_three w.network.end l.network in
+    inl (record {
+      user = l.user;
+      network = l.network;
+      to_user = l.to_user;
+      to_network = l.to_network;
+      most = omega (arith, a, b);
+    })
 
-pub released_line_comes_down : (w : World) → IsInvariant w → IsConsistentWorld Whole w → HaveTimersOfStates w → IsReleasedLine w → ComesDown Whole w
+pub released_line_comes_down : (w : World) → IsInvariant w → IsConsistentWorld Whole w
+    → HaveTimersOfStates w → IsReleasedLine w → ComesDown Whole w
 released_line_comes_down w i preserved have l = record {
   few = λ moves own. (own_moves_reach 6 w moves (begins w l) have own).few;
   down = λ moves own rests.
       let now = run Whole moves w in
       let reached = own_moves_reach 6 w moves (begins w l) have own in
       let still = rests_still now.user now.network now.to_user now.to_network rests in
-      down_so now.user now.network now.to_user now.to_network (6 - length moves) (at_rest (6 - length moves) now reached.releasing still) (each_run_preserves moves w i) (run_consistent Whole moves w preserved) reached.have still;
+      down_so now.user now.network now.to_user now.to_network (6 - length moves)
+      (at_rest (6 - length moves) now reached.releasing still) (each_run_preserves moves w i)
+      (run_consistent Whole moves w preserved) reached.have still;
 }

@@ -22,16 +22,23 @@ use Rattle.lapd_recovery_laws.proofs.Releases.{released_line_comes_down}
 use Rattle.lapd_recovery_laws.proofs.TimersOfRuns.{new_has_timers, timers_after_run}
 
 down_on_tags : (w : World) → IsDown w → IsDown (tag_world w)
-down_on_tags w d = record { agreed = agreed_on_tags w d.agreed; released = record { mine = d.released.mine; its = d.released.its } }
+down_on_tags w d = record {
+  agreed = agreed_on_tags w d.agreed;
+  released = record { mine = d.released.mine; its = d.released.its };
+}
 
-comes_down_on_tags : (w : World) → IsInvariant w → IsConsistentWorld Whole w → ComesDown Whole w → ComesDown Tagged (tag_world w)
+comes_down_on_tags : (w : World) → IsInvariant w → IsConsistentWorld Whole w → ComesDown Whole w
+    → ComesDown Tagged (tag_world w)
 comes_down_on_tags w i preserved c = record {
   few = λ moves own. c.few moves (are_own_by_tags moves w i preserved own);
   down = λ moves own rests.
       let now = run Whole moves w in
       let same : run Tagged moves (tag_world w) ≡ tag_world now = ran_on_tags moves w i preserved in
-      let still : Rests Whole now = rests_by_tags now (each_run_preserves moves w i) (run_consistent Whole moves w preserved) (subst (λ v. Rests Tagged v) same rests) in
-      subst IsDown (sym same) (down_on_tags now (c.down moves (are_own_by_tags moves w i preserved own) still));
+      let still : Rests Whole now =
+      rests_by_tags now (each_run_preserves moves w i)
+      (run_consistent Whole moves w preserved) (subst (λ v. Rests Tagged v) same rests) in
+      subst IsDown (sym same)
+      (down_on_tags now (c.down moves (are_own_by_tags moves w i preserved own) still));
 }
 
 releasing_by_tags : (e : End) → IsReleasing (tag_end e) → IsReleasing e
@@ -39,9 +46,15 @@ releasing_by_tags e (inl is) = inl is
 releasing_by_tags e (inr is) = inr is
 
 released_line_by_tags : (w : World) → IsReleasedLine (tag_world w) → IsReleasedLine w
-released_line_by_tags w l = record { user = releasing_by_tags w.user.end l.user; network = releasing_by_tags w.network.end l.network; to_user = unmapped w.to_user l.to_user; to_network = unmapped w.to_network l.to_network }
+released_line_by_tags w l = record {
+  user = releasing_by_tags w.user.end l.user;
+  network = releasing_by_tags w.network.end l.network;
+  to_user = unmapped w.to_user l.to_user;
+  to_network = unmapped w.to_network l.to_network;
+}
 
-module _ (user network : Parameters) (user_small : user.k ≤ 127) (network_small : network.k ≤ 127) (moves : List Move) where
+module _ (user network : Parameters) (user_small : user.k ≤ 127) (network_small : network.k ≤ 127)
+    (moves : List Move) where
   abbrev start : World
   start = new_world user network
 
@@ -52,16 +65,28 @@ module _ (user network : Parameters) (user_small : user.k ≤ 127) (network_smal
   holds = each_run_preserves moves start (new_holds user network user_small network_small)
 
   preserved : IsConsistentWorld Whole reached
-  preserved = run_consistent Whole moves start (new_world_consistent Whole user network user_small network_small)
+  preserved =
+      run_consistent Whole moves start
+      (new_world_consistent Whole user network user_small network_small)
 
   down_whole : IsReleasedLine reached → ComesDown Whole reached
-  down_whole l = let c = released_line_comes_down reached holds preserved (timers_after_run moves start (new_has_timers user network)) l in c
+  down_whole l =
+      let c =
+      released_line_comes_down reached holds preserved
+      (timers_after_run moves start (new_has_timers user network)) l in
+      c
 
-  comes_down_by : (r : Reading) → IsReleasedLine (run r moves (new_world user network)) → ComesDown r (run r moves (new_world user network))
+  comes_down_by : (r : Reading) → IsReleasedLine (run r moves (new_world user network))
+      → ComesDown r (run r moves (new_world user network))
   comes_down_by Whole l = down_whole l
   comes_down_by Tagged l =
-      let same : run Tagged moves (new_world user network) ≡ tag_world reached = reached_tags user network user_small network_small moves in
-      subst (λ w. ComesDown Tagged w) (sym same) (comes_down_on_tags reached holds preserved (down_whole (released_line_by_tags reached (subst IsReleasedLine same l))))
+      let same : run Tagged moves (new_world user network) ≡ tag_world reached =
+      reached_tags user network user_small network_small moves in
+      subst (λ w. ComesDown Tagged w) (sym same)
+      (comes_down_on_tags reached holds preserved
+      (down_whole (released_line_by_tags reached (subst IsReleasedLine same l))))
 
-pub every_released_line_comes_down : (r : Reading) (user network : Parameters) → user.k ≤ 127 → network.k ≤ 127 → (moves : List Move) → IsReleasedLine (run r moves (new_world user network)) → ComesDown r (run r moves (new_world user network))
+pub every_released_line_comes_down : (r : Reading) (user network : Parameters) → user.k ≤ 127
+    → network.k ≤ 127 → (moves : List Move) → IsReleasedLine (run r moves (new_world user network))
+    → ComesDown r (run r moves (new_world user network))
 every_released_line_comes_down r user network u n moves l = comes_down_by user network u n moves r l

@@ -37,7 +37,9 @@ pub record Retries (x y : End) (n : ℕ) : Type 0 where
   pub its : Stream (source y) (sink x) [] [] b
   pub most : 1 + burden 1 (source x) (sink y) + b ≤ n
 
-draws_retry : (c : Context) (peer : End) (n : ℕ) (s : StepState) → Retries s.end peer n → (story c s).line ≡ [] → (story c s).history.dropped ≡ c.view.station.history.dropped → Draws c peer [] n (timer_recovery_t200 s)
+draws_retry : (c : Context) (peer : End) (n : ℕ) (s : StepState) → Retries s.end peer n
+    → (story c s).line ≡ [] → (story c s).history.dropped ≡ c.view.station.history.dropped
+    → Draws c peer [] n (timer_recovery_t200 s)
 unfolding timer_recovery_t200 story_after increment_rc expired transmit_enquiry without_ack_pending
 draws_retry c peer n s r none preserved =
     by_test (λ (t : StepState). Draws c peer [] n t) (nat_lt s.end.rc s.end.parameters.n200) _ _
@@ -49,7 +51,9 @@ draws_retry c peer n s r none preserved =
       a = burden 1 (source s.end) (sink peer);
       b = r.b;
       mine = record { stage = Polling; so = (r.in_8, refl); most = omega arith };
-      its = receives.sends_more (source peer) (sink s.end) [] [] (Enquiry s.end.window.vr ∷ []) r.b refl (λ j among. absurd among) refl r.its;
+      its =
+          receives.sends_more (source peer) (sink s.end) [] [] (Enquiry s.end.window.vr ∷ []) r.b
+          refl (λ j among. absurd among) refl r.its;
       most = let le = r.most in omega (arith, le);
     } in
     record {
@@ -76,7 +80,9 @@ module _ (station peer : Station) (n : ℕ) where
   abbrev done : StepState
   done = end_step Whole (row Whole e.state (Expiry T200) (begin e))
 
-  by_8 : (state : State) → state ≡ TimerRecovery → Draws c peer.end [] n (timer_recovery_t200 (begin e)) → Draws c peer.end [] n (by_state Whole state (Expiry T200) (begin e))
+  by_8 : (state : State) → state ≡ TimerRecovery
+      → Draws c peer.end [] n (timer_recovery_t200 (begin e))
+      → Draws c peer.end [] n (by_state Whole state (Expiry T200) (begin e))
   unfolding by_state timer_recovery
   by_8 TimerRecovery is d = d
   by_8 state is d = cc
@@ -87,13 +93,21 @@ module _ (station peer : Station) (n : ℕ) where
       draws_close c peer.end [] n _ (by_test (λ (t : StepState). Draws c peer.end [] n t) e.t200 _ _
       (λ _. by_8 e.state r.in_8 (draws_retry c peer.end n (begin e) r refl refl)) (λ off. cc))
 
-  pub seen_retried : e.t200 ≡ true → peer.end.window.own_busy ≡ false → Retries e peer.end n → Seen n (left_by v (acts Whole side.User Expire200 v)) peer
+  pub seen_retried : e.t200 ≡ true → peer.end.window.own_busy ≡ false → Retries e peer.end n
+      → Seen n (left_by v (acts Whole side.User Expire200 v)) peer
   unfolding acts expires_200 takes step
   seen_retried on its_idle r =
       let d = draws_row on r in
       by_test (λ (o : Result ViewStep Refusal). Seen n (left_by v o) peer) e.t200 _ _
-      (λ _. after_step [] 0 n v peer [] 0 0 done (closed_step (Expiry T200) e done refl) (mine_open d.flow) its_idle tt d) (λ off. cc)
+      (λ _. after_step [] 0 n
+      v peer [] 0 0 done (closed_step (Expiry T200) e done refl) (mine_open d.flow) its_idle
+      tt d) (λ off. cc)
 
-  pub preserved_retried : e.t200 ≡ true → Retries e peer.end n → (left_by v (acts Whole side.User Expire200 v)).station.history.dropped ≡ v.station.history.dropped
+  pub preserved_retried : e.t200 ≡ true → Retries e peer.end n
+      → (left_by v (acts Whole side.User Expire200 v)).station.history.dropped
+      ≡ v.station.history.dropped
   unfolding acts expires_200 takes step
-  preserved_retried on r = by_test (λ (o : Result ViewStep Refusal). (left_by v o).station.history.dropped ≡ v.station.history.dropped) e.t200 _ _ (λ _. preserved_after [] 0 n v peer [] 0 0 done (draws_row on r)) (λ off. cc)
+  preserved_retried on r =
+      by_test (λ (o : Result ViewStep Refusal). (left_by v o).station.history.dropped ≡
+      v.station.history.dropped) e.t200 _ _
+      (λ _. preserved_after [] 0 n v peer [] 0 0 done (draws_row on r)) (λ off. cc)

@@ -73,13 +73,31 @@ pub record SendsOn (c : Context) (s t : StepState) : Type 0 where
   pub off : length frames ≡ 0 → t.end.t200 ≡ s.end.t200
 
 same_but : (e : End) → IsSameBut e e
-same_but e = record { parameters = refl; state = refl; rc = refl; va = refl; vr = refl; rejecting = refl; idle = refl; free = refl; leaving = refl; asked = refl }
+same_but e = record {
+  parameters = refl;
+  state = refl;
+  rc = refl;
+  va = refl;
+  vr = refl;
+  rejecting = refl;
+  idle = refl;
+  free = refl;
+  leaving = refl;
+  asked = refl;
+}
 
 nothing_sent : (c : Context) (s : StepState) → s.end.window.ack_pending ≡ false → SendsOn c s s
 nothing_sent c s none = record {
   frames = [];
   line = sym (append-nil (story c s).line);
-  messages_are = record { ignored = tt; ready = tt; whole = refl; polls = refl; finals = refl; rejections_none = refl };
+  messages_are = record {
+    ignored = tt;
+    ready = tt;
+    whole = refl;
+    polls = refl;
+    finals = refl;
+    rejections_none = refl;
+  };
   count = omega arith;
   fewer = omega arith;
   same = same_but s.end;
@@ -88,22 +106,50 @@ nothing_sent c s none = record {
   off = λ _. refl;
 }
 
-one_sent : (c : Context) (s t : StepState) → may_send_next Whole s ≡ true → SendsOn c (send_next Whole s) t → SendsOn c s t
+one_sent : (c : Context) (s t : StepState) → may_send_next Whole s ≡ true
+    → SendsOn c (send_next Whole s) t → SendsOn c s t
 unfolding transmit_i_frame ensure_t200 after_sending after
 one_sent c s t go rest =
-    let one = both_true (is_established s.end.state) (may_send Whole s.end.parameters.k s.end.window && nat_lt s.end.next (length s.end.given)) go in
-    let two = both_true (may_send Whole s.end.parameters.k s.end.window) (nat_lt s.end.next (length s.end.given)) one.1 in
+    let one =
+    both_true (is_established s.end.state)
+    (may_send Whole s.end.parameters.k s.end.window
+    && nat_lt s.end.next (length s.end.given)) go in
+    let two =
+    both_true (may_send Whole s.end.parameters.k s.end.window)
+    (nat_lt s.end.next (length s.end.given)) one.1 in
     let free = below s.end.next (length s.end.given) two.1 in
     let f = next_sent c s in
     let m = rest.messages_are in
     let r = rest.same in
     record {
       frames = f ∷ rest.frames;
-      line = rest.line ∙ ap (λ l. l ++ rest.frames) ((ensure_puts c (transmit_i_frame Whole s)).line ∙ (next_puts c s).line) ∙ append_assoc (story c s).line (f ∷ []) rest.frames;
-      messages_are = record { ignored = (refl, m.ignored); ready = (refl, m.ready); whole = (refl, m.whole); polls = let p = m.polls in omega (arith, p); finals = let p = m.finals in omega (arith, p); rejections_none = m.rejections_none };
+      line =
+          rest.line
+          ∙ ap (λ l. l ++ rest.frames)
+          ((ensure_puts c (transmit_i_frame Whole s)).line ∙ (next_puts c s).line)
+          ∙ append_assoc (story c s).line (f ∷ []) rest.frames;
+      messages_are = record {
+        ignored = (refl, m.ignored);
+        ready = (refl, m.ready);
+        whole = (refl, m.whole);
+        polls = let p = m.polls in omega (arith, p);
+        finals = let p = m.finals in omega (arith, p);
+        rejections_none = m.rejections_none;
+      };
       count = let n = rest.count in omega (arith, n);
       fewer = let n = rest.fewer in omega (arith, n, free);
-      same = record { parameters = r.parameters; state = r.state; rc = r.rc; va = r.va; vr = r.vr; rejecting = r.rejecting; idle = r.idle; free = r.free; leaving = r.leaving; asked = r.asked };
+      same = record {
+        parameters = r.parameters;
+        state = r.state;
+        rc = r.rc;
+        va = r.va;
+        vr = r.vr;
+        rejecting = r.rejecting;
+        idle = r.idle;
+        free = r.free;
+        leaving = r.leaving;
+        asked = r.asked;
+      };
       none_pending = rest.none_pending;
       on = inr (by_on rest.on);
       off = λ none. absurd (omega (arith, none));
@@ -113,17 +159,26 @@ one_sent c s t go rest =
     by_on (inl none) = rest.off none
     by_on (inr on) = on
 
-sends_all : (c : Context) (n : ℕ) (s : StepState) → s.end.window.ack_pending ≡ false → SendsOn c s (send_all Whole n s)
+sends_all : (c : Context) (n : ℕ) (s : StepState) → s.end.window.ack_pending ≡ false
+    → SendsOn c s (send_all Whole n s)
 unfolding send_all transmit_i_frame ensure_t200 after_sending
 sends_all c zero s none = nothing_sent c s none
-sends_all c (suc n) s none = by_test (λ (t : StepState). SendsOn c s t) (may_send_next Whole s) _ _ (λ go. one_sent c s (send_all Whole n (send_next Whole s)) go (sends_all c n (send_next Whole s) refl)) (λ _. nothing_sent c s none)
+sends_all c (suc n) s none =
+    by_test (λ (t : StepState). SendsOn c s t) (may_send_next Whole s) _ _
+    (λ go. one_sent c s (send_all Whole n (send_next Whole s)) go
+    (sends_all c n (send_next Whole s) refl)) (λ _. nothing_sent c s none)
 
-pub sends_on : (c : Context) (s : StepState) → s.end.window.ack_pending ≡ false → SendsOn c s (end_step Whole s)
+pub sends_on : (c : Context) (s : StepState) → s.end.window.ack_pending ≡ false
+    → SendsOn c s (end_step Whole s)
 unfolding end_step acknowledge_pending
 sends_on c s none =
     let all = send_all Whole (unsent s.end) s in
     let done = sends_all c (unsent s.end) s none in
-    by_test (λ (t : StepState). SendsOn c s t) (is_7_or_8 all.end.state && all.end.window.ack_pending) _ _ (λ both. absurd (and_off (is_7_or_8 all.end.state) all.end.window.ack_pending done.none_pending both)) (λ _. done)
+    by_test (λ (t : StepState). SendsOn c s t)
+    (is_7_or_8 all.end.state && all.end.window.ack_pending) _ _
+    (λ both. absurd
+    (and_off (is_7_or_8 all.end.state) all.end.window.ack_pending done.none_pending both))
+    (λ _. done)
 
 -- ---- A SABME in states 7 and 8.
 
@@ -140,7 +195,10 @@ pub record IsUpWith (frames : List Flight) (e : End) : Type 0 where
   pub off : length frames ≡ 0 → e.t200 ≡ false
 
 -- the outputs but for the messages, of each case
-answered_line : (test c b : Bool) (n : ℕ) (o : Occasion) (t : Story) → (after_outputs o (((Send Answer (Ua true) ∷ Report letter.F ∷ []) ++ (if test then [] else out_where c (Dropped n) ++ Established ∷ [])) ++ out_where b (Stop T200) ++ Start T203 ∷ []) t).line ≡ t.line ++ ua ∷ []
+answered_line : (test c b : Bool) (n : ℕ) (o : Occasion) (t : Story)
+    → (after_outputs o (((Send Answer (Ua true) ∷ Report letter.F ∷ [])
+    ++ (if test then [] else out_where c (Dropped n) ++ Established ∷ []))
+    ++ out_where b (Stop T200) ++ Start T203 ∷ []) t).line ≡ t.line ++ ua ∷ []
 answered_line true c true n o t = refl
 answered_line true c false n o t = refl
 answered_line false true true n o t = refl
@@ -176,7 +234,9 @@ module _ (x : Station) (frame : Flight) (rest outgoing : List Flight) where
     line : (story c z).line ≡ sent
     fewer : unsent z.end ≤ n
 
-  opens : (n : ℕ) (sent : List Flight) (z : StepState) → IsOpening n sent z → Opens n sent rest (view_after frame.info frame.place (record v { incoming = rest }) (end_step Whole z))
+  opens : (n : ℕ) (sent : List Flight) (z : StepState) → IsOpening n sent z
+      → Opens n sent rest
+      (view_after frame.info frame.place (record v { incoming = rest }) (end_step Whole z))
   unfolding view_after
   opens n sent z o =
       let s = sends_on c z o.none_pending in
@@ -189,7 +249,9 @@ module _ (x : Station) (frame : Flight) (rest outgoing : List Flight) where
           vr = r.vr ∙ o.vr;
           idle = r.idle ∙ o.idle;
           free = r.free ∙ o.free;
-          messages_are = subst (λ low. AreMessages low (end_step Whole z).end.window.vs s.frames) o.vs s.messages_are;
+          messages_are =
+              subst (λ low. AreMessages low (end_step Whole z).end.window.vs s.frames) o.vs
+              s.messages_are;
           count = let count = s.count in let vs = o.vs in omega (arith, count, vs);
           on = s.on;
           off = λ none. s.off none ∙ o.off;
@@ -200,7 +262,8 @@ module _ (x : Station) (frame : Flight) (rest outgoing : List Flight) where
       }
 
   abbrev After : (n : ℕ) → List Flight → StepState → Type 0
-  After n sent t = Opens n sent rest (view_after frame.info frame.place (record v { incoming = rest }) t)
+  After n sent t =
+      Opens n sent rest (view_after frame.info frame.place (record v { incoming = rest }) t)
 
 -- the SABME of the peer
 module _ (x : Station) (rest outgoing : List Flight) where
@@ -214,32 +277,39 @@ module _ (x : Station) (rest outgoing : List Flight) where
   reset d = d ▷ stop T200 ▷ start T203 ▷ zero_state_variables ▷ state_to MultipleFrameEstablished
 
   abbrev answered : StepState
-  answered = begin e ▷ put (Send Answer (Ua true)) ▷ clear_exception_conditions ▷ put (Report letter.F)
+  answered =
+      begin e ▷ put (Send Answer (Ua true)) ▷ clear_exception_conditions ▷ put (Report letter.F)
 
-  few : (test : Bool) → length e.given - (if test then e.next else length e.given) ≤ length e.given - e.next
+  few : (test : Bool)
+      → length e.given - (if test then e.next else length e.given) ≤ length e.given - e.next
   few true = omega arith
   few false = omega arith
 
   answers : (test : Bool) → Then (reset (discards_by test answered))
-  unfolding put clear_exception_conditions stop start zero_state_variables state_to begin without_exceptions with_zero_counters story_after
-  answers test = opens x sabme rest outgoing (unsent e) (outgoing ++ ua ∷ []) (reset (discards_by test answered)) (record {
-    in_7 = refl;
-    off = refl;
-    vs = refl;
-    va = refl;
-    vr = refl;
-    idle = refl;
-    free = refl;
-    none_pending = refl;
-    line = answered_line test (nat_lt 0 (waiting e)) e.t200 (waiting e) _ _;
-    fewer = few test;
-  })
+  unfolding put clear_exception_conditions stop start zero_state_variables state_to begin
+      without_exceptions with_zero_counters story_after
+  answers test =
+      opens x sabme rest outgoing (unsent e) (outgoing ++ ua ∷ [])
+      (reset (discards_by test answered)) (record {
+        in_7 = refl;
+        off = refl;
+        vs = refl;
+        va = refl;
+        vr = refl;
+        idle = refl;
+        free = refl;
+        none_pending = refl;
+        line = answered_line test (nat_lt 0 (waiting e)) e.t200 (waiting e) _ _;
+        fewer = few test;
+      })
 
   by_row : Then (in_7_and_8 (Heard (Sabme true) Command) (begin e))
   unfolding in_7_and_8
-  by_row = by_outstanding (λ (d : StepState). Then (reset d)) answered (answers true) (answers false)
+  by_row =
+      by_outstanding (λ (d : StepState). Then (reset d)) answered (answers true) (answers false)
 
-  by_state_7_8 : (state : State) → is_7_or_8 state ≡ true → Then (row Whole state (Heard (Sabme true) Command) (begin e))
+  by_state_7_8 : (state : State) → is_7_or_8 state ≡ true
+      → Then (row Whole state (Heard (Sabme true) Command) (begin e))
   unfolding row by_state multiple_frame_established timer_recovery
   by_state_7_8 MultipleFrameEstablished opened = by_row
   by_state_7_8 TimerRecovery opened = by_row
@@ -247,7 +317,10 @@ module _ (x : Station) (rest outgoing : List Flight) where
   by_state_7_8 AwaitingEstablishment opened = cc
   by_state_7_8 AwaitingRelease opened = cc
 
-  pub sabme_in_7_8 : is_7_or_8 e.state ≡ true → Opens (unsent e) (outgoing ++ ua ∷ []) rest (left_by (seeing x (sabme ∷ rest) outgoing) (acts Whole side.User Deliver (seeing x (sabme ∷ rest) outgoing)))
+  pub sabme_in_7_8 : is_7_or_8 e.state ≡ true
+      → Opens (unsent e) (outgoing ++ ua ∷ []) rest
+      (left_by (seeing x (sabme ∷ rest) outgoing)
+      (acts Whole side.User Deliver (seeing x (sabme ∷ rest) outgoing)))
   unfolding acts delivers receives step
   sabme_in_7_8 opened = by_state_7_8 e.state opened
 
@@ -261,7 +334,9 @@ pub record IsCleared (e : End) : Type 0 where
   pub free : e.window.peer_busy ≡ false
   pub none_pending : e.window.ack_pending ≡ false
 
-confirmed_line : (b : Bool) (o : Occasion) (t : Story) → (after_outputs o ((Confirmed ∷ []) ++ out_where b (Stop T200) ++ Start T203 ∷ []) t).line ≡ t.line
+confirmed_line : (b : Bool) (o : Occasion) (t : Story)
+    → (after_outputs o ((Confirmed ∷ []) ++ out_where b (Stop T200) ++ Start T203 ∷ []) t).line
+    ≡ t.line
 confirmed_line true o t = refl
 confirmed_line false o t = refl
 
@@ -294,7 +369,8 @@ pub by_each : (P : StepState → Type 0) (s : StepState)
 unfolding discard_unacknowledged
 by_each P s each = each (s.end.window.vs == s.end.window.va) refl
 
-module _ (x : Station) (asks : IsCleared x.end) (empty : x.end.layer3_initiated ≡ true → unsent x.end ≡ 0) (rest outgoing : List Flight) where
+module _ (x : Station) (asks : IsCleared x.end)
+    (empty : x.end.layer3_initiated ≡ true → unsent x.end ≡ 0) (rest outgoing : List Flight) where
   abbrev d : End
   d = x.end
 
@@ -304,46 +380,58 @@ module _ (x : Station) (asks : IsCleared x.end) (empty : x.end.layer3_initiated 
   abbrev opening : StepState → StepState
   opening s = s ▷ zero_state_variables ▷ stop T200 ▷ start T203 ▷ state_to MultipleFrameEstablished
 
-  few_left : (test : Bool) → (d.window.vs == d.window.va) ≡ test → length d.given - (if test then d.next else length d.given) ≤ sendable d
-  few_left true same = let all : sendable d ≡ unsent d = ap (λ b. sendable_in b (unsent d)) same in omega (arith, all)
+  few_left : (test : Bool) → (d.window.vs == d.window.va) ≡ test
+      → length d.given - (if test then d.next else length d.given) ≤ sendable d
+  few_left true same =
+      let all : sendable d ≡ unsent d = ap (λ b. sendable_in b (unsent d)) same in
+      omega (arith, all)
   few_left false same = omega arith
 
   confirms : d.layer3_initiated ≡ true → Arrives (opening (put Confirmed (begin d)))
   unfolding put zero_state_variables stop start state_to with_zero_counters begin story_after
-  confirms asked = opens x ua rest outgoing (sendable d) outgoing (opening (put Confirmed (begin d))) (record {
-    in_7 = refl;
-    off = refl;
-    vs = refl;
-    va = refl;
-    vr = refl;
-    idle = asks.idle;
-    free = asks.free;
-    none_pending = asks.none_pending;
-    line = confirmed_line d.t200 _ _;
-    fewer = let none = empty asked in omega (arith, none);
-  })
+  confirms asked =
+      opens x ua rest outgoing (sendable d) outgoing (opening (put Confirmed (begin d))) (record {
+        in_7 = refl;
+        off = refl;
+        vs = refl;
+        va = refl;
+        vr = refl;
+        idle = asks.idle;
+        free = asks.free;
+        none_pending = asks.none_pending;
+        line = confirmed_line d.t200 _ _;
+        fewer = let none = empty asked in omega (arith, none);
+      })
 
-  indicates : (test : Bool) → (d.window.vs == d.window.va) ≡ test → Arrives (opening (discards_by test (begin d)))
+  indicates : (test : Bool) → (d.window.vs == d.window.va) ≡ test
+      → Arrives (opening (discards_by test (begin d)))
   unfolding zero_state_variables stop start state_to with_zero_counters begin story_after
-  indicates test same = opens x ua rest outgoing (sendable d) outgoing (opening (discards_by test (begin d))) (record {
-    in_7 = refl;
-    off = refl;
-    vs = refl;
-    va = refl;
-    vr = refl;
-    idle = asks.idle;
-    free = asks.free;
-    none_pending = asks.none_pending;
-    line = indicated_line test (nat_lt 0 (waiting d)) d.t200 (waiting d) _ _;
-    fewer = few_left test same;
-  })
+  indicates test same =
+      opens x ua rest outgoing (sendable d) outgoing (opening (discards_by test (begin d)))
+      (record {
+        in_7 = refl;
+        off = refl;
+        vs = refl;
+        va = refl;
+        vr = refl;
+        idle = asks.idle;
+        free = asks.free;
+        none_pending = asks.none_pending;
+        line = indicated_line test (nat_lt 0 (waiting d)) d.t200 (waiting d) _ _;
+        fewer = few_left test same;
+      })
 
   arrives : Arrives (row Whole AwaitingEstablishment (Heard (Ua true) Answer) (begin d))
   unfolding row by_state awaiting_establishment ua_final confirm_or_indicate begin
   arrives = by_test Arrives d.release_pending _ _ (λ leaving. let stays = asks.stays in cc)
-      (λ _. by_test (λ (s : StepState). Arrives (opening s)) d.layer3_initiated _ _ (λ asked. confirms asked)
+      (λ _. by_test (λ (s : StepState). Arrives (opening s)) d.layer3_initiated _ _
+      (λ asked. confirms asked)
       (λ _. by_each (λ (s : StepState). Arrives (opening s)) (begin d) indicates))
 
-  pub ua_opens : Opens (sendable d) outgoing rest (left_by (seeing x (ua ∷ rest) outgoing) (acts Whole side.User Deliver (seeing x (ua ∷ rest) outgoing)))
+  pub ua_opens : Opens (sendable d) outgoing rest
+      (left_by (seeing x (ua ∷ rest) outgoing)
+      (acts Whole side.User Deliver (seeing x (ua ∷ rest) outgoing)))
   unfolding acts delivers receives step
-  ua_opens = subst (λ st. Arrives (row Whole st (Heard (Ua true) Answer) (begin d))) (sym asks.in_5) arrives
+  ua_opens =
+      subst (λ st. Arrives (row Whole st (Heard (Ua true) Answer) (begin d))) (sym asks.in_5)
+      arrives

@@ -28,7 +28,7 @@ use Rattle.lapd_recovery_laws.proofs.Lost.{at, kinds_length}
 use Rattle.lapd_recovery_laws.proofs.SendsOn.{AreIgnored, IsUpWith}
 use Rattle.lapd_recovery_laws.proofs.Proceeding.{in_transit_of_whole}
 
--- ---- What one end can still do by its timers.
+-- ---- The expiries that one end still has.
 
 abbrev pub tries : End → Bool
 tries e = nat_lt e.rc e.parameters.n200
@@ -119,7 +119,9 @@ module _ (N : ℕ) where
   Alone4 n w = Alone TeiAssigned (finds w.user.end) n w
 
   abbrev pub Alone5 : ℕ → World → Type 0
-  Alone5 n w = Alone AwaitingEstablishment (attempt w.network.end + gone w.network.end + polls w.user.end + again w.user.end) n w
+  Alone5 n w =
+      Alone AwaitingEstablishment
+      (attempt w.network.end + gone w.network.end + polls w.user.end + again w.user.end) n w
 
   abbrev pub Alone6 : ℕ → World → Type 0
   Alone6 n w = Alone AwaitingRelease (attempt w.network.end + finds w.user.end) n w
@@ -134,8 +136,11 @@ module _ (N : ℕ) where
     pub user : w.user.end.state ≡ AwaitingEstablishment
     pub to_user : w.to_user ≡ []
     pub to_network : w.to_network ≡ sabme ∷ []
-    pub most : 2 + twice w.user.end.release_pending + 2 * unsent w.user.end + 2 * unsent w.network.end
-        + by_peer_5 w.network.end.state (attempt w.network.end + gone w.network.end + again w.user.end) (attempt w.network.end) ≤ n
+    pub most : 2 + twice w.user.end.release_pending + 2 * unsent w.user.end
+        + 2 * unsent w.network.end
+        + by_peer_5 w.network.end.state
+        (attempt w.network.end + gone w.network.end + again w.user.end) (attempt w.network.end)
+        ≤ n
 
   -- the DISC of x is
   abbrev pub by_peer_6 : State → ℕ → ℕ
@@ -147,7 +152,8 @@ module _ (N : ℕ) where
     pub user : w.user.end.state ≡ AwaitingRelease
     pub ignored : AreIgnored w.to_user
     pub to_network : w.to_network ≡ disc ∷ []
-    pub most : length w.to_user + 2 + by_peer_6 w.network.end.state (attempt w.network.end + 2 * unsent w.network.end) ≤ n
+    pub most : length w.to_user + 2
+        + by_peer_6 w.network.end.state (attempt w.network.end + 2 * unsent w.network.end) ≤ n
 
   -- the UA to x is, and y has just established
   pub record Accepted (n : ℕ) (w : World) : Type 0 where
@@ -156,7 +162,8 @@ module _ (N : ℕ) where
     pub network : IsUpWith frames w.network.end
     pub to_user : w.to_user ≡ ua ∷ frames
     pub to_network : w.to_network ≡ []
-    pub most : 1 + length frames + twice w.user.end.release_pending + 2 * unsent w.user.end + 2 * unsent w.network.end + w.network.end.window.vs ≤ n
+    pub most : 1 + length frames + twice w.user.end.release_pending + 2 * unsent w.user.end
+        + 2 * unsent w.network.end + w.network.end.window.vs ≤ n
 
   -- the UA to x is, and y is in state 5 too
   pub record Crossed (n : ℕ) (w : World) : Type 0 where
@@ -164,7 +171,9 @@ module _ (N : ℕ) where
     pub network : w.network.end.state ≡ AwaitingEstablishment
     pub to_user : w.to_user ≡ ua ∷ []
     pub to_network : w.to_network ≡ []
-    pub most : 1 + twice w.user.end.release_pending + 2 * unsent w.user.end + 2 * unsent w.network.end + attempt w.network.end + gone w.network.end + again w.user.end ≤ n
+    pub most : 1 + twice w.user.end.release_pending + 2 * unsent w.user.end
+        + 2 * unsent w.network.end + attempt w.network.end + gone w.network.end + again w.user.end
+        ≤ n
 
   -- the DM to x is, and y is in state 6
   pub record Refused (n : ℕ) (w : World) : Type 0 where
@@ -201,15 +210,19 @@ module _ (N : ℕ) where
     pub to_network : w.to_network ≡ []
     pub sends : ℕ
     pub leaves : ℕ
-    pub both : w.user.end.state ≡ AwaitingEstablishment → w.network.end.state ≡ AwaitingEstablishment
-        → (again w.user.end ≤ sends) × (again w.network.end ≤ sends) × (gone w.user.end ≤ leaves) × (gone w.network.end ≤ leaves)
-    pub most : attempt w.user.end + attempt w.network.end + 2 * unsent w.user.end + 2 * unsent w.network.end + sends + leaves ≤ n
+    pub both : w.user.end.state ≡ AwaitingEstablishment
+        → w.network.end.state ≡ AwaitingEstablishment
+        → (again w.user.end ≤ sends) × (again w.network.end ≤ sends) × (gone w.user.end ≤ leaves)
+        × (gone w.network.end ≤ leaves)
+    pub most : attempt w.user.end + attempt w.network.end + 2 * unsent w.user.end
+        + 2 * unsent w.network.end + sends + leaves ≤ n
 
   -- neither end releases while the SABME of x is in transit
   pub record NoneReleases (w : World) : Type 0 where
     pub user : w.user.end.release_pending ≡ false
     pub not_6 : w.network.end.state ≡ AwaitingRelease → ⊥
-    pub network : w.network.end.state ≡ AwaitingEstablishment → w.network.end.release_pending ≡ false
+    pub network : w.network.end.state ≡ AwaitingEstablishment
+        → w.network.end.release_pending ≡ false
 
   -- if `up`, no end releases, and the link is open or an establishment is under way
   pub data Half (up : Bool) (n : ℕ) (w : World) : Type 0 where
@@ -219,7 +232,10 @@ module _ (N : ℕ) where
     asks_5 : Asks5 n w → (up ≡ true → NoneReleases w) → Half up n w
     asks_6 : Asks6 n w → up ≡ false → Half up n w
     accepted : Accepted n w → (up ≡ true → w.user.end.release_pending ≡ false) → Half up n w
-    crossed : Crossed n w → (up ≡ true → (w.user.end.release_pending ≡ false) × (w.network.end.release_pending ≡ false)) → Half up n w
+    crossed : Crossed n w
+        → (up ≡ true
+        → (w.user.end.release_pending ≡ false) × (w.network.end.release_pending ≡ false))
+        → Half up n w
     refused : Refused n w → up ≡ false → Half up n w
     parting : Parting n w → up ≡ false → Half up n w
     closed : Closed n w → (up ≡ true → Establishing w.user.end w.network.end) → Half up n w
@@ -252,22 +268,33 @@ module _ (N : ℕ) where
   below : (a b : ℕ) → nat_lt a b ≡ true → a + 1 ≤ b
   below a b less = grind (arith, nat_tests, less)
 
-  module _ (some : 1 ≤ N) (x : Station) (few : x.end.parameters.n200 ≤ N) (on : x.end.t200 ≡ true) where
+  module _ (some : 1 ≤ N) (x : Station) (few : x.end.parameters.n200 ≤ N)
+      (on : x.end.t200 ≡ true) where
     abbrev v : View
     v = left_by (seeing x [] []) (acts Whole side.User Expire200 (seeing x [] []))
 
-    in_8 : (rc : ℕ) → Polls x rc v → (finds v.station.end ≡ 2 * (x.end.parameters.n200 - rc) + 3) × (polls v.station.end ≡ 2 * (x.end.parameters.n200 - rc) + 3)
+    in_8 : (rc : ℕ) → Polls x rc v
+        → (finds v.station.end ≡ 2 * (x.end.parameters.n200 - rc) + 3)
+        × (polls v.station.end ≡ 2 * (x.end.parameters.n200 - rc) + 3)
     in_8 rc p =
-        let left : v.station.end.parameters.n200 - v.station.end.rc ≡ x.end.parameters.n200 - rc = ap (λ q. q.n200 - v.station.end.rc) p.polled.parameters ∙ ap (λ m. x.end.parameters.n200 - m) p.polled.rc_is in (
-          ap (λ st. finds_in st (v.station.end.parameters.n200 - v.station.end.rc)) p.polled.in_8 ∙ ap (λ l. 2 * l + 3) left,
-          ap (λ st. polls_in st v.station.end.t200 (v.station.end.parameters.n200 - v.station.end.rc)) p.polled.in_8 ∙ ap (λ l. 2 * l + 3) left,
+        let left : v.station.end.parameters.n200 - v.station.end.rc ≡ x.end.parameters.n200 - rc =
+        ap (λ q. q.n200 - v.station.end.rc) p.polled.parameters
+        ∙ ap (λ m. x.end.parameters.n200 - m) p.polled.rc_is in (
+          ap (λ st. finds_in st (v.station.end.parameters.n200 - v.station.end.rc)) p.polled.in_8
+              ∙ ap (λ l. 2 * l + 3) left,
+          ap (λ st. polls_in st v.station.end.t200
+              (v.station.end.parameters.n200 - v.station.end.rc)) p.polled.in_8
+              ∙ ap (λ l. 2 * l + 3) left,
         )
 
     same_windows : (rc : ℕ) → Polls x rc v → again v.station.end ≡ again x.end
     unfolding without_ack_pending
-    same_windows rc p = ap (λ w. again_in (w.vs == w.va) (unsent v.station.end)) p.polled.window ∙ ap (λ u. again_in (x.end.window.vs == x.end.window.va) u) p.polled.unsent_is
+    same_windows rc p =
+        ap (λ w. again_in (w.vs == w.va) (unsent v.station.end)) p.polled.window
+        ∙ ap (λ u. again_in (x.end.window.vs == x.end.window.va) u) p.polled.unsent_is
 
-    polled : (rc : ℕ) → Polls x rc v → 2 * (x.end.parameters.n200 - rc) + 5 ≤ finds x.end → 2 * (x.end.parameters.n200 - rc) + 5 ≤ polls x.end → PollsOn x v
+    polled : (rc : ℕ) → Polls x rc v → 2 * (x.end.parameters.n200 - rc) + 5 ≤ finds x.end
+        → 2 * (x.end.parameters.n200 - rc) + 5 ≤ polls x.end → PollsOn x v
     polled rc p finds_more polls_more =
         let e = in_8 rc p in
         record {
@@ -284,9 +311,14 @@ module _ (N : ℕ) where
 
     from_7 : x.end.state ≡ MultipleFrameEstablished → PollsOn x v
     from_7 is =
-        let finds_is : finds x.end ≡ 2 * N + 5 = ap (λ st. finds_in st (x.end.parameters.n200 - x.end.rc)) is in
-        let polls_is : polls x.end ≡ 2 * N + 3 = ap (λ st. polls_in st x.end.t200 (x.end.parameters.n200 - x.end.rc)) is ∙ ap (λ b. polls_in MultipleFrameEstablished b (x.end.parameters.n200 - x.end.rc)) on in
-        polled 1 (polls_by_t200 x is on) (omega (arith, finds_is, few, some)) (omega (arith, polls_is, few, some))
+        let finds_is : finds x.end ≡ 2 * N + 5 =
+        ap (λ st. finds_in st (x.end.parameters.n200 - x.end.rc)) is in
+        let polls_is : polls x.end ≡ 2 * N + 3 =
+        ap (λ st. polls_in st x.end.t200 (x.end.parameters.n200 - x.end.rc)) is
+        ∙ ap (λ b. polls_in MultipleFrameEstablished b (x.end.parameters.n200 - x.end.rc))
+        on in
+        polled 1 (polls_by_t200 x is on) (omega (arith, finds_is, few, some))
+        (omega (arith, polls_is, few, some))
 
     from_8 : x.end.state ≡ TimerRecovery → PollsOn x v ⊎ AsksAnew x v
     from_8 is = by_tries (nat_lt x.end.rc x.end.parameters.n200) refl
@@ -297,14 +329,26 @@ module _ (N : ℕ) where
         polls_is : polls x.end ≡ 2 * (x.end.parameters.n200 - x.end.rc) + 3
         polls_is = ap (λ st. polls_in st x.end.t200 (x.end.parameters.n200 - x.end.rc)) is
 
-        by_tries : (b : Bool) → nat_lt x.end.rc x.end.parameters.n200 ≡ b → PollsOn x v ⊎ AsksAnew x v
-        by_tries true less = let room = below x.end.rc x.end.parameters.n200 less in inl (polled (x.end.rc + 1) (polls_again x is on less) (omega (arith, finds_is, room)) (omega (arith, polls_is, room)))
-        by_tries false last = inr (record { sees = seen_after_t200 x (asking x.end) (sabme ∷ []) on (last_try_in_8 x.end is on last); finds_some = omega (arith, finds_is); polls_some = omega (arith, polls_is) })
+        by_tries : (b : Bool) → nat_lt x.end.rc x.end.parameters.n200 ≡ b
+            → PollsOn x v ⊎ AsksAnew x v
+        by_tries true less =
+            let room = below x.end.rc x.end.parameters.n200 less in
+            inl (polled (x.end.rc + 1) (polls_again x is on less) (omega (arith, finds_is, room))
+            (omega (arith, polls_is, room)))
+        by_tries false last =
+            inr (record {
+              sees =
+                  seen_after_t200 x (asking x.end) (sabme ∷ []) on
+                  (last_try_in_8 x.end is on last);
+              finds_some = omega (arith, finds_is);
+              polls_some = omega (arith, polls_is);
+            })
 
     pub t200_of_open : is_7_or_8 x.end.state ≡ true → PollsOn x v ⊎ AsksAnew x v
     t200_of_open opened = by_state x.end.state refl opened
       where
-        by_state : (state : State) → x.end.state ≡ state → is_7_or_8 state ≡ true → PollsOn x v ⊎ AsksAnew x v
+        by_state : (state : State) → x.end.state ≡ state → is_7_or_8 state ≡ true
+            → PollsOn x v ⊎ AsksAnew x v
         by_state MultipleFrameEstablished is o = inl (from_7 is)
         by_state TimerRecovery is o = from_8 is
         by_state TeiAssigned is o = cc
@@ -313,7 +357,8 @@ module _ (N : ℕ) where
 
 -- ---- Both ends are up: the line drains.
 
-up_stream : (x y : End) (out back : List Flight) → IsUpWith out x → IsUpWith back y → Stream (source x) (sink y) (kinds out) (kinds back) (2 * unsent x + x.window.vs)
+up_stream : (x y : End) (out back : List Flight) → IsUpWith out x → IsUpWith back y
+    → Stream (source x) (sink y) (kinds out) (kinds back) (2 * unsent x + x.window.vs)
 up_stream x y out back up peer = record {
   stage = Clean;
   so = record {
@@ -335,10 +380,13 @@ up_stream x y out back up peer = record {
   where
     runs : (n : ℕ) → length out ≡ n → x.t200 ≡ true → y.window.vr < x.window.vs
     runs zero none on = let off = up.off none in cc
-    runs (suc n) some on = let count = up.count in let vr = peer.vr in omega (arith, count, some, vr)
+    runs (suc n) some on =
+        let count = up.count in let vr = peer.vr in omega (arith, count, some, vr)
 
-pub up_drains : (x y : Station) (out back : List Flight) (n : ℕ) → IsInvariant (at x y back out) → AreSettledEnds (at x y back out) → IsUpWith out x.end → IsUpWith back y.end
-    → length out + length back + 2 * unsent x.end + x.end.window.vs + 2 * unsent y.end + y.end.window.vs ≤ n → Drains n (at x y back out)
+pub up_drains : (x y : Station) (out back : List Flight) (n : ℕ) → IsInvariant (at x y back out)
+    → AreSettledEnds (at x y back out) → IsUpWith out x.end → IsUpWith back y.end
+    → length out + length back + 2 * unsent x.end + x.end.window.vs + 2 * unsent y.end
+    + y.end.window.vs ≤ n → Drains n (at x y back out)
 up_drains x y out back n i settled up peer most = record {
   holds = i;
   ends_settled = settled;

@@ -42,34 +42,48 @@ module _ (vs va vr : ℕ) where
   abbrev pub Alike : StepState → StepState → Type 0
   Alike s t = ((reads s.end ≡ false) × (t ≡ renumber s)) ⊎ (t ≡ s)
 
-  alike_if : (test : Bool) (s t u v : StepState) → Alike s t → Alike u v → Alike (if test then s else u) (if test then t else v)
+  alike_if : (test : Bool) (s t u v : StepState) → Alike s t → Alike u v
+      → Alike (if test then s else u) (if test then t else v)
   alike_if true s t u v one other = one
   alike_if false s t u v one other = other
 
   -- ---- The rows of states 4, 6 and 5.
 
   abbrev there : State → Bool → Bool → End → StepState
-  there state asked leaving e = record { end = record e { state = state; layer3_initiated = asked; release_pending = leaving }; outs = [] }
+  there state asked leaving e = record {
+    end = record e
+        { state = state; layer3_initiated = asked; release_pending = leaving };
+    outs = [];
+  }
 
   abbrev RowAlike : Reading → State → Bool → Bool → End → Input → Type 0
-  RowAlike r state asked leaving e input = Alike (row r state input (there state asked leaving e)) (row r state input (renumber (there state asked leaving e)))
+  RowAlike r state asked leaving e input =
+      Alike (row r state input (there state asked leaving e))
+      (row r state input (renumber (there state asked leaving e)))
 
   module _ (r : Reading) (asked leaving : Bool) (e : End) where
-    heard_4 : (role : Role) (control : Control) → RowAlike r TeiAssigned asked leaving e (Heard control role)
-    unfolding row by_state report_fault tei_assigned put state_to rc_to layer3_initiated_to release_pending_to start stop clear_exception_conditions zero_state_variables discard_i_queue establish_data_link without_exceptions with_zero_counters
+    heard_4 : (role : Role) (control : Control)
+        → RowAlike r TeiAssigned asked leaving e (Heard control role)
+    unfolding row by_state report_fault tei_assigned put state_to rc_to layer3_initiated_to
+        release_pending_to start stop clear_exception_conditions zero_state_variables
+        discard_i_queue establish_data_link without_exceptions with_zero_counters
     heard_4 Command (Sabme p) = inr refl
     heard_4 Answer (Ua f) = inl (refl, refl)
     heard_4 role control = inl (refl, refl)
 
     in_4 : (input : Input) → RowAlike r TeiAssigned asked leaving e input
-    unfolding row by_state report_fault tei_assigned put state_to rc_to layer3_initiated_to release_pending_to start stop clear_exception_conditions zero_state_variables discard_i_queue establish_data_link without_exceptions with_zero_counters
+    unfolding row by_state report_fault tei_assigned put state_to rc_to layer3_initiated_to
+        release_pending_to start stop clear_exception_conditions zero_state_variables
+        discard_i_queue establish_data_link without_exceptions with_zero_counters
     in_4 (Heard control role) = heard_4 role control
     in_4 (Expiry T200) = alike_if e.t200 _ _ _ _ (inl (refl, refl)) (inl (refl, refl))
     in_4 (Expiry T203) = alike_if e.t203 _ _ _ _ (inl (refl, refl)) (inl (refl, refl))
     in_4 input = inl (refl, refl)
 
-    heard_6 : (role : Role) (control : Control) → RowAlike r AwaitingRelease asked leaving e (Heard control role)
-    unfolding row by_state report_fault awaiting_release confirm_release awaiting_release_t200 put state_to increment_rc start stop expired
+    heard_6 : (role : Role) (control : Control)
+        → RowAlike r AwaitingRelease asked leaving e (Heard control role)
+    unfolding row by_state report_fault awaiting_release confirm_release awaiting_release_t200 put
+        state_to increment_rc start stop expired
     heard_6 Command (Ua true) = inl (refl, refl)
     heard_6 Command (Dm true) = inl (refl, refl)
     heard_6 Answer (Ua true) = inl (refl, refl)
@@ -77,15 +91,23 @@ module _ (vs va vr : ℕ) where
     heard_6 role control = inl (refl, refl)
 
     in_6 : (input : Input) → RowAlike r AwaitingRelease asked leaving e input
-    unfolding row by_state report_fault awaiting_release confirm_release awaiting_release_t200 put state_to increment_rc start stop expired
+    unfolding row by_state report_fault awaiting_release confirm_release awaiting_release_t200 put
+        state_to increment_rc start stop expired
     in_6 (Heard control role) = heard_6 role control
-    in_6 (Expiry T200) = alike_if e.t200 _ _ _ _ (alike_if (nat_lt e.rc e.parameters.n200) _ _ _ _ (inl (refl, refl)) (inl (refl, refl))) (inl (refl, refl))
+    in_6 (Expiry T200) =
+        alike_if e.t200 _ _ _ _
+        (alike_if (nat_lt e.rc e.parameters.n200) _ _ _ _ (inl (refl, refl)) (inl (refl, refl)))
+        (inl (refl, refl))
     in_6 (Expiry T203) = alike_if e.t203 _ _ _ _ (inl (refl, refl)) (inl (refl, refl))
     in_6 input = inl (refl, refl)
 
   module _ (r : Reading) (e : End) where
-    heard_5_asked : (role : Role) (control : Control) → RowAlike r AwaitingEstablishment true false e (Heard control role)
-    unfolding row by_state report_fault awaiting_establishment end_establishment confirm_or_indicate ua_final awaiting_establishment_t200 put state_to rc_to increment_rc layer3_initiated_to release_pending_to start stop expired zero_state_variables queue_up discard_i_queue with_zero_counters
+    heard_5_asked : (role : Role) (control : Control)
+        → RowAlike r AwaitingEstablishment true false e (Heard control role)
+    unfolding row by_state report_fault awaiting_establishment end_establishment confirm_or_indicate
+        ua_final awaiting_establishment_t200 put state_to rc_to increment_rc layer3_initiated_to
+        release_pending_to start stop expired zero_state_variables queue_up discard_i_queue
+        with_zero_counters
     heard_5_asked Command (Ua true) = inl (refl, refl)
     heard_5_asked Command (Dm true) = inl (refl, refl)
     heard_5_asked Answer (Ua true) = inr refl
@@ -93,14 +115,24 @@ module _ (vs va vr : ℕ) where
     heard_5_asked role control = inl (refl, refl)
 
     in_5_asked : (input : Input) → RowAlike r AwaitingEstablishment true false e input
-    unfolding row by_state report_fault awaiting_establishment end_establishment confirm_or_indicate ua_final awaiting_establishment_t200 put state_to rc_to increment_rc layer3_initiated_to release_pending_to start stop expired zero_state_variables queue_up discard_i_queue with_zero_counters
+    unfolding row by_state report_fault awaiting_establishment end_establishment confirm_or_indicate
+        ua_final awaiting_establishment_t200 put state_to rc_to increment_rc layer3_initiated_to
+        release_pending_to start stop expired zero_state_variables queue_up discard_i_queue
+        with_zero_counters
     in_5_asked (Heard control role) = heard_5_asked role control
-    in_5_asked (Expiry T200) = alike_if e.t200 _ _ _ _ (alike_if (nat_lt e.rc e.parameters.n200) _ _ _ _ (inl (refl, refl)) (inl (refl, refl))) (inl (refl, refl))
+    in_5_asked (Expiry T200) =
+        alike_if e.t200 _ _ _ _
+        (alike_if (nat_lt e.rc e.parameters.n200) _ _ _ _ (inl (refl, refl)) (inl (refl, refl)))
+        (inl (refl, refl))
     in_5_asked (Expiry T203) = alike_if e.t203 _ _ _ _ (inl (refl, refl)) (inl (refl, refl))
     in_5_asked input = inl (refl, refl)
 
-    heard_5_leaving_asked : (role : Role) (control : Control) → RowAlike r AwaitingEstablishment true true e (Heard control role)
-    unfolding row by_state report_fault awaiting_establishment end_establishment confirm_or_indicate ua_final awaiting_establishment_t200 put state_to rc_to increment_rc layer3_initiated_to release_pending_to start stop expired zero_state_variables queue_up discard_i_queue with_zero_counters
+    heard_5_leaving_asked : (role : Role) (control : Control)
+        → RowAlike r AwaitingEstablishment true true e (Heard control role)
+    unfolding row by_state report_fault awaiting_establishment end_establishment confirm_or_indicate
+        ua_final awaiting_establishment_t200 put state_to rc_to increment_rc layer3_initiated_to
+        release_pending_to start stop expired zero_state_variables queue_up discard_i_queue
+        with_zero_counters
     heard_5_leaving_asked Command (Ua true) = inl (refl, refl)
     heard_5_leaving_asked Command (Dm true) = inl (refl, refl)
     heard_5_leaving_asked Answer (Ua true) = inl (refl, refl)
@@ -108,14 +140,24 @@ module _ (vs va vr : ℕ) where
     heard_5_leaving_asked role control = inl (refl, refl)
 
     in_5_leaving_asked : (input : Input) → RowAlike r AwaitingEstablishment true true e input
-    unfolding row by_state report_fault awaiting_establishment end_establishment confirm_or_indicate ua_final awaiting_establishment_t200 put state_to rc_to increment_rc layer3_initiated_to release_pending_to start stop expired zero_state_variables queue_up discard_i_queue with_zero_counters
+    unfolding row by_state report_fault awaiting_establishment end_establishment confirm_or_indicate
+        ua_final awaiting_establishment_t200 put state_to rc_to increment_rc layer3_initiated_to
+        release_pending_to start stop expired zero_state_variables queue_up discard_i_queue
+        with_zero_counters
     in_5_leaving_asked (Heard control role) = heard_5_leaving_asked role control
-    in_5_leaving_asked (Expiry T200) = alike_if e.t200 _ _ _ _ (alike_if (nat_lt e.rc e.parameters.n200) _ _ _ _ (inl (refl, refl)) (inl (refl, refl))) (inl (refl, refl))
+    in_5_leaving_asked (Expiry T200) =
+        alike_if e.t200 _ _ _ _
+        (alike_if (nat_lt e.rc e.parameters.n200) _ _ _ _ (inl (refl, refl)) (inl (refl, refl)))
+        (inl (refl, refl))
     in_5_leaving_asked (Expiry T203) = alike_if e.t203 _ _ _ _ (inl (refl, refl)) (inl (refl, refl))
     in_5_leaving_asked input = inl (refl, refl)
 
-    heard_5_leaving_unasked : (role : Role) (control : Control) → RowAlike r AwaitingEstablishment false true e (Heard control role)
-    unfolding row by_state report_fault awaiting_establishment end_establishment confirm_or_indicate ua_final awaiting_establishment_t200 put state_to rc_to increment_rc layer3_initiated_to release_pending_to start stop expired zero_state_variables queue_up discard_i_queue with_zero_counters
+    heard_5_leaving_unasked : (role : Role) (control : Control)
+        → RowAlike r AwaitingEstablishment false true e (Heard control role)
+    unfolding row by_state report_fault awaiting_establishment end_establishment confirm_or_indicate
+        ua_final awaiting_establishment_t200 put state_to rc_to increment_rc layer3_initiated_to
+        release_pending_to start stop expired zero_state_variables queue_up discard_i_queue
+        with_zero_counters
     heard_5_leaving_unasked Command (Ua true) = inl (refl, refl)
     heard_5_leaving_unasked Command (Dm true) = inl (refl, refl)
     heard_5_leaving_unasked Answer (Ua true) = inl (refl, refl)
@@ -123,13 +165,21 @@ module _ (vs va vr : ℕ) where
     heard_5_leaving_unasked role control = inl (refl, refl)
 
     in_5_leaving_unasked : (input : Input) → RowAlike r AwaitingEstablishment false true e input
-    unfolding row by_state report_fault awaiting_establishment end_establishment confirm_or_indicate ua_final awaiting_establishment_t200 put state_to rc_to increment_rc layer3_initiated_to release_pending_to start stop expired zero_state_variables queue_up discard_i_queue with_zero_counters
+    unfolding row by_state report_fault awaiting_establishment end_establishment confirm_or_indicate
+        ua_final awaiting_establishment_t200 put state_to rc_to increment_rc layer3_initiated_to
+        release_pending_to start stop expired zero_state_variables queue_up discard_i_queue
+        with_zero_counters
     in_5_leaving_unasked (Heard control role) = heard_5_leaving_unasked role control
-    in_5_leaving_unasked (Expiry T200) = alike_if e.t200 _ _ _ _ (alike_if (nat_lt e.rc e.parameters.n200) _ _ _ _ (inl (refl, refl)) (inl (refl, refl))) (inl (refl, refl))
-    in_5_leaving_unasked (Expiry T203) = alike_if e.t203 _ _ _ _ (inl (refl, refl)) (inl (refl, refl))
+    in_5_leaving_unasked (Expiry T200) =
+        alike_if e.t200 _ _ _ _
+        (alike_if (nat_lt e.rc e.parameters.n200) _ _ _ _ (inl (refl, refl)) (inl (refl, refl)))
+        (inl (refl, refl))
+    in_5_leaving_unasked (Expiry T203) =
+        alike_if e.t203 _ _ _ _ (inl (refl, refl)) (inl (refl, refl))
     in_5_leaving_unasked input = inl (refl, refl)
 
-  each_row : (r : Reading) (state : State) (asked leaving : Bool) (e : End) (input : Input) → is_holding state asked leaving ≡ false → RowAlike r state asked leaving e input
+  each_row : (r : Reading) (state : State) (asked leaving : Bool) (e : End) (input : Input)
+      → is_holding state asked leaving ≡ false → RowAlike r state asked leaving e input
   each_row r TeiAssigned asked leaving e input unread = in_4 r asked leaving e input
   each_row r AwaitingRelease asked leaving e input unread = in_6 r asked leaving e input
   each_row r AwaitingEstablishment true false e input unread = in_5_asked r e input
@@ -141,7 +191,8 @@ module _ (vs va vr : ℕ) where
 
   -- ---- The end of a step.
 
-  closed_where : (state : State) (asked leaving : Bool) → is_holding state asked leaving ≡ false → is_7_or_8 state ≡ false
+  closed_where : (state : State) (asked leaving : Bool) → is_holding state asked leaving ≡ false
+      → is_7_or_8 state ≡ false
   closed_where MultipleFrameEstablished asked leaving unread = cc
   closed_where TimerRecovery asked leaving unread = cc
   closed_where state asked leaving unread = refl
@@ -162,7 +213,8 @@ module _ (vs va vr : ℕ) where
 
   -- ---- A step, and any inputs.
 
-  refused_alike : (input : Input) (e : End) → refused input (with_numbers vs va vr e) ≡ refused input e
+  refused_alike : (input : Input) (e : End)
+      → refused input (with_numbers vs va vr e) ≡ refused input e
   refused_alike (Give message) e = refl
   refused_alike (UnitData len) e = refl
   refused_alike Establish e = refl
@@ -175,14 +227,18 @@ module _ (vs va vr : ℕ) where
   StepAlike (Err fault) (Ok t) = ⊥
   StepAlike (Err fault) (Err other) = other ≡ fault
 
-  unless_alike : (fault : Option LinkFault) (s t : StepState) → Alike s t → StepAlike (unless fault s) (unless fault t)
+  unless_alike : (fault : Option LinkFault) (s t : StepState) → Alike s t
+      → StepAlike (unless fault s) (unless fault t)
   unless_alike (Some fault) s t alike = refl
   unless_alike None s t alike = alike
 
-  pub step_alike : (r : Reading) (input : Input) (e : End) → reads e ≡ false → StepAlike (step r input e) (step r input (with_numbers vs va vr e))
+  pub step_alike : (r : Reading) (input : Input) (e : End) → reads e ≡ false
+      → StepAlike (step r input e) (step r input (with_numbers vs va vr e))
   unfolding step begin
   step_alike r input e unread = rw (refused_alike input e)
-      (unless_alike (refused input e) _ _ (ends_alike r _ _ (each_row r e.state e.layer3_initiated e.release_pending e input unread)))
+      (unless_alike (refused input e) _ _
+      (ends_alike r _ _
+      (each_row r e.state e.layer3_initiated e.release_pending e input unread)))
 
   abbrev EndAlike : End → End → Type 0
   EndAlike e f = ((reads e ≡ false) × (f ≡ with_numbers vs va vr e)) ⊎ (f ≡ e)
@@ -191,24 +247,35 @@ module _ (vs va vr : ℕ) where
     outputs : outputs_of y ≡ outputs_of x
     ends : EndAlike (end_after e x) (end_after f y)
 
-  answers : (e f : End) (x y : Result StepState LinkFault) → EndAlike e f → StepAlike x y → Answers e f x y
-  answers e f (Ok s) (Ok t) ends (inl (unread, is)) = record { outputs = ap (λ u. Ok u.outs) is; ends = inl (unread, ap (λ u. u.end) is) }
-  answers e f (Ok s) (Ok t) ends (inr same) = record { outputs = ap (λ u. Ok u.outs) same; ends = inr (ap (λ u. u.end) same) }
+  answers : (e f : End) (x y : Result StepState LinkFault) → EndAlike e f → StepAlike x y
+      → Answers e f x y
+  answers e f (Ok s) (Ok t) ends (inl (unread, is)) =
+      record { outputs = ap (λ u. Ok u.outs) is; ends = inl (unread, ap (λ u. u.end) is) }
+  answers e f (Ok s) (Ok t) ends (inr same) =
+      record { outputs = ap (λ u. Ok u.outs) same; ends = inr (ap (λ u. u.end) same) }
   answers e f (Ok s) (Err fault) ends never = absurd never
   answers e f (Err fault) (Ok t) ends never = absurd never
-  answers e f (Err fault) (Err other) ends same = record { outputs = ap (λ x. Err x) same; ends = ends }
+  answers e f (Err fault) (Err other) ends same =
+      record { outputs = ap (λ x. Err x) same; ends = ends }
 
-  respond_alike : (r : Reading) (inputs : List Input) (e f : End) → EndAlike e f → responses r inputs f ≡ responses r inputs e
+  respond_alike : (r : Reading) (inputs : List Input) (e f : End) → EndAlike e f
+      → responses r inputs f ≡ responses r inputs e
   respond_alike r [] e f alike = refl
   respond_alike r (input ∷ inputs) e f (inr same) = ap (λ u. responses r (input ∷ inputs) u) same
   respond_alike r (input ∷ inputs) e f (inl (unread, is)) =
       let x = step r input e in
       let y = step r input (with_numbers vs va vr e) in
-      let a : Answers e (with_numbers vs va vr e) x y = answers e (with_numbers vs va vr e) x y (inl (unread, refl)) (step_alike r input e unread) in
+      let a : Answers e (with_numbers vs va vr e) x y =
+      answers e (with_numbers vs va vr e) x y (inl (unread, refl))
+      (step_alike r input e unread) in
       subst (λ u. responses r (input ∷ inputs) u ≡ responses r (input ∷ inputs) e) (sym is)
       (ap (λ o. o ∷ responses r inputs (end_after (with_numbers vs va vr e) y)) a.outputs
-      ∙ ap (λ os. outputs_of x ∷ os) (respond_alike r inputs (end_after e x) (end_after (with_numbers vs va vr e) y) a.ends))
+      ∙ ap (λ os. outputs_of x ∷ os)
+      (respond_alike r inputs (end_after e x) (end_after (with_numbers vs va vr e) y) a.ends))
 
-pub restarts_do_the_same : (r : Reading) (inputs : List Input) (e : End) → responses r inputs (restarted_keeping e) ≡ responses r inputs (restarted e)
+pub restarts_do_the_same : (r : Reading) (inputs : List Input) (e : End)
+    → responses r inputs (restarted_keeping e) ≡ responses r inputs (restarted e)
 unfolding initial_variables without_exceptions
-restarts_do_the_same r inputs e = respond_alike e.window.vs e.window.va e.window.vr r inputs (restarted e) (restarted_keeping e) (inl (refl, refl))
+restarts_do_the_same r inputs e =
+    respond_alike e.window.vs e.window.va e.window.vr r inputs (restarted e) (restarted_keeping e)
+    (inl (refl, refl))

@@ -67,7 +67,7 @@ both_in_7 moves received dropped = outcome moves received dropped MultipleFrameE
 abbrev pub both_in_4 : ℕ → RecoveryOutcome
 both_in_4 moves = outcome moves 0 0 TeiAssigned
 
--- ---- What happened before.
+-- ---- The history before.
 
 -- both ends establish, and both SABMEs are lost
 abbrev pub both_sabmes_lost : List Move

@@ -34,7 +34,7 @@ use Rattle.lapd_link_definition.specs.Parameters.{Parameters}
 use Rattle.lapd_link_definition.specs.RunningTimers.{AreTimersOf, HasTimersOfState, is_same_timer, runs_after, runs_after_out, runs_before, TimersFollow}
 use Rattle.lapd_link_definition.specs.Table.{step}
 use Rattle.lapd_link_definition.proofs.NumbersOfStep.{numbers_stay, numbers_are_sent}
-use Rattle.lapd_link_definition.proofs.TimersOfStep.{timers_begin, timers_stay, timers_follow}
+use Rattle.lapd_link_definition.proofs.TimersOfWholeStep.{timers_begin, timers_stay, timers_follow}
 use Rattle.lapd_tei.specs.declared.out.TeiOut.{TeiOut}
 use Rattle.lapd_tei.specs.declared.out.TeiOut.TheVariants as outcome
 use Rattle.lapd_tei.specs.Message.{frame_of_message}

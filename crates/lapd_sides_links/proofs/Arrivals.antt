@@ -27,47 +27,72 @@ use Rattle.lapd_sides_links.proofs.Acting.{put_in_place, now_linked, nothing_lin
 use Rattle.lapd_sides_links.proofs.LoneTimers.{none_of_management}
 
 -- a statement about links holds for links that are equal one by one
-pub same_links : (side : Side) (s : LinkSet) (these those : Links) → ((id : LinkId) → these id ≡ those id) → ShowLinks side s these → ShowLinks side s those
+pub same_links : (side : Side) (s : LinkSet) (these those : Links)
+    → ((id : LinkId) → these id ≡ those id) → ShowLinks side s these → ShowLinks side s those
 same_links side s these those same shown = record {
   of_side = shown.of_side;
-  each = λ id. subst (λ (l : Option Linked). IsLinked (link_at s.table id) (timers_at s.link_timers id) l) (same id) (shown.each id);
+  each =
+      λ id. subst
+      (λ (l : Option Linked). IsLinked (link_at s.table id) (timers_at s.link_timers id) l)
+      (same id) (shown.each id);
 }
 
 -- ---- Adding links.
 
 -- the link of SAPI 0 first, then the link of SAPI 16
 abbrev with_call : Config → ℕ → Links → Links
-with_call config tei links = with_new_link (of_sapi Call tei) (new_linked config.params0 config.durations) links
+with_call config tei links =
+    with_new_link (of_sapi Call tei) (new_linked config.params0 config.durations) links
 
 abbrev with_both : Config → ℕ → Links → Links
-with_both config tei links = with_new_link (of_sapi Packet tei) (new_linked config.params16 config.durations) (with_call config tei links)
+with_both config tei links =
+    with_new_link (of_sapi Packet tei) (new_linked config.params16 config.durations)
+    (with_call config tei links)
 
-both_at : (config : Config) (tei : ℕ) (links : Links) (s : Sapi) (t : ℕ) → config.sapi16 ≡ true → with_both config tei links (of_sapi s t) ≡ with_tei config tei links (of_sapi s t)
+both_at : (config : Config) (tei : ℕ) (links : Links) (s : Sapi) (t : ℕ) → config.sapi16 ≡ true
+    → with_both config tei links (of_sapi s t) ≡ with_tei config tei links (of_sapi s t)
 unfolding with_tei
 both_at config tei links Call t on = refl
 both_at config tei links Packet t on = rw on refl
 both_at config tei links Management t on = refl
 
-one_at : (config : Config) (tei : ℕ) (links : Links) (s : Sapi) (t : ℕ) → config.sapi16 ≡ false → with_call config tei links (of_sapi s t) ≡ with_tei config tei links (of_sapi s t)
+one_at : (config : Config) (tei : ℕ) (links : Links) (s : Sapi) (t : ℕ) → config.sapi16 ≡ false
+    → with_call config tei links (of_sapi s t) ≡ with_tei config tei links (of_sapi s t)
 unfolding with_tei
 one_at config tei links Call t off = refl
 one_at config tei links Packet t off = rw off refl
 one_at config tei links Management t off = refl
 
-module _ (side : Side) (s : LinkSet) (config : Config) (tei : ℕ) (links : Links) (call : LinkId) (named : call ≡ of_sapi Call tei) where
-  pub one_added : config.sapi16 ≡ false → ShowLinks side s (with_new_link call (new_linked config.params0 config.durations) links) → ShowLinks side s (with_tei config tei links)
-  one_added off shown = same_links side s (with_call config tei links) (with_tei config tei links) (λ id. one_at config tei links id.sapi id.tei off)
-      (subst (λ (k : LinkId). ShowLinks side s (with_new_link k (new_linked config.params0 config.durations) links)) named shown)
+module _ (side : Side) (s : LinkSet) (config : Config) (tei : ℕ) (links : Links) (call : LinkId)
+    (named : call ≡ of_sapi Call tei) where
+  pub one_added : config.sapi16 ≡ false
+      → ShowLinks side s (with_new_link call (new_linked config.params0 config.durations) links)
+      → ShowLinks side s (with_tei config tei links)
+  one_added off shown =
+      same_links side s (with_call config tei links) (with_tei config tei links)
+      (λ id. one_at config tei links id.sapi id.tei off)
+      (subst (λ (k : LinkId). ShowLinks side s
+      (with_new_link k (new_linked config.params0 config.durations) links)) named shown)
 
   pub both_added : (packet : LinkId) → packet ≡ of_sapi Packet tei → config.sapi16 ≡ true
-      → ShowLinks side s (with_new_link packet (new_linked config.params16 config.durations) (with_new_link call (new_linked config.params0 config.durations) links)) → ShowLinks side s (with_tei config tei links)
-  both_added packet second on shown = same_links side s (with_both config tei links) (with_tei config tei links) (λ id. both_at config tei links id.sapi id.tei on)
-      (subst (λ (k : LinkId). ShowLinks side s (with_new_link (of_sapi Packet tei) (new_linked config.params16 config.durations) (with_new_link k (new_linked config.params0 config.durations) links))) named
-      (subst (λ (k : LinkId). ShowLinks side s (with_new_link k (new_linked config.params16 config.durations) (with_new_link call (new_linked config.params0 config.durations) links))) second shown))
+      → ShowLinks side s (with_new_link packet (new_linked config.params16 config.durations)
+      (with_new_link call (new_linked config.params0 config.durations) links))
+      → ShowLinks side s (with_tei config tei links)
+  both_added packet second on shown =
+      same_links side s (with_both config tei links) (with_tei config tei links)
+      (λ id. both_at config tei links id.sapi id.tei on)
+      (subst (λ (k : LinkId). ShowLinks side s
+      (with_new_link (of_sapi Packet tei) (new_linked config.params16 config.durations)
+      (with_new_link k (new_linked config.params0 config.durations) links))) named
+      (subst (λ (k : LinkId). ShowLinks side s
+      (with_new_link k (new_linked config.params16 config.durations)
+      (with_new_link call (new_linked config.params0 config.durations) links)))
+      second shown))
 
 -- ---- A link is added, unless it exists.
 
-pub no_error : {A E : Type 0} (result : Result A E) (P : Type 0) → is_err result ≡ false → OnOk result P → P
+pub no_error : {A E : Type 0} (result : Result A E) (P : Type 0) → is_err result ≡ false
+    → OnOk result P → P
 no_error (Ok a) P h p = p
 no_error (Err e) P h p = cc
 
@@ -105,50 +130,72 @@ pub record AreReset (old new : LinkTimers) (id : LinkId) (lengths : Lengths) : T
   pub own : timers_at new id ≡ Some (all_stopped lengths)
   pub others : (other : LinkId) → other ≢ id → timers_at new other ≡ timers_at old other
 
-new_at : (new : Linked) (id other : LinkId) (links : Links) (test : Bool) → id_eq other id ≡ test → links id ≡ None
-    → (if test then Some new else links other) ≡ (if test then or_new new (links other) else links other)
-new_at new id other links true is none = sym (ap (or_new new) (ap links (same_id_eq other id is) ∙ none))
+new_at : (new : Linked) (id other : LinkId) (links : Links) (test : Bool) → id_eq other id ≡ test
+    → links id ≡ None
+    → (if test then Some new else links other)
+    ≡ (if test then or_new new (links other) else links other)
+new_at new id other links true is none =
+    sym (ap (or_new new) (ap links (same_id_eq other id is) ∙ none))
 new_at new id other links false is none = refl
 
 kept : (new : Linked) (l : Option Linked) → is_none l ≡ false → l ≡ or_new new l
 kept new None there = cc
 kept new (Some l) there = refl
 
-kept_at : (new : Linked) (id other : LinkId) (links : Links) (test : Bool) → id_eq other id ≡ test → is_none (links id) ≡ false
+kept_at : (new : Linked) (id other : LinkId) (links : Links) (test : Bool) → id_eq other id ≡ test
+    → is_none (links id) ≡ false
     → links other ≡ (if test then or_new new (links other) else links other)
-kept_at new id other links true is there = kept new (links other) (ap (λ (k : LinkId). is_none (links k)) (same_id_eq other id is) ∙ there)
+kept_at new id other links true is there =
+    kept new (links other) (ap (λ (k : LinkId). is_none (links k)) (same_id_eq other id is) ∙ there)
 kept_at new id other links false is there = refl
 
-gone_at : (new : Linked) (id other : LinkId) (links : Links) (test : Bool) → id_eq other id ≡ test → is_none (links id) ≡ true
-    → (if test then None else (if test then or_new new (links other) else links other)) ≡ links other
-gone_at new id other links true is none = sym (none_so (links other) (ap (λ (k : LinkId). is_none (links k)) (same_id_eq other id is) ∙ none))
+gone_at : (new : Linked) (id other : LinkId) (links : Links) (test : Bool) → id_eq other id ≡ test
+    → is_none (links id) ≡ true
+    → (if test then None else (if test then or_new new (links other) else links other))
+    ≡ links other
+gone_at new id other links true is none =
+    sym
+    (none_so (links other) (ap (λ (k : LinkId). is_none (links k)) (same_id_eq other id is) ∙ none))
   where
     none_so : (l : Option Linked) → is_none l ≡ true → l ≡ None
     none_so None h = refl
     none_so (Some l) h = cc
 gone_at new id other links false is none = refl
 
-module _ (side : Side) (old : LinkSet) (links : Links) (id : LinkId) (shown : ShowLinks side old links) where
+module _ (side : Side) (old : LinkSet) (links : Links) (id : LinkId)
+    (shown : ShowLinks side old links) where
   pub is_absent : link_at old.table id ≡ None → links id ≡ None
-  is_absent absent = nothing_linked (link_at old.table id) (timers_at old.link_timers id) (links id) absent (shown.each id)
+  is_absent absent =
+      nothing_linked (link_at old.table id) (timers_at old.link_timers id) (links id) absent
+      (shown.each id)
 
-  pub new_there : (new : LinkSet) (link : Link) (parameters : Parameters) (lengths : Lengths) → links id ≡ None
-      → LinkRepresents link (new_end parameters) → Changes old.table new.table id (Some link) → AreReset old.link_timers new.link_timers id lengths
+  pub new_there : (new : LinkSet) (link : Link) (parameters : Parameters) (lengths : Lengths)
+      → links id ≡ None
+      → LinkRepresents link (new_end parameters) → Changes old.table new.table id (Some link)
+      → AreReset old.link_timers new.link_timers id lengths
       → ShowLinks side new (with_new_link id (new_linked parameters lengths) links)
   new_there new link parameters lengths none represents changes reset =
       let fresh = new_linked parameters lengths in
-      same_links side new (with_link id (Some fresh) links) (with_new_link id fresh links) (λ other. new_at fresh id other links (id_eq other id) refl none)
+      same_links side new (with_link id (Some fresh) links) (with_new_link id fresh links)
+      (λ other. new_at fresh id other links (id_eq other id) refl none)
       (put_in_place side old new links id (Some fresh) changes.side
-      (now_linked (link_at new.table id) (timers_at new.link_timers id) link fresh changes.there reset.own represents) changes.others reset.others shown)
+      (now_linked (link_at new.table id) (timers_at new.link_timers id) link fresh changes.there
+      reset.own represents) changes.others reset.others shown)
 
 -- ---- A link that was added is removed again; one that existed stays.
 
 module _ (side : Side) (s : LinkSet) (links : Links) (id : LinkId) (new : Linked) where
-  pub taken_back : is_none (links id) ≡ true → ShowLinks side s (with_link id None (with_new_link id new links)) → ShowLinks side s links
-  taken_back none shown = same_links side s (with_link id None (with_new_link id new links)) links (λ other. gone_at new id other links (id_eq other id) refl none) shown
+  pub taken_back : is_none (links id) ≡ true
+      → ShowLinks side s (with_link id None (with_new_link id new links)) → ShowLinks side s links
+  taken_back none shown =
+      same_links side s (with_link id None (with_new_link id new links)) links
+      (λ other. gone_at new id other links (id_eq other id) refl none) shown
 
-  pub left_alone : is_none (links id) ≡ false → ShowLinks side s (with_new_link id new links) → ShowLinks side s links
-  left_alone there shown = same_links side s (with_new_link id new links) links (λ other. sym (kept_at new id other links (id_eq other id) refl there)) shown
+  pub left_alone : is_none (links id) ≡ false → ShowLinks side s (with_new_link id new links)
+      → ShowLinks side s links
+  left_alone there shown =
+      same_links side s (with_new_link id new links) links
+      (λ other. sym (kept_at new id other links (id_eq other id) refl there)) shown
 
 -- ---- Removing links.
 
@@ -162,8 +209,10 @@ either_none : (test : Bool) (l : Option Linked) → l ≡ None → l ≡ (if tes
 either_none true l none = none
 either_none false l none = refl
 
-removed_at : (side : Side) (s : LinkSet) (tei : ℕ) (links : Links) (sapi : Sapi) (t : ℕ) → ShowLinks side s links
-    → with_link (of_sapi Packet tei) None (with_link (of_sapi Call tei) None links) (of_sapi sapi t) ≡ without_tei tei links (of_sapi sapi t)
+removed_at : (side : Side) (s : LinkSet) (tei : ℕ) (links : Links) (sapi : Sapi) (t : ℕ)
+    → ShowLinks side s links
+    → with_link (of_sapi Packet tei) None (with_link (of_sapi Call tei) None links) (of_sapi sapi t)
+    ≡ without_tei tei links (of_sapi sapi t)
 unfolding without_tei
 removed_at side s tei links Call t shown = refl
 removed_at side s tei links Packet t shown = refl
@@ -174,14 +223,26 @@ removed_at side s tei links Management t shown =
     (shown.each id) in
     either_none (t == tei) (links id) (unplaced (link_at s.table id) (links id) linked)
 
-pub both_removed : (side : Side) (old new : LinkSet) (tei : ℕ) (links : Links) → ShowLinks side old links
-    → ShowLinks side new (with_link (of_sapi Packet tei) None (with_link (of_sapi Call tei) None links)) → ShowLinks side new (without_tei tei links)
-both_removed side old new tei links before shown = same_links side new _ (without_tei tei links) (λ id. removed_at side old tei links id.sapi id.tei before) shown
+pub both_removed : (side : Side) (old new : LinkSet) (tei : ℕ) (links : Links)
+    → ShowLinks side old links
+    → ShowLinks side new
+    (with_link (of_sapi Packet tei) None (with_link (of_sapi Call tei) None links))
+    → ShowLinks side new (without_tei tei links)
+both_removed side old new tei links before shown =
+    same_links side new _ (without_tei tei links)
+    (λ id. removed_at side old tei links id.sapi id.tei before) shown
 
 -- the release of the first link is reported, then that of the second, which was unchanged
-pub both_delivered : (before middle after : List Primitive) (tei : ℕ) (links : Links) → middle ≡ before ++ primitives_at_removal (of_sapi Call tei) (links (of_sapi Call tei))
-    → after ≡ middle ++ primitives_at_removal (of_sapi Packet tei) (with_link (of_sapi Call tei) None links (of_sapi Packet tei)) → after ≡ before ++ primitive_of_tei tei links
+pub both_delivered : (before middle after : List Primitive) (tei : ℕ) (links : Links)
+    → middle ≡ before ++ primitives_at_removal (of_sapi Call tei) (links (of_sapi Call tei))
+    → after ≡ middle
+    ++ primitives_at_removal (of_sapi Packet tei)
+    (with_link (of_sapi Call tei) None links (of_sapi Packet tei))
+    → after ≡ before ++ primitive_of_tei tei links
 unfolding primitive_of_tei
 both_delivered before middle after tei links first second =
-    second ∙ ap (λ (m : List Primitive). m ++ primitives_at_removal (of_sapi Packet tei) (links (of_sapi Packet tei))) first
-    ∙ append_assoc before (primitives_at_removal (of_sapi Call tei) (links (of_sapi Call tei))) (primitives_at_removal (of_sapi Packet tei) (links (of_sapi Packet tei)))
+    second
+    ∙ ap (λ (m : List Primitive). m ++ primitives_at_removal (of_sapi Packet tei)
+    (links (of_sapi Packet tei))) first
+    ∙ append_assoc before (primitives_at_removal (of_sapi Call tei) (links (of_sapi Call tei)))
+    (primitives_at_removal (of_sapi Packet tei) (links (of_sapi Packet tei)))

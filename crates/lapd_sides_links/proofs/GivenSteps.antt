@@ -34,25 +34,38 @@ module _ (setup : Setup) (e : End) (octets : List ℕ) where
   no_frame_of_effect (Starts true) = refl
   no_frame_of_effect (Starts false) = refl
 
-  pub given_frames_put : (g : GivenOuts) (f0 f1 : List (List ℕ)) → f1 ≡ f0 ++ made (SendMessage g.place (field_of_message g.field) ∷ []) → f1 ≡ f0 ++ made (given_outs g)
+  pub given_frames_put : (g : GivenOuts) (f0 f1 : List (List ℕ))
+      → f1 ≡ f0 ++ made (SendMessage g.place (field_of_message g.field) ∷ [])
+      → f1 ≡ f0 ++ made (given_outs g)
   given_frames_put g f0 f1 a =
-      a ∙ ap (λ (l : List (List ℕ)). f0 ++ l) (sym (filter_map-append (made_by setup e octets) (SendMessage g.place (field_of_message g.field) ∷ []) (send_outs g.effect)
-      ∙ rw (no_frame_of_effect g.effect) (append-nil (made (SendMessage g.place (field_of_message g.field) ∷ [])))))
+      a
+      ∙ ap (λ (l : List (List ℕ)). f0 ++ l)
+      (sym (filter_map-append (made_by setup e octets)
+      (SendMessage g.place (field_of_message g.field) ∷ []) (send_outs g.effect)
+      ∙ rw (no_frame_of_effect g.effect)
+      (append-nil (made (SendMessage g.place (field_of_message g.field) ∷ [])))))
 
 module _ (id : LinkId) where
   abbrev delivered : List Out → List Primitive
   delivered outs = map (Of id) (filter_map (what_of []) outs)
 
-  nothing_delivered : (place : ℕ) (control : Control) (effect : SendEffect) → delivered (SendMessage place control ∷ send_outs effect) ≡ []
+  nothing_delivered : (place : ℕ) (control : Control) (effect : SendEffect)
+      → delivered (SendMessage place control ∷ send_outs effect) ≡ []
   nothing_delivered place control Nothing = refl
   nothing_delivered place control (Starts true) = refl
   nothing_delivered place control (Starts false) = refl
 
-  pub given_primitives_put : (g : GivenOuts) (p0 p1 : List Primitive) → p1 ≡ p0 → p1 ≡ p0 ++ delivered (given_outs g)
-  given_primitives_put g p0 p1 a = a ∙ (sym (append-nil p0) ∙ ap (λ (l : List Primitive). p0 ++ l) (sym (nothing_delivered g.place (field_of_message g.field) g.effect)))
+  pub given_primitives_put : (g : GivenOuts) (p0 p1 : List Primitive) → p1 ≡ p0
+      → p1 ≡ p0 ++ delivered (given_outs g)
+  given_primitives_put g p0 p1 a =
+      a
+      ∙ (sym (append-nil p0)
+      ∙ ap (λ (l : List Primitive). p0 ++ l)
+      (sym (nothing_delivered g.place (field_of_message g.field) g.effect)))
 
 module _ (now : ℕ) where
-  pub given_timed : (g : GivenOuts) (o : Option Timers) → option_map (timed now (send_outs g.effect)) o ≡ option_map (timed now (given_outs g)) o
+  pub given_timed : (g : GivenOuts) (o : Option Timers)
+      → option_map (timed now (send_outs g.effect)) o ≡ option_map (timed now (given_outs g)) o
   given_timed g None = refl
   given_timed g (Some t) = refl
 
@@ -66,11 +79,18 @@ module _ (now : ℕ) where
 abbrev pub gives : ℕ → LinkId → Message → Side → Links → Result (Reaction Links) SideKind
 gives now id message side = in_links id (link_acts side id now (Give message.items) [])
 
-module _ (now : ℕ) (found id : LinkId) (same_id : found ≡ id) (back message : Message) (same : back ≡ message) where
-  pub do_as_given : (old new : LinkSet) (before after : Effects) → LinksDo old new before after (gives now found back) → LinksDo old new before after (gives now id message)
+module _ (now : ℕ) (found id : LinkId) (same_id : found ≡ id) (back message : Message)
+    (same : back ≡ message) where
+  pub do_as_given : (old new : LinkSet) (before after : Effects)
+      → LinksDo old new before after (gives now found back)
+      → LinksDo old new before after (gives now id message)
   do_as_given old new before after h =
-      subst (λ (i : LinkId). LinksDo old new before after (gives now i message)) same_id (subst (λ (m : Message). LinksDo old new before after (gives now found m)) same h)
+      subst (λ (i : LinkId). LinksDo old new before after (gives now i message)) same_id
+      (subst (λ (m : Message). LinksDo old new before after (gives now found m)) same h)
 
-  pub refuse_as_given : (old : LinkSet) (kind : SideKind) → LinksRefuseAs old (gives now found back) kind → LinksRefuseAs old (gives now id message) kind
+  pub refuse_as_given : (old : LinkSet) (kind : SideKind)
+      → LinksRefuseAs old (gives now found back) kind
+      → LinksRefuseAs old (gives now id message) kind
   refuse_as_given old kind h =
-      subst (λ (i : LinkId). LinksRefuseAs old (gives now i message) kind) same_id (subst (λ (m : Message). LinksRefuseAs old (gives now found m) kind) same h)
+      subst (λ (i : LinkId). LinksRefuseAs old (gives now i message) kind) same_id
+      (subst (λ (m : Message). LinksRefuseAs old (gives now found m) kind) same h)

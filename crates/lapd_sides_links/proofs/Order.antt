@@ -20,7 +20,8 @@ use Rattle.lapd_sides_links.specs.Places.{IsSooner}
 abbrev Lexicographic : ℕ → ℕ → Type 0 → Type 0
 Lexicographic m n Then = (m < n) ⊎ ((m ≡ n) × Then)
 
-chained : (l m n : ℕ) (P Q R : Type 0) → (P → Q → R) → Lexicographic l m P → Lexicographic m n Q → Lexicographic l n R
+chained : (l m n : ℕ) (P Q R : Type 0) → (P → Q → R) → Lexicographic l m P → Lexicographic m n Q
+    → Lexicographic l n R
 chained l m n P Q R step (inl a) (inl b) = inl (omega arith)
 chained l m n P Q R step (inl a) (inr b) = inl (omega (arith, b.0))
 chained l m n P Q R step (inr a) (inl b) = inl (omega (arith, a.0))
@@ -33,10 +34,15 @@ link_chained : (x y z : Option LinkId) → IsNoLaterLink x y → IsNoLaterLink y
 link_chained None y z h k = tt
 link_chained (Some x) None z h k = absurd h
 link_chained (Some x) (Some y) None h k = absurd k
-link_chained (Some x) (Some y) (Some z) h k = chained (sapi_value x.sapi) (sapi_value y.sapi) (sapi_value z.sapi) _ _ _ (tei_chained x.tei y.tei z.tei) h k
+link_chained (Some x) (Some y) (Some z) h k =
+    chained (sapi_value x.sapi) (sapi_value y.sapi) (sapi_value z.sapi) _ _ _
+    (tei_chained x.tei y.tei z.tei) h k
 
 pub no_later_chained : (a b c : RunningTimer) → IsNoLater a b → IsNoLater b c → IsNoLater a c
-no_later_chained a b c h k = chained a.deadline b.deadline c.deadline _ _ _ (chained (place a.timer) (place b.timer) (place c.timer) _ _ _ (link_chained a.of b.of c.of)) h k
+no_later_chained a b c h k =
+    chained a.deadline b.deadline c.deadline _ _ _
+    (chained (place a.timer) (place b.timer) (place c.timer) _ _ _ (link_chained a.of b.of c.of)) h
+    k
 
 -- an expiry is no later than itself
 pub link_no_later_self : (a : Option LinkId) → IsNoLaterLink a a
@@ -47,7 +53,8 @@ pub no_later_self : (a : RunningTimer) → IsNoLater a a
 no_later_self a = inr (refl, inr (refl, link_no_later_self a.of))
 
 -- of two expiries one is no later than the other
-either_tail : (m n : ℕ) (Then Else : Type 0) → n ≤ m → Then ⊎ Else → Lexicographic m n Then ⊎ Lexicographic n m Else
+either_tail : (m n : ℕ) (Then Else : Type 0) → n ≤ m → Then ⊎ Else
+    → Lexicographic m n Then ⊎ Lexicographic n m Else
 either_tail m n Then Else low rest = elim (cases_lt n m) [
   | inl more ↦ inr (inl more)
   | inr other ↦
@@ -55,7 +62,8 @@ either_tail m n Then Else low rest = elim (cases_lt n m) [
       elim rest [ inl a ↦ inl (inr (same, a)) | inr b ↦ inr (inr (sym same, b)) ]
 ]
 
-either_first : (m n : ℕ) (Then Else : Type 0) → Then ⊎ Else → Lexicographic m n Then ⊎ Lexicographic n m Else
+either_first : (m n : ℕ) (Then Else : Type 0) → Then ⊎ Else
+    → Lexicographic m n Then ⊎ Lexicographic n m Else
 either_first m n Then Else rest = elim (cases_lt m n) [
   | inl less ↦ inl (inl less)
   | inr low ↦ either_tail m n Then Else low rest
@@ -70,10 +78,13 @@ either_tei a b = elim (cases_lt b a) [
 either_link : (x y : Option LinkId) → IsNoLaterLink x y ⊎ IsNoLaterLink y x
 either_link None y = inl tt
 either_link (Some x) None = inr tt
-either_link (Some x) (Some y) = either_first (sapi_value x.sapi) (sapi_value y.sapi) _ _ (either_tei x.tei y.tei)
+either_link (Some x) (Some y) =
+    either_first (sapi_value x.sapi) (sapi_value y.sapi) _ _ (either_tei x.tei y.tei)
 
 either_no_later : (a b : RunningTimer) → IsNoLater a b ⊎ IsNoLater b a
-either_no_later a b = either_first a.deadline b.deadline _ _ (either_first (place a.timer) (place b.timer) _ _ (either_link a.of b.of))
+either_no_later a b =
+    either_first a.deadline b.deadline _ _
+    (either_first (place a.timer) (place b.timer) _ _ (either_link a.of b.of))
 
 pub earlier_deadline : (a b : RunningTimer) → IsNoLater a b → a.deadline ≤ b.deadline
 earlier_deadline a b (inl less) = omega arith
@@ -81,16 +92,35 @@ earlier_deadline a b (inr same) = omega (arith, same.0)
 
 -- ---- The earlier one of the first of two groups is the first of all.
 
-pub joined : (A B C : RunningTimer → Type 0) (a b c : Option RunningTimer) → ((e : RunningTimer) → C e → A e ⊎ B e) → ((e : RunningTimer) → A e → C e) → ((e : RunningTimer) → B e → C e)
+pub joined : (A B C : RunningTimer → Type 0) (a b c : Option RunningTimer)
+    → ((e : RunningTimer) → C e → A e ⊎ B e) → ((e : RunningTimer) → A e → C e)
+    → ((e : RunningTimer) → B e → C e)
     → IsFirst A a → IsFirst B b → IsSooner a b c → IsFirst C c
-joined A B C None None c split left right h k is = subst (IsFirst C) (sym is) (λ e x. elim (split e x) [ inl y ↦ h e y | inr y ↦ k e y ])
-joined A B C None (Some b) c split left right h k is = subst (IsFirst C) (sym is) (right b k.0, λ e x. elim (split e x) [ inl y ↦ absurd (h e y) | inr y ↦ k.1 e y ])
-joined A B C (Some a) None c split left right h k is = subst (IsFirst C) (sym is) (left a h.0, λ e x. elim (split e x) [ inl y ↦ h.1 e y | inr y ↦ absurd (k e y) ])
-joined A B C (Some a) (Some b) c split left right h k (inl is) = subst (IsFirst C) (sym is.0) (left a h.0, λ e x. elim (split e x) [ inl y ↦ h.1 e y | inr y ↦ no_later_chained a b e is.1 (k.1 e y) ])
-joined A B C (Some a) (Some b) c split left right h k (inr is) = subst (IsFirst C) (sym is.0) (right b k.0, λ e x. elim (split e x) [ inl y ↦ no_later_chained b a e is.1 (h.1 e y) | inr y ↦ k.1 e y ])
+joined A B C None None c split left right h k is =
+    subst (IsFirst C) (sym is) (λ e x. elim (split e x) [ inl y ↦ h e y | inr y ↦ k e y ])
+joined A B C None (Some b) c split left right h k is =
+    subst (IsFirst C) (sym is)
+    (right b k.0, λ e x. elim (split e x) [ inl y ↦ absurd (h e y) | inr y ↦ k.1 e y ])
+joined A B C (Some a) None c split left right h k is =
+    subst (IsFirst C) (sym is)
+    (left a h.0, λ e x. elim (split e x) [ inl y ↦ h.1 e y | inr y ↦ absurd (k e y) ])
+joined A B C (Some a) (Some b) c split left right h k (inl is) =
+    subst (IsFirst C) (sym is.0) (
+      left a h.0,
+      λ e
+          x. elim (split e x) [ inl y ↦ h.1 e y | inr y ↦ no_later_chained a b e is.1 (k.1 e y) ],
+    )
+joined A B C (Some a) (Some b) c split left right h k (inr is) =
+    subst (IsFirst C) (sym is.0) (
+      right b k.0,
+      λ e
+          x. elim (split e x) [ inl y ↦ no_later_chained b a e is.1 (h.1 e y) | inr y ↦ k.1 e y ],
+    )
 
 -- equal groups have the same first expiry
-pub same_first : (A B : RunningTimer → Type 0) (a : Option RunningTimer) → ((e : RunningTimer) → A e → B e) → ((e : RunningTimer) → B e → A e) → IsFirst A a → IsFirst B a
+pub same_first : (A B : RunningTimer → Type 0) (a : Option RunningTimer)
+    → ((e : RunningTimer) → A e → B e) → ((e : RunningTimer) → B e → A e) → IsFirst A a
+    → IsFirst B a
 same_first A B None there back h = λ e x. h e (back e x)
 same_first A B (Some a) there back h = (there a h.0, λ e x. h.1 e (back e x))
 
@@ -111,15 +141,19 @@ sooner_of (Some a) (Some b) = elim (either_no_later a b) [
 abbrev pub deadline : Option RunningTimer → Option ℕ
 deadline first = option_map (λ (e : RunningTimer). e.deadline) first
 
-pub sooner_deadline : (a b c : Option RunningTimer) → IsSooner a b c → deadline c ≡ earlier (deadline a) (deadline b)
+pub sooner_deadline : (a b c : Option RunningTimer) → IsSooner a b c
+    → deadline c ≡ earlier (deadline a) (deadline b)
 sooner_deadline None b c is = ap deadline is
 sooner_deadline (Some a) None c is = ap deadline is
-sooner_deadline (Some a) (Some b) c (inl is) = ap deadline is.0 ∙ ap (λ (d : ℕ). Some d) (omega (arith, earlier_deadline a b is.1))
-sooner_deadline (Some a) (Some b) c (inr is) = ap deadline is.0 ∙ ap (λ (d : ℕ). Some d) (omega (arith, earlier_deadline b a is.1))
+sooner_deadline (Some a) (Some b) c (inl is) =
+    ap deadline is.0 ∙ ap (λ (d : ℕ). Some d) (omega (arith, earlier_deadline a b is.1))
+sooner_deadline (Some a) (Some b) c (inr is) =
+    ap deadline is.0 ∙ ap (λ (d : ℕ). Some d) (omega (arith, earlier_deadline b a is.1))
 
 -- ---- Two expiries are equal if neither is later.
 
-both_no_later : (m n : ℕ) (Then Else : Type 0) → Lexicographic m n Then → Lexicographic n m Else → (m ≡ n) × (Then × Else)
+both_no_later : (m n : ℕ) (Then Else : Type 0) → Lexicographic m n Then → Lexicographic n m Else
+    → (m ≡ n) × (Then × Else)
 both_no_later m n Then Else (inl a) (inl b) = absurd (omega (arith, a, b))
 both_no_later m n Then Else (inl a) (inr b) = absurd (omega (arith, a, b.0))
 both_no_later m n Then Else (inr a) (inl b) = absurd (omega (arith, a.0, b))
@@ -141,7 +175,9 @@ same_link None None h k = refl
 same_link None (Some y) h k = absurd k
 same_link (Some x) None h k = absurd h
 same_link (Some x) (Some y) h k =
-    let both = both_no_later (sapi_value x.sapi) (sapi_value y.sapi) (x.tei ≤ y.tei) (y.tei ≤ x.tei) h k in
+    let both =
+    both_no_later (sapi_value x.sapi) (sapi_value y.sapi) (x.tei ≤ y.tei) (y.tei ≤ x.tei) h
+    k in
     let sapi : x.sapi ≡ y.sapi = same_sapi x.sapi y.sapi both.0 in
     let tei : x.tei ≡ y.tei = omega (arith, both.1.0, both.1.1) in
     ap (λ (s : Sapi). Some (of_sapi s x.tei)) sapi ∙ ap (λ (n : ℕ). Some (of_sapi y.sapi n)) tei
@@ -153,6 +189,9 @@ pub same_expiry : (a b : RunningTimer) → IsNoLater a b → IsNoLater b a → a
 unfolding expiry_of
 same_expiry a b h k =
     let both = both_no_later a.deadline b.deadline _ _ h k in
-    let rest = both_no_later (place a.timer) (place b.timer) (IsNoLaterLink a.of b.of) (IsNoLaterLink b.of a.of) both.1.0 both.1.1 in
-    ap (λ (d : ℕ). expiry_of d a.timer a.of) both.0 ∙ (ap (λ (t : Timer). expiry_of b.deadline t a.of) (same_place a.timer b.timer rest.0)
+    let rest =
+    both_no_later (place a.timer) (place b.timer) (IsNoLaterLink a.of b.of)
+    (IsNoLaterLink b.of a.of) both.1.0 both.1.1 in
+    ap (λ (d : ℕ). expiry_of d a.timer a.of) both.0
+    ∙ (ap (λ (t : Timer). expiry_of b.deadline t a.of) (same_place a.timer b.timer rest.0)
     ∙ ap (expiry_of b.deadline b.timer) (same_link a.of b.of rest.1.0 rest.1.1))

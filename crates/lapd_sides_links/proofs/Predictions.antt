@@ -42,7 +42,8 @@ two_outputs Establish = omega arith
 two_outputs input = omega arith
 
 -- room for any step for this input is room for a predicted one
-pub room_for_predicted : (input : Input) (acts : Effects) → HasRoomFor input acts → HasRoomForPredicted acts
+pub room_for_predicted : (input : Input) (acts : Effects) → HasRoomFor input acts
+    → HasRoomForPredicted acts
 room_for_predicted input acts room = record {
   frames = omega (arith, room.frames, two_outputs input);
   primitives = omega (arith, room.primitives);
@@ -51,42 +52,60 @@ room_for_predicted input acts room = record {
 -- ---- A frame for the link that was found.
 
 -- the link with this id processes a frame with this information
-abbrev hears : ℕ → LinkId → Control → Role → List ℕ → Side → Links → Result (Reaction Links) SideKind
-hears now id control role octets side = in_links id (link_acts side id now (Heard control role) octets)
+abbrev hears : ℕ → LinkId → Control → Role → List ℕ → Side → Links
+    → Result (Reaction Links) SideKind
+hears now id control role octets side =
+    in_links id (link_acts side id now (Heard control role) octets)
 
-pub do_as_found : (now : ℕ) (found id : LinkId) (same : found ≡ id) (control : Control) (role : Role) (octets : List ℕ) (old new : LinkSet) (before after : Effects)
-    → LinksDo old new before after (hears now found control role octets) → LinksDo old new before after (hears now id control role octets)
+pub do_as_found : (now : ℕ) (found id : LinkId) (same : found ≡ id) (control : Control)
+    (role : Role) (octets : List ℕ) (old new : LinkSet) (before after : Effects)
+    → LinksDo old new before after (hears now found control role octets)
+    → LinksDo old new before after (hears now id control role octets)
 do_as_found now found id same control role octets old new before after h =
     subst (λ (i : LinkId). LinksDo old new before after (hears now i control role octets)) same h
 
 -- ---- The steps that are not made.
 
 -- no link with this id has such a step, since the table's link has none
-pub none_taken : (s : LinkSet) (id : LinkId) (control : Control) (role : Role) → NotPredictedAt s.table id control role → LinksHaveNone s (λ links. predicts control role (links id))
-none_taken s id control role h side links shown = by (link_at s.table id) (timers_at s.link_timers id) (links id) h (shown.each id)
+pub none_taken : (s : LinkSet) (id : LinkId) (control : Control) (role : Role)
+    → NotPredictedAt s.table id control role
+    → LinksHaveNone s (λ links. predicts control role (links id))
+none_taken s id control role h side links shown =
+    by (link_at s.table id) (timers_at s.link_timers id) (links id) h (shown.each id)
   where
-    by : (link : Option Link) (timers : Option Timers) (l : Option Linked) → IsSomeAnd link (λ link. (e : End) → LinkRepresents link e → is_predicted control role e ≡ false) → IsLinked link timers l → predicts control role l ≡ false
+    by : (link : Option Link) (timers : Option Timers) (l : Option Linked)
+        → IsSomeAnd link
+        (λ link. (e : End) → LinkRepresents link e → is_predicted control role e ≡ false)
+        → IsLinked link timers l → predicts control role l ≡ false
     by link timers None none is = refl
     by None timers (Some l) none is = absurd none
     by (Some link) (Some timers) (Some l) none is = none l.end is.0
     by (Some link) None (Some l) none is = absurd is
 
-pub none_given : (s : LinkSet) (id : LinkId) (message : List ℕ) → NotAtOnceAt s.table id message → LinksHaveNone s (λ links. gives_at_once message (links id))
-none_given s id message h side links shown = by (link_at s.table id) (timers_at s.link_timers id) (links id) h (shown.each id)
+pub none_given : (s : LinkSet) (id : LinkId) (message : List ℕ) → NotAtOnceAt s.table id message
+    → LinksHaveNone s (λ links. gives_at_once message (links id))
+none_given s id message h side links shown =
+    by (link_at s.table id) (timers_at s.link_timers id) (links id) h (shown.each id)
   where
-    by : (link : Option Link) (timers : Option Timers) (l : Option Linked) → IsSomeAnd link (λ link. (e : End) → LinkRepresents link e → is_sent_at_once message e ≡ false) → IsLinked link timers l → gives_at_once message l ≡ false
+    by : (link : Option Link) (timers : Option Timers) (l : Option Linked)
+        → IsSomeAnd link
+        (λ link. (e : End) → LinkRepresents link e → is_sent_at_once message e ≡ false)
+        → IsLinked link timers l → gives_at_once message l ≡ false
     by link timers None none is = refl
     by None timers (Some l) none is = absurd none
     by (Some link) (Some timers) (Some l) none is = none l.end is.0
     by (Some link) None (Some l) none is = absurd is
 
 -- the link does not exist
-pub no_link : (s : LinkSet) (id : LinkId) → link_at s.table id ≡ None → (side : Side) (links : Links) → ShowLinks side s links → links id ≡ None
+pub no_link : (s : LinkSet) (id : LinkId) → link_at s.table id ≡ None
+    → (side : Side) (links : Links) → ShowLinks side s links → links id ≡ None
 no_link s id absent side links shown =
-    nothing_linked (link_at s.table id) (timers_at s.link_timers id) (links id) absent (shown.each id)
+    nothing_linked (link_at s.table id) (timers_at s.link_timers id) (links id) absent
+    (shown.each id)
 
 -- a frame of no kind that is predicted makes no predicted step
-not_predicted_frame : (control : Control) (role : Role) (e : End) → is_predictable control role ≡ false → is_predicted_frame control role e.window ≡ false
+not_predicted_frame : (control : Control) (role : Role) (e : End)
+    → is_predictable control role ≡ false → is_predicted_frame control role e.window ≡ false
 not_predicted_frame (I ns nr false) Command e h = cc
 not_predicted_frame (I ns nr true) Command e h = refl
 not_predicted_frame (I ns nr false) Answer e h = refl
@@ -105,6 +124,8 @@ not_predicted_frame (Ua f) role e h = refl
 not_predicted_frame (Frmr f) role e h = refl
 not_predicted_frame (Xid pf) role e h = refl
 
-pub not_predicted : (control : Control) (role : Role) (l : Option Linked) → is_predictable control role ≡ false → predicts control role l ≡ false
+pub not_predicted : (control : Control) (role : Role) (l : Option Linked)
+    → is_predictable control role ≡ false → predicts control role l ≡ false
 not_predicted control role None h = refl
-not_predicted control role (Some l) h = rw (not_predicted_frame control role l.end h) (and-false (is_idle l.end))
+not_predicted control role (Some l) h =
+    rw (not_predicted_frame control role l.end h) (and-false (is_idle l.end))

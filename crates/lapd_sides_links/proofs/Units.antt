@@ -23,13 +23,18 @@ link_refuses : (link : Link) (n : ℕ) → 260 < n → Refuses link (UnitData n)
 unfolding step
 link_refuses link n h = λ e represented. rw (lt-ltb 260 n h) refl
 
-refused_there : (at : Option Link) (n : ℕ) → IsSome at → 260 < n → IsSomeAnd at (λ k. Refuses k (UnitData n) TooLong)
+refused_there : (at : Option Link) (n : ℕ) → IsSome at → 260 < n
+    → IsSomeAnd at (λ k. Refuses k (UnitData n) TooLong)
 refused_there None n there h = absurd (cc)
 refused_there (Some link) n there h = link_refuses link n h
 
-pub long_is_refused : (side : Side) (s : LinkSet) (links : Links) (id : LinkId) (key : LinkKey) (now : ℕ) (octets : List ℕ)
+pub long_is_refused : (side : Side) (s : LinkSet) (links : Links) (id : LinkId) (key : LinkKey)
+    (now : ℕ) (octets : List ℕ)
     → (key.id ≡ id) × IsKey s.table key → 260 < length octets
-    → ShowLinks side s links → in_links id (link_acts side id now (UnitData (length octets)) octets) links ≡ Err (kind.Link TooLong)
+    → ShowLinks side s links
+    → in_links id (link_acts side id now (UnitData (length octets)) octets) links
+    ≡ Err (kind.Link TooLong)
 long_is_refused side s links id key now octets found h shown =
     refuses_found side s links key.id id now (UnitData (length octets)) octets TooLong found.0
-    (refused_there (link_at s.table key.id) (length octets) (key_is_of_link s.table key found.1) h) shown
+    (refused_there (link_at s.table key.id) (length octets) (key_is_of_link s.table key found.1) h)
+    shown

@@ -2,7 +2,7 @@ ghost use Rattle.lapd_sides_links.specs.Messages.{IsUnsent};
 
 use std::alloc::{AllocError, Global};
 
-/// What became of a copy of a message that was to be sent at once.
+/// The outcome of a copy of a message that was to be sent at once.
 #[derive(Drop)]
 pub enum AtOnce {
     /// It was sent.

@@ -16,7 +16,8 @@ pub with_zero_counters_are_tags : (m : StateVariables) → AreTags (with_zero_co
 unfolding with_zero_counters
 with_zero_counters_are_tags m = (omega arith, omega arith, omega arith)
 
-pub without_ack_pending_are_tags : (m : StateVariables) → AreTags m → AreTags (without_ack_pending m)
+pub without_ack_pending_are_tags : (m : StateVariables) → AreTags m
+    → AreTags (without_ack_pending m)
 unfolding without_ack_pending
 without_ack_pending_are_tags m tags = tags
 
@@ -24,7 +25,8 @@ vr_is_tag : (accepted : Bool) (n : ℕ) → n < 128 → (if accepted then after 
 vr_is_tag true n tag = after_is_number Tagged n tag
 vr_is_tag false n tag = tag
 
-pub after_i_frame_are_tags : (ns : ℕ) (p : Bool) (m : StateVariables) → AreTags m → AreTags (after_i_frame Tagged ns p m)
+pub after_i_frame_are_tags : (ns : ℕ) (p : Bool) (m : StateVariables) → AreTags m
+    → AreTags (after_i_frame Tagged ns p m)
 unfolding after_i_frame
 after_i_frame_are_tags ns p m tags = (tags.0, tags.1, vr_is_tag (is_accepted ns m) m.vr tags.2)
 
@@ -40,10 +42,12 @@ pub after_sending_are_tags : (m : StateVariables) → AreTags m → AreTags (aft
 unfolding after_sending
 after_sending_are_tags m tags = (after_is_number Tagged m.vs tags.0, tags.1, tags.2)
 
-pub own_busy_are_tags : (busy : Bool) (m : StateVariables) → AreTags m → AreTags (with_own_busy busy m)
+pub own_busy_are_tags : (busy : Bool) (m : StateVariables) → AreTags m
+    → AreTags (with_own_busy busy m)
 unfolding with_own_busy
 own_busy_are_tags busy m tags = tags
 
-pub peer_busy_are_tags : (busy : Bool) (m : StateVariables) → AreTags m → AreTags (with_peer_busy busy m)
+pub peer_busy_are_tags : (busy : Bool) (m : StateVariables) → AreTags m
+    → AreTags (with_peer_busy busy m)
 unfolding with_peer_busy
 peer_busy_are_tags busy m tags = tags

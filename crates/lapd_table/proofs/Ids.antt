@@ -80,14 +80,18 @@ and_both false y h = absurd (cc)
 pub same_id_eq : (a b : LinkId) → id_eq a b ≡ true → a ≡ b
 same_id_eq a b h =
     let both = and_both (sapi_value a.sapi == sapi_value b.sapi) (a.tei == b.tei) h in
-    same_fields a.sapi b.sapi a.tei b.tei (sapi_of_value a.sapi b.sapi (eqb-true _ _ both.0)) (eqb-true _ _ both.1)
+    same_fields a.sapi b.sapi a.tei b.tei (sapi_of_value a.sapi b.sapi (eqb-true _ _ both.0))
+    (eqb-true _ _ both.1)
 
 pub id_eq_self : (a : LinkId) → id_eq a a ≡ true
-id_eq_self a = and_from (sapi_value a.sapi == sapi_value a.sapi) (a.tei == a.tei) (eq-eqb (sapi_value a.sapi) (sapi_value a.sapi) refl) (eq-eqb a.tei a.tei refl)
+id_eq_self a =
+    and_from (sapi_value a.sapi == sapi_value a.sapi) (a.tei == a.tei)
+    (eq-eqb (sapi_value a.sapi) (sapi_value a.sapi) refl) (eq-eqb a.tei a.tei refl)
 
 -- ---- The same for the rank.
 
-same_rank : (s t : Sapi) (m n : ℕ) → m ≤ 127 → n ≤ 127 → sapi_place s * 128 + m ≡ sapi_place t * 128 + n → make s m ≡ make t n
+same_rank : (s t : Sapi) (m n : ℕ) → m ≤ 127 → n ≤ 127
+    → sapi_place s * 128 + m ≡ sapi_place t * 128 + n → make s m ≡ make t n
 same_rank Call Call m n p q h = ap (make Call) (omega (arith, h))
 same_rank Call Packet m n p q h = absurd (omega (arith, p, h))
 same_rank Call Management m n p q h = absurd (omega (arith, p, h))

@@ -18,7 +18,8 @@ abbrev pub every : {X : Type 0} → (X → Bool) → List X → Bool
 every p [] = true
 every p (x ∷ xs) = p x && every p xs
 
-every_is : {X : Type 0} (p : X → Bool) (P : X → Type 0) → ((x : X) → p x ≡ true → P x) → (xs : List X) → every p xs ≡ true → AllByRecursion P xs
+every_is : {X : Type 0} (p : X → Bool) (P : X → Type 0) → ((x : X) → p x ≡ true → P x)
+    → (xs : List X) → every p xs ≡ true → AllByRecursion P xs
 every_is p P sound [] test = tt
 every_is p P sound (x ∷ xs) test =
     let both : (p x ≡ true) × (every p xs ≡ true) = and_parts (p x) (every p xs) test in
@@ -37,17 +38,23 @@ it_is_another (Some m) n test q =
 -- ---- The parts of a premise.
 
 abbrev pub is_nobodys : BusState → ℕ → Bool
-is_nobodys b n = every (λ t. not (is_it (tei_of t) n)) b.terminals && every (λ f. not (is_it (assigned_by f.message.kind f.message.ai) n)) b.down
+is_nobodys b n =
+    every (λ t. not (is_it (tei_of t) n)) b.terminals
+    && every (λ f. not (is_it (assigned_by f.message.kind f.message.ai) n)) b.down
 
 nobodys : (b : BusState) (n : ℕ) → is_nobodys b n ≡ true → IsNobodys b n
 nobodys b n test =
-    let both : (every (λ t. not (is_it (tei_of t) n)) b.terminals ≡ true) × (every (λ f. not (is_it (assigned_by f.message.kind f.message.ai) n)) b.down ≡ true) =
-    and_parts (every (λ t. not (is_it (tei_of t) n)) b.terminals) (every (λ f. not (is_it (assigned_by f.message.kind f.message.ai) n)) b.down) test in
+    let both : (every (λ t. not (is_it (tei_of t) n)) b.terminals ≡ true) ×
+    (every (λ f. not (is_it (assigned_by f.message.kind f.message.ai) n)) b.down ≡ true) =
+    and_parts (every (λ t. not (is_it (tei_of t) n)) b.terminals)
+    (every (λ f. not (is_it (assigned_by f.message.kind f.message.ai) n)) b.down) test in
     record {
       unheld = All-from_recursion (λ t. tei_of t ≢ Some n) b.terminals
-          (every_is (λ t. not (is_it (tei_of t) n)) (λ t. tei_of t ≢ Some n) (λ t. it_is_another (tei_of t) n) b.terminals both.0);
+          (every_is (λ t. not (is_it (tei_of t) n)) (λ t. tei_of t ≢ Some n)
+          (λ t. it_is_another (tei_of t) n) b.terminals both.0);
       unassigned = All-from_recursion (λ f. assigned_by f.message.kind f.message.ai ≢ Some n) b.down
-          (every_is (λ f. not (is_it (assigned_by f.message.kind f.message.ai) n)) (λ f. assigned_by f.message.kind f.message.ai ≢ Some n)
+          (every_is (λ f. not (is_it (assigned_by f.message.kind f.message.ai) n))
+          (λ f. assigned_by f.message.kind f.message.ai ≢ Some n)
           (λ f. it_is_another (assigned_by f.message.kind f.message.ai) n) b.down both.1);
     }
 
@@ -59,7 +66,8 @@ no_others : (b : BusState) (place : Option ℕ) (r : ℕ) → is_no_ones b r ≡
 no_others b place r test i has =
     absurd (all_at (λ t. reference_of t ≢ Some r) b.terminals i has.terminal
     (All-from_recursion (λ t. reference_of t ≢ Some r) b.terminals
-    (every_is (λ t. not (is_it (reference_of t) r)) (λ t. reference_of t ≢ Some r) (λ t. it_is_another (reference_of t) r) b.terminals test))
+    (every_is (λ t. not (is_it (reference_of t) r)) (λ t. reference_of t ≢ Some r)
+    (λ t. it_is_another (reference_of t) r) b.terminals test))
     has.there has.its)
 
 abbrev pub is_known : List Bool → Option ℕ → Bool
@@ -71,17 +79,24 @@ known held None test = tt
 known held (Some n) test = λ from. test
 
 abbrev pub knows_in_use : List Bool → BusState → Bool
-knows_in_use held b = every (λ t. is_known held (tei_of t)) b.terminals && every (λ f. is_known held (assigned_by f.message.kind f.message.ai)) b.down
+knows_in_use held b =
+    every (λ t. is_known held (tei_of t)) b.terminals
+    && every (λ f. is_known held (assigned_by f.message.kind f.message.ai)) b.down
 
 in_use_known : (held : List Bool) (b : BusState) → knows_in_use held b ≡ true → KnowsInUse held b
 in_use_known held b test =
-    let both : (every (λ t. is_known held (tei_of t)) b.terminals ≡ true) × (every (λ f. is_known held (assigned_by f.message.kind f.message.ai)) b.down ≡ true) =
-    and_parts (every (λ t. is_known held (tei_of t)) b.terminals) (every (λ f. is_known held (assigned_by f.message.kind f.message.ai)) b.down) test in
+    let both : (every (λ t. is_known held (tei_of t)) b.terminals ≡ true) ×
+    (every (λ f. is_known held (assigned_by f.message.kind f.message.ai)) b.down ≡ true) =
+    and_parts (every (λ t. is_known held (tei_of t)) b.terminals)
+    (every (λ f. is_known held (assigned_by f.message.kind f.message.ai)) b.down) test in
     record {
       terminals = All-from_recursion (λ t. IsKnown held (tei_of t)) b.terminals
-          (every_is (λ t. is_known held (tei_of t)) (λ t. IsKnown held (tei_of t)) (λ t. known held (tei_of t)) b.terminals both.0);
-      assignments = All-from_recursion (λ f. IsKnown held (assigned_by f.message.kind f.message.ai)) b.down
-          (every_is (λ f. is_known held (assigned_by f.message.kind f.message.ai)) (λ f. IsKnown held (assigned_by f.message.kind f.message.ai))
+          (every_is (λ t. is_known held (tei_of t)) (λ t. IsKnown held (tei_of t))
+          (λ t. known held (tei_of t)) b.terminals both.0);
+      assignments =
+          All-from_recursion (λ f. IsKnown held (assigned_by f.message.kind f.message.ai)) b.down
+          (every_is (λ f. is_known held (assigned_by f.message.kind f.message.ai))
+          (λ f. IsKnown held (assigned_by f.message.kind f.message.ai))
           (λ f. known held (assigned_by f.message.kind f.message.ai)) b.down both.1);
     }
 
@@ -107,10 +122,13 @@ joins b (Want t ri) = true
 joins b (Restart teis) = true
 
 asks_right : (b : BusState) (e : BusEvent) → asks b e ≡ true → AsksByItsOwn b e
-asks_right b e test = every_is (is_no_ones b) (IsNoOthers b (place_of_event e)) (no_others b (place_of_event e)) (references (sent (event_step b e).outs)) test
+asks_right b e test =
+    every_is (is_no_ones b) (IsNoOthers b (place_of_event e)) (no_others b (place_of_event e))
+    (references (sent (event_step b e).outs)) test
 
 frees_right : (b : BusState) (e : BusEvent) → frees b e ≡ true → FreesNobodysTei b e
-frees_right b e test = every_is (is_nobodys b) (IsNobodys b) (nobodys b) (freed (event_step b e).outs) test
+frees_right b e test =
+    every_is (is_nobodys b) (IsNobodys b) (nobodys b) (freed (event_step b e).outs) test
 
 restarts_right : (b : BusState) (e : BusEvent) → restarts b e ≡ true → RestartsKnowing b e
 restarts_right b (Restart teis) test = in_use_known (known_held teis).held b test
@@ -120,7 +138,8 @@ restarts_right b (Join t fixed) test = tt
 
 joins_right : (b : BusState) (e : BusEvent) → joins b e ≡ true → JoinsByItsOwn b e
 joins_right b (Join t (Some tei)) test =
-    let both : (is_nobodys b tei ≡ true) × (is_known b.assigner.held (Some tei) ≡ true) = and_parts (is_nobodys b tei) (is_known b.assigner.held (Some tei)) test in
+    let both : (is_nobodys b tei ≡ true) × (is_known b.assigner.held (Some tei) ≡ true) =
+    and_parts (is_nobodys b tei) (is_known b.assigner.held (Some tei)) test in
     (nobodys b tei both.0, known b.assigner.held (Some tei) both.1)
 joins_right b (Join t None) test = tt
 joins_right b (Move m) test = tt
@@ -131,34 +150,45 @@ joins_right b (Restart teis) test = tt
 
 abbrev pub moves_free : BusState → List BusMove → Bool
 moves_free b [] = true
-moves_free b (m ∷ ms) = every (is_nobodys b) (freed (moved b m).outs) && moves_free (moved b m).now ms
+moves_free b (m ∷ ms) =
+    every (is_nobodys b) (freed (moved b m).outs) && moves_free (moved b m).now ms
 
-pub moves_free_nobodys : (b : BusState) (ms : List BusMove) → moves_free b ms ≡ true → FreesNobodys b ms
+pub moves_free_nobodys : (b : BusState) (ms : List BusMove) → moves_free b ms ≡ true
+    → FreesNobodys b ms
 moves_free_nobodys b [] met = tt
 moves_free_nobodys b (m ∷ ms) met =
-    let both : (every (is_nobodys b) (freed (moved b m).outs) ≡ true) × (moves_free (moved b m).now ms ≡ true) =
-    and_parts (every (is_nobodys b) (freed (moved b m).outs)) (moves_free (moved b m).now ms) met in
-    (every_is (is_nobodys b) (IsNobodys b) (nobodys b) (freed (moved b m).outs) both.0, moves_free_nobodys (moved b m).now ms both.1)
+    let both : (every (is_nobodys b) (freed (moved b m).outs) ≡ true) ×
+    (moves_free (moved b m).now ms ≡ true) =
+    and_parts (every (is_nobodys b) (freed (moved b m).outs)) (moves_free (moved b m).now ms) met in (
+      every_is (is_nobodys b) (IsNobodys b) (nobodys b) (freed (moved b m).outs) both.0,
+      moves_free_nobodys (moved b m).now ms both.1,
+    )
 
 abbrev pub throughout : (BusState → BusEvent → Bool) → BusState → List BusEvent → Bool
 throughout test b [] = true
 throughout test b (e ∷ es) = test b e && throughout test (event_step b e).now es
 
-throughout_is : (test : BusState → BusEvent → Bool) (P : BusState → BusEvent → Type 0) → ((b : BusState) (e : BusEvent) → test b e ≡ true → P b e)
+throughout_is : (test : BusState → BusEvent → Bool) (P : BusState → BusEvent → Type 0)
+    → ((b : BusState) (e : BusEvent) → test b e ≡ true → P b e)
     → (b : BusState) (es : List BusEvent) → throughout test b es ≡ true → Throughout P b es
 throughout_is test P right b [] met = tt
 throughout_is test P right b (e ∷ es) met =
-    let both : (test b e ≡ true) × (throughout test (event_step b e).now es ≡ true) = and_parts (test b e) (throughout test (event_step b e).now es) met in
+    let both : (test b e ≡ true) × (throughout test (event_step b e).now es ≡ true) =
+    and_parts (test b e) (throughout test (event_step b e).now es) met in
     (right b e both.0, throughout_is test P right (event_step b e).now es both.1)
 
-pub run_asks : (b : BusState) (es : List BusEvent) → throughout asks b es ≡ true → Throughout AsksByItsOwn b es
+pub run_asks : (b : BusState) (es : List BusEvent) → throughout asks b es ≡ true
+    → Throughout AsksByItsOwn b es
 run_asks = throughout_is asks AsksByItsOwn asks_right
 
-pub run_frees : (b : BusState) (es : List BusEvent) → throughout frees b es ≡ true → Throughout FreesNobodysTei b es
+pub run_frees : (b : BusState) (es : List BusEvent) → throughout frees b es ≡ true
+    → Throughout FreesNobodysTei b es
 run_frees = throughout_is frees FreesNobodysTei frees_right
 
-pub run_restarts : (b : BusState) (es : List BusEvent) → throughout restarts b es ≡ true → Throughout RestartsKnowing b es
+pub run_restarts : (b : BusState) (es : List BusEvent) → throughout restarts b es ≡ true
+    → Throughout RestartsKnowing b es
 run_restarts = throughout_is restarts RestartsKnowing restarts_right
 
-pub run_joins : (b : BusState) (es : List BusEvent) → throughout joins b es ≡ true → Throughout JoinsByItsOwn b es
+pub run_joins : (b : BusState) (es : List BusEvent) → throughout joins b es ≡ true
+    → Throughout JoinsByItsOwn b es
 run_joins = throughout_is joins JoinsByItsOwn joins_right

@@ -60,7 +60,7 @@ abbrev pub after_events : BusState → List BusEvent → BusState
 after_events b [] = b
 after_events b (e ∷ es) = after_events (event_step b e).now es
 
--- ---- What holds at every moment.
+-- ---- Properties that hold at every moment.
 
 -- the TEI, if any, is held if it is one that the network assigns, from 64 on (3.3.4.2)
 abbrev pub IsKnown : List Bool → Option ℕ → Type 0

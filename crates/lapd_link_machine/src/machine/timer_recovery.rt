@@ -148,7 +148,7 @@ impl Machine {
             Some(taken) => {
                 if last {
                     self.acknowledge(nr, taken, outs);
-                    // What the final does not acknowledge is sent again (Q.921 5.6.7).
+                    // I frames that the final does not acknowledge are sent again (Q.921 5.6.7).
                     self.invoke_retransmission(nr);
                     self.stop_t200(outs);
                     self.start_t203(outs);

@@ -3,20 +3,29 @@ use Rattle.lapd_capture.proofs.Units.{among_end, among_found, among_none, among_
 use Rattle.lapd_capture.proofs.interface.units_in.Goals as goal
 
 pub returns-then-rest-lt5 : goal.returns-then-rest-lt5
-returns-then-rest-lt5 c = sym (c.loop-option.invariant ∙ among_short c.loop-option._option c.args.order c.loop-option.rest.now (search rules) (search rules))
+returns-then-rest-lt5 c =
+    sym (c.loop-option.invariant
+    ∙ among_short c.loop-option._option c.args.order c.loop-option.rest.now (search rules)
+    (search rules))
 
 pub returns-then-code-eq0 : goal.returns-then-code-eq0
 returns-then-code-eq0 c = sym (c.loop-option.invariant
-    ∙ among_end c.loop-option._option c.u16_at-code.result c.args.order c.loop-option.rest.now (search rules) (search rules) c.u16_at-code.ensures.number (search rules))
+    ∙ among_end c.loop-option._option c.u16_at-code.result c.args.order c.loop-option.rest.now
+    (search rules) (search rules) c.u16_at-code.ensures.number (search rules))
 
 pub returns-then-code-eq-RESOLUTION : goal.returns-then-code-eq-RESOLUTION
 returns-then-code-eq-RESOLUTION c = c.units_of.ensures ∙ sym (c.loop-option.invariant
-    ∙ among_found c.loop-option._option c.u16_at-code.result c.args.order c.loop-option.rest.now (search rules) (search rules) c.u16_at-code.ensures.number (search rules))
+    ∙ among_found c.loop-option._option c.u16_at-code.result c.args.order c.loop-option.rest.now
+    (search rules) (search rules) c.u16_at-code.ensures.number (search rules))
 
 pub loop-option-preserved : goal.loop-option-preserved
 loop-option-preserved c = c.loop-option.invariant
-    ∙ among_passed c.loop-option._option c.u16_at-code.result c.u16_at.result c.padded.result c.args.order c.loop-option.rest.now c.after-rest.result.now (search rules) (search rules)
-    c.u16_at-code.ensures.number (search rules) (search rules) c.u16_at.ensures.number c.padded.ensures c.after-rest.ensures
+    ∙ among_passed c.loop-option._option c.u16_at-code.result c.u16_at.result c.padded.result
+    c.args.order c.loop-option.rest.now c.after-rest.result.now (search rules) (search rules)
+    c.u16_at-code.ensures.number (search rules) (search rules) c.u16_at.ensures.number
+    c.padded.ensures c.after-rest.ensures
 
 pub returns : goal.returns
-returns c = sym (c.loop-option.invariant ∙ among_none c.loop-option._option c.args.order c.loop-option.rest.now (search rules))
+returns c =
+    sym (c.loop-option.invariant
+    ∙ among_none c.loop-option._option c.args.order c.loop-option.rest.now (search rules))

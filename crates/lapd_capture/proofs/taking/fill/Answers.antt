@@ -10,13 +10,19 @@ loop-read-preserved g c = elim c.match-read.branch [
   | in-Ok w ↦ rw w.filled-is (record {
     same_length = search rules;
     within = let b = w.in-Ok.ensures.bound.0 in search rules;
-    given = subst (Consumes _ _) (take-filled_more c.loop-read.filled (length c.loop-read.octets - c.loop-read.filled) w.in-Ok.count c.loop-read.octets c.read.new.buf c.loop-read.invariant.within w.in-Ok.ensures.bound.0)
+    given =
+        subst (Consumes _ _) (take-filled_more c.loop-read.filled
+        (length c.loop-read.octets - c.loop-read.filled) w.in-Ok.count c.loop-read.octets
+        c.read.new.buf c.loop-read.invariant.within w.in-Ok.ensures.bound.0)
         (Consumes-trans _ _ _ _ _ c.loop-read.invariant.given w.in-Ok.ensures.bytes.0);
   })
   | in-Err+else-ne w ↦ rw w.filled-is (record {
     same_length = search rules;
     within = search rules;
-    given = subst (Consumes _ _) (sym (take-filled c.loop-read.filled (length c.loop-read.octets - c.loop-read.filled) c.loop-read.octets c.read.new.buf c.loop-read.invariant.within))
+    given =
+        subst (Consumes _ _) (sym (take-filled c.loop-read.filled
+        (length c.loop-read.octets - c.loop-read.filled) c.loop-read.octets c.read.new.buf
+        c.loop-read.invariant.within))
         (Consumes-kept _ _ _ _ c.loop-read.invariant.given w.in-Err.ensures.bytes);
   })
 ]

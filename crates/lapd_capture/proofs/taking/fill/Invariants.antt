@@ -7,5 +7,6 @@ abbrev pub invariant-loop-read : goal.invariant-loop-read
 invariant-loop-read g l = record {
   same_length : length l.octets ≡ length l.initial.octets;
   within : l.filled ≤ length l.octets;
-  given : Consumes (g.R.Read.remaining l.initial.source) (g.R.Read.remaining l.source) (take l.filled l.octets);
+  given : Consumes (g.R.Read.remaining l.initial.source) (g.R.Read.remaining l.source)
+      (take l.filled l.octets);
 }

@@ -6,7 +6,8 @@ abbrev pub invariant-loop-left : goal.invariant-loop-left
 invariant-loop-left g l = record {
   fits : l.left ≤ l.count;
   skipped : (xs : List ℕ) → g.R.Read.remaining l.initial.source ≡ Some xs
-      → (l.count - l.left ≤ length xs) × (g.R.Read.remaining l.source ≡ Some (drop (l.count - l.left) xs));
+      → (l.count - l.left ≤ length xs)
+      × (g.R.Read.remaining l.source ≡ Some (drop (l.count - l.left) xs));
 }
 
 abbrev pub decreases-loop-left : goal.decreases-loop-left

@@ -6,7 +6,9 @@ use Rattle.lapd_cli_decode.proofs.capture_lines.print_capture.Goals as goal
 
 pub returns-in-Ok : goal.returns-in-Ok
 returns-in-Ok g c = λ left e.
-    let place : Printing → Place = λ s. record { reading = reading_of c.args.capture.now left; printing = s } in
-    subst (λ (s : Printing). CaptureEnds c.args.how (place s) c.print_to_end.result (g.W.Write.contents c.args.out.now) (g.W.Write.contents c.print_to_end.new.out))
+    let place : Printing → Place =
+    λ s. record { reading = reading_of c.args.capture.now left; printing = s } in
+    subst (λ (s : Printing). CaptureEnds c.args.how (place s) c.print_to_end.result
+    (g.W.Write.contents c.args.out.now) (g.W.Write.contents c.print_to_end.new.out))
     c.in-Ok.ensures
     (c.print_to_end.ensures left e)

@@ -18,8 +18,12 @@ returns-in-Ok-ended-clause-text g c =
     let representation = new_represents c.in-Ok.mover w rest written c.in-Ok.ensures in
     let a = g.W.Write.contents c.args.out.now in
     let b = g.W.Write.contents c.walk-ended.new.out in
-    closed move_step IsMover known w looper.mover c.close.result a b (g.W.Write.contents c.close.new.out) (text_same known s (Ok tt) a b (c.in-Ok-ended.ensures.ended s representation))
-    (represents_same known s looper.mover (g.S.Source.rest looper.port.source) (g.K.Sink.written looper.port.sink) (c.in-Ok-ended.ensures.state s representation)) c.close.ensures.ok c.close.ensures.err
+    closed move_step IsMover known w looper.mover c.close.result a b
+    (g.W.Write.contents c.close.new.out)
+    (text_same known s (Ok tt) a b (c.in-Ok-ended.ensures.ended s representation))
+    (represents_same known s looper.mover (g.S.Source.rest looper.port.source)
+    (g.K.Sink.written looper.port.sink) (c.in-Ok-ended.ensures.state s representation))
+    c.close.ensures.ok c.close.ensures.err
 
 pub returns-in-Ok-ended-clause-crossed : goal.returns-in-Ok-ended-clause-crossed
 returns-in-Ok-ended-clause-crossed g c =
@@ -29,7 +33,9 @@ returns-in-Ok-ended-clause-crossed g c =
     let written = g.K.Sink.written c.args.port.sink in
     let looper = c.walk-ended.new.command in
     let representation = new_represents c.in-Ok.mover w rest written c.in-Ok.ensures in
-    frames_crossed known w rest written looper.mover (g.S.Source.rest looper.port.source) (g.K.Sink.written looper.port.sink) c.close.result (c.in-Ok-ended.ensures.state (new_loop w rest written) representation)
+    frames_crossed known w rest written looper.mover (g.S.Source.rest looper.port.source)
+    (g.K.Sink.written looper.port.sink) c.close.result
+    (c.in-Ok-ended.ensures.state (new_loop w rest written) representation)
 
 pub returns-clause-text : goal.returns-clause-text
 returns-clause-text g c =
@@ -39,4 +45,6 @@ returns-clause-text g c =
     let s = new_loop w rest written in
     let a = g.W.Write.contents c.args.out.now in
     let b = g.W.Write.contents c.walk-ended.new.out in
-    text_same (g.R.Read.remaining c.args.script.now) s (Err c.in-Err-ended.fault) a b (c.in-Err-ended.ensures.ended s (new_represents c.in-Ok.mover w rest written c.in-Ok.ensures))
+    text_same (g.R.Read.remaining c.args.script.now) s (Err c.in-Err-ended.fault) a b
+    (c.in-Err-ended.ensures.ended s
+    (new_represents c.in-Ok.mover w rest written c.in-Ok.ensures))

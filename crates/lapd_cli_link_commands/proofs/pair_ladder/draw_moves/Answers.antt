@@ -7,4 +7,6 @@ use Rattle.lapd_cli_link_commands.proofs.pair_ladder.draw_moves.Goals as goal
 pub returns-in-Ok-walk : goal.returns-in-Ok-walk
 returns-in-Ok-walk g c =
     let w = new_world c.args.user c.args.network in
-    closed drawn_step IsDrawer _ w c.walk.new.command _ _ _ _ (c.in-Ok-walk.ensures.ended w c.in-Ok.ensures) (c.in-Ok-walk.ensures.state w c.in-Ok.ensures) c.close.ensures.ok c.close.ensures.err
+    closed drawn_step IsDrawer _ w c.walk.new.command _ _ _ _
+    (c.in-Ok-walk.ensures.ended w c.in-Ok.ensures)
+    (c.in-Ok-walk.ensures.state w c.in-Ok.ensures) c.close.ensures.ok c.close.ensures.err

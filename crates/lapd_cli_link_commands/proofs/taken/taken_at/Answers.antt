@@ -9,4 +9,6 @@ use Rattle.lapd_cli_link_commands.proofs.taken.taken_at.Goals as goal
 pub returns-in-None-clause-ok : goal.returns-in-None-clause-ok
 returns-in-None-clause-ok c = λ w h.
     let past = slice_get_past c.line.result.now c.args.place c.in-None.ensures.lookup.3 in
-    sym (ap (taken_at c.args.is_lost c.args.to) (octets_at (λ frame. frame.items) c.line.result.now (line_to c.args.to w) c.args.place None (c.line.ensures w h) (sym past)))
+    sym (ap (taken_at c.args.is_lost c.args.to)
+    (octets_at (λ frame. frame.items) c.line.result.now (line_to c.args.to w) c.args.place
+    None (c.line.ensures w h) (sym past)))

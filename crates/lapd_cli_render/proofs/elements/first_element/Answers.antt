@@ -15,8 +15,10 @@ returns-then-first-eq-SHIFT-clause-elements c =
     let count = c.octets_behind-count.ensures ∙ ap (octets_behind (get_or octets 0 0)) same in
     let long = ap length same in
     elim c.then-first-eq-SHIFT.branch [
-      | then-first-eq-SHIFT-via-then-first-eq-SHIFT w ↦ none_at_end octets _ c.in-len1-up.len_at_least count (inl w.if-first-eq-SHIFT.true)
-      | then-first-eq-SHIFT-via-else-first-eq-SHIFT+then-rest-count w ↦ none_at_end octets _ c.in-len1-up.len_at_least count (inr (omega (arith, long, w.if-rest-count.true)))
+      | then-first-eq-SHIFT-via-then-first-eq-SHIFT w ↦ none_at_end octets _
+          c.in-len1-up.len_at_least count (inl w.if-first-eq-SHIFT.true)
+      | then-first-eq-SHIFT-via-else-first-eq-SHIFT+then-rest-count w ↦ none_at_end octets _
+          c.in-len1-up.len_at_least count (inr (omega (arith, long, w.if-rest-count.true)))
     ]
 
 pub returns-clause-elements : goal.returns-clause-elements
@@ -25,4 +27,6 @@ returns-clause-elements c =
     let same = take_rest octets 1 in
     let count = c.octets_behind-count.ensures ∙ ap (octets_behind (get_or octets 0 0)) same in
     let long = ap length same in
-    one_more octets c.split_at.result.0.now c.split_at.result.1.now _ c.in-len1-up.len_at_least count c.if-first-eq-SHIFT.false (omega (arith, long, c.if-rest-count.false)) c.split_at.ensures.front c.split_at.ensures.back
+    one_more octets c.split_at.result.0.now c.split_at.result.1.now _ c.in-len1-up.len_at_least
+    count c.if-first-eq-SHIFT.false (omega (arith, long, c.if-rest-count.false))
+    c.split_at.ensures.front c.split_at.ensures.back

@@ -11,4 +11,6 @@ loop-fate-preserved c =
     let now = c.loop-fate.fate-items in
     let place = c.loop-fate.fate-index in
     let none : Fate = record { sent_in = None; end = Waiting } in
-    map_over_more (ended c.args.ending) c.args.fates.now now place (slice_index_or now place none) (omega arith) c.loop-fate.invariant (get_or_default now place none (slice_index_or now place none) (omega arith))
+    map_over_more (ended c.args.ending) c.args.fates.now now place (slice_index_or now place none)
+    (omega arith) c.loop-fate.invariant
+    (get_or_default now place none (slice_index_or now place none) (omega arith))

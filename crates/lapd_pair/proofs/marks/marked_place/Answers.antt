@@ -13,6 +13,10 @@ returns c =
     let frames = c.args.frames.now in
     c.unwrap_or.ensures
     ∙ ap (λ o. unwrap_or o (length frames))
-    (position_from_yields_List (λ (frame : ArrayVec ℕ). is_read_marked c.args.role (frame_at c.args.from frame.items)) _ _ c.position.result c.position.ensures.ran (YieldsList-from_slice frames c.iter.ensures.rest) (λ x b q k. search (rules, tests)))
+    (position_from_yields_List
+    (λ (frame : ArrayVec ℕ). is_read_marked c.args.role (frame_at c.args.from frame.items))
+    _ _ c.position.result c.position.ensures.ran
+    (YieldsList-from_slice frames c.iter.ensures.rest) (λ x b q k. search (rules, tests)))
     ∙ place_or_all _ (length frames) (place_within _ frames)
-    ∙ sym (position_or_len-map (λ (frame : ArrayVec ℕ). frame.items) (λ octets. is_read_marked c.args.role (frame_at c.args.from octets)) frames)
+    ∙ sym (position_or_len-map (λ (frame : ArrayVec ℕ). frame.items)
+    (λ octets. is_read_marked c.args.role (frame_at c.args.from octets)) frames)

@@ -6,7 +6,8 @@ use Rattle.lapd_port.proofs.writing.write_all.Given as goal
 
 abbrev pub invariant-loop-turn : goal.invariant-loop-turn
 invariant-loop-turn g l = record {
-  written : (front : List ℕ) × (l.initial.rest ≡ front ++ l.rest) × Appends (g.W.Sink.written l.initial.sink) (g.W.Sink.written l.sink) front;
+  written : (front : List ℕ) × (l.initial.rest ≡ front ++ l.rest)
+      × Appends (g.W.Sink.written l.initial.sink) (g.W.Sink.written l.sink) front;
   some_left : 0 < length l.rest;
   no_failure : g.W.Sink.failure_count l.sink ≡ g.W.Sink.failure_count l.initial.sink;
   turns : Turns g.W.Sink.turn l._turn l.initial.sink l.sink;

@@ -12,4 +12,5 @@ invariant-loop-out l =
     → l.acts.frames ++ filter_map (made_by (setup_of l.link) e l.octets) (drop l.out-index l.outs)
     ≡ l.initial.acts.frames ++ filter_map (made_by (setup_of l.link) e l.octets) l.outs)
     × ((l.acts.primitives ≡ l.initial.acts.primitives)
-    × (length l.acts.frames + length (drop l.out-index l.outs) ≤ length l.initial.acts.frames + length l.outs))
+    × (length l.acts.frames + length (drop l.out-index l.outs) ≤ length l.initial.acts.frames
+    + length l.outs))

@@ -7,16 +7,23 @@ use Rattle.lapd_capture.proofs.capture_reader.CaptureReader.next_block.Goals as 
 
 pub returns-in-All-clause-step : goal.returns-in-All-clause-step
 returns-in-All-clause-step g c = λ left e.
-    let t = all_taken _ _ _ c.take_all.new.octets left 12 c.in_ok-take_all.ensures.taken c.in-All.is c.take_all.auto.octets e in
-    same_step g.R.Read.remaining _ _ c.take_block.result c.take_block.new.self (block_begun (reading_of c.args.self.now left) c.take_all.new.octets t.0 t.1)
+    let t =
+    all_taken _ _ _ c.take_all.new.octets left 12 c.in_ok-take_all.ensures.taken c.in-All.is
+    c.take_all.auto.octets e in
+    same_step g.R.Read.remaining _ _ c.take_block.result c.take_block.new.self
+    (block_begun (reading_of c.args.self.now left) c.take_all.new.octets t.0 t.1)
     (c.take_block.ensures.step (drop 12 left) t.2)
 
 pub returns-in-Part-clause-step : goal.returns-in-Part-clause-step
 returns-in-Part-clause-step g c = λ left e.
-    let t = part_taken _ _ _ c.take_all.new.octets left 12 c.in_ok-take_all.ensures.taken c.in-Part.is c.take_all.auto.octets e in
+    let t =
+    part_taken _ _ _ c.take_all.new.octets left 12 c.in_ok-take_all.ensures.taken
+    c.in-Part.is c.take_all.auto.octets e in
     block_cut (reading_of c.args.self.now left) t.0 t.1
 
 pub returns-in-Nothing-clause-step : goal.returns-in-Nothing-clause-step
 returns-in-Nothing-clause-step g c = λ left e.
-    let t = nothing_taken _ _ _ c.take_all.new.octets left c.in_ok-take_all.ensures.taken c.in-Nothing.is e in
+    let t =
+    nothing_taken _ _ _ c.take_all.new.octets left c.in_ok-take_all.ensures.taken
+    c.in-Nothing.is e in
     ([], t.1, ended block_step (reading_of c.args.self.now left) t.0)

@@ -11,8 +11,21 @@ pub returns-in-Ok : goal.returns-in-Ok
 returns-in-Ok g c = λ s h.
     let done = c.in-Ok.ensures.ok s.end h.end in
     let next : Session = record { setup = s.setup; end = done.0.end } in
-    let representation : IsAnswerer (record { alloc = c.args.self.now.alloc; link = c.handle_into.new.self; outs = c.handle_into.new.outs; octets = c.args.self.now.octets }) next =
+    let representation : IsAnswerer (record {
+      alloc = c.args.self.now.alloc;
+      link = c.handle_into.new.self;
+      outs = c.handle_into.new.outs;
+      octets = c.args.self.now.octets;
+    }) next =
     record { setup = c.in-Ok.ensures.setup ∙ h.setup; end = done.3 } in
-    let fits = fits_with (input_of c.args.event) c.args.input_octets.now s.end done.0 c.requires.input_octets done.1 in
-    let text = text_of_step c.handle_into.new.self next c.args.input_octets.now c.handle_into.new.outs.items c.in-Ok.ensures.frames representation fits in
-    rw (done.1) (printed IsAnswerer (outs_text s.setup (messages_of done.0.end) c.args.input_octets.now done.0.outs) next c.put_outs.result _ _ _ representation (rw (done.2, sym text) (c.put_outs.ensures.ok next representation)) c.put_outs.ensures.err)
+    let fits =
+    fits_with (input_of c.args.event) c.args.input_octets.now s.end done.0
+    c.requires.input_octets done.1 in
+    let text =
+    text_of_step c.handle_into.new.self next c.args.input_octets.now
+    c.handle_into.new.outs.items c.in-Ok.ensures.frames representation fits in
+    rw (done.1) (printed IsAnswerer
+    (outs_text s.setup (messages_of done.0.end) c.args.input_octets.now done.0.outs) next
+    c.put_outs.result _ _ _ representation
+    (rw (done.2, sym text) (c.put_outs.ensures.ok next representation))
+    c.put_outs.ensures.err)

@@ -10,15 +10,33 @@ use Rattle.lapd_queue.specs.Waiting.{without_first}
 
 pub acknowledge-requires : goal.acknowledge-requires
 acknowledge-requires c =
-    let reported : c.from-count.result ≡ acknowledged_count Tagged c.args.nr c.args.self.now.window = c.from-count.ensures ∙ c.requires.taken.count in
-    omega (arith, reported, c.requires.counted, acknowledged_count_at_most Tagged c.args.nr c.args.self.now.window c.requires.taken.valid)
+    let reported : c.from-count.result ≡ acknowledged_count Tagged c.args.nr
+    c.args.self.now.window =
+    c.from-count.ensures ∙ c.requires.taken.count in
+    omega (
+      arith,
+      reported,
+      c.requires.counted,
+      acknowledged_count_at_most Tagged c.args.nr c.args.self.now.window
+          c.requires.taken.valid,
+    )
 
 pub returns-clause-step : goal.returns-clause-step
 unfolding acknowledge without_first
 returns-clause-step c = λ s outs h.
-    let reported : c.from-count.result ≡ acknowledged_count Tagged c.args.nr c.args.self.now.window = c.from-count.ensures ∙ c.requires.taken.count in
-    let count : acknowledged_count Tagged c.args.nr s.end.window ≡ c.from-count.result = ap (acknowledged_count Tagged c.args.nr) h.window ∙ sym reported in
-    let few : c.from-count.result ≤ c.args.self.now.queue.sent = omega (arith, reported, c.requires.counted, acknowledged_count_at_most Tagged c.args.nr c.args.self.now.window c.requires.taken.valid) in
+    let reported : c.from-count.result ≡ acknowledged_count Tagged c.args.nr
+    c.args.self.now.window =
+    c.from-count.ensures ∙ c.requires.taken.count in
+    let count : acknowledged_count Tagged c.args.nr s.end.window ≡ c.from-count.result =
+    ap (acknowledged_count Tagged c.args.nr) h.window ∙ sym reported in
+    let few : c.from-count.result ≤ c.args.self.now.queue.sent =
+    omega (
+      arith,
+      reported,
+      c.requires.counted,
+      acknowledged_count_at_most Tagged c.args.nr c.args.self.now.window
+          c.requires.taken.valid,
+    ) in
     record {
       parameters = h.parameters;
       state = h.state;
@@ -28,7 +46,10 @@ returns-clause-step c = λ s outs h.
       release_pending = h.release_pending;
       t200 = h.t200;
       t203 = h.t203;
-      queue = rw (count, c.acknowledge.ensures.left) (tail_acknowledged _ _ _ c.from-count.result _ h.queue few c.acknowledge.ensures.were_there);
+      queue =
+          rw (count, c.acknowledge.ensures.left)
+          (tail_acknowledged _ _ _ c.from-count.result _ h.queue few
+          c.acknowledge.ensures.were_there);
       room = rw c.acknowledge.ensures.left h.room;
       put = rw (h.put, count) refl;
     }
@@ -37,5 +58,7 @@ pub returns-clause-idle : goal.returns-clause-idle
 unfolding without_first
 returns-clause-idle c = λ idle. record {
   state = idle.state;
-  sent = rw c.acknowledge.ensures.left (ap (λ n. n - c.from-count.result) idle.sent ∙ sym (length-drop c.from-count.result c.args.self.now.queue.messages));
+  sent =
+      rw c.acknowledge.ensures.left (ap (λ n. n - c.from-count.result) idle.sent
+      ∙ sym (length-drop c.from-count.result c.args.self.now.queue.messages));
 }

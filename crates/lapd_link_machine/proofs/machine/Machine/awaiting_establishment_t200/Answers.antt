@@ -4,8 +4,16 @@ use Rattle.lapd_link_machine.proofs.machine.Machine.awaiting_establishment_t200.
 
 pub returns-then-self-n200-clause-step : goal.returns-then-self-n200-clause-step
 unfolding awaiting_establishment_t200
-returns-then-self-n200-clause-step c = λ s h. then_row _ _ _ _ _ (is_below _ _ _ _ h.rc (n200_of _ _ _ h.parameters c.n200.ensures.same) c.if-self-n200.true) (c.start_t200.ensures.step _ (c.put.ensures.step _ (c.expired_t200.ensures.step _ _ (c.increment_rc.ensures.step _ _ h))))
+returns-then-self-n200-clause-step c =
+    λ s h. then_row _ _ _ _ _
+    (is_below _ _ _ _ h.rc (n200_of _ _ _ h.parameters c.n200.ensures.same) c.if-self-n200.true)
+    (c.start_t200.ensures.step _ (c.put.ensures.step _
+    (c.expired_t200.ensures.step _ _ (c.increment_rc.ensures.step _ _ h))))
 
 pub returns-else-self-n200-clause-step : goal.returns-else-self-n200-clause-step
 unfolding awaiting_establishment_t200
-returns-else-self-n200-clause-step c = λ s h. else_row _ _ _ _ _ (is_not_below _ _ _ _ h.rc (n200_of _ _ _ h.parameters c.n200.ensures.same) c.if-self-n200.false) (c.end_establishment.ensures.step _ (c.put-else-self-n200.ensures.step _ (c.discard_i_queue.ensures.step _ (c.expired_t200-else-self-n200.ensures.step _ _ h))))
+returns-else-self-n200-clause-step c =
+    λ s h. else_row _ _ _ _ _ (is_not_below _ _ _ _ h.rc
+    (n200_of _ _ _ h.parameters c.n200.ensures.same) c.if-self-n200.false)
+    (c.end_establishment.ensures.step _ (c.put-else-self-n200.ensures.step _
+    (c.discard_i_queue.ensures.step _ (c.expired_t200-else-self-n200.ensures.step _ _ h))))

@@ -9,7 +9,8 @@ use Rattle.lapd_queue.specs.Waiting.{emptied}
 pub returns-then-dropped-gt0-clause-step : goal.returns-then-dropped-gt0-clause-step
 unfolding discard_i_queue emptied
 returns-then-dropped-gt0-clause-step c = λ s h.
-    let count : waiting s.end ≡ c.discard-dropped.result = tail_waiting _ _ _ _ h.queue ∙ sym c.discard-dropped.ensures.dropped in
+    let count : waiting s.end ≡ c.discard-dropped.result =
+    tail_waiting _ _ _ _ h.queue ∙ sym c.discard-dropped.ensures.dropped in
     record {
       parameters = h.parameters;
       state = h.state;
@@ -21,13 +22,16 @@ returns-then-dropped-gt0-clause-step c = λ s h.
       t203 = h.t203;
       queue = rw c.discard-dropped.ensures.empty (tail_emptied _ _ _ _ h.queue);
       room = rw c.discard-dropped.ensures.empty h.room;
-      put = rw (h.put, count, counted_above c.discard-dropped.result Dropped c.if-dropped-gt0.true) (sym c.push.ensures.items);
+      put =
+          rw (h.put, count, counted_above c.discard-dropped.result Dropped c.if-dropped-gt0.true)
+          (sym c.push.ensures.items);
     }
 
 pub returns-else-dropped-gt0-clause-step : goal.returns-else-dropped-gt0-clause-step
 unfolding discard_i_queue emptied
 returns-else-dropped-gt0-clause-step c = λ s h.
-    let count : waiting s.end ≡ c.discard-dropped.result = tail_waiting _ _ _ _ h.queue ∙ sym c.discard-dropped.ensures.dropped in
+    let count : waiting s.end ≡ c.discard-dropped.result =
+    tail_waiting _ _ _ _ h.queue ∙ sym c.discard-dropped.ensures.dropped in
     record {
       parameters = h.parameters;
       state = h.state;
@@ -39,5 +43,7 @@ returns-else-dropped-gt0-clause-step c = λ s h.
       t203 = h.t203;
       queue = rw c.discard-dropped.ensures.empty (tail_emptied _ _ _ _ h.queue);
       room = rw c.discard-dropped.ensures.empty h.room;
-      put = rw (h.put, count, counted_none c.discard-dropped.result Dropped c.if-dropped-gt0.false) (append-nil _);
+      put =
+          rw (h.put, count, counted_none c.discard-dropped.result Dropped c.if-dropped-gt0.false)
+          (append-nil _);
     }

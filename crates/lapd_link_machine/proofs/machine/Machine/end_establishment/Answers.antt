@@ -9,6 +9,8 @@ use Rattle.lapd_link_machine.proofs.machine.Machine.end_establishment.Goals as g
 pub returns-clause-step : goal.returns-clause-step
 unfolding end_establishment
 returns-clause-step c = λ s h.
-    let same : c.release_primitive-out.result ≡ release_primitive s.end.release_pending = c.release_primitive-out.ensures ∙ ap release_primitive (sym h.release_pending) in
-    subst (λ (out : Out). Represents c.state_to.new.self c.put.new.outs.items (state_to TeiAssigned (release_pending_to false (put out s)))) same
+    let same : c.release_primitive-out.result ≡ release_primitive s.end.release_pending =
+    c.release_primitive-out.ensures ∙ ap release_primitive (sym h.release_pending) in
+    subst (λ (out : Out). Represents c.state_to.new.self c.put.new.outs.items
+    (state_to TeiAssigned (release_pending_to false (put out s)))) same
     (c.state_to.ensures.step _ _ (c.release_pending_to.ensures.step _ _ (c.put.ensures.step _ h)))

@@ -20,7 +20,9 @@ returns-then-ack_pending c = record {
         t203 = h.t203;
         queue = h.queue;
         room = h.room;
-        put = rw (h.put, ap acknowledgement h.window, c.acknowledge_response-window.ensures.response) refl;
+        put =
+            rw (h.put, ap acknowledgement h.window, c.acknowledge_response-window.ensures.response)
+            refl;
       });
 }
 
@@ -28,5 +30,6 @@ pub returns-else-ack_pending : goal.returns-else-ack_pending
 returns-else-ack_pending c = record {
   step = λ s outs h.
       let pending = sym c.ack_pending.ensures ∙ c.if-ack_pending.false in
-      rw (ends_at_once c.args.self.now outs s c.requires.idle h pending) (same_outs _ _ _ _ (none_behind outs) h);
+      rw (ends_at_once c.args.self.now outs s c.requires.idle h pending)
+      (same_outs _ _ _ _ (none_behind outs) h);
 }

@@ -3,4 +3,10 @@ use Rattle.lapd_link_machine.proofs.machine.Machine.established_sabme.Goals as g
 
 pub returns-clause-step : goal.returns-clause-step
 unfolding in_7_and_8
-returns-clause-step c = λ s h. c.state_to.ensures.step _ _ (c.zero_state_variables.ensures.step _ _ (c.start_t203.ensures.step _ (c.stop_t200.ensures.step _ (c.discard_unacknowledged.ensures.step _ (c.put-2.ensures.step _ (c.clear_exception_conditions.ensures.step _ _ (c.put.ensures.step _ h)))))))
+returns-clause-step c =
+    λ s h. c.state_to.ensures.step _ _ (c.zero_state_variables.ensures.step _ _
+    (c.start_t203.ensures.step _ (c.stop_t200.ensures.step _
+    (c.discard_unacknowledged.ensures.step _
+    (c.put-2.ensures.step _
+    (c.clear_exception_conditions.ensures.step _ _
+    (c.put.ensures.step _ h)))))))

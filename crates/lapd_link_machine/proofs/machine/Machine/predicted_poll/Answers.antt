@@ -8,14 +8,24 @@ use Rattle.lapd_link_machine.proofs.Predicted.{then_ends, if_none, if_some}
 use Rattle.lapd_link_machine.proofs.machine.Machine.predicted_poll.Goals as goal
 
 pub acknowledge_and_end-requires-clause-counted : goal.acknowledge_and_end-requires-clause-counted
-acknowledge_and_end-requires-clause-counted c = c.requires.counted ∙ sym (ap (outstanding Tagged) (c.answer_poll_response-window.ensures.window ∙ ap without_ack_pending c.peer.ensures) ∙ outstanding_without_ack_pending Tagged (with_peer_busy false c.args.self.now.window) ∙ outstanding_with_peer_busy Tagged false c.args.self.now.window)
+acknowledge_and_end-requires-clause-counted c =
+    c.requires.counted
+    ∙ sym (ap (outstanding Tagged)
+    (c.answer_poll_response-window.ensures.window ∙ ap without_ack_pending c.peer.ensures)
+    ∙ outstanding_without_ack_pending Tagged (with_peer_busy false c.args.self.now.window)
+    ∙ outstanding_with_peer_busy Tagged false c.args.self.now.window)
 
 pub returns-clause-step : goal.returns-clause-step
 unfolding multiple_frame_established rr_nr poll_or_final set_peer_busy enquiry_response
 returns-clause-step c = if_some c.acknowledge_and_end.result _ _ (λ outs step s h.
-    let peer : with_peer_busy false s.end.window ≡ c.peer.result = ap (with_peer_busy false) h.window ∙ sym c.peer.ensures in
-    let window : without_ack_pending (with_peer_busy false s.end.window) ≡ c.answer_poll_response-window.result.0 = ap without_ack_pending peer ∙ sym c.answer_poll_response-window.ensures.window in
-    let valid : is_valid_nr Tagged c.args.nr (without_ack_pending (with_peer_busy false s.end.window)) ≡ true = ap (is_valid_nr Tagged c.args.nr) window ∙ step.0 in
+    let peer : with_peer_busy false s.end.window ≡ c.peer.result =
+    ap (with_peer_busy false) h.window ∙ sym c.peer.ensures in
+    let window : without_ack_pending (with_peer_busy false s.end.window) ≡
+    c.answer_poll_response-window.result.0 =
+    ap without_ack_pending peer ∙ sym c.answer_poll_response-window.ensures.window in
+    let valid : is_valid_nr Tagged c.args.nr
+    (without_ack_pending (with_peer_busy false s.end.window)) ≡ true =
+    ap (is_valid_nr Tagged c.args.nr) window ∙ step.0 in
     then_ends _ _ _ _ _ valid (step.1 _ (record {
       parameters = h.parameters;
       state = h.state;
@@ -33,4 +43,7 @@ returns-clause-step c = if_some c.acknowledge_and_end.result _ _ (λ outs step s
 pub returns-clause-declined : goal.returns-clause-declined
 unfolding is_valid_nr with_peer_busy without_ack_pending
 returns-clause-declined c = if_none c.acknowledge_and_end.result _ _
-    (λ invalid. ap (is_valid_nr Tagged c.args.nr) (sym (c.answer_poll_response-window.ensures.window ∙ ap without_ack_pending c.peer.ensures)) ∙ invalid) c.acknowledge_and_end.ensures.declined
+    (λ invalid. ap (is_valid_nr Tagged c.args.nr)
+    (sym (c.answer_poll_response-window.ensures.window
+    ∙ ap without_ack_pending c.peer.ensures)) ∙ invalid)
+    c.acknowledge_and_end.ensures.declined

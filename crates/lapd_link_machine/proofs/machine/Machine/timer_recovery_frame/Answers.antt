@@ -10,15 +10,24 @@ returns-in-Dm-clause-step c = λ s h. rw c.in-Dm.is (c.timer_recovery_dm.ensures
 
 pub returns-in-Rr-clause-step : goal.returns-in-Rr-clause-step
 unfolding timer_recovery
-returns-in-Rr-clause-step c = λ s h. rw (c.in-Rr.is, sym c.is_final.ensures) (c.rr_nr_in_recovery.ensures.step _ (c.poll.ensures.step _ (c.set_peer_busy.ensures.step _ _ h)))
+returns-in-Rr-clause-step c =
+    λ s h. rw (c.in-Rr.is, sym c.is_final.ensures)
+    (c.rr_nr_in_recovery.ensures.step _
+    (c.poll.ensures.step _ (c.set_peer_busy.ensures.step _ _ h)))
 
 pub returns-in-Rej-clause-step : goal.returns-in-Rej-clause-step
 unfolding timer_recovery
-returns-in-Rej-clause-step c = λ s h. rw (c.in-Rej.is, sym c.is_final-in-Rej.ensures) (c.rr_nr_in_recovery-in-Rej.ensures.step _ (c.poll-in-Rej.ensures.step _ (c.set_peer_busy-in-Rej.ensures.step _ _ h)))
+returns-in-Rej-clause-step c =
+    λ s h. rw (c.in-Rej.is, sym c.is_final-in-Rej.ensures)
+    (c.rr_nr_in_recovery-in-Rej.ensures.step _
+    (c.poll-in-Rej.ensures.step _ (c.set_peer_busy-in-Rej.ensures.step _ _ h)))
 
 pub returns-in-Rnr-clause-step : goal.returns-in-Rnr-clause-step
 unfolding timer_recovery
-returns-in-Rnr-clause-step c = λ s h. rw (c.in-Rnr.is, sym c.is_final-in-Rnr.ensures) (c.rnr_nr_in_recovery.ensures.step _ (c.poll-in-Rnr.ensures.step _ (c.set_peer_busy-in-Rnr.ensures.step _ _ h)))
+returns-in-Rnr-clause-step c =
+    λ s h. rw (c.in-Rnr.is, sym c.is_final-in-Rnr.ensures)
+    (c.rnr_nr_in_recovery.ensures.step _
+    (c.poll-in-Rnr.ensures.step _ (c.set_peer_busy-in-Rnr.ensures.step _ _ h)))
 
 pub rr_nr_in_recovery-requires-in-Rej-clause-counted :
     goal.rr_nr_in_recovery-requires-in-Rej-clause-counted

@@ -7,7 +7,8 @@ pub returns-clause-counted : goal.returns-clause-counted
 unfolding steps reaches
 returns-clause-counted c =
     let P : ℕ → Type 0 = λ n. AreSteps Tagged n c.args.a c.args.b in
-    subst P (omega arith) (steps_are_counted Tagged c.args.a c.args.b (omega arith) (omega arith) refl)
+    subst P (omega arith)
+    (steps_are_counted Tagged c.args.a c.args.b (omega arith) (omega arith) refl)
 
 pub returns-clause-subtracted : goal.returns-clause-subtracted
 unfolding steps

@@ -8,10 +8,16 @@ pub returns-clause-octets : goal.returns-clause-octets
 returns-clause-octets c =
     let line = c.args.self.now in
     c.forget_taken.ensures.octets
-    ∙ octets_closed_up line.first c.args.place line.end line.frames.items _ c.requires (ap (drop (line.first + 1)) (with_items_is line.frames c.to_first.new.frames (search rules)) ∙ search rules)
+    ∙ octets_closed_up line.first c.args.place line.end line.frames.items _ c.requires
+    (ap (drop (line.first + 1)) (with_items_is line.frames c.to_first.new.frames (search rules))
+    ∙ search rules)
 
 pub returns-clause-polls : goal.returns-clause-polls
-returns-clause-polls c = c.forget_taken.ensures.polls ∙ counted_from _ _ ∙ c.left_of-polls.ensures ∙ ap (left_of c.args.place) c.saturating_sub.ensures
+returns-clause-polls c =
+    c.forget_taken.ensures.polls ∙ counted_from _ _ ∙ c.left_of-polls.ensures
+    ∙ ap (left_of c.args.place) c.saturating_sub.ensures
 
 pub returns-clause-finals : goal.returns-clause-finals
-returns-clause-finals c = c.forget_taken.ensures.finals ∙ counted_from _ _ ∙ c.left_of-finals.ensures ∙ ap (left_of c.args.place) c.saturating_sub-2.ensures
+returns-clause-finals c =
+    c.forget_taken.ensures.finals ∙ counted_from _ _ ∙ c.left_of-finals.ensures
+    ∙ ap (left_of c.args.place) c.saturating_sub-2.ensures

@@ -6,4 +6,6 @@ use Rattle.lapd_pair.proofs.line.Line.forget_taken.Goals as goal
 pub returns-then-self-left-clause-octets : goal.returns-then-self-left-clause-octets
 returns-then-self-left-clause-octets c =
     let frames = c.args.self.now.frames in
-    octets_in_front c.args.self.now.first c.args.self.now.end frames.items _ (omega arith) (ap (take (c.args.self.now.end - c.args.self.now.first)) (with_items_is frames c.to_front.new.frames (search rules)) ∙ search rules)
+    octets_in_front c.args.self.now.first c.args.self.now.end frames.items _ (omega arith)
+    (ap (take (c.args.self.now.end - c.args.self.now.first))
+    (with_items_is frames c.to_front.new.frames (search rules)) ∙ search rules)

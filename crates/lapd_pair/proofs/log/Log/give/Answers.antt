@@ -8,7 +8,8 @@ returns-clause-history c = λ messages h are unsent is. record {
   given = grind (arith, common_steps, c.in-Ok.ensures.items, is.given);
   received = is.received;
   units = is.units;
-  fates = c.in-Ok-push.ensures.items ∙ given_after c.args.self.now is are unsent c.args.message.items;
+  fates =
+      c.in-Ok-push.ensures.items ∙ given_after c.args.self.now is are unsent c.args.message.items;
   begun = is.begun;
   acknowledged = is.acknowledged;
   dropped = is.dropped;

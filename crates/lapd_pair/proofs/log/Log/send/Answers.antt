@@ -7,7 +7,9 @@ returns-then-place-waiting-clause-history c = λ messages h establishment begun 
   given = is.given;
   received = is.received;
   units = is.units;
-  fates = unsent_after c.args.self.now is are c.args.place c.waiting.result establishment c.waiting.ensures.counted (omega arith);
+  fates =
+      unsent_after c.args.self.now is are c.args.place c.waiting.result establishment
+      c.waiting.ensures.counted (omega arith);
   begun = is.begun;
   acknowledged = is.acknowledged;
   dropped = is.dropped;
@@ -18,7 +20,11 @@ returns-clause-history c = λ messages h establishment begun are is. record {
   given = is.given;
   received = is.received;
   units = is.units;
-  fates = sent_after c.args.self.now is are c.args.place c.waiting.result c.establishment-establishment.result _ establishment c.index_mut.result.now c.waiting.ensures.counted (omega arith) (omega (arith, c.settled.ensures.counted)) begun c.establishment-establishment.ensures c.index_mut.ensures.value;
+  fates =
+      sent_after c.args.self.now is are c.args.place c.waiting.result
+      c.establishment-establishment.result _ establishment c.index_mut.result.now
+      c.waiting.ensures.counted (omega arith) (omega (arith, c.settled.ensures.counted)) begun
+      c.establishment-establishment.ensures c.index_mut.ensures.value;
   begun = is.begun;
   acknowledged = is.acknowledged;
   dropped = is.dropped;

@@ -13,19 +13,27 @@ pub loop-moves-init : goal.loop-moves-init
 loop-moves-init c = none_made c.args.self.now
 
 pub loop-moves-preserved : goal.loop-moves-preserved
-loop-moves-preserved c = one_made (next_move Tagged) (settling Tagged) (one_more Tagged) c.args.self.now c.loop-moves.self c.apply_into.new.self c.loop-moves.moves (move_of c.in-Some.mv) c.apply_into.new.outs.items c.loop-moves.invariant c.in-Some.ensures c.in-Ok.ensures.ok
+loop-moves-preserved c =
+    one_made (next_move Tagged) (settling Tagged) (one_more Tagged) c.args.self.now
+    c.loop-moves.self c.apply_into.new.self c.loop-moves.moves (move_of c.in-Some.mv)
+    c.apply_into.new.outs.items c.loop-moves.invariant c.in-Some.ensures c.in-Ok.ensures.ok
 
 -- ---- No further move is possible.
 
 pub returns-in_default-clause-ok : goal.returns-in_default-clause-ok
-returns-in_default-clause-ok c = λ w s. as_settled _ _ w (no_move_is_left (next_move Tagged) (settling Tagged) (no_more Tagged) c.args.self.now c.loop-moves.self c.loop-moves.moves c.loop-moves.invariant c.in_default.ensures w s _
+returns-in_default-clause-ok c =
+    λ w s. as_settled _ _ w (no_move_is_left (next_move Tagged) (settling Tagged) (no_more Tagged)
+    c.args.self.now c.loop-moves.self c.loop-moves.moves c.loop-moves.invariant
+    c.in_default.ensures w s _
     (omega (arith, c.most_moves-most.ensures w s, c.loop-moves-test.true)))
 
 pub returns-in_default-clause-drained : goal.returns-in_default-clause-drained
-returns-in_default-clause-drained c = drained_pair c.args.self.now c.loop-moves.self _ (returns-in_default-clause-ok c)
+returns-in_default-clause-drained c =
+    drained_pair c.args.self.now c.loop-moves.self _ (returns-in_default-clause-ok c)
 
 pub returns-in_default-clause-emptied : goal.returns-in_default-clause-emptied
-returns-in_default-clause-emptied c = emptied c.args.self.now c.loop-moves.self _ (returns-in_default-clause-ok c)
+returns-in_default-clause-emptied c =
+    emptied c.args.self.now c.loop-moves.self _ (returns-in_default-clause-ok c)
 
 pub returns-in_default-clause-safe : goal.returns-in_default-clause-safe
 returns-in_default-clause-safe c = pair_is_safe _
@@ -36,15 +44,24 @@ returns-in_default-clause-readers c = readings_are_safe _
 -- ---- An allocation fails.
 
 pub returns-in-Err-clause-err : goal.returns-in-Err-clause-err
-returns-in-Err-clause-err c = λ w s. stopped_at c.args.self.now c.loop-moves.self c.apply_into.new.self c.loop-moves.moves (move_of c.in-Some.mv) c.in-Err.fault c.loop-moves.invariant c.in-Some.ensures c.in-Err.ensures.err c.in-Err.ensures.unchanged w s
+returns-in-Err-clause-err c =
+    λ w s. stopped_at c.args.self.now c.loop-moves.self c.apply_into.new.self c.loop-moves.moves
+    (move_of c.in-Some.mv) c.in-Err.fault c.loop-moves.invariant c.in-Some.ensures
+    c.in-Err.ensures.err c.in-Err.ensures.unchanged w s
     (omega (arith, c.most_moves-most.ensures w s, c.loop-moves-test.true))
 
 -- ---- All moves are made.
 
 pub returns-clause-ok : goal.returns-clause-ok
-returns-clause-ok c = λ w s. as_settled _ _ w (all_made (next_move Tagged) (settling Tagged) c.args.self.now c.loop-moves.self c.most_moves-most.result c.is_none.result
-    (subst (λ n. AreMade (settling Tagged) c.args.self.now n c.loop-moves.self) (omega (arith, c.loop-moves-test.false, c.loop-moves.auto.moves-end)) c.loop-moves.invariant)
-    (λ u su. none_is_not_some c.next_move-2.result c.is_none.result c.is_none.ensures ∙ sym (none_mapped (λ m. move_of m) c.next_move-2.result) ∙ ap is_none (c.next_move-2.ensures u su))
+returns-clause-ok c =
+    λ w s. as_settled _ _ w (all_made (next_move Tagged) (settling Tagged) c.args.self.now
+    c.loop-moves.self c.most_moves-most.result c.is_none.result
+    (subst (λ n. AreMade (settling Tagged) c.args.self.now n c.loop-moves.self)
+    (omega (arith, c.loop-moves-test.false, c.loop-moves.auto.moves-end))
+    c.loop-moves.invariant)
+    (λ u su. none_is_not_some c.next_move-2.result c.is_none.result c.is_none.ensures ∙ sym
+    (none_mapped (λ m. move_of m) c.next_move-2.result) ∙ ap is_none
+    (c.next_move-2.ensures u su))
     w s _ (c.most_moves-most.ensures w s))
 
 pub returns-clause-drained : goal.returns-clause-drained

@@ -8,9 +8,16 @@ use Rattle.lapd_pair.proofs.recorded_link.RecordedLink.lose.Goals as goal
 
 pub returns-then-lose-clause-ok : goal.returns-then-lose-clause-ok
 returns-then-lose-clause-ok c = λ side v preserved shown.
-    let there = sym (c.lose.ensures.there (other_side side) v.incoming shown.incoming) ∙ c.if-lose.true in
-    subst (λ (outs : List Out). IsDone side c.args.self.now c.lose.new.self c.args.outward.now (loses c.args.place v) outs) (sym c.clear.ensures)
-    (lost_shown side c.args.place v c.args.self.now c.args.inward.now c.lose.new.self c.args.outward.now there shown (c.lose.ensures.shows (other_side side) v.incoming shown.incoming c.if-lose.true))
+    let there =
+    sym (c.lose.ensures.there (other_side side) v.incoming shown.incoming)
+    ∙ c.if-lose.true in
+    subst (λ (outs : List Out). IsDone side c.args.self.now c.lose.new.self c.args.outward.now
+    (loses c.args.place v) outs) (sym c.clear.ensures)
+    (lost_shown side c.args.place v c.args.self.now c.args.inward.now c.lose.new.self
+    c.args.outward.now there shown
+    (c.lose.ensures.shows (other_side side) v.incoming shown.incoming c.if-lose.true))
 
 pub returns-else-lose-clause-err : goal.returns-else-lose-clause-err
-returns-else-lose-clause-err c = λ side v shown. lost_nowhere c.args.place v (sym (c.lose.ensures.there (other_side side) v.incoming shown.incoming) ∙ c.if-lose.false)
+returns-else-lose-clause-err c =
+    λ side v shown. lost_nowhere c.args.place v
+    (sym (c.lose.ensures.there (other_side side) v.incoming shown.incoming) ∙ c.if-lose.false)

@@ -7,7 +7,9 @@ use Rattle.lapd_sides_links.proofs.acts.Acts.deliver_up.Goals as goal
 pub next_place-place-requires-clause-room : goal.next_place-place-requires-clause-room
 next_place-place-requires-clause-room c =
     let fits = c.self.invariant in
-    free_primitive c.self.inside.primitives.items c.self.inside.first_primitive c.self.inside.primitives_end MOST_PRIMITIVES _ fits.primitives_end (rw (← c.self.view_is) at c.requires.room) fits.primitive_room
+    free_primitive c.self.inside.primitives.items c.self.inside.first_primitive
+    c.self.inside.primitives_end MOST_PRIMITIVES _ fits.primitives_end
+    (rw (← c.self.view_is) at c.requires.room) fits.primitive_room
 
 pub invariant_of-self : goal.invariant_of-self
 invariant_of-self c =
@@ -19,12 +21,15 @@ invariant_of-self c =
       frames_begin = fits.frames_begin;
       frames_end = fits.frames_end;
       primitives_begin = omega arith;
-      primitives_end = omega (arith, length-set next.new.items.items next.result c.set_up.new.primitive);
+      primitives_end =
+          omega (arith, length-set next.new.items.items next.result c.set_up.new.primitive);
       least = fits.least;
     }
 
 pub returns : goal.returns
 returns c =
     let next = c.next_place-place in
-    rw (← c.self.view_is) (primitive_behind c.self.inside.primitives.items next.new.items.items c.self.inside.first_primitive c.self.inside.primitives_end next.new.first next.result next.new.end c.set_up.new.primitive _ _
+    rw (← c.self.view_is) (primitive_behind c.self.inside.primitives.items next.new.items.items
+    c.self.inside.first_primitive c.self.inside.primitives_end next.new.first next.result
+    next.new.end c.set_up.new.primitive _ _
     next.ensures.first next.ensures.within next.ensures.end next.ensures.same c.set_up.ensures)

@@ -7,7 +7,8 @@ use Rattle.lapd_sides_links.proofs.acts.Acts.put.Goals as goal
 pub next_place-place-requires-clause-room : goal.next_place-place-requires-clause-room
 next_place-place-requires-clause-room c =
     let fits = c.self.invariant in
-    free_frame c.self.inside.frames.items c.self.inside.first_frame c.self.inside.frames_end MOST_FRAMES _ fits.frames_end (rw (← c.self.view_is) at c.requires) fits.frame_room
+    free_frame c.self.inside.frames.items c.self.inside.first_frame c.self.inside.frames_end
+    MOST_FRAMES _ fits.frames_end (rw (← c.self.view_is) at c.requires) fits.frame_room
 
 pub invariant_of-self : goal.invariant_of-self
 invariant_of-self c =
@@ -20,12 +21,18 @@ invariant_of-self c =
       frames_end = omega (arith, length-set next.new.items.items next.result c.write.new.self);
       primitives_begin = fits.primitives_begin;
       primitives_end = fits.primitives_end;
-      least = least_behind c.self.inside.frames.items next.new.items.items c.self.inside.first_frame c.self.inside.frames_end next.new.first next.result next.new.end c.write.new.self
-          next.ensures.first next.ensures.within next.ensures.end next.ensures.same c.write.ensures.least fits.least;
+      least =
+          least_behind c.self.inside.frames.items next.new.items.items c.self.inside.first_frame
+          c.self.inside.frames_end next.new.first next.result next.new.end c.write.new.self
+          next.ensures.first next.ensures.within next.ensures.end next.ensures.same
+          c.write.ensures.least fits.least;
     }
 
 pub returns : goal.returns
 returns c =
     let next = c.next_place-place in
-    rw (← c.self.view_is) (frame_behind c.self.inside.frames.items next.new.items.items c.self.inside.first_frame c.self.inside.frames_end next.new.first next.result next.new.end c.write.new.self _ _
-    next.ensures.first next.ensures.within next.ensures.end next.ensures.same (c.write.ensures.written))
+    rw (← c.self.view_is) (frame_behind c.self.inside.frames.items next.new.items.items
+    c.self.inside.first_frame c.self.inside.frames_end next.new.first next.result
+    next.new.end c.write.new.self _ _
+    next.ensures.first next.ensures.within next.ensures.end next.ensures.same
+    (c.write.ensures.written))

@@ -7,7 +7,8 @@ use Rattle.lapd_sides_links.proofs.link_set.LinkSet.act_predicted_at.Goals as go
 
 pub returns-in-Some-clause-ok : goal.returns-in-Some-clause-ok
 returns-in-Some-clause-ok c = λ is side links shown.
-    have_acted side c.args.self.now c.carry_out_predicted.new.self c.predicted_step_at.new.self links
+    have_acted side c.args.self.now c.carry_out_predicted.new.self c.predicted_step_at.new.self
+    links
     c.args.key.now.id c.args.now
     (Heard (predicted_control c.args.kind c.args.nr) (predicted_role c.args.kind)) c.args.info.now
     (predicted_outs c.in-Some.outs) c.args.acts.now c.carry_out_predicted.new.acts

@@ -4,4 +4,6 @@ use Rattle.lapd_sides_links.specs.Shown.{ShowLinks}
 use Rattle.lapd_sides_links.proofs.link_set.LinkSet.add_held.Given as goal
 
 abbrev pub invariant-loop-tei : goal.invariant-loop-tei
-invariant-loop-tei l = (side : Side) → ShowLinks side l.initial.self no_links → ShowLinks side l.self (links_below l.config l.assigner.held l.tei)
+invariant-loop-tei l =
+    (side : Side) → ShowLinks side l.initial.self no_links
+    → ShowLinks side l.self (links_below l.config l.assigner.held l.tei)

@@ -9,12 +9,17 @@ pub returns-clause-frames : goal.returns-clause-frames
 returns-clause-frames c = λ link e there represented.
     let g = c.args.outs.now in
     let found = c.link_at.result.now in
-    frames_put c.args.self.now.table c.args.key.now.id link found e [] (given_outs g) (given_outs g) c.args.acts.now.frames _ _
+    frames_put c.args.self.now.table c.args.key.now.id link found e [] (given_outs g) (given_outs g)
+    c.args.acts.now.frames _ _
     there c.link_at.ensures.value c.link_at.ensures.setup represented
-    (λ e shown. given_frames_put (setup_of found) e [] g _ _ (c.put_message_frame.ensures.frames e [] shown)) refl refl
+    (λ e shown. given_frames_put (setup_of found) e
+    [] g _ _ (c.put_message_frame.ensures.frames e [] shown)) refl refl
 
 pub returns-clause-primitives : goal.returns-clause-primitives
-returns-clause-primitives c = given_primitives_put c.args.key.now.id c.args.outs.now _ _ c.put_message_frame.ensures.primitives
+returns-clause-primitives c =
+    given_primitives_put c.args.key.now.id c.args.outs.now _ _
+    c.put_message_frame.ensures.primitives
 
 pub returns-clause-own : goal.returns-clause-own
-returns-clause-own c = rw (sym c.id.ensures) (c.apply_send.ensures.own ∙ given_timed c.args.now c.args.outs.now _)
+returns-clause-own c =
+    rw (sym c.id.ensures) (c.apply_send.ensures.own ∙ given_timed c.args.now c.args.outs.now _)

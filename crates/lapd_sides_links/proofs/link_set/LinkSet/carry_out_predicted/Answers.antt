@@ -12,8 +12,13 @@ returns-clause-frames c = λ link e there represented.
     c.deliver_acknowledged.ensures.frames (c.put_response-2.ensures.frames e octets))
 
 pub returns-clause-primitives : goal.returns-clause-primitives
-returns-clause-primitives c = rw (sym c.id-id.ensures) (predicted_primitives_put c.id-id.result.now c.args.octets.now c.args.outs.now _ _ _ _ _ c.put_response.ensures.primitives c.deliver_message.ensures.primitives
-    (c.deliver_acknowledged.ensures.primitives c.args.octets.now) c.put_response-2.ensures.primitives)
+returns-clause-primitives c =
+    rw (sym c.id-id.ensures) (predicted_primitives_put c.id-id.result.now c.args.octets.now
+    c.args.outs.now _ _ _ _ _ c.put_response.ensures.primitives
+    c.deliver_message.ensures.primitives
+    (c.deliver_acknowledged.ensures.primitives c.args.octets.now)
+    c.put_response-2.ensures.primitives)
 
 pub returns-clause-own : goal.returns-clause-own
-returns-clause-own c = rw (sym c.id-id.ensures) (c.apply_nr.ensures.own ∙ predicted_timed c.args.now c.args.outs.now _)
+returns-clause-own c =
+    rw (sym c.id-id.ensures) (c.apply_nr.ensures.own ∙ predicted_timed c.args.now c.args.outs.now _)

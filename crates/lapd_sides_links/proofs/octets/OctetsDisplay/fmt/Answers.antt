@@ -7,5 +7,7 @@ use Rattle.lapd_sides_links.proofs.octets.OctetsDisplay.fmt.Goals as goal
 
 pub unreachable-requires-in_default-from_utf8 : goal.unreachable-requires-in_default-from_utf8
 unreachable-requires-in_default-from_utf8 g c =
-    let ascii = IsAscii-encode_with lower_digits c.as_slice.result.now (IsAscii-from_all lower_digits (search rules)) in
+    let ascii =
+    IsAscii-encode_with lower_digits c.as_slice.result.now
+    (IsAscii-from_all lower_digits (search rules)) in
     c.in_default-from_utf8.ensures.cases.0 (rw c.in-Ok.ensures.written (IsUtf8-from_ascii _ ascii))

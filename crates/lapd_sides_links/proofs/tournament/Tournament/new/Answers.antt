@@ -3,7 +3,11 @@ use Rattle.lapd_sides_links.proofs.Tournaments.{new_tournament, none_entered, no
 use Rattle.lapd_sides_links.proofs.tournament.Tournament.new.Goals as goal
 
 pub invariant_of-result : goal.invariant_of-result
-invariant_of-result c = (inl (refl, new_tournament c.in_ok-from_array.field-0.items c.in_ok-from_array.ensures.items), none_at c.in_ok-from_array.field-0.items 1 c.in_ok-from_array.ensures.items)
+invariant_of-result c = (
+  inl
+      (refl, new_tournament c.in_ok-from_array.field-0.items c.in_ok-from_array.ensures.items),
+  none_at c.in_ok-from_array.field-0.items 1 c.in_ok-from_array.ensures.items,
+)
 
 pub returns : goal.returns
 returns c = none_entered c.in_ok-from_array.field-0.items c.in_ok-from_array.ensures.items

@@ -10,4 +10,5 @@ give_under-requires c = c.requires
 
 pub returns-clause-key : goal.returns-clause-key
 unfolding IsKey
-returns-clause-key c = ap (λ keys. key_of keys c.args.key.now.id) c.give_under.ensures.keys ∙ c.requires
+returns-clause-key c =
+    ap (λ keys. key_of keys c.args.key.now.id) c.give_under.ensures.keys ∙ c.requires

@@ -10,4 +10,5 @@ handle_under-requires c = record { named = c.requires.key; for_link = c.requires
 
 pub returns-clause-key : goal.returns-clause-key
 unfolding IsKey
-returns-clause-key c = ap (λ keys. key_of keys c.args.key.now.id) c.handle_under.ensures.keys ∙ c.requires.key
+returns-clause-key c =
+    ap (λ keys. key_of keys c.args.key.now.id) c.handle_under.ensures.keys ∙ c.requires.key

@@ -10,8 +10,12 @@ index-requires c = has_link c.args.self.now c.args.key.now.id c.args.key.now.pla
 
 pub returns-clause-value : goal.returns-clause-value
 unfolding IsKey
-returns-clause-value c = link_at_key c.args.self.now c.args.key.now.id c.args.key.now.place c.requires ∙ c.index.ensures
+returns-clause-value c =
+    link_at_key c.args.self.now c.args.key.now.id c.args.key.now.place c.requires ∙ c.index.ensures
 
 pub returns-clause-setup : goal.returns-clause-setup
 unfolding IsKey
-returns-clause-setup c = setup_at c.args.self.now c.args.key.now.id c.index.result.now (link_at_key c.args.self.now c.args.key.now.id c.args.key.now.place c.requires ∙ c.index.ensures)
+returns-clause-setup c =
+    setup_at c.args.self.now c.args.key.now.id c.index.result.now
+    (link_at_key c.args.self.now c.args.key.now.id c.args.key.now.place c.requires
+    ∙ c.index.ensures)

@@ -6,7 +6,8 @@ use Rattle.lapd_table.proofs.link_table.LinkTable.new_message_at.Goals as goal
 
 pub index_mut-requires : goal.index_mut-requires
 unfolding IsKey
-index_mut-requires c = has_link c.args.self.now c.args.key.now.id c.args.key.now.place c.requires.key
+index_mut-requires c =
+    has_link c.args.self.now c.args.key.now.id c.args.key.now.place c.requires.key
 
 pub invariant_of-self : goal.invariant_of-self
 unfolding IsKey

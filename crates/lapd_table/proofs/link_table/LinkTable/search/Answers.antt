@@ -8,4 +8,5 @@ unfolding IsKey
 returns-in-Some-clause-found c = sym c.in-Some.ensures.value
 
 pub returns-in-None-clause-none : goal.returns-in-None-clause-none
-returns-in-None-clause-none c = λ same. none_at c.args.self.now c.args.id (sym c.in-None.ensures.value)
+returns-in-None-clause-none c =
+    λ same. none_at c.args.self.now c.args.id (sym c.in-None.ensures.value)

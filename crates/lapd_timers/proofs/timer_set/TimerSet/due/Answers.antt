@@ -6,4 +6,5 @@ use Rattle.lapd_timers.proofs.timer_set.TimerSet.due.Goals as goal
 
 pub returns : goal.returns
 returns c = subst (λ s. IsDue c.args.now s c.timer_of.result) c.self.view_is
-    (found _ _ _ _ _ _ _ c.sooner-least.ensures c.sooner-least-2.ensures c.sooner-least-3.ensures c.sooner-least-4.ensures c.timer_of.ensures)
+    (found _ _ _ _ _ _ _ c.sooner-least.ensures c.sooner-least-2.ensures c.sooner-least-3.ensures
+    c.sooner-least-4.ensures c.timer_of.ensures)

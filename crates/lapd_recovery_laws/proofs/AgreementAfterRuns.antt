@@ -1,0 +1,192 @@
+-- Agreement is kept after every run, on whole numbers and on tags.
+use Rattle.std.proofs.Common.{◌≡◌, ◌⊎◌, inl, inr, ℕ, ◌-◌, ◌≤◌, ◌==◌, ◌&&◌, ◌||◌, true, false, List, ◌∷◌, map, refl, sym, ap, subst, ◌∙◌, arith, []}
+use Rattle.lapd_frame.specs.declared.Role.{Role}
+use Rattle.lapd_frame.specs.declared.Role.TheVariants.{Command, Answer}
+use Rattle.lapd_frame.specs.declared.Control.{Control}
+use Rattle.lapd_frame.specs.declared.Control.TheVariants.{I, Rr, Rnr, Rej}
+use Rattle.lapd_mod128.specs.Counting.{Reading, Whole, Tagged, tag}
+use Rattle.lapd_supervision.specs.Tags.{tag_variables, tag_control}
+use Rattle.lapd_link_definition.specs.End.{End}
+use Rattle.lapd_link_definition.specs.Parameters.{Parameters}
+use Rattle.lapd_link_definition.specs.Tagging.{tag_end}
+use Rattle.lapd_pair_laws.specs.Consistent.{IsConsistentWorld}
+use Rattle.lapd_pair_laws.specs.Invariant.{IsInvariant}
+use Rattle.lapd_pair_laws.specs.Kinds.{kind_of, kinds, tally, poll_of, final_of}
+use Rattle.lapd_pair_laws.specs.Line.{Flight}
+use Rattle.lapd_pair_laws.specs.Move.{PairEvent, Expire200, Expire203, Move}
+use Rattle.lapd_pair_laws.specs.Tagged.{tag_flight, tag_world}
+use Rattle.lapd_pair_laws.specs.World.{World, new_world, world_after, happens, run, left}
+use Rattle.lapd_pair_laws.proofs.Consistency.{run_consistent}
+use Rattle.lapd_pair_laws.proofs.Reached.{reached_tags}
+use Rattle.lapd_pair_laws.proofs.TaggedMoves.{left_on_tags}
+use Rattle.lapd_pair_laws.proofs.Whole.{each_move_preserves}
+use Rattle.lapd_recovery_laws.specs.Agreed.{AreReleased}
+use Rattle.lapd_recovery_laws.specs.EveryWorld.{IsFreeWorld}
+use Rattle.lapd_recovery_laws.specs.KeptAgreement.{is_answered, polls_in_transit, are_in_step, is_due_or_203, AreOwnOr203, IsEqual, AreEqual, AreInAgreement, KeepsAgreement}
+use Rattle.lapd_recovery_laws.specs.Own.{is_due}
+use Rattle.lapd_recovery_laws.proofs.EveryWorld.{world_comes_back, free_world_by_tags}
+use Rattle.lapd_recovery_laws.proofs.OwnOnTags.{due_on_tags, ok_on_tags, world_on_tags, ran_on_tags}
+use Rattle.lapd_recovery_laws.proofs.RunsEmpty as runs
+use Rattle.lapd_recovery_laws.proofs.KeepsAgreement.{Kept, settled, settled_by_tags, world_keeps}
+
+-- ---- After every run, on whole numbers and on tags.
+
+-- a frame on tags polls, and answers a poll, if it does so on whole numbers
+same_polls : (role : Role) (control : Control) (info : List ℕ) (place : ℕ)
+    → (poll_of (kind_of role (tag_control control) info place)
+    ≡ poll_of (kind_of role control info place))
+    × (final_of (kind_of role (tag_control control) info place)
+    ≡ final_of (kind_of role control info place))
+unfolding tag_control
+same_polls Command (I ns nr p) info place = (refl, refl)
+same_polls Answer (I ns nr p) info place = (refl, refl)
+same_polls Command (Rr nr true) info place = (refl, refl)
+same_polls Command (Rr nr false) info place = (refl, refl)
+same_polls Answer (Rr nr true) info place = (refl, refl)
+same_polls Answer (Rr nr false) info place = (refl, refl)
+same_polls Command (Rnr nr true) info place = (refl, refl)
+same_polls Command (Rnr nr false) info place = (refl, refl)
+same_polls Answer (Rnr nr true) info place = (refl, refl)
+same_polls Answer (Rnr nr false) info place = (refl, refl)
+same_polls Command (Rej nr pf) info place = (refl, refl)
+same_polls Answer (Rej nr true) info place = (refl, refl)
+same_polls Answer (Rej nr false) info place = (refl, refl)
+same_polls role control info place = (refl, refl)
+
+polls_on_tags : (fs : List Flight)
+    → (tally poll_of (kinds (map tag_flight fs)) ≡ tally poll_of (kinds fs))
+    × (tally final_of (kinds (map tag_flight fs)) ≡ tally final_of (kinds fs))
+polls_on_tags [] = (refl, refl)
+polls_on_tags (f ∷ fs) =
+    let one = same_polls f.role f.control f.info f.place in
+    let rest = polls_on_tags fs in
+    let a = one.0 in
+    let b = one.1 in
+    let c = rest.0 in
+    let d = rest.1 in
+    (omega (arith, a, c), omega (arith, b, d))
+
+in_transit_on_tags : (out back : List Flight)
+    → polls_in_transit (map tag_flight out) (map tag_flight back) ≡ polls_in_transit out back
+in_transit_on_tags out back =
+    let a = (polls_on_tags out).0 in let b = (polls_on_tags back).1 in omega (arith, a, b)
+
+in_step_on_tags : (w : World) → are_in_step (tag_world w) ≡ are_in_step w
+in_step_on_tags w =
+    ap (λ n. (n == 0) && (is_answered w.user.end.state
+    (polls_in_transit (map tag_flight w.to_network) (map tag_flight w.to_user))
+    && is_answered w.network.end.state
+    (polls_in_transit (map tag_flight w.to_user) (map tag_flight w.to_network))))
+    (left_on_tags w)
+    ∙ ap (λ n. (left w == 0) && (is_answered w.user.end.state n
+    && is_answered w.network.end.state
+    (polls_in_transit (map tag_flight w.to_user) (map tag_flight w.to_network))))
+    (in_transit_on_tags w.to_network w.to_user)
+    ∙ ap (λ n. (left w == 0) && (is_answered w.user.end.state
+    (polls_in_transit w.to_network w.to_user) && is_answered w.network.end.state n))
+    (in_transit_on_tags w.to_user w.to_network)
+
+due_or_203_on_tags : (event : PairEvent) (w : World)
+    → is_due_or_203 event (tag_world w) ≡ is_due_or_203 event w
+due_or_203_on_tags Expire203 w =
+    ap (λ b. b || are_in_step (tag_world w)) (due_on_tags Expire203 w)
+    ∙ ap (λ b. is_due Expire203 w || b) (in_step_on_tags w)
+due_or_203_on_tags Expire200 w = due_on_tags Expire200 w
+due_or_203_on_tags event w = refl
+
+own_by_tags : (moves : List Move) (w : World) → IsInvariant w → IsConsistentWorld Whole w
+    → AreOwnOr203 Tagged moves (tag_world w) → AreOwnOr203 Whole moves w
+own_by_tags [] w i preserved own = tt
+own_by_tags (move ∷ moves) w i preserved own =
+    let now = world_after w (happens Whole move w) in (
+      record {
+        due = sym (due_or_203_on_tags move.event w) ∙ own.0.due;
+        admitted = sym (ok_on_tags move w i preserved) ∙ own.0.admitted;
+      },
+      own_by_tags moves now (each_move_preserves move w i)
+          (run_consistent Whole (move ∷ []) w preserved)
+          (subst (λ v. AreOwnOr203 Tagged moves v) (world_on_tags move w i preserved) own.1),
+    )
+
+equal_on_tags : (x y : End) → IsEqual x y → IsEqual (tag_end x) (tag_end y)
+unfolding tag_variables
+equal_on_tags x y e = record {
+  open_state = e.open_state;
+  acknowledged = ap tag e.acknowledged;
+  received = ap tag e.received;
+}
+
+in_agreement_on_tags : (w : World) → AreInAgreement w → AreInAgreement (tag_world w)
+in_agreement_on_tags w a = record { empty = left_on_tags w ∙ a.empty; ends = by_ends a.ends }
+  where
+    by_ends : AreReleased w.user.end w.network.end ⊎ AreEqual w.user.end w.network.end
+        → AreReleased (tag_end w.user.end) (tag_end w.network.end)
+        ⊎ AreEqual (tag_end w.user.end) (tag_end w.network.end)
+    by_ends (inl r) = inl (record { mine = r.mine; its = r.its })
+    by_ends (inr e) =
+        inr (record {
+          mine = equal_on_tags w.user.end w.network.end e.mine;
+          its = equal_on_tags w.network.end w.user.end e.its;
+        })
+
+keeps_on_tags : (N : ℕ) (w : World) → IsInvariant w → IsConsistentWorld Whole w → Kept N w
+    → KeepsAgreement Tagged N (tag_world w)
+keeps_on_tags N w i preserved k = record {
+  reached = λ moves own le.
+      let l = left_on_tags w in
+      let f = runs.frames_on_tags w in
+      ran moves (k.reached moves (own_by_tags moves w i preserved own) (omega (arith, l, f, le)));
+  kept =
+      λ a moves own. ran moves (k.kept (settled_by_tags N w (settled N (tag_world w) a)) moves
+      (own_by_tags moves w i preserved own));
+  idle = λ is its_is off its_off. in_step_on_tags w ∙ k.in_step is its_is off its_off;
+}
+  where
+    ran : (moves : List Move) → AreInAgreement (run Whole moves w)
+        → AreInAgreement (run Tagged moves (tag_world w))
+    ran moves a =
+        subst AreInAgreement (sym (ran_on_tags moves w i preserved))
+        (in_agreement_on_tags (run Whole moves w) a)
+
+module _ (N : ℕ) (some : 1 ≤ N) (user network : Parameters) (user_small : user.k ≤ 127)
+    (network_small : network.k ≤ 127) (user_some : 1 ≤ user.k) (network_some : 1 ≤ network.k)
+    (moves : List Move) where
+  abbrev reached : World
+  reached = run Whole moves (new_world user network)
+
+  holds : IsInvariant reached
+  holds = runs.holds user network user_small network_small user_some network_some moves
+
+  preserved : IsConsistentWorld Whole reached
+  preserved = runs.preserved user network user_small network_small user_some network_some moves
+
+  kept_whole : IsFreeWorld N reached → Kept N reached
+  kept_whole a =
+      let facts =
+      runs.facts user network user_small network_small user_some network_some moves N
+      a.user_retries a.network_retries in
+      world_keeps N reached (record { facts = facts; preserved = preserved })
+      (world_comes_back N some reached facts preserved a.user_free a.network_free)
+
+  kept_by : (r : Reading) → IsFreeWorld N (run r moves (new_world user network))
+      → KeepsAgreement r N (run r moves (new_world user network))
+  kept_by Whole a =
+      let k = kept_whole a in
+      record {
+        reached = k.reached;
+        idle = k.in_step;
+        kept = λ agreed own_moves own. k.kept (settled N reached agreed) own_moves own;
+      }
+  kept_by Tagged a =
+      let same : run Tagged moves (new_world user network) ≡ tag_world reached =
+      reached_tags user network user_small network_small moves in
+      subst (λ w. KeepsAgreement Tagged N w) (sym same)
+      (keeps_on_tags N reached holds preserved
+      (kept_whole (free_world_by_tags N reached (subst (λ w. IsFreeWorld N w) same a))))
+
+pub every_agreement_is_kept : (r : Reading) (n200 : ℕ) → 1 ≤ n200 → (user network : Parameters)
+    → user.k ≤ 127 → network.k ≤ 127 → 1 ≤ user.k → 1 ≤ network.k → (moves : List Move)
+    → IsFreeWorld n200 (run r moves (new_world user network))
+    → KeepsAgreement r n200 (run r moves (new_world user network))
+every_agreement_is_kept r n200 some user network u n us ns moves a =
+    kept_by n200 some user network u n us ns moves r a
