@@ -129,10 +129,8 @@ enum lapd_kind {
 
 /* The configuration of a side. */
 typedef struct lapd_settings {
-	/* User side: the seed of its references (Ri). Terminals on one bus must have different seeds:
-	 * with the same seed they draw the same references, and can be assigned one TEI. Draw the seed
-	 * from the system, as by getrandom, and not from the time or a constant. */
-	uint64_t seed;
+	uint32_t size;   /* sizeof(lapd_settings), so that a later version can add fields; another size
+	                  * is out of range */
 	uint32_t t200;   /* ms, 1 to 3600000: the wait for a response; must exceed the round trip */
 	uint32_t t201;   /* ms, 1 to 3600000: network side, an identity check */
 	uint32_t t202;   /* ms, 1 to 3600000: user side, an identity request */
@@ -141,6 +139,10 @@ typedef struct lapd_settings {
 	/* 1 to 65535: calls return LAPD_PENDING while this many frames, or primitives, wait to be
 	 * fetched. */
 	uint16_t most_waiting;
+	/* User side: the seed of its references (Ri). Terminals on one bus must have different seeds:
+	 * with the same seed they draw the same references, and can be assigned one TEI. Draw the seed
+	 * from the system, as by getrandom, and not from the time or a constant. */
+	uint64_t seed;
 	uint8_t n200;    /* the maximum number of retransmissions of a frame, 1 to 100 */
 	uint8_t k0;      /* the window of SAPI 0, 1 to 127 */
 	uint8_t k16;     /* the window of SAPI 16, 1 to 127 */
@@ -150,8 +152,10 @@ typedef struct lapd_settings {
 /* The values of Q.921 5.9 for basic access and primary rate, as in
  * `lapd_settings settings = LAPD_BASIC;`. The seed is 0: set it for a user side without a fixed
  * TEI. */
-#define LAPD_BASIC   { 0, 1000, 1000, 2000, 10000, 512, 1024, 3, 1, 3, 0 }
-#define LAPD_PRIMARY { 0, 1000, 1000, 2000, 10000, 512, 1024, 3, 7, 7, 0 }
+#define LAPD_BASIC   \
+	{ sizeof(lapd_settings), 1000, 1000, 2000, 10000, 512, 1024, 0, 3, 1, 3, 0 }
+#define LAPD_PRIMARY \
+	{ sizeof(lapd_settings), 1000, 1000, 2000, 10000, 512, 1024, 0, 3, 7, 7, 0 }
 
 typedef struct lapd_primitive {
 	uint8_t kind;    /* enum lapd_kind */

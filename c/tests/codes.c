@@ -98,6 +98,9 @@ static void ranges(lapd_side *side)
 	const uint8_t group = LAPD_GROUP_TEI;
 	lapd_settings s;
 
+	s = basic, s.size = 0, not_made(side, &s);
+	s = basic, s.size -= 1, not_made(side, &s);
+	s = basic, s.size += 8, not_made(side, &s);
 	s = basic, s.t200 = 0, not_made(side, &s);
 	s = basic, s.t201 = 3600001, not_made(side, &s);
 	s = basic, s.t202 = 0, not_made(side, &s);

@@ -10,18 +10,19 @@
 SIZE(lapd_side, 8);
 AT(lapd_side, lapd_private, 0, 8);
 
-SIZE(lapd_settings, 32);
-AT(lapd_settings, seed, 0, 8);
-AT(lapd_settings, t200, 8, 4);
-AT(lapd_settings, t201, 12, 4);
-AT(lapd_settings, t202, 16, 4);
-AT(lapd_settings, t203, 20, 4);
-AT(lapd_settings, room, 24, 2);
-AT(lapd_settings, most_waiting, 26, 2);
-AT(lapd_settings, n200, 28, 1);
-AT(lapd_settings, k0, 29, 1);
-AT(lapd_settings, k16, 30, 1);
-AT(lapd_settings, sapi16, 31, 1);
+SIZE(lapd_settings, 40);
+AT(lapd_settings, size, 0, 4);
+AT(lapd_settings, t200, 4, 4);
+AT(lapd_settings, t201, 8, 4);
+AT(lapd_settings, t202, 12, 4);
+AT(lapd_settings, t203, 16, 4);
+AT(lapd_settings, room, 20, 2);
+AT(lapd_settings, most_waiting, 22, 2);
+AT(lapd_settings, seed, 24, 8);
+AT(lapd_settings, n200, 32, 1);
+AT(lapd_settings, k0, 33, 1);
+AT(lapd_settings, k16, 34, 1);
+AT(lapd_settings, sapi16, 35, 1);
 
 SIZE(lapd_primitive, 16);
 AT(lapd_primitive, kind, 0, 1);

@@ -12,6 +12,7 @@ use Rattle.lapd_sides.specs.ShowsUser.{ShowUser}
 use Rattle.lapd_sides.specs.declared.either_side.EitherSide.{EitherSide}
 use Rattle.lapd_sides.specs.declared.either_side.EitherSide.TheVariants as either
 use Rattle.lapd_c.specs.declared.settings.Settings.{Settings}
+use Rattle.lapd_c.specs.declared.settings.TheConstants.{SETTINGS_SIZE}
 use Rattle.lapd_c.specs.declared.held_side.HeldSide.{HeldSide}
 use Rattle.lapd_c.specs.Calls.{waiting}
 
@@ -30,9 +31,9 @@ config_with s None params16 durations = None
 config_with s (Some params0) None durations = None
 config_with s (Some params0) (Some params16) None = None
 
--- at least one frame or primitive may wait
+-- the settings have the size of this version, and at least one frame or primitive may wait
 abbrev pub config_of : Settings → Option Config
-config_of s = if s.most_waiting == 0 then None
+config_of s = if not (s.size == SETTINGS_SIZE) || (s.most_waiting == 0) then None
     else config_with s (parameters_of s.k0 s.n200 s.room) (parameters_of s.k16 s.n200 s.room)
     (lengths_of s.t200 s.t201 s.t202 s.t203)
 

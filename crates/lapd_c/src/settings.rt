@@ -7,14 +7,15 @@ ghost use Rattle.lapd_c.specs.Settings.{config_of, network_config, user_config, 
 use lapd_sides::{Config, Durations, Params, Tei};
 use std::alloc::{AllocError, Global};
 
+/// The size of [`Settings`] in octets.
+pub const SETTINGS_SIZE: u32 = 40;
+
 /// The configuration of a side.
 #[repr(C)]
 #[derive(Clone, Copy)]
 pub struct Settings {
-    /// The seed of a user side's references (Ri, Q.921 5.3.2). Terminals on one bus must have
-    /// different seeds: with the same seed, two terminals draw the same Ri and can be assigned one
-    /// TEI.
-    pub seed: u64,
+    /// The size of the struct that the program was compiled with: [`SETTINGS_SIZE`].
+    pub size: u32,
     /// T200 in milliseconds, 1 to 3,600,000, as are the next three.
     pub t200: u32,
     /// T201.
@@ -27,6 +28,10 @@ pub struct Settings {
     pub room: u16,
     /// If this many frames or primitives wait, calls that could add more are refused; 1 to 65,535.
     pub most_waiting: u16,
+    /// The seed of a user side's references (Ri, Q.921 5.3.2). Terminals on one bus must have
+    /// different seeds: with the same seed, two terminals draw the same Ri and can be assigned one
+    /// TEI.
+    pub seed: u64,
     /// N200, 1 to 100.
     pub n200: u8,
     /// The window of SAPI 0, 1 to 127.
@@ -66,7 +71,7 @@ impl Settings {
     fn config(&self) -> Option<Config>
         ensures { result ≡ config_of self.now }
     {
-        if self.most_waiting == 0 {
+        if self.size != SETTINGS_SIZE || self.most_waiting == 0 {
             return None;
         }
         let params0 = Params::new(self.k0, self.n200, self.room)?;
