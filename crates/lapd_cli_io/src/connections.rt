@@ -3,17 +3,17 @@
 
 ghost use Rattle.std.specs.Prelude.{◌≤◌, IfOk, IfSome};
 
+use crate::acceptor::Acceptor;
 use crate::clock::RealClock;
 use crate::connection;
 use crate::dialler::Dialler;
 use crate::discards::Discards;
-use crate::door::Door;
 use crate::frame_stream::FrameStream;
-use crate::further::{Further, INCOMING, Incoming};
 use crate::input::Input;
+use crate::next_connections::{INCOMING, Incoming, NextConnections};
 use crate::notes::Notes;
 use crate::peers::{LostPeer, Peers};
-use lapd_cli_outside::{Impairment, Lines, Outside, Sending, Woken, is_reached};
+use lapd_cli_line::{Impairment, Lines, Outside, Sending, Woken, is_reached};
 use lapd_cli_script::port_reason;
 use lapd_frame::Side;
 use lapd_port::{MOST_OCTETS, PortFault};
@@ -46,7 +46,7 @@ pub struct Connections<'a> {
     events: Events,
     input: Input,
     peers: Peers,
-    further: Further,
+    next_connections: NextConnections,
     /// How long a connection may go without sending a whole frame, in milliseconds. No limit if
     /// `None`.
     idle_limit: Option<u64>,
@@ -79,7 +79,7 @@ impl<'a> Connections<'a> {
             events: Events::with_capacity(rt.alloc(), EVENTS)?,
             input: Input::register(&poll, INPUT)?,
             peers: Peers::new(rt, most),
-            further: Further::Nowhere,
+            next_connections: NextConnections::Nowhere,
             idle_limit: None,
             discards: Discards::new(side, is_primary),
             taken: 0,
@@ -106,13 +106,15 @@ impl<'a> Connections<'a> {
     ///
     /// The system's error.
     pub fn accept_from(&mut self, listener: TcpListener) -> io::Result<()> {
-        self.further = Further::Door(Door::new(&self.poll, INCOMING, listener)?);
+        self.next_connections = NextConnections::Acceptor(Acceptor::new(
+            &self.poll, INCOMING, listener,
+        )?);
         Ok(())
     }
 
     /// Connects to this address again when the connection is lost.
     pub fn dial(&mut self, address: SocketAddr) {
-        self.further = Further::Dialler(Dialler::new(address));
+        self.next_connections = NextConnections::Dialler(Dialler::new(address));
     }
 
     /// Sets how long a connection may go without sending a whole frame, in milliseconds, before it
@@ -124,7 +126,7 @@ impl<'a> Connections<'a> {
     /// Notes that the other side has closed the only connection, if it has and everything it sent
     /// was read.
     pub fn print_closed(&self) {
-        if self.further.is_nowhere() && self.peers.is_closed() {
+        if self.next_connections.is_nowhere() && self.peers.is_closed() {
             self.notes.print(port_reason(PortFault::End));
         }
     }
@@ -182,7 +184,7 @@ impl<'a> Connections<'a> {
 
     /// Handles a lost connection. If no other connection can take its place, the side ends.
     fn lose(&mut self, lost: LostPeer) -> Result<(), PortFault> {
-        match (self.further.is_nowhere(), lost.why.fault()) {
+        match (self.next_connections.is_nowhere(), lost.why.fault()) {
             (true, PortFault::End) => {
                 self.is_closed = true;
                 Ok(())
@@ -200,7 +202,8 @@ impl<'a> Connections<'a> {
         let is_alone = self.peers.is_alone();
         if let Some(peer) = self.peers.remove(lost.place) {
             let now = self.clock.latest();
-            self.further.lose(peer, lost.why, is_alone, now, self.notes);
+            self.next_connections
+                .lose(peer, lost.why, is_alone, now, self.notes);
         }
     }
 
@@ -211,7 +214,10 @@ impl<'a> Connections<'a> {
                 return;
             }
             let now = self.clock.latest();
-            match self.further.next(self.rt, &self.poll, self.notes, now) {
+            match self
+                .next_connections
+                .next(self.rt, &self.poll, self.notes, now)
+            {
                 Some(incoming) => self.greet(incoming),
                 None => return,
             }
@@ -229,7 +235,7 @@ impl<'a> Connections<'a> {
             Ok(()) => self.notes.print(format_args!("{words} {peer}")),
             Err(error) => {
                 let now = self.clock.latest();
-                self.further.miss(peer, &error, now, self.notes);
+                self.next_connections.miss(peer, &error, now, self.notes);
             }
         }
     }
@@ -258,7 +264,7 @@ impl<'a> Connections<'a> {
             if token == INPUT {
                 self.input.wake();
             } else if token == INCOMING {
-                self.further.wake();
+                self.next_connections.wake();
             } else {
                 self.peers.wake(token.0);
             }
@@ -272,12 +278,12 @@ impl<'a> Connections<'a> {
             Some(limit) => self.peers.next_idle(limit),
             None => None,
         };
-        let further = if self.peers.has_room() {
-            self.further.next_moment()
+        let next_attempt = if self.peers.has_room() {
+            self.next_connections.next_moment()
         } else {
             None
         };
-        let next = earlier(until, earlier(idle, further))?;
+        let next = earlier(until, earlier(idle, next_attempt))?;
         Some(next.saturating_sub(now))
     }
 
@@ -362,7 +368,7 @@ impl Outside for Connections<'_> {
         if self.peers.send(frame) {
             return Ok(Sending::Sent);
         }
-        if self.further.is_nowhere() {
+        if self.next_connections.is_nowhere() {
             Err(PortFault::Device)
         } else {
             Ok(Sending::Lost)

@@ -6,17 +6,17 @@
 //! [`connection`] make the one stream of a side with the script's clock.
 #![tactic(auto)]
 
+mod acceptor;
 mod clock;
 mod connecting;
 pub mod connection;
 mod connections;
 mod dialler;
 mod discards;
-mod door;
 mod frame_stream;
-mod further;
 mod input;
 mod lost;
+mod next_connections;
 mod notes;
 mod peers;
 mod record_file;

@@ -6,7 +6,7 @@ use crate::notes::Notes;
 use crate::record_file::RecordFile;
 use lapd_capture::{CaptureWriter, gsmtap_of};
 use lapd_cli_decode::FrameDrawer;
-use lapd_cli_outside::Tap;
+use lapd_cli_line::Tap;
 use lapd_cli_script::Reason;
 use lapd_frame::Side;
 use lapd_port::MOST_OCTETS;

@@ -27,7 +27,7 @@ mod unseen;
 
 pub use fault::LiveFault;
 pub use input::{LiveStop, Person, live_script, live_session};
-pub use lapd_cli_outside::{Impaired, Impairment, Lines, Outside, Sending, Tap, Tapped, Woken};
+pub use lapd_cli_line::{Impaired, Impairment, Lines, Outside, Sending, Tap, Tapped, Woken};
 pub use lapd_cli_side_lines::LineStyle;
 pub use laws::{
     expect_finds_what_is_printed, no_service_ends_early, no_timer_expires_early,

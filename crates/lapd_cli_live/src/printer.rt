@@ -16,7 +16,7 @@ use crate::fault::LiveFault;
 use crate::style::Style;
 use crate::unseen::Unseen;
 use lapd_cli_live_text::{Stats, begins_as, words_object};
-use lapd_cli_outside::Sending;
+use lapd_cli_line::Sending;
 use lapd_cli_script::LineFault;
 use lapd_cli_side_lines::{LineStyle, push_primitive, push_trace_of};
 use lapd_frame::{Frame, FrameFault, Side, read};

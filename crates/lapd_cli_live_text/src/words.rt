@@ -5,7 +5,7 @@ ghost use Rattle.std.specs.Str.{is_utf8 as is_utf8_octets};
 ghost use Rattle.lapd_cli_script.specs.Line.{HasNoSpace, Reads, words_left, words_of};
 ghost use Rattle.lapd_cli_live_text.specs.LiveRequests.{delay_left, expect_request, impair_request, expected, link_named, live_request_of, live_request_of_line, live_request_of_word, parsed_loss, network_link, own_live_request, span_behind, span_left, parsed_span, state_request, switch_behind, request_of_link, with_link, without_percent as digits_of_percent};
 
-use lapd_cli_outside::Impairment;
+use lapd_cli_line::Impairment;
 use lapd_cli_script::{LineFault, Words, number_of};
 use lapd_cli_side_lines::{SideLine, last_tei, link_line, sapi_of, tei_of};
 use lapd_frame::{Side, Tei};
