@@ -1,7 +1,7 @@
 -- An event of the network assigns no TEI, or one: then it sends at most that assignment, and
 -- creates the links of that TEI.
-use Rattle.std.proofs.Common.{◌≡◌, ◌⊎◌, inl, inr, ℕ, ◌==◌, ◌&&◌, nat_lt, List, [], ◌∷◌, drop, set, length, Bool, true, false, if◌then◌else◌, Option, Some, None, Result, Ok, Err, refl, sym, ap, subst, ◌∙◌, arith}
-use Rattle.std.specs.Prelude.{IfOk, ◌||◌}
+use Rattle.std.proofs.Common.{◌≡◌, ◌⊎◌, inl, inr, ℕ, ◌==◌, nat_lt, List, [], ◌∷◌, drop, set, Bool, true, false, if◌then◌else◌, Option, Some, None, Ok, Err, refl, sym, ap, subst, ◌∙◌, arith}
+use Rattle.std.specs.Prelude.{◌||◌}
 use Rattle.std.specs.List.{list_any, filter_map, cons_option}
 use Rattle.std.proofs.lemmas.Bool.Decides.{nat_tests}
 use Rattle.std.proofs.lemmas.List.{get_or-set_same, get_or-set_other}
@@ -10,14 +10,8 @@ use Rattle.lapd_timers.specs.declared.timer.Timer.TheVariants.{T201}
 use Rattle.lapd_frame.specs.declared.Sapi.{Sapi}
 use Rattle.lapd_frame.specs.declared.Sapi.TheVariants as sapi
 use Rattle.lapd_frame.specs.declared.Side.TheVariants as side
-use Rattle.lapd_frame.specs.declared.Address.{Address}
-use Rattle.lapd_frame.specs.declared.fault_kind.FaultKind.{FaultKind}
-use Rattle.lapd_frame.specs.declared.frame_fault.FrameFault.{FrameFault}
-use Rattle.lapd_frame.specs.Frame.{Fields, n201, spelling}
-use Rattle.lapd_frame.specs.Reading.{frame_at}
-use Rattle.lapd_link_definition.specs.declared.event.LinkFault.TheVariants.{TooLong}
-use Rattle.lapd_link_definition.specs.Input as input
-use Rattle.lapd_link_definition.specs.Input.{Input, Heard, Faulty, UnitData}
+use Rattle.lapd_frame.specs.Frame.{spelling}
+use Rattle.lapd_link_definition.specs.Input.{Input}
 use Rattle.lapd_tei.specs.declared.assigner.AssignerEvent.{AssignerEvent}
 use Rattle.lapd_tei.specs.declared.assigner.AssignerEvent.TheVariants as event
 use Rattle.lapd_tei.specs.declared.check.Check.{Check}
@@ -25,7 +19,6 @@ use Rattle.lapd_tei.specs.declared.check.Round.{Round}
 use Rattle.lapd_tei.specs.declared.check.Round.TheVariants as round
 use Rattle.lapd_tei.specs.declared.check.Responses.{Responses}
 use Rattle.lapd_tei.specs.declared.check.Responses.TheVariants as responses
-use Rattle.lapd_tei.specs.declared.fault.TeiFault.{TeiFault}
 use Rattle.lapd_tei.specs.declared.kind.TeiKind.{TeiKind}
 use Rattle.lapd_tei.specs.declared.kind.TeiKind.TheVariants as kind
 use Rattle.lapd_tei.specs.declared.message.TeiMessage.{TeiMessage}
@@ -33,35 +26,32 @@ use Rattle.lapd_tei.specs.declared.out.TeiOut.{TeiOut}
 use Rattle.lapd_tei.specs.declared.out.TeiOut.TheVariants as out
 use Rattle.lapd_tei.specs.Assigner.{AssignerState, AssignerStep, is_held, stays, serves, least_free, begins_check, counts_response, round_ends, timer_ends, removal, removes_one, assigner_receives, assigner_step}
 use Rattle.lapd_tei.proofs.AssignerPreserves.{IsFree, free_from}
-use Rattle.lapd_tei.specs.Message.{group_tei, message_at, permits, frame_of_message}
+use Rattle.lapd_tei.specs.Message.{group_tei, permits, frame_of_message}
 use Rattle.lapd_tei.specs.Out.{assigned, denied, check_request, remove, tei_given, tei_freed}
 use Rattle.lapd_table.specs.declared.link_id.LinkId.{LinkId}
-use Rattle.lapd_table.specs.LinkId.{id_eq, id_of_address}
+use Rattle.lapd_table.specs.LinkId.{id_eq}
 use Rattle.lapd_table.proofs.Ids.{same_id_eq}
 use Rattle.lapd_sides_links.specs.declared.config.Config.{Config}
-use Rattle.lapd_sides_links.specs.declared.side_fault.SideKind.{SideKind}
-use Rattle.lapd_sides_links.specs.declared.side_fault.SideKind.TheVariants.{NoLink, Link}
-use Rattle.lapd_sides_links.specs.Effects.{no_effects, message_sent, outcome_of, stopped}
-use Rattle.lapd_sides_links.specs.Links.{Links, Linked, Reaction, where_there, in_links, link_acts, link_expires, with_tei, without_tei}
-use Rattle.lapd_sides.specs.declared.request.Request.{Request}
-use Rattle.lapd_sides.specs.declared.request.Request.TheVariants as request
-use Rattle.lapd_sides.specs.Management.{carries_message, links_with, links_without, removal_primitives, manages}
-use Rattle.lapd_sides.specs.SideState.{link_of}
+use Rattle.lapd_sides_links.specs.declared.side_fault.SideKind.TheVariants.{NoLink}
+use Rattle.lapd_sides_links.specs.Effects.{message_sent, outcome_of}
+use Rattle.lapd_sides_links.specs.Links.{is_served, Links, Linked, Reaction, where_there, in_links, link_acts, link_expires, with_tei, without_tei}
+use Rattle.lapd_sides.specs.Management.{links_with, links_without, removal_primitives, manages}
+use Rattle.lapd_sides.specs.SideState.{with_links, with_stopped}
 use Rattle.lapd_sides.specs.Network as network
-use Rattle.lapd_sides.specs.Network.{Network, assigner_acts, message_received, among_links, link_of_network, or_discarded, fault_received, received, network_takes, network_expires, group_frame, unit_to_group, unit_requested, network_requested}
-use Rattle.lapd_sides_laws.specs.Addressed.{those_for, is_for}
+use Rattle.lapd_sides.specs.Network.{Network, assigner_acts, group_frame, network_rules}
 use Rattle.lapd_sides_laws.specs.Interface.{network_behaviour}
 use Rattle.lapd_sides_laws.specs.Owed.{PassesBy}
 use Rattle.lapd_sides_laws.specs.Premises.{is_assignment, is_removal}
-use Rattle.lapd_sides_laws.specs.SideView.{SideView, SideEvent, Take, Lose, Expire, Ask, Overhear, unmoved, takes_first, may_expire, or_unmoved, reaction}
-use Rattle.lapd_sides_laws.proofs.LinkOps.{none_of_both}
+use Rattle.lapd_sides_laws.specs.SideView.{SideView, SideEvent, reaction}
+use Rattle.lapd_sides_laws.proofs.LinkOps.{ArePlain, IsLinkOp, none_of_both, op_acts, op_expires}
+use Rattle.lapd_sides_laws.proofs.Plain.{plain_no_assignment, plain_removals}
+use Rattle.lapd_sides_laws.proofs.Reactions.{AnyInput, AnyRequest, HoldsOfEvents, HoldsOfLinks, Law, each_event, each_request, reacts}
+use Rattle.lapd_sides_laws.proofs.Requests.{network_asked, sent_to_group}
 use Rattle.lapd_sides_laws.proofs.HeldTeis.{GivesFree, gives_free}
 use Rattle.lapd_sides_laws.proofs.LinkParts.{any_more, absent_acts, other_expires, spelled_is_for}
 use Rattle.lapd_sides_laws.proofs.Managed.{freed_is_reported}
 use Rattle.lapd_bus_laws.specs.Assignments.{Assignment, assignment_in}
-use Rattle.lapd_bus_laws.specs.Bus.{OverhearsNothing}
 use Rattle.lapd_bus_laws.proofs.Messages.{management_id, others_assign_nothing, assignment_again, links_assign_nothing}
-use Rattle.lapd_bus_laws.proofs.Plain.{ArePlain, plain_no_assignment, plain_removals, plain_acts, plain_expires, IsPlainLinks}
 
 -- ---- A step of the assigner.
 
@@ -240,15 +230,6 @@ module _ (config : Config) (now : ℕ) (s : Network) (none : HasNoManagementLink
   abbrev Outcome : Reaction Network → Type 0
   Outcome a = AssignsAtMostOne config s a
 
-  still : Outcome (network.unmoved s)
-  still = inl (record {
-    frames = refl;
-    delivered = λ t. refl;
-    keeps = λ t h.
-        inr h;
-    management = none;
-  })
-
   -- ---- The assigner.
 
   acts_by : (done : AssignerStep) → StepAssigns s.management done → GivesFree s.management.held done
@@ -315,30 +296,22 @@ module _ (config : Config) (now : ℕ) (s : Network) (none : HasNoManagementLink
 
   -- ---- Links.
 
-  record LinksOutcome (b : Reaction Links) : Type 0 where
-    pub frames : those_for side.Network management_id b.effects.frames ≡ []
-    pub delivered : ArePlain b.effects.primitives
-    pub management : b.after management_id ≡ None
+  by_link : (b : Reaction Links)
+      → PassesBy side.Network management_id s.served.links b.after b.effects
+      → IsLinkOp s.served.links b → Outcome (with_links s b)
+  by_link b passes op = inl (record {
+    frames = links_assign_nothing b.effects.frames passes.frames;
+    delivered = λ t. plain_no_assignment t b.effects.primitives op.plain;
+    keeps = λ t held. inr held;
+    management = passes.links ∙ none;
+  })
 
-  if_ok : (r : Result (Reaction Links) SideKind) → ((b : Reaction Links) → r ≡ Ok b
-      → PassesBy side.Network management_id s.served.links b.after b.effects) → IfOk r IsPlainLinks
-      → IfOk r LinksOutcome
-  if_ok (Ok b) passes plain = record {
-    frames = (passes b refl).frames;
-    delivered =
-        plain;
-    management = (passes b refl).links ∙ none;
-  }
-  if_ok (Err kind) passes plain = tt
-
-  does : (other : LinkId) (input : Input) (octets : List ℕ)
-      → IfOk (in_links other (link_acts side.Network other now input octets) s.served.links)
-      LinksOutcome
-  does other input octets = if_ok (in_links other (link_acts side.Network other now input octets)
-      s.served.links)
-      (λ b is.
-      absent_acts side.Network management_id other s.served.links now input octets b none is)
-      (plain_acts side.Network other s.served.links now input octets)
+  acted : (other : LinkId) (input : Input) (octets : List ℕ) (b : Reaction Links)
+      → in_links other (link_acts side.Network other now input octets) s.served.links ≡ Ok b
+      → Outcome (with_links s b)
+  acted other input octets b done = by_link b
+      (absent_acts side.Network management_id other s.served.links now input octets b none done)
+      (op_acts side.Network other s.served.links now input octets b done)
 
   refuses_expiry : (timer : Timer) → in_links management_id
       (link_expires side.Network management_id now timer) s.served.links ≡ Err NoLink
@@ -361,190 +334,97 @@ module _ (config : Config) (now : ℕ) (s : Network) (none : HasNoManagementLink
       (same_id_eq management_id other same) (refuses_expiry timer) in
       cc
 
-  link_expired : (other : LinkId) (timer : Timer) → IfOk
-      (in_links other (link_expires side.Network other now timer) s.served.links) LinksOutcome
-  link_expired other timer = if_ok (in_links other (link_expires side.Network other now timer)
-      s.served.links)
-      (λ b is. expiry_passes other timer b (id_eq management_id other) refl is)
-      (plain_expires side.Network other s.served.links now timer)
+  expired : (other : LinkId) (timer : Timer) (b : Reaction Links)
+      → in_links other (link_expires side.Network other now timer) s.served.links ≡ Ok b
+      → Outcome (with_links s b)
+  expired other timer b done = by_link b
+      (expiry_passes other timer b (id_eq management_id other) refl done)
+      (op_expires side.Network other s.served.links now timer b done)
 
-  abbrev OutcomeIfOk : Result (Reaction Network) SideKind → Type 0
-  OutcomeIfOk r = IfOk r Outcome
+  -- ---- No link and no assigner acts.
 
-  among : (r : Result (Reaction Links) SideKind) → IfOk r LinksOutcome
-      → OutcomeIfOk (among_links s r)
-  among (Ok b) h = inl (record {
-    frames = links_assign_nothing b.effects.frames h.frames;
-    delivered = λ t. plain_no_assignment t b.effects.primitives h.delivered;
-    keeps = λ t held. inr held;
-    management = h.management;
-  })
-  among (Err kind) h = tt
-
-  linked : (other : LinkId) (input : Input) (octets : List ℕ)
-      → OutcomeIfOk (link_of_network now other input octets s)
-  unfolding link_of
-  linked other input octets = among (in_links other (link_acts side.Network other now input octets)
-      s.served.links) (does other input octets)
-
-  discarded : (r : Result (Reaction Network) SideKind) → OutcomeIfOk r → Outcome (or_discarded s r)
-  discarded (Ok a) h = h
-  discarded (Err kind) h = inl (record {
-    frames = refl;
-    delivered =
-        λ t. refl;
-    keeps = λ t h. inr h;
-    management = none;
+  assigns_nothing : (b : Reaction Network) → b.after.served.links ≡ s.served.links
+      → b.after.management ≡ s.management → filter_map assignment_in b.effects.frames ≡ []
+      → ArePlain b.effects.primitives → Outcome b
+  assigns_nothing b links management frames plain = inl (record {
+    frames = frames;
+    delivered = λ t. plain_no_assignment t b.effects.primitives plain;
+    keeps = λ t held. inr (subst (λ (m : AssignerState). is_held m.held t ≡ true) (sym management)
+        held);
+    management = ap (λ (l : Links). l management_id) links ∙ none;
   })
 
-  ignored : (r : Result (Reaction Network) SideKind) → OutcomeIfOk r
-      → Outcome (network.or_unmoved s r)
-  ignored (Ok a) h = h
-  ignored (Err kind) h = still
-
-  -- ---- Octets from the line.
-
-  message : (m : Result TeiMessage TeiFault) → Outcome (message_received config now m s)
-  message (Ok m) = acts (event.Heard m)
-  message (Err fault) = still
-
-  either_of : (test : Bool) (x y : Reaction Network) → Outcome x → Outcome y
-      → Outcome (if test then x else y)
-  either_of true x y hx hy = hx
-  either_of false x y hx hy = hy
-
-  faulty : (k : FaultKind) (address : Option Address) → Outcome (fault_received now k address s)
-  faulty k None = inl (record {
-    frames = refl;
-    delivered =
-        λ t. refl;
-    keeps = λ t h. inr h;
-    management = none;
-  })
-  faulty k (Some address) = discarded (link_of_network now (id_of_address address) (Faulty k) [] s)
-      (linked (id_of_address address) (Faulty k) [])
-
-  frame_taken : (r : Result Fields FrameFault) → Outcome (received config now r s)
-  frame_taken (Ok frame) =
-      let does = link_of_network now (id_of_address frame.address)
-      (Heard frame.control frame.address.role) frame.info s in
-      either_of (carries_message frame) (message_received config now (message_at frame.info) s)
-      (or_discarded s does) (message (message_at frame.info))
-      (discarded does (linked (id_of_address frame.address) (Heard frame.control frame.address.role)
-      frame.info))
-  frame_taken (Err fault) = faulty fault.kind fault.address
-
-  takes : (octets : List ℕ) → Outcome (network_takes config octets now s)
-  unfolding network_takes
-  takes octets = frame_taken (frame_at side.User octets)
-
-  -- ---- Requests.
-
-  to_group : (at : Sapi) (octets : List ℕ) → id_eq management_id
-      (record { sapi = at; tei = group_tei }) ≡ false → OutcomeIfOk (unit_to_group at octets s)
-  to_group at octets apart = by_test (nat_lt n201 (length octets))
+  to_group : (at : Sapi) (octets : List ℕ) → is_served config at ≡ true
+      → Outcome (sent_to_group at octets s)
+  to_group at octets served =
+      assigns_nothing (sent_to_group at octets s) refl refl
+      (links_assign_nothing (spelling side.Network (group_frame at octets) ∷ [])
+      (ap (λ (b : Bool). if b then spelling side.Network (group_frame at octets) ∷ [] else [])
+      (spelled_is_for side.Network management_id (group_frame at octets) ∙ apart at served))) refl
     where
-      by_test : (long : Bool) → OutcomeIfOk (if long then Err (Link TooLong) else Ok
-          (record {
-            after = s;
-            effects = record no_effects
-                { frames = spelling side.Network (group_frame at octets) ∷ [] };
-          }))
-      by_test true = tt
-      by_test false =
-          let other : is_for side.Network management_id
-          (spelling side.Network (group_frame at octets)) ≡ false =
-          spelled_is_for side.Network management_id (group_frame at octets) ∙ apart in
-          inl (record {
-            frames = links_assign_nothing (spelling side.Network (group_frame at octets) ∷ [])
-                (ap (λ (b : Bool).
-                if b then spelling side.Network (group_frame at octets) ∷ [] else []) other);
-            delivered = λ t. refl;
-            keeps = λ t held. inr held;
-            management = none;
-          })
-
-  either_result : (test : Bool) (x y : Result (Reaction Network) SideKind) → OutcomeIfOk x
-      → OutcomeIfOk y → OutcomeIfOk (if test then x else y)
-  either_result true x y hx hy = hx
-  either_result false x y hx hy = hy
-
-  unit : (at : Sapi) (tei : ℕ) (octets : List ℕ) → OutcomeIfOk
-      (unit_requested config now (record { sapi = at; tei = tei }) octets s)
-  unit sapi.Call tei octets = either_result (tei == group_tei) _ _ (to_group sapi.Call octets refl)
-      (linked (record { sapi = sapi.Call; tei = tei }) (UnitData (length octets)) octets)
-  unit sapi.Packet tei octets = either_result (config.sapi16 && (tei == group_tei)) _ _
-      (to_group sapi.Packet octets refl) (linked (record { sapi = sapi.Packet; tei = tei })
-      (UnitData (length octets)) octets)
-  unit sapi.Management tei octets = linked (record { sapi = sapi.Management; tei = tei })
-      (UnitData (length octets)) octets
-
-  requested : (request : Request) → OutcomeIfOk (network_requested config request now s)
-  unfolding network_requested
-  requested (request.Establish other) = linked other input.Establish []
-  requested (request.Release other) = linked other input.Release []
-  requested (request.Unit other octets) = unit other.sapi other.tei octets.items
-  requested (request.Give other message) = linked other (input.Give message.items) []
-  requested (request.Busy other true) = linked other input.BusyOn []
-  requested (request.Busy other false) = linked other input.BusyOff []
-  requested request.AskTei = still
-  requested (request.Check tei) = acts (event.Check tei)
-  requested (request.Remove tei) = acts (event.Remove tei)
-
-  or_nothing : (r : Result (Reaction Network) SideKind) → OutcomeIfOk r → Outcome (or_unmoved s r)
-  or_nothing (Ok a) h = h
-  or_nothing (Err kind) h = still
+      apart : (at : Sapi) → is_served config at ≡ true
+          → id_eq management_id (record { sapi = at; tei = group_tei }) ≡ false
+      apart sapi.Call served = refl
+      apart sapi.Packet served = refl
+      apart sapi.Management served = cc
 
 -- ---- Every event.
 
-expires : (config : Config) (now : ℕ) (s : Network) (none : HasNoManagementLink s) (timer : Timer)
-    (of : Option LinkId) → AssignsAtMostOne config s (network_expires config now timer of s)
-unfolding network_expires
-expires config now s none timer (Some other) = ignored config now s none _
-    (among config now s none (in_links other (link_expires side.Network other now timer)
-    s.served.links) (link_expired config now s none other timer))
-expires config now s none timer None = elim (acts config now
-    (record s {
-      served = record { links = s.served.links; timers = stopped timer s.served.timers };
-    }) none event.T201) [
-      | inl h ↦ inl (record {
-        frames = h.frames;
-        delivered = h.delivered;
-        keeps = h.keeps;
-        management =
-            h.management;
-      })
-      | inr h ↦ inr (record {
-        assignment = h.assignment;
-        free = h.free;
-        now_held = h.now_held;
-        keeps =
-            h.keeps;
-        frames = h.frames;
-        given = h.given;
-        only = h.only;
-        links = h.links;
-        management =
-            h.management;
-      })
-    ]
+module _ (config : Config) where
+  abbrev Assigning : Law AssignerState
+  Assigning s a = HasNoManagementLink s → AssignsAtMostOne config s a
 
-pub event_assigns : (config : Config) (event : SideEvent) (v : SideView Network)
-    → HasNoManagementLink v.now → OverhearsNothing event → AssignsAtMostOne config v.now
-    (reaction (network_behaviour config) event v)
-event_assigns config (Take now) v none ok = first v.incoming
-  where
-    first : (line : List (List ℕ)) → AssignsAtMostOne config v.now
-        (takes_first (network_behaviour config) now line v.now)
-    first [] = still config 0 v.now none
-    first (octets ∷ rest) = takes config now v.now none octets
-event_assigns config (Lose at) v none ok = still config 0 v.now none
-event_assigns config (Expire timer of now) v none ok = by_test (may_expire timer of v.now.served)
-  where
-    by_test : (test : Bool) → AssignsAtMostOne config v.now
-        (if test then network_expires config now timer of v.now else unmoved v.now)
-    by_test true = expires config now v.now none timer of
-    by_test false = still config now v.now none
-event_assigns config (Ask request now) v none ok = or_nothing config now v.now none
-    (network_requested config request now v.now) (requested config now v.now none request)
-event_assigns config (Overhear octets now) v none ok = absurd ok
+  of_links : (now : ℕ) → HoldsOfLinks network_rules now Assigning AnyInput
+  of_links now = record {
+    still = λ s none. assigns_nothing config now s none _ refl refl refl refl;
+    counts = λ s none. assigns_nothing config now s none _ refl refl refl refl;
+    reports = λ at octets s none. assigns_nothing config now s none _ refl refl refl refl;
+    steps = λ id input octets s b plain permits done none.
+        acted config now s none id input octets b done;
+  }
+
+  acting : (now : ℕ) (e : AssignerEvent) (s : Network)
+      → Assigning s (assigner_acts config now e s)
+  acting now e s none = acts config now s none e
+
+  -- the same, after the timer of the assigner is stopped
+  after_stop : (timer : Timer) (s : Network) (a : Reaction Network)
+      → AssignsAtMostOne config (with_stopped timer s) a → AssignsAtMostOne config s a
+  after_stop timer s a (inl h) = inl (record {
+    frames = h.frames;
+    delivered = h.delivered;
+    keeps = h.keeps;
+    management = h.management;
+  })
+  after_stop timer s a (inr h) = inr (record {
+    assignment = h.assignment;
+    free = h.free;
+    now_held = h.now_held;
+    keeps = h.keeps;
+    frames = h.frames;
+    given = h.given;
+    only = h.only;
+    links = h.links;
+    management = h.management;
+  })
+
+  law : (now : ℕ) → HoldsOfEvents network_rules config now Assigning AnyInput AnyRequest
+  law now = record {
+    links = of_links now;
+    expires = λ id timer s b done none. expired config now s none id timer b done;
+    by_rules = record {
+      hears = λ m. acting now (event.Heard m);
+      times_out = λ timer s may none.
+          after_stop timer s _ (acting now event.T201 (with_stopped timer s) none);
+      requested = λ asked s any.
+          network_asked (of_links now) config (λ tei. acting now (event.Check tei))
+          (λ tei. acting now (event.Remove tei))
+          (λ at octets s served none. to_group config now s none at octets served) asked s
+          (each_request network_rules s.management asked);
+    };
+  }
+
+  pub event_assigns : (event : SideEvent) (v : SideView Network) → HasNoManagementLink v.now
+      → AssignsAtMostOne config v.now (reaction (network_behaviour config) event v)
+  event_assigns event v =
+      reacts {R = λ now. Assigning} law 0 event v (each_event network_rules event v)

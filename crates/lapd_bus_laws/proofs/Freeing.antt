@@ -173,7 +173,7 @@ module _ (c : Configs) where
     network_knows_after : OverhearsNothing event → FreesUnused c (OfNetwork j event) b → Knows b
         → Knows (network_does c j event (Some t) b)
     network_knows_after ok frees h =
-        let outcome = event_assigns c.network event (on_line_of t b) h.management ok in
+        let outcome = event_assigns c.network event (on_line_of t b) h.management in
         record {
           known = λ tei low used. by_test outcome tei low used h frees;
           management = management_after outcome;
@@ -261,7 +261,7 @@ module _ (c : Configs) where
 
   assigns_unused : (e : BusEvent) (b : Bus) → LosesNone c e b → Knows b → AssignsFree c e b
   assigns_unused (OfNetwork j event) b is h = λ t there tei given.
-      by t tei given (event_assigns c.network event (on_line_of t b) h.management is.of_bus)
+      by t tei given (event_assigns c.network event (on_line_of t b) h.management)
     where
       by : (t : SideView User) (tei : ℕ) → AssignsTei tei
           (reaction (network_behaviour c.network) event (on_line_of t b)).effects

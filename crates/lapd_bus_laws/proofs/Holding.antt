@@ -19,10 +19,9 @@ use Rattle.lapd_sides_laws.specs.Premises.{is_removal, is_assignment, GivesTeiOn
 use Rattle.lapd_sides_laws.specs.Projects.{HasLink, AwaitsLink, IsSafeAt}
 use Rattle.lapd_sides_laws.specs.SideView.{SideView, SideEvent, Take, Lose, Expire, Ask, Overhear, reaction, left, does}
 use Rattle.lapd_sides_laws.proofs.AsMade.{new_are_own, new_of_user, new_of_network}
-use Rattle.lapd_sides_laws.proofs.NetworkOwn.{network_preserves}
+use Rattle.lapd_sides_laws.proofs.OwnSides.{network_preserves, AreOwn, user_preserves}
 use Rattle.lapd_sides_laws.proofs.TerminalOwn.{Owns}
 use Rattle.lapd_sides_laws.proofs.Timed.{new_is_timed}
-use Rattle.lapd_sides_laws.proofs.UserOwn.{AreOwn, user_preserves}
 use Rattle.lapd_bus_laws.specs.Assignments.{Assignment, assignment_in, assignments, holds, is_of_tei, is_sent, awaited, claims, is_taken}
 use Rattle.lapd_bus_laws.specs.Bus.{Bus, BusEvent, OfTerminal, OfNetwork, Join, Restart, NewTerminal, KeepsTerminal, connected, new_bus, OverhearsNothing, recorded_anew, from_now, reached_by, left_of, on_line_of, terminal_does, network_does, terminal_joins, bus_step, after_events, interface_of, moves_along}
 use Rattle.lapd_bus_laws.specs.Holdings.{RequestsUnanswered, KeepsTeisApart, IsReached, AssignsTei, Assigns, IsOnlyClaimant, IsClear, LeavesAlone, KeepsHolding}
@@ -261,7 +260,7 @@ module _ (c : Configs) (id : LinkId) (i : ℕ) where
 
     network_did_hold : IsHeld (network_does c j event (Some t) b)
     network_did_hold =
-        let outcome = event_assigns c.network event (on_line_of t b) h.management ok in
+        let outcome = event_assigns c.network event (on_line_of t b) h.management in
         let new = left_of event t in
         record {
           others = others_map IsUnclaimed IsUnclaimed (reached_by Done.effects.frames) i
@@ -386,7 +385,7 @@ module _ (c : Configs) (id : LinkId) (i : ℕ) where
     assigned_one (inr one) = one
 
     abbrev One : AssignsOne c.network b.network Step
-    One = assigned_one (event_assigns c.network event (on_line_of t b) h.management ok)
+    One = assigned_one (event_assigns c.network event (on_line_of t b) h.management)
 
     offered_by : (u : SideView User) → is_taken id.tei u ≡ false
         → IsOffered (reached_by Step.effects.frames u)

@@ -16,9 +16,9 @@ use Rattle.lapd_link_definition.specs.TeiAssigned.{tei_assigned}
 use Rattle.lapd_link_definition.specs.TimerRecovery.{i_frame_nr_in_recovery, poll, rr_nr_in_recovery, rnr_nr_in_recovery, timer_recovery_t200, timer_recovery}
 use Rattle.lapd_sides_links.specs.Links.{links_below, link_acts, link_expires, in_links, with_tei, without_tei, primitive_of_tei}
 use Rattle.lapd_sides.specs.Management.{manages}
-use Rattle.lapd_sides.specs.SideState.{link_of}
-use Rattle.lapd_sides.specs.Network.{assigner_acts, network_takes, network_expires, network_requested}
-use Rattle.lapd_sides.specs.User.{User, terminal_acts, user_takes, user_expires, user_requested}
+use Rattle.lapd_sides.specs.SideState.{link_of, expires, takes}
+use Rattle.lapd_sides.specs.Network.{assigner_acts, network_requested}
+use Rattle.lapd_sides.specs.User.{User, terminal_acts, user_requested}
 use Rattle.lapd_link_definition.specs.declared.out.Letter.{Letter}
 use Rattle.lapd_link_definition.specs.declared.out.Letter.TheVariants as letter
 use Rattle.lapd_link_definition.specs.Reports.{IsExpected}
@@ -172,7 +172,7 @@ pub record Hasty (first second : Vec ℕ Global) : Type 0 where
 hasty_holds : (v w : Vec ℕ Global) (x : Fits v (1 ∷ [])) (y : Fits w (2 ∷ []))
     → Hasty (holding v (1 ∷ []) x) (holding w (2 ∷ []) y)
 unfolding link_acts link_expires in_links with_tei without_tei primitive_of_tei manages
-    assigner_acts link_of network_takes network_expires network_requested begin put state_to
+    assigner_acts link_of takes expires network_requested begin put state_to
     rc_to increment_rc layer3_initiated_to release_pending_to start stop expired
     clear_exception_conditions zero_state_variables set_peer_busy set_own_busy enquiry_response
     transmit_enquiry queue_up discard_i_queue acknowledge invoke_retransmission i_frame_ns
@@ -186,7 +186,7 @@ unfolding link_acts link_expires in_links with_tei without_tei primitive_of_tei 
     with_zero_counters status_frame acknowledgement without_ack_pending poll_response is_accepted
     is_rejected after_i_frame i_frame_response is_valid_nr with_va acknowledged_count
     acknowledges_all with_vs may_send next_i_frame after_sending with_own_busy with_peer_busy after
-    steps lies_within terminal_acts user_takes user_expires user_requested links_below
+    steps lies_within terminal_acts user_requested links_below
     does
 hasty_holds v w x y =
     let run = hasty (holding v (1 ∷ []) x) (holding w (2 ∷ []) y) in
@@ -229,7 +229,7 @@ pub record Regained (first second : Vec ℕ Global) : Type 0 where
 regained_holds : (v w : Vec ℕ Global) (x : Fits v (1 ∷ [])) (y : Fits w (2 ∷ []))
     → Regained (holding v (1 ∷ []) x) (holding w (2 ∷ []) y)
 unfolding link_acts link_expires in_links with_tei without_tei primitive_of_tei manages
-    assigner_acts link_of network_takes network_expires network_requested begin put state_to
+    assigner_acts link_of takes expires network_requested begin put state_to
     rc_to increment_rc layer3_initiated_to release_pending_to start stop expired
     clear_exception_conditions zero_state_variables set_peer_busy set_own_busy enquiry_response
     transmit_enquiry queue_up discard_i_queue acknowledge invoke_retransmission i_frame_ns
@@ -243,7 +243,7 @@ unfolding link_acts link_expires in_links with_tei without_tei primitive_of_tei 
     with_zero_counters status_frame acknowledgement without_ack_pending poll_response is_accepted
     is_rejected after_i_frame i_frame_response is_valid_nr with_va acknowledged_count
     acknowledges_all with_vs may_send next_i_frame after_sending with_own_busy with_peer_busy after
-    steps lies_within terminal_acts user_takes user_expires user_requested links_below
+    steps lies_within terminal_acts user_requested links_below
     does
 regained_holds v w x y =
     let run = regained (holding v (1 ∷ []) x) (holding w (2 ∷ []) y) in
@@ -276,7 +276,7 @@ regained_is_not_right first second one two =
 
 old_apart : Throughout configs (KeepsTeisApart configs) leaves_sabme two_terminals
 unfolding link_acts link_expires in_links with_tei without_tei primitive_of_tei manages
-    assigner_acts link_of network_takes network_expires network_requested begin put state_to
+    assigner_acts link_of takes expires network_requested begin put state_to
     rc_to increment_rc layer3_initiated_to release_pending_to start stop expired
     clear_exception_conditions zero_state_variables set_peer_busy set_own_busy enquiry_response
     transmit_enquiry queue_up discard_i_queue acknowledge invoke_retransmission i_frame_ns
@@ -290,7 +290,7 @@ unfolding link_acts link_expires in_links with_tei without_tei primitive_of_tei 
     with_zero_counters status_frame acknowledgement without_ack_pending poll_response is_accepted
     is_rejected after_i_frame i_frame_response is_valid_nr with_va acknowledged_count
     acknowledges_all with_vs may_send next_i_frame after_sending with_own_busy with_peer_busy after
-    steps lies_within terminal_acts user_takes user_expires user_requested links_below
+    steps lies_within terminal_acts user_requested links_below
     does
 old_apart = throughout_by configs (KeepsTeisApart configs) (keeps_teis_apart configs)
     (keeps_teis_apart_so configs) leaves_sabme two_terminals refl
@@ -308,7 +308,7 @@ old_is_reached = record {
 
 pub old_assigns_apart : KeepsTeisApart configs assigns_second with_old_sabme
 unfolding link_acts link_expires in_links with_tei without_tei primitive_of_tei manages
-    assigner_acts link_of network_takes network_expires network_requested begin put state_to
+    assigner_acts link_of takes expires network_requested begin put state_to
     rc_to increment_rc layer3_initiated_to release_pending_to start stop expired
     clear_exception_conditions zero_state_variables set_peer_busy set_own_busy enquiry_response
     transmit_enquiry queue_up discard_i_queue acknowledge invoke_retransmission i_frame_ns
@@ -322,13 +322,13 @@ unfolding link_acts link_expires in_links with_tei without_tei primitive_of_tei 
     with_zero_counters status_frame acknowledgement without_ack_pending poll_response is_accepted
     is_rejected after_i_frame i_frame_response is_valid_nr with_va acknowledged_count
     acknowledges_all with_vs may_send next_i_frame after_sending with_own_busy with_peer_busy after
-    steps lies_within terminal_acts user_takes user_expires user_requested links_below
+    steps lies_within terminal_acts user_requested links_below
     does
 old_assigns_apart = keeps_teis_apart_so configs assigns_second with_old_sabme refl
 
 pub old_assigns : Assigns configs 64 assigns_second with_old_sabme
 unfolding link_acts link_expires in_links with_tei without_tei primitive_of_tei manages
-    assigner_acts link_of network_takes network_expires network_requested begin put state_to
+    assigner_acts link_of takes expires network_requested begin put state_to
     rc_to increment_rc layer3_initiated_to release_pending_to start stop expired
     clear_exception_conditions zero_state_variables set_peer_busy set_own_busy enquiry_response
     transmit_enquiry queue_up discard_i_queue acknowledge invoke_retransmission i_frame_ns
@@ -342,13 +342,13 @@ unfolding link_acts link_expires in_links with_tei without_tei primitive_of_tei 
     with_zero_counters status_frame acknowledgement without_ack_pending poll_response is_accepted
     is_rejected after_i_frame i_frame_response is_valid_nr with_va acknowledged_count
     acknowledges_all with_vs may_send next_i_frame after_sending with_own_busy with_peer_busy after
-    steps lies_within terminal_acts user_takes user_expires user_requested links_below
+    steps lies_within terminal_acts user_requested links_below
     does
 old_assigns = assigns_now_so configs 64 assigns_second with_old_sabme refl
 
 pub old_claims : IsOnlyClaimant 64 1 (bus_step configs assigns_second with_old_sabme)
 unfolding link_acts link_expires in_links with_tei without_tei primitive_of_tei manages
-    assigner_acts link_of network_takes network_expires network_requested begin put state_to
+    assigner_acts link_of takes expires network_requested begin put state_to
     rc_to increment_rc layer3_initiated_to release_pending_to start stop expired
     clear_exception_conditions zero_state_variables set_peer_busy set_own_busy enquiry_response
     transmit_enquiry queue_up discard_i_queue acknowledge invoke_retransmission i_frame_ns
@@ -362,14 +362,14 @@ unfolding link_acts link_expires in_links with_tei without_tei primitive_of_tei 
     with_zero_counters status_frame acknowledgement without_ack_pending poll_response is_accepted
     is_rejected after_i_frame i_frame_response is_valid_nr with_va acknowledged_count
     acknowledges_all with_vs may_send next_i_frame after_sending with_own_busy with_peer_busy after
-    steps lies_within terminal_acts user_takes user_expires user_requested links_below
+    steps lies_within terminal_acts user_requested links_below
     does
 old_claims = only_claimant_so 64 1 (bus_step configs assigns_second with_old_sabme) refl
 
 pub old_keeps : Throughout configs (KeepsHolding configs call 1) answers_old
     (from_now (bus_step configs assigns_second with_old_sabme))
 unfolding link_acts link_expires in_links with_tei without_tei primitive_of_tei manages
-    assigner_acts link_of network_takes network_expires network_requested begin put state_to
+    assigner_acts link_of takes expires network_requested begin put state_to
     rc_to increment_rc layer3_initiated_to release_pending_to start stop expired
     clear_exception_conditions zero_state_variables set_peer_busy set_own_busy enquiry_response
     transmit_enquiry queue_up discard_i_queue acknowledge invoke_retransmission i_frame_ns
@@ -383,7 +383,7 @@ unfolding link_acts link_expires in_links with_tei without_tei primitive_of_tei 
     with_zero_counters status_frame acknowledgement without_ack_pending poll_response is_accepted
     is_rejected after_i_frame i_frame_response is_valid_nr with_va acknowledged_count
     acknowledges_all with_vs may_send next_i_frame after_sending with_own_busy with_peer_busy after
-    steps lies_within terminal_acts user_takes user_expires user_requested links_below
+    steps lies_within terminal_acts user_requested links_below
     does
 old_keeps = throughout_by configs (KeepsHolding configs call 1) (keeps_holding configs call 1)
     (keeps_holding_so configs call 1) answers_old (from_now
@@ -394,7 +394,7 @@ pub old_is_not_expected : (t : SideView User) → slice_get
     with_old_sabme))).terminals 1 ≡ Some t → AreExpectedOfLink (link_primitives call t.delivered)
     → ⊥
 unfolding link_acts link_expires in_links with_tei without_tei primitive_of_tei manages
-    assigner_acts link_of network_takes network_expires network_requested begin put state_to
+    assigner_acts link_of takes expires network_requested begin put state_to
     rc_to increment_rc layer3_initiated_to release_pending_to start stop expired
     clear_exception_conditions zero_state_variables set_peer_busy set_own_busy enquiry_response
     transmit_enquiry queue_up discard_i_queue acknowledge invoke_retransmission i_frame_ns
@@ -408,7 +408,7 @@ unfolding link_acts link_expires in_links with_tei without_tei primitive_of_tei 
     with_zero_counters status_frame acknowledgement without_ack_pending poll_response is_accepted
     is_rejected after_i_frame i_frame_response is_valid_nr with_va acknowledged_count
     acknowledges_all with_vs may_send next_i_frame after_sending with_own_busy with_peer_busy after
-    steps lies_within terminal_acts user_takes user_expires user_requested links_below
+    steps lies_within terminal_acts user_requested links_below
     does
 old_is_not_expected = unexpected_at (after_events configs answers_old
     (from_now (bus_step configs assigns_second with_old_sabme))) refl
@@ -417,7 +417,7 @@ old_is_not_expected = unexpected_at (after_events configs answers_old
 
 pub twice_keeps : KeepsAllButRequesting call 0 taken_twice from_twins
 unfolding link_acts link_expires in_links with_tei without_tei primitive_of_tei manages
-    assigner_acts link_of network_takes network_expires network_requested begin put state_to
+    assigner_acts link_of takes expires network_requested begin put state_to
     rc_to increment_rc layer3_initiated_to release_pending_to start stop expired
     clear_exception_conditions zero_state_variables set_peer_busy set_own_busy enquiry_response
     transmit_enquiry queue_up discard_i_queue acknowledge invoke_retransmission i_frame_ns
@@ -431,7 +431,7 @@ unfolding link_acts link_expires in_links with_tei without_tei primitive_of_tei 
     with_zero_counters status_frame acknowledgement without_ack_pending poll_response is_accepted
     is_rejected after_i_frame i_frame_response is_valid_nr with_va acknowledged_count
     acknowledges_all with_vs may_send next_i_frame after_sending with_own_busy with_peer_busy after
-    steps lies_within terminal_acts user_takes user_expires user_requested links_below
+    steps lies_within terminal_acts user_requested links_below
     does
 twice_keeps = (
   throughout_by configs (λ e b.
@@ -444,7 +444,7 @@ twice_keeps = (
 
 pub twice_is_someone_elses : IsNobodyElses call 0 (after_events configs taken_twice from_twins) → ⊥
 unfolding link_acts link_expires in_links with_tei without_tei primitive_of_tei manages
-    assigner_acts link_of network_takes network_expires network_requested begin put state_to
+    assigner_acts link_of takes expires network_requested begin put state_to
     rc_to increment_rc layer3_initiated_to release_pending_to start stop expired
     clear_exception_conditions zero_state_variables set_peer_busy set_own_busy enquiry_response
     transmit_enquiry queue_up discard_i_queue acknowledge invoke_retransmission i_frame_ns
@@ -458,7 +458,7 @@ unfolding link_acts link_expires in_links with_tei without_tei primitive_of_tei 
     with_zero_counters status_frame acknowledgement without_ack_pending poll_response is_accepted
     is_rejected after_i_frame i_frame_response is_valid_nr with_va acknowledged_count
     acknowledges_all with_vs may_send next_i_frame after_sending with_own_busy with_peer_busy after
-    steps lies_within terminal_acts user_takes user_expires user_requested links_below
+    steps lies_within terminal_acts user_requested links_below
     does
 twice_is_someone_elses = someone_elses (after_events configs taken_twice from_twins) refl
 
@@ -466,7 +466,7 @@ twice_is_someone_elses = someone_elses (after_events configs taken_twice from_tw
 
 pub joined_keeps : KeepsAllButLeaving call 0 joined from_first
 unfolding link_acts link_expires in_links with_tei without_tei primitive_of_tei manages
-    assigner_acts link_of network_takes network_expires network_requested begin put state_to
+    assigner_acts link_of takes expires network_requested begin put state_to
     rc_to increment_rc layer3_initiated_to release_pending_to start stop expired
     clear_exception_conditions zero_state_variables set_peer_busy set_own_busy enquiry_response
     transmit_enquiry queue_up discard_i_queue acknowledge invoke_retransmission i_frame_ns
@@ -480,7 +480,7 @@ unfolding link_acts link_expires in_links with_tei without_tei primitive_of_tei 
     with_zero_counters status_frame acknowledgement without_ack_pending poll_response is_accepted
     is_rejected after_i_frame i_frame_response is_valid_nr with_va acknowledged_count
     acknowledges_all with_vs may_send next_i_frame after_sending with_own_busy with_peer_busy after
-    steps lies_within terminal_acts user_takes user_expires user_requested links_below
+    steps lies_within terminal_acts user_requested links_below
     does
 joined_keeps = (
   throughout_by configs (IsTimelyFor call 0) (timely_for configs call 0)
@@ -493,7 +493,7 @@ joined_keeps = (
 
 pub joined_is_someone_elses : IsNobodyElses call 0 (after_events configs joined from_first) → ⊥
 unfolding link_acts link_expires in_links with_tei without_tei primitive_of_tei manages
-    assigner_acts link_of network_takes network_expires network_requested begin put state_to
+    assigner_acts link_of takes expires network_requested begin put state_to
     rc_to increment_rc layer3_initiated_to release_pending_to start stop expired
     clear_exception_conditions zero_state_variables set_peer_busy set_own_busy enquiry_response
     transmit_enquiry queue_up discard_i_queue acknowledge invoke_retransmission i_frame_ns
@@ -507,7 +507,7 @@ unfolding link_acts link_expires in_links with_tei without_tei primitive_of_tei 
     with_zero_counters status_frame acknowledgement without_ack_pending poll_response is_accepted
     is_rejected after_i_frame i_frame_response is_valid_nr with_va acknowledged_count
     acknowledges_all with_vs may_send next_i_frame after_sending with_own_busy with_peer_busy after
-    steps lies_within terminal_acts user_takes user_expires user_requested links_below
+    steps lies_within terminal_acts user_requested links_below
     does
 joined_is_someone_elses = someone_elses (after_events configs joined from_first) refl
 
@@ -523,7 +523,7 @@ pub record Replaced (first second : Vec ℕ Global) : Type 0 where
 replaced_holds : (v w : Vec ℕ Global) (x : Fits v (1 ∷ [])) (y : Fits w (2 ∷ []))
     → Replaced (holding v (1 ∷ []) x) (holding w (2 ∷ []) y)
 unfolding link_acts link_expires in_links with_tei without_tei primitive_of_tei manages
-    assigner_acts link_of network_takes network_expires network_requested begin put state_to
+    assigner_acts link_of takes expires network_requested begin put state_to
     rc_to increment_rc layer3_initiated_to release_pending_to start stop expired
     clear_exception_conditions zero_state_variables set_peer_busy set_own_busy enquiry_response
     transmit_enquiry queue_up discard_i_queue acknowledge invoke_retransmission i_frame_ns
@@ -537,7 +537,7 @@ unfolding link_acts link_expires in_links with_tei without_tei primitive_of_tei 
     with_zero_counters status_frame acknowledgement without_ack_pending poll_response is_accepted
     is_rejected after_i_frame i_frame_response is_valid_nr with_va acknowledged_count
     acknowledges_all with_vs may_send next_i_frame after_sending with_own_busy with_peer_busy after
-    steps lies_within terminal_acts user_takes user_expires user_requested links_below
+    steps lies_within terminal_acts user_requested links_below
     does
 replaced_holds v w x y =
     let run = replaced (holding v (1 ∷ []) x) (holding w (2 ∷ []) y) in
@@ -578,7 +578,7 @@ pub record Restarted (first second : Vec ℕ Global) : Type 0 where
 restarted_holds : (v w : Vec ℕ Global) (x : Fits v (1 ∷ [])) (y : Fits w (2 ∷ []))
     → Restarted (holding v (1 ∷ []) x) (holding w (2 ∷ []) y)
 unfolding link_acts link_expires in_links with_tei without_tei primitive_of_tei manages
-    assigner_acts link_of network_takes network_expires network_requested begin put state_to
+    assigner_acts link_of takes expires network_requested begin put state_to
     rc_to increment_rc layer3_initiated_to release_pending_to start stop expired
     clear_exception_conditions zero_state_variables set_peer_busy set_own_busy enquiry_response
     transmit_enquiry queue_up discard_i_queue acknowledge invoke_retransmission i_frame_ns
@@ -592,7 +592,7 @@ unfolding link_acts link_expires in_links with_tei without_tei primitive_of_tei 
     with_zero_counters status_frame acknowledgement without_ack_pending poll_response is_accepted
     is_rejected after_i_frame i_frame_response is_valid_nr with_va acknowledged_count
     acknowledges_all with_vs may_send next_i_frame after_sending with_own_busy with_peer_busy after
-    steps lies_within terminal_acts user_takes user_expires user_requested links_below
+    steps lies_within terminal_acts user_requested links_below
     does
 restarted_holds v w x y =
     let run = restarted (holding v (1 ∷ []) x) (holding w (2 ∷ []) y) in

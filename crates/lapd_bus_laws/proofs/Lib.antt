@@ -1,5 +1,4 @@
 pub mod Lists
-pub mod Plain
 pub mod Obtains
 pub mod Silent
 pub mod Overheard

@@ -1,22 +1,16 @@
 -- A terminal obtains a TEI only by an assignment that it takes from its line and that answers its
 -- outstanding request.
-use Rattle.std.proofs.Common.{◌≡◌, ◌⊎◌, inl, inr, ℕ, ◌+◌, ◌==◌, ◌&&◌, not, nat_lt, List, [], ◌∷◌, ◌++◌, length, Bool, true, false, if◌then◌else◌, Option, Some, None, Result, Ok, Err, refl, sym, ap, ◌∙◌, arith}
+use Rattle.std.proofs.Common.{◌≡◌, ◌⊎◌, inl, inr, ℕ, ◌+◌, ◌==◌, ◌&&◌, not, nat_lt, List, [], ◌∷◌, ◌++◌, Bool, true, false, if◌then◌else◌, Option, Some, None, Result, Ok, Err, refl, sym, ap, ◌∙◌, arith}
 use Rattle.std.specs.Prelude.{IfOk, ◌||◌}
 use Rattle.std.specs.List.{list_any, filter_map}
 use Rattle.std.proofs.lemmas.Bool.Decides.{nat_tests}
 use Rattle.std.proofs.lemmas.List.Folds.{list_any-append}
 use Rattle.lapd_timers.specs.declared.timer.Timer.{Timer}
 use Rattle.lapd_timers.specs.declared.timer.Timer.TheVariants.{T202}
-use Rattle.lapd_frame.specs.declared.Sapi.{Sapi}
 use Rattle.lapd_frame.specs.declared.Side.TheVariants as side
-use Rattle.lapd_frame.specs.declared.Address.{Address}
-use Rattle.lapd_frame.specs.declared.fault_kind.FaultKind.{FaultKind}
 use Rattle.lapd_frame.specs.declared.frame_fault.FrameFault.{FrameFault}
 use Rattle.lapd_frame.specs.Frame.{Fields}
 use Rattle.lapd_frame.specs.Reading.{frame_at}
-use Rattle.lapd_link_definition.specs.declared.event.LinkFault.TheVariants.{NotEstablished}
-use Rattle.lapd_link_definition.specs.Input as input
-use Rattle.lapd_link_definition.specs.Input.{Input, Heard, Faulty, UnitData}
 use Rattle.lapd_tei.specs.declared.fault.TeiFault.{TeiFault}
 use Rattle.lapd_tei.specs.declared.kind.TeiKind.{TeiKind}
 use Rattle.lapd_tei.specs.declared.kind.TeiKind.TheVariants as kind
@@ -36,22 +30,23 @@ use Rattle.lapd_table.specs.declared.link_id.LinkId.{LinkId}
 use Rattle.lapd_sides_links.specs.declared.config.Config.{Config}
 use Rattle.lapd_sides_links.specs.declared.primitive.Primitive.{Primitive}
 use Rattle.lapd_sides_links.specs.declared.side_fault.SideKind.{SideKind}
-use Rattle.lapd_sides_links.specs.declared.side_fault.SideKind.TheVariants.{NoLink, Link}
-use Rattle.lapd_sides_links.specs.declared.primitive.What.TheVariants as what
-use Rattle.lapd_sides_links.specs.Effects.{no_effects, outcome_of, stopped}
-use Rattle.lapd_sides_links.specs.Links.{Reaction, of_sapi, is_served, in_links, link_expires}
+use Rattle.lapd_sides_links.specs.Effects.{outcome_of}
+use Rattle.lapd_sides_links.specs.Links.{Links, Reaction, in_links, link_expires}
 use Rattle.lapd_sides.specs.declared.request.Request.{Request}
-use Rattle.lapd_sides.specs.declared.request.Request.TheVariants as request
 use Rattle.lapd_sides.specs.Management.{carries_message, manages, links_with, removal_primitives}
-use Rattle.lapd_sides.specs.User as user
-use Rattle.lapd_sides.specs.User.{User, next_reference, drawn, link_of_user, or_discarded, primitive_of_group, pending_after, terminal_acts, message_received, unit_from_group, for_layer_3, data_received, fault_received, received, user_takes, user_expires, with_tei_or, is_pending, with_pending, wants, forgets, has_tei, user_requested}
+use Rattle.lapd_sides.specs.SideState as sides
+use Rattle.lapd_sides.specs.SideState.{among_links, data_received, expires, message_received, received, takes, with_stopped}
+use Rattle.lapd_sides.specs.User.{User, TerminalState, next_reference, pending_after, terminal_acts, user_requested, user_rules}
 use Rattle.lapd_sides_laws.specs.Interface.{user_behaviour}
 use Rattle.lapd_sides_laws.specs.Premises.{is_removal, is_assignment}
 use Rattle.lapd_sides_laws.specs.SideView.{SideView, SideEvent, Take, Lose, Expire, Ask, Overhear, unmoved, takes_first, may_expire, or_unmoved, reaction}
 use Rattle.lapd_sides_laws.proofs.LinkParts.{any_more}
 use Rattle.lapd_bus_laws.specs.Bus.{OverhearsNothing}
 use Rattle.lapd_bus_laws.specs.Assignments.{assignment_by, assignment_of, assignment_in_frame, assignment_in, awaited}
-use Rattle.lapd_bus_laws.proofs.Plain.{ArePlain, plain_no_assignment, plain_no_removal, plain_expires, plain_removals, IsPlain, PlainIfOk, plain_still, plain_among, plain_linked, plain_or_unmoved, plain_or_discarded, plain_pending_after}
+use Rattle.lapd_sides_laws.proofs.LinkOps.{ArePlain, IsLinkOp, op_expires}
+use Rattle.lapd_sides_laws.proofs.Plain.{IsAside, aside_links, aside_op, pending_aside, plain_no_assignment, plain_no_removal, plain_removals}
+use Rattle.lapd_sides_laws.proofs.Reactions.{AnyInput, AnyRequest, HoldsOfLinks, Law, any_frame, each_request, faulty, frame_data}
+use Rattle.lapd_sides_laws.proofs.Requests.{by_events, stepped_by, user_asked}
 
 -- ---- A step of the terminal.
 
@@ -232,7 +227,7 @@ obtains_by : (s : User) (F G : ℕ → Type 0) (a : Reaction User) → ((t : ℕ
     → Obtains s F a → Obtains s G a
 obtains_by s F G a f h = record { got = λ t is. f t (h.got t is); held = h.held; lost = h.lost }
 
-plainly : (s : User) (From : ℕ → Type 0) (a : Reaction User) → IsPlain s a → Obtains s From a
+plainly : (s : User) (From : ℕ → Type 0) (a : Reaction User) → IsAside s a → Obtains s From a
 plainly s From a h = record {
   got =
       λ t is.
@@ -263,15 +258,9 @@ module _ (config : Config) (now : ℕ) (s : User) where
       let done = terminal_step s.management.terminal (e (next_reference s.management.random)) in
       let h = step_obtains s.management.terminal (e (next_reference s.management.random)) in
       let m = manages side.User config now done.outs s.served in
-      let middle : User = record s {
-        served = m.after;
-        management = record s.management {
-          terminal = done.now;
-          random = drawn done.outs s.management.random;
-        };
-      } in
+      let middle = (stepped_by config now done s).after in
       let rest = pending_after now done.outs middle in
-      let plain : IsPlain middle rest = plain_pending_after now done.outs middle in
+      let plain = pending_aside now done.outs middle in
       let outcomes = filter_map outcome_of done.outs in
       let removed = removal_primitives (tei_freed done.outs)
       (links_with config (tei_given done.outs) s.served.links) in
@@ -315,7 +304,7 @@ module _ (config : Config) (now : ℕ) (s : User) where
 
   message : (frame : Fields) (m : Result TeiMessage TeiFault) → carries_message frame ≡ true
       → message_at frame.info ≡ m → Obtains s (AnswersBy (Ok frame))
-      (message_received config now m s)
+      (message_received user_rules config now m s)
   message frame (Ok m) carries is =
       obtains_by s (Answers s.management.terminal m.kind m.ri m.ai) (AnswersBy (Ok frame))
       (terminal_acts config now (event.Heard m) s)
@@ -326,118 +315,74 @@ module _ (config : Config) (now : ℕ) (s : User) where
             if b then assignment_of (message_at frame.info) else None) carries ∙ ap assignment_of is
             ∙ h.assignment;
       }) (acting (event.Heard m))
-  message frame (Err fault) carries is = plainly s _ (user.unmoved s) (plain_still s)
+  message frame (Err fault) carries is = plainly s _ (unmoved s) ((aside_links now).still s)
 
-  frame_obtains : (r : Result Fields FrameFault) → Obtains s (AnswersBy r) (received config now r s)
+  frame_obtains : (r : Result Fields FrameFault)
+      → Obtains s (AnswersBy r) (received user_rules config now r s)
   frame_obtains (Ok frame) =
-      let does = link_of_user now (of_sapi frame.address.sapi frame.address.tei)
-      (Heard frame.control frame.address.role) frame.info s in
-      let unit = unit_from_group frame.address.sapi frame.info s in
       either_of (AnswersBy (Ok frame)) (carries_message frame)
-      (message_received config now (message_at frame.info) s) (data_received config now frame s)
+      (message_received user_rules config now (message_at frame.info) s)
+      (data_received user_rules config now frame s)
       (λ carries. message frame (message_at frame.info) carries refl)
-      (either_of (AnswersBy (Ok frame)) (for_layer_3 config frame) unit (or_discarded s does)
-      (λ it. plainly s _ unit (record { terminal = refl; delivered = refl }))
-      (plainly s _ (or_discarded s does) (plain_or_discarded s does
-      (plain_linked now (of_sapi frame.address.sapi frame.address.tei)
-      (Heard frame.control frame.address.role) frame.info s))))
-  frame_obtains (Err fault) = faulty fault.kind fault.address
-    where
-      faulty : (k : FaultKind) (address : Option Address) → Obtains s (AnswersBy (Err fault))
-          (fault_received now k address s)
-      faulty k None = plainly s _ (user.discards s) (record { terminal = refl; delivered = refl })
-      faulty k (Some address) =
-          let does = link_of_user now (of_sapi address.sapi address.tei) (Faulty k) [] s in
-          plainly s _ (or_discarded s does) (plain_or_discarded s does
-          (plain_linked now (of_sapi address.sapi address.tei) (Faulty k) [] s))
+      (plainly s _ _ (frame_data (aside_links now) config frame s tt))
+  frame_obtains (Err fault) =
+      plainly s _ _ (faulty (aside_links now) fault.kind fault.address s
+      (any_frame AnyInput (λ id control role info. tt) (λ id kind. tt) (Err fault)))
 
-  takes : (octets : List ℕ) → Obtains s (AnswersBy (frame_at side.Network octets))
-      (user_takes config octets now s)
-  unfolding user_takes
-  takes octets = frame_obtains (frame_at side.Network octets)
+  octets_obtain : (octets : List ℕ) → Obtains s (AnswersBy (frame_at side.Network octets))
+      (takes user_rules config octets now s)
+  unfolding takes
+  octets_obtain octets = frame_obtains (frame_at side.Network octets)
 
 -- ---- Timers and requests.
 
-expires : (config : Config) (now : ℕ) (s : User) (timer : Timer) (of : Option LinkId)
-    → Obtains s Nowhere (user_expires config now timer of s)
-unfolding user_expires
-expires config now s timer (Some other) = plainly s Nowhere _
-    (plain_or_unmoved s _ (plain_among s (in_links other (link_expires side.User other now timer)
-    s.served.links) (plain_expires side.User other s.served.links now timer)))
-expires config now s timer None =
-    let h = acting config now (record s {
-      served = record {
-        links = s.served.links;
-        timers =
-            stopped timer s.served.timers;
-      };
-    }) event.T202 in
-    record { got = h.got; held = h.held; lost = h.lost }
-
-abbrev ObtainsIfOk : User → Result (Reaction User) SideKind → Type 0
-ObtainsIfOk s r = IfOk r (Obtains s Nowhere)
-
-plainly_if_ok : (s : User) (r : Result (Reaction User) SideKind) → PlainIfOk s r → ObtainsIfOk s r
-plainly_if_ok s (Ok a) h = plainly s Nowhere a h
-plainly_if_ok s (Err kind) h = tt
-
 module _ (config : Config) (now : ℕ) where
-  wanting : (s : User) (at : Sapi) (served : Bool)
-      → ObtainsIfOk s (if served then Ok (terminal_acts config now event.Want
-      (record s { management = record s.management { pending = with_pending at true s.management.pending } })) else Err NoLink)
-  wanting s at true =
-      let h = acting config now (record s { management = record s.management { pending = with_pending at true s.management.pending } }) event.Want
-      in
+  abbrev Obtaining : Law TerminalState
+  Obtaining s a = Obtains s Nowhere a
+
+  of_links : HoldsOfLinks user_rules now Obtaining AnyInput
+  of_links = record {
+    still = λ s. plainly s Nowhere _ ((aside_links now).still s);
+    counts = λ s. plainly s Nowhere _ ((aside_links now).counts s);
+    reports = λ at octets s. plainly s Nowhere _ ((aside_links now).reports at octets s);
+    steps = λ id input octets s b plain permits done.
+        plainly s Nowhere _ ((aside_links now).steps id input octets s b plain permits done);
+  }
+
+  expiring : (s : User) (timer : Timer) (of : Option LinkId)
+      → Obtaining s (expires user_rules config now timer of s)
+  unfolding expires
+  expiring s timer (Some other) = plainly s Nowhere _ (or_unmoved_aside
+      (in_links other (link_expires side.User other now timer) s.served.links) (λ b done.
+      op_expires side.User other s.served.links now timer b done))
+    where
+      or_unmoved_aside : (r : Result (Reaction Links) SideKind)
+          → ((b : Reaction Links) → r ≡ Ok b → IsLinkOp s.served.links b)
+          → IsAside s (sides.or_unmoved s (among_links s r))
+      or_unmoved_aside (Ok b) op = aside_op s b (op b refl)
+      or_unmoved_aside (Err kind) op = (aside_links now).still s
+  expiring s timer None =
+      let h = acting config now (with_stopped timer s) event.T202 in
       record { got = h.got; held = h.held; lost = h.lost }
-  wanting s at false = tt
 
-  forgetting : (s : User) (at : Sapi) (test : Bool)
-      → ObtainsIfOk s (if test then Ok (record {
-        after =
-            record s { management = record s.management { pending = with_pending at false s.management.pending } };
-        effects =
-            record no_effects { primitives = primitive_of_group at what.ReleaseConfirm };
-      }) else Err
-      NoLink)
-  forgetting s at true = plainly s Nowhere _ (record { terminal = refl; delivered = refl })
-  forgetting s at false = tt
+  requesting : (asked : Request) (s : User)
+      → IfOk (user_requested config asked now s) (Obtaining s)
+  requesting asked s =
+      user_asked of_links config (by_events config now Obtaining AnyRequest
+      (λ s. acting config now s event.Ask) (λ s. acting config now s event.Want)
+      (λ s. acting config now s (λ ri. event.Leave))
+      (λ pending s a h. record { got = h.got; held = h.held; lost = h.lost })
+      (λ at s. plainly s Nowhere _ (record {
+        terminal = refl;
+        timers = refl;
+        adds_none = λ k there. there;
+        delivered = refl;
+      }))) asked s tt (each_request user_rules s.management asked)
 
-  leaving : (s : User) (test : Bool) → ObtainsIfOk s (if test then Ok
-      (terminal_acts config now (λ ri. event.Leave) s) else Err NoLink)
-  leaving s true = acting config now s (λ ri. event.Leave)
-  leaving s false = tt
-
-  with_own : (s : User) (phase : Phase) (at : Sapi) (input : Input) (octets : List ℕ)
-      (otherwise : Result (Reaction User) SideKind) → ObtainsIfOk s otherwise
-      → ObtainsIfOk s (with_tei_or now phase at input octets otherwise s)
-  with_own s (Assigned by own) at input octets otherwise other =
-      plainly_if_ok s (link_of_user now (of_sapi at own) input octets s)
-      (plain_linked now (of_sapi at own) input octets s)
-  with_own s Unassigned at input octets otherwise other = other
-  with_own s (Awaiting purpose count ri) at input octets otherwise other = other
-
-  requested : (request : Request) (s : User) → ObtainsIfOk s (user_requested config request now s)
-  unfolding user_requested
-  requested (request.Establish other) s = with_own s s.management.terminal other.sapi input.Establish []
-      (wants config now other.sapi s) (wanting s other.sapi (is_served config other.sapi))
-  requested (request.Release other) s = with_own s s.management.terminal other.sapi input.Release []
-      (forgets other.sapi s) (forgetting s other.sapi (is_pending other.sapi s.management.pending))
-  requested (request.Unit other octets) s = with_own s s.management.terminal other.sapi
-      (UnitData (length octets.items)) octets.items (Err NoLink) tt
-  requested (request.Give other message) s = with_own s s.management.terminal other.sapi
-      (input.Give message.items) [] (Err (Link NotEstablished)) tt
-  requested (request.Busy other true) s = with_own s s.management.terminal other.sapi input.BusyOn []
-      (Err NoLink) tt
-  requested (request.Busy other false) s = with_own s s.management.terminal other.sapi input.BusyOff []
-      (Err NoLink) tt
-  requested request.AskTei s = acting config now s event.Ask
-  requested (request.Check tei) s = plainly s Nowhere (user.unmoved s) (plain_still s)
-  requested (request.Remove tei) s = leaving s (has_tei tei (tei_of s.management.terminal))
-
-or_nothing : (s : User) (r : Result (Reaction User) SideKind) → ObtainsIfOk s r
+or_nothing : (s : User) (r : Result (Reaction User) SideKind) → IfOk r (Obtains s Nowhere)
     → Obtains s Nowhere (or_unmoved s r)
 or_nothing s (Ok a) h = h
-or_nothing s (Err kind) h = plainly s Nowhere (unmoved s) (plain_still s)
+or_nothing s (Err kind) h = plainly s Nowhere (unmoved s) ((aside_links 0).still s)
 
 -- ---- Every event.
 
@@ -460,12 +405,12 @@ from_nowhere : (s : User) (F : ℕ → Type 0) (a : Reaction User) → Obtains s
 from_nowhere s F a h = obtains_by s Nowhere F a (λ t no. absurd no) h
 
 takes_answer : (config : Config) (now : ℕ) (s : User) (octets : List ℕ)
-    → Obtains s (IsAnswer s octets) (user_takes config octets now s)
+    → Obtains s (IsAnswer s octets) (takes user_rules config octets now s)
 takes_answer config now s octets = obtains_by s (AnswersBy config now s
-    (frame_at side.Network octets)) (IsAnswer s octets) (user_takes config octets now s)
+    (frame_at side.Network octets)) (IsAnswer s octets) (takes user_rules config octets now s)
     (λ t h.
     record { reference = h.reference; outstanding = h.outstanding; assignment = h.assignment })
-    (takes config now s octets)
+    (octets_obtain config now s octets)
 
 pub event_obtains : (config : Config) (event : SideEvent) (v : SideView User)
     → OverhearsNothing event → Obtains v.now (TakesAnswer event v)
@@ -474,17 +419,17 @@ event_obtains config (Take now) v ok = first v.incoming
   where
     first : (line : List (List ℕ)) → Obtains v.now (FirstAnswers v.now line)
         (takes_first (user_behaviour config) now line v.now)
-    first [] = plainly v.now _ (unmoved v.now) (plain_still v.now)
+    first [] = plainly v.now _ (unmoved v.now) ((aside_links 0).still v.now)
     first (octets ∷ rest) = takes_answer config now v.now octets
-event_obtains config (Lose at) v ok = plainly v.now _ (unmoved v.now) (plain_still v.now)
+event_obtains config (Lose at) v ok = plainly v.now _ (unmoved v.now) ((aside_links 0).still v.now)
 event_obtains config (Expire timer of now) v ok = from_nowhere v.now _ _
     (by_test (may_expire timer of v.now.served))
   where
-    by_test : (test : Bool) → Obtains v.now Nowhere (if test then user_expires config now timer of
-        v.now else unmoved v.now)
-    by_test true = expires config now v.now timer of
-    by_test false = plainly v.now Nowhere (unmoved v.now) (plain_still v.now)
+    by_test : (test : Bool) → Obtains v.now Nowhere
+        (if test then expires user_rules config now timer of v.now else unmoved v.now)
+    by_test true = expiring config now v.now timer of
+    by_test false = plainly v.now Nowhere (unmoved v.now) ((aside_links 0).still v.now)
 event_obtains config (Ask request now) v ok = from_nowhere v.now _ _
     (or_nothing v.now (user_requested config request now v.now)
-    (requested config now request v.now))
+    (requesting config now request v.now))
 event_obtains config (Overhear octets now) v ok = absurd ok

@@ -16,9 +16,9 @@ use Rattle.lapd_link_definition.specs.TimerRecovery.{i_frame_nr_in_recovery, pol
 use Rattle.lapd_sides_links.specs.declared.primitive.What.TheVariants as what
 use Rattle.lapd_sides_links.specs.Links.{links_below, link_acts, link_expires, in_links, with_tei, without_tei, primitive_of_tei}
 use Rattle.lapd_sides.specs.Management.{manages}
-use Rattle.lapd_sides.specs.SideState.{link_of}
-use Rattle.lapd_sides.specs.Network.{assigner_acts, network_takes, network_expires, network_requested}
-use Rattle.lapd_sides.specs.User.{User, terminal_acts, user_takes, user_expires, user_requested}
+use Rattle.lapd_sides.specs.SideState.{link_of, expires, takes}
+use Rattle.lapd_sides.specs.Network.{assigner_acts, network_requested}
+use Rattle.lapd_sides.specs.User.{User, terminal_acts, user_requested}
 use Rattle.lapd_sides_laws.specs.Primitives.{link_primitives}
 use Rattle.lapd_sides_laws.specs.Schedule.{configs, call, IsMessage}
 use Rattle.lapd_sides_laws.specs.SideView.{SideView, does}
@@ -35,7 +35,7 @@ use Rattle.lapd_sides.specs.Worked as sides
 
 requested_so : Throughout configs (KeepsTeisApart configs) both_request two_terminals
 unfolding link_acts link_expires in_links with_tei without_tei primitive_of_tei manages
-    assigner_acts link_of network_takes network_expires network_requested begin put state_to
+    assigner_acts link_of takes expires network_requested begin put state_to
     rc_to increment_rc layer3_initiated_to release_pending_to start stop expired
     clear_exception_conditions zero_state_variables set_peer_busy set_own_busy enquiry_response
     transmit_enquiry queue_up discard_i_queue acknowledge invoke_retransmission i_frame_ns
@@ -49,7 +49,7 @@ unfolding link_acts link_expires in_links with_tei without_tei primitive_of_tei 
     with_zero_counters status_frame acknowledgement without_ack_pending poll_response is_accepted
     is_rejected after_i_frame i_frame_response is_valid_nr with_va acknowledged_count
     acknowledges_all with_vs may_send next_i_frame after_sending with_own_busy with_peer_busy after
-    steps lies_within terminal_acts user_takes user_expires user_requested links_below
+    steps lies_within terminal_acts user_requested links_below
     does
 requested_so = throughout_by configs (KeepsTeisApart configs) (keeps_teis_apart configs)
     (keeps_teis_apart_so configs) both_request two_terminals refl
@@ -67,7 +67,7 @@ requested_is_reached = record {
 
 pub assigns_apart : KeepsTeisApart configs assigns_first requested_bus
 unfolding link_acts link_expires in_links with_tei without_tei primitive_of_tei manages
-    assigner_acts link_of network_takes network_expires network_requested begin put state_to
+    assigner_acts link_of takes expires network_requested begin put state_to
     rc_to increment_rc layer3_initiated_to release_pending_to start stop expired
     clear_exception_conditions zero_state_variables set_peer_busy set_own_busy enquiry_response
     transmit_enquiry queue_up discard_i_queue acknowledge invoke_retransmission i_frame_ns
@@ -81,13 +81,13 @@ unfolding link_acts link_expires in_links with_tei without_tei primitive_of_tei 
     with_zero_counters status_frame acknowledgement without_ack_pending poll_response is_accepted
     is_rejected after_i_frame i_frame_response is_valid_nr with_va acknowledged_count
     acknowledges_all with_vs may_send next_i_frame after_sending with_own_busy with_peer_busy after
-    steps lies_within terminal_acts user_takes user_expires user_requested links_below
+    steps lies_within terminal_acts user_requested links_below
     does
 assigns_apart = keeps_teis_apart_so configs assigns_first requested_bus refl
 
 pub assigns_its_tei : Assigns configs 64 assigns_first requested_bus
 unfolding link_acts link_expires in_links with_tei without_tei primitive_of_tei manages
-    assigner_acts link_of network_takes network_expires network_requested begin put state_to
+    assigner_acts link_of takes expires network_requested begin put state_to
     rc_to increment_rc layer3_initiated_to release_pending_to start stop expired
     clear_exception_conditions zero_state_variables set_peer_busy set_own_busy enquiry_response
     transmit_enquiry queue_up discard_i_queue acknowledge invoke_retransmission i_frame_ns
@@ -101,13 +101,13 @@ unfolding link_acts link_expires in_links with_tei without_tei primitive_of_tei 
     with_zero_counters status_frame acknowledgement without_ack_pending poll_response is_accepted
     is_rejected after_i_frame i_frame_response is_valid_nr with_va acknowledged_count
     acknowledges_all with_vs may_send next_i_frame after_sending with_own_busy with_peer_busy after
-    steps lies_within terminal_acts user_takes user_expires user_requested links_below
+    steps lies_within terminal_acts user_requested links_below
     does
 assigns_its_tei = assigns_now_so configs 64 assigns_first requested_bus refl
 
 pub one_claims : IsOnlyClaimant 64 0 (bus_step configs assigns_first requested_bus)
 unfolding link_acts link_expires in_links with_tei without_tei primitive_of_tei manages
-    assigner_acts link_of network_takes network_expires network_requested begin put state_to
+    assigner_acts link_of takes expires network_requested begin put state_to
     rc_to increment_rc layer3_initiated_to release_pending_to start stop expired
     clear_exception_conditions zero_state_variables set_peer_busy set_own_busy enquiry_response
     transmit_enquiry queue_up discard_i_queue acknowledge invoke_retransmission i_frame_ns
@@ -121,13 +121,13 @@ unfolding link_acts link_expires in_links with_tei without_tei primitive_of_tei 
     with_zero_counters status_frame acknowledgement without_ack_pending poll_response is_accepted
     is_rejected after_i_frame i_frame_response is_valid_nr with_va acknowledged_count
     acknowledges_all with_vs may_send next_i_frame after_sending with_own_busy with_peer_busy after
-    steps lies_within terminal_acts user_takes user_expires user_requested links_below
+    steps lies_within terminal_acts user_requested links_below
     does
 one_claims = only_claimant_so 64 0 (bus_step configs assigns_first requested_bus) refl
 
 pub lines_are_clear : IsClear call 0 (bus_step configs assigns_first requested_bus)
 unfolding link_acts link_expires in_links with_tei without_tei primitive_of_tei manages
-    assigner_acts link_of network_takes network_expires network_requested begin put state_to
+    assigner_acts link_of takes expires network_requested begin put state_to
     rc_to increment_rc layer3_initiated_to release_pending_to start stop expired
     clear_exception_conditions zero_state_variables set_peer_busy set_own_busy enquiry_response
     transmit_enquiry queue_up discard_i_queue acknowledge invoke_retransmission i_frame_ns
@@ -141,7 +141,7 @@ unfolding link_acts link_expires in_links with_tei without_tei primitive_of_tei 
     with_zero_counters status_frame acknowledgement without_ack_pending poll_response is_accepted
     is_rejected after_i_frame i_frame_response is_valid_nr with_va acknowledged_count
     acknowledges_all with_vs may_send next_i_frame after_sending with_own_busy with_peer_busy after
-    steps lies_within terminal_acts user_takes user_expires user_requested links_below
+    steps lies_within terminal_acts user_requested links_below
     does
 lines_are_clear = is_clear_so call 0 (bus_step configs assigns_first requested_bus) refl
 
@@ -159,7 +159,7 @@ pub record Talking (message other : Vec ℕ Global) : Type 0 where
 talking_holds : (v w : Vec ℕ Global) (x : Fits v (1 ∷ [])) (y : Fits w (2 ∷ []))
     → Talking (holding v (1 ∷ []) x) (holding w (2 ∷ []) y)
 unfolding link_acts link_expires in_links with_tei without_tei primitive_of_tei manages
-    assigner_acts link_of network_takes network_expires network_requested begin put state_to
+    assigner_acts link_of takes expires network_requested begin put state_to
     rc_to increment_rc layer3_initiated_to release_pending_to start stop expired
     clear_exception_conditions zero_state_variables set_peer_busy set_own_busy enquiry_response
     transmit_enquiry queue_up discard_i_queue acknowledge invoke_retransmission i_frame_ns
@@ -173,7 +173,7 @@ unfolding link_acts link_expires in_links with_tei without_tei primitive_of_tei 
     with_zero_counters status_frame acknowledgement without_ack_pending poll_response is_accepted
     is_rejected after_i_frame i_frame_response is_valid_nr with_va acknowledged_count
     acknowledges_all with_vs may_send next_i_frame after_sending with_own_busy with_peer_busy after
-    steps lies_within terminal_acts user_takes user_expires user_requested links_below
+    steps lies_within terminal_acts user_requested links_below
     does
 talking_holds v w x y = record {
   keeps = throughout_by configs (KeepsHolding configs call 0) (keeps_holding configs call 0)
@@ -192,7 +192,7 @@ talking_so = with_both Talking (1 ∷ []) (2 ∷ []) talking_holds
 
 pub moved_apart : Throughout configs (KeepsTeisApart configs) moved two_terminals
 unfolding link_acts link_expires in_links with_tei without_tei primitive_of_tei manages
-    assigner_acts link_of network_takes network_expires network_requested begin put state_to
+    assigner_acts link_of takes expires network_requested begin put state_to
     rc_to increment_rc layer3_initiated_to release_pending_to start stop expired
     clear_exception_conditions zero_state_variables set_peer_busy set_own_busy enquiry_response
     transmit_enquiry queue_up discard_i_queue acknowledge invoke_retransmission i_frame_ns
@@ -206,7 +206,7 @@ unfolding link_acts link_expires in_links with_tei without_tei primitive_of_tei 
     with_zero_counters status_frame acknowledgement without_ack_pending poll_response is_accepted
     is_rejected after_i_frame i_frame_response is_valid_nr with_va acknowledged_count
     acknowledges_all with_vs may_send next_i_frame after_sending with_own_busy with_peer_busy after
-    steps lies_within terminal_acts user_takes user_expires user_requested links_below
+    steps lies_within terminal_acts user_requested links_below
     does
 moved_apart = throughout_by configs (KeepsTeisApart configs) (keeps_teis_apart configs)
     (keeps_teis_apart_so configs) moved two_terminals refl
@@ -214,7 +214,7 @@ moved_apart = throughout_by configs (KeepsTeisApart configs) (keeps_teis_apart c
 pub moved_holders : map (holds 64) (after_events configs moved two_terminals).terminals
     ≡ false ∷ true ∷ []
 unfolding link_acts link_expires in_links with_tei without_tei primitive_of_tei manages
-    assigner_acts link_of network_takes network_expires network_requested begin put state_to
+    assigner_acts link_of takes expires network_requested begin put state_to
     rc_to increment_rc layer3_initiated_to release_pending_to start stop expired
     clear_exception_conditions zero_state_variables set_peer_busy set_own_busy enquiry_response
     transmit_enquiry queue_up discard_i_queue acknowledge invoke_retransmission i_frame_ns
@@ -228,7 +228,7 @@ unfolding link_acts link_expires in_links with_tei without_tei primitive_of_tei 
     with_zero_counters status_frame acknowledgement without_ack_pending poll_response is_accepted
     is_rejected after_i_frame i_frame_response is_valid_nr with_va acknowledged_count
     acknowledges_all with_vs may_send next_i_frame after_sending with_own_busy with_peer_busy after
-    steps lies_within terminal_acts user_takes user_expires user_requested links_below
+    steps lies_within terminal_acts user_requested links_below
     does
 moved_holders = refl
 
@@ -236,7 +236,7 @@ moved_holders = refl
 
 pub fixed_claims : IsOnlyClaimant 0 0 two_fixed
 unfolding link_acts link_expires in_links with_tei without_tei primitive_of_tei manages
-    assigner_acts link_of network_takes network_expires network_requested begin put state_to
+    assigner_acts link_of takes expires network_requested begin put state_to
     rc_to increment_rc layer3_initiated_to release_pending_to start stop expired
     clear_exception_conditions zero_state_variables set_peer_busy set_own_busy enquiry_response
     transmit_enquiry queue_up discard_i_queue acknowledge invoke_retransmission i_frame_ns
@@ -250,7 +250,7 @@ unfolding link_acts link_expires in_links with_tei without_tei primitive_of_tei 
     with_zero_counters status_frame acknowledgement without_ack_pending poll_response is_accepted
     is_rejected after_i_frame i_frame_response is_valid_nr with_va acknowledged_count
     acknowledges_all with_vs may_send next_i_frame after_sending with_own_busy with_peer_busy after
-    steps lies_within terminal_acts user_takes user_expires user_requested links_below
+    steps lies_within terminal_acts user_requested links_below
     does
 fixed_claims = only_claimant_so 0 0 two_fixed refl
 
@@ -263,7 +263,7 @@ pub record FixedTalks (message : Vec ℕ Global) : Type 0 where
 
 fixed_talks_hold : (v : Vec ℕ Global) (x : Fits v (1 ∷ [])) → FixedTalks (holding v (1 ∷ []) x)
 unfolding link_acts link_expires in_links with_tei without_tei primitive_of_tei manages
-    assigner_acts link_of network_takes network_expires network_requested begin put state_to
+    assigner_acts link_of takes expires network_requested begin put state_to
     rc_to increment_rc layer3_initiated_to release_pending_to start stop expired
     clear_exception_conditions zero_state_variables set_peer_busy set_own_busy enquiry_response
     transmit_enquiry queue_up discard_i_queue acknowledge invoke_retransmission i_frame_ns
@@ -277,7 +277,7 @@ unfolding link_acts link_expires in_links with_tei without_tei primitive_of_tei 
     with_zero_counters status_frame acknowledgement without_ack_pending poll_response is_accepted
     is_rejected after_i_frame i_frame_response is_valid_nr with_va acknowledged_count
     acknowledges_all with_vs may_send next_i_frame after_sending with_own_busy with_peer_busy after
-    steps lies_within terminal_acts user_takes user_expires user_requested links_below
+    steps lies_within terminal_acts user_requested links_below
     does
 fixed_talks_hold v x = record {
   keeps = throughout_by configs (KeepsHolding configs fixed_call 0)
@@ -294,7 +294,7 @@ fixed_talks_so = with_octets FixedTalks (1 ∷ []) fixed_talks_hold
 pub while_held : KeepsAllButAssignment assigned_while_held two_terminals
     × (IsSingle (after_events configs assigned_while_held two_terminals) → ⊥)
 unfolding link_acts link_expires in_links with_tei without_tei primitive_of_tei manages
-    assigner_acts link_of network_takes network_expires network_requested begin put state_to
+    assigner_acts link_of takes expires network_requested begin put state_to
     rc_to increment_rc layer3_initiated_to release_pending_to start stop expired
     clear_exception_conditions zero_state_variables set_peer_busy set_own_busy enquiry_response
     transmit_enquiry queue_up discard_i_queue acknowledge invoke_retransmission i_frame_ns
@@ -308,7 +308,7 @@ unfolding link_acts link_expires in_links with_tei without_tei primitive_of_tei 
     with_zero_counters status_frame acknowledgement without_ack_pending poll_response is_accepted
     is_rejected after_i_frame i_frame_response is_valid_nr with_va acknowledged_count
     acknowledges_all with_vs may_send next_i_frame after_sending with_own_busy with_peer_busy after
-    steps lies_within terminal_acts user_takes user_expires user_requested links_below
+    steps lies_within terminal_acts user_requested links_below
     does
 while_held = (
   (
@@ -325,7 +325,7 @@ while_held = (
 pub in_transit : KeepsAllButAssignment assigned_in_transit two_terminals
     × (IsSingle (after_events configs assigned_in_transit two_terminals) → ⊥)
 unfolding link_acts link_expires in_links with_tei without_tei primitive_of_tei manages
-    assigner_acts link_of network_takes network_expires network_requested begin put state_to
+    assigner_acts link_of takes expires network_requested begin put state_to
     rc_to increment_rc layer3_initiated_to release_pending_to start stop expired
     clear_exception_conditions zero_state_variables set_peer_busy set_own_busy enquiry_response
     transmit_enquiry queue_up discard_i_queue acknowledge invoke_retransmission i_frame_ns
@@ -339,7 +339,7 @@ unfolding link_acts link_expires in_links with_tei without_tei primitive_of_tei 
     with_zero_counters status_frame acknowledgement without_ack_pending poll_response is_accepted
     is_rejected after_i_frame i_frame_response is_valid_nr with_va acknowledged_count
     acknowledges_all with_vs may_send next_i_frame after_sending with_own_busy with_peer_busy after
-    steps lies_within terminal_acts user_takes user_expires user_requested links_below
+    steps lies_within terminal_acts user_requested links_below
     does
 in_transit = (
   (
@@ -356,7 +356,7 @@ in_transit = (
 pub shared : KeepsAllButReference same_reference twins ×
     (IsSingle (after_events configs same_reference twins) → ⊥)
 unfolding link_acts link_expires in_links with_tei without_tei primitive_of_tei manages
-    assigner_acts link_of network_takes network_expires network_requested begin put state_to
+    assigner_acts link_of takes expires network_requested begin put state_to
     rc_to increment_rc layer3_initiated_to release_pending_to start stop expired
     clear_exception_conditions zero_state_variables set_peer_busy set_own_busy enquiry_response
     transmit_enquiry queue_up discard_i_queue acknowledge invoke_retransmission i_frame_ns
@@ -370,7 +370,7 @@ unfolding link_acts link_expires in_links with_tei without_tei primitive_of_tei 
     with_zero_counters status_frame acknowledgement without_ack_pending poll_response is_accepted
     is_rejected after_i_frame i_frame_response is_valid_nr with_va acknowledged_count
     acknowledges_all with_vs may_send next_i_frame after_sending with_own_busy with_peer_busy after
-    steps lies_within terminal_acts user_takes user_expires user_requested links_below
+    steps lies_within terminal_acts user_requested links_below
     does
 shared = (
   (
@@ -386,7 +386,7 @@ shared = (
 pub answered : KeepsAllButReference answered_before twins
     × (IsSingle (after_events configs answered_before twins) → ⊥)
 unfolding link_acts link_expires in_links with_tei without_tei primitive_of_tei manages
-    assigner_acts link_of network_takes network_expires network_requested begin put state_to
+    assigner_acts link_of takes expires network_requested begin put state_to
     rc_to increment_rc layer3_initiated_to release_pending_to start stop expired
     clear_exception_conditions zero_state_variables set_peer_busy set_own_busy enquiry_response
     transmit_enquiry queue_up discard_i_queue acknowledge invoke_retransmission i_frame_ns
@@ -400,7 +400,7 @@ unfolding link_acts link_expires in_links with_tei without_tei primitive_of_tei 
     with_zero_counters status_frame acknowledgement without_ack_pending poll_response is_accepted
     is_rejected after_i_frame i_frame_response is_valid_nr with_va acknowledged_count
     acknowledges_all with_vs may_send next_i_frame after_sending with_own_busy with_peer_busy after
-    steps lies_within terminal_acts user_takes user_expires user_requested links_below
+    steps lies_within terminal_acts user_requested links_below
     does
 answered = (
   (
@@ -416,7 +416,7 @@ answered = (
 pub joins_held : KeepsAllButJoining joins_with_held two_terminals
     × (IsSingle (after_events configs joins_with_held two_terminals) → ⊥)
 unfolding link_acts link_expires in_links with_tei without_tei primitive_of_tei manages
-    assigner_acts link_of network_takes network_expires network_requested begin put state_to
+    assigner_acts link_of takes expires network_requested begin put state_to
     rc_to increment_rc layer3_initiated_to release_pending_to start stop expired
     clear_exception_conditions zero_state_variables set_peer_busy set_own_busy enquiry_response
     transmit_enquiry queue_up discard_i_queue acknowledge invoke_retransmission i_frame_ns
@@ -430,7 +430,7 @@ unfolding link_acts link_expires in_links with_tei without_tei primitive_of_tei 
     with_zero_counters status_frame acknowledgement without_ack_pending poll_response is_accepted
     is_rejected after_i_frame i_frame_response is_valid_nr with_va acknowledged_count
     acknowledges_all with_vs may_send next_i_frame after_sending with_own_busy with_peer_busy after
-    steps lies_within terminal_acts user_takes user_expires user_requested links_below
+    steps lies_within terminal_acts user_requested links_below
     does
 joins_held = (
   (
@@ -445,7 +445,7 @@ joins_held = (
 
 pub fixed_twice : IsSingle same_fixed → ⊥
 unfolding link_acts link_expires in_links with_tei without_tei primitive_of_tei manages
-    assigner_acts link_of network_takes network_expires network_requested begin put state_to
+    assigner_acts link_of takes expires network_requested begin put state_to
     rc_to increment_rc layer3_initiated_to release_pending_to start stop expired
     clear_exception_conditions zero_state_variables set_peer_busy set_own_busy enquiry_response
     transmit_enquiry queue_up discard_i_queue acknowledge invoke_retransmission i_frame_ns
@@ -459,6 +459,6 @@ unfolding link_acts link_expires in_links with_tei without_tei primitive_of_tei 
     with_zero_counters status_frame acknowledgement without_ack_pending poll_response is_accepted
     is_rejected after_i_frame i_frame_response is_valid_nr with_va acknowledged_count
     acknowledges_all with_vs may_send next_i_frame after_sending with_own_busy with_peer_busy after
-    steps lies_within terminal_acts user_takes user_expires user_requested links_below
+    steps lies_within terminal_acts user_requested links_below
     does
 fixed_twice = both_hold_so 5 same_fixed refl

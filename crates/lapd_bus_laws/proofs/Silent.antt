@@ -20,7 +20,7 @@ use Rattle.lapd_sides_laws.specs.Owed.{IsUnmovedBy}
 use Rattle.lapd_sides_laws.specs.Premises.{is_removal, IsGivenOnce}
 use Rattle.lapd_sides_laws.specs.Primitives.{what_for, link_primitives}
 use Rattle.lapd_sides_laws.specs.SideView.{Behaviour, SideView, SideEvent, Take, Lose, Expire, Ask, Overhear, unmoved, takes_first, runs_on, may_expire, or_unmoved, reaction, does}
-use Rattle.lapd_sides_laws.proofs.Users.{takes_without, expires_other, asked}
+use Rattle.lapd_sides_laws.proofs.Users.{of_user, takes_without}
 
 module _ (config : Config) (id : LinkId) (low : id.tei < 127) where
   abbrev W : Behaviour User
@@ -76,14 +76,15 @@ module _ (config : Config) (id : LinkId) (low : id.tei < 127) where
       runs_on timer (s.served.links k) ≡ true) (sym (same_id_eq id other is)) runs))
   named now timer other s false is none runs stays =
       by_unmoved now s (W.expires now timer (Some other) s) none stays
-      (expires_other config id low true now timer (Some other) s
+      ((of_user config id low true).expires_other now timer (Some other) s
       (λ k e. subst (λ (x : LinkId). id_eq id x ≡ false) (some_id other k e) is) stays.0)
 
   expired : (now : ℕ) (timer : Timer) (of : Option LinkId) (s : User) → s.served.links id ≡ None
       → may_expire timer of s.served ≡ true → Keeps s (W.expires now timer of s)
       → IsSilent (W.expires now timer of s)
   expired now timer None s none may stays = by_unmoved now s (W.expires now timer None s) none stays
-      (expires_other config id low true now timer None s (λ k e. absurd (none_is_some k e)) stays.0)
+      ((of_user config id low true).expires_other now timer None s
+      (λ k e. absurd (none_is_some k e)) stays.0)
   expired now T200 (Some other) s none may stays = named now T200 other s (id_eq id other) refl none
       may stays
   expired now T203 (Some other) s none may stays = named now T203 other s (id_eq id other) refl none
@@ -100,8 +101,8 @@ module _ (config : Config) (id : LinkId) (low : id.tei < 127) where
   asks_by : (request : Request) (now : ℕ) (s : User) (r : Result (Reaction User) SideKind)
       → user_requested config request now s ≡ r → s.served.links id ≡ None
       → Keeps s (or_unmoved s r) → IsSilent (or_unmoved s r)
-  asks_by request now s (Ok a) is none stays = elim (asked config id low true request now s a is
-      stays.0) [
+  asks_by request now s (Ok a) is none stays = elim ((of_user config id low true).asked request
+      now s a is stays.0) [
         | inl plain ↦ by_unmoved now s a none stays plain.proceeds
         | inr its ↦ (let was = its.is_step.was in cc)
       ]

@@ -11,8 +11,7 @@ use Rattle.lapd_sides.specs.User.{User, new_user, has_tei}
 use Rattle.lapd_sides_laws.specs.Interface.{Configs, user_behaviour, network_behaviour}
 use Rattle.lapd_sides_laws.specs.SideView.{SideView, SideEvent, reaction, does}
 use Rattle.lapd_sides_laws.proofs.AsMade.{new_are_own, new_are_held}
-use Rattle.lapd_sides_laws.proofs.NetworkOwn.{AreHeld, network_preserves}
-use Rattle.lapd_sides_laws.proofs.UserOwn.{AreOwn, user_preserves}
+use Rattle.lapd_sides_laws.proofs.OwnSides.{AreHeld, network_preserves, AreOwn, user_preserves}
 use Rattle.lapd_bus_laws.specs.Assignments.{Assignment, holds, awaited, awaits, is_offer, is_taken, IsSingle}
 use Rattle.lapd_bus_laws.specs.Bus.{Bus, BusEvent, OfTerminal, OfNetwork, Join, Restart, NewTerminal, connected, new_bus, OverhearsNothing, reached_by, left_of, on_line_of, terminal_does, network_does, terminal_joins, bus_step, after_events}
 use Rattle.lapd_bus_laws.specs.Holdings.{AssignsFree, RequestsByItsOwn, JoinsWithFree, KeepsTeisApart}
@@ -162,7 +161,7 @@ module _ (c : Configs) where
 
     network_did_keep : KeepsApart (network_does c j event (Some t) b)
     network_did_keep =
-        let outcome = event_assigns c.network event (on_line_of t b) h.management ok in
+        let outcome = event_assigns c.network event (on_line_of t b) h.management in
         record {
           claims = claims_after outcome;
           references =

@@ -9,8 +9,7 @@ use Rattle.lapd_sides.specs.Network.{new_network}
 use Rattle.lapd_sides.specs.User.{new_user}
 use Rattle.lapd_sides_laws.specs.Interface.{Configs, Interface, Move, new_interface, happens, run}
 use Rattle.lapd_sides_laws.proofs.AsMade.{new_are_own, new_are_held, preserves_own, preserves_held, given_once, new_of_user, new_of_network}
-use Rattle.lapd_sides_laws.proofs.NetworkOwn.{AreHeld}
-use Rattle.lapd_sides_laws.proofs.UserOwn.{AreOwn}
+use Rattle.lapd_sides_laws.proofs.OwnSides.{AreHeld, AreOwn}
 use Rattle.lapd_restart_laws.specs.RestartPremises.{KeepsPremises, KeepPremises, KeepsPremisesAsMade, KeepPremisesAsMade}
 use Rattle.lapd_restart_laws.specs.RestartRuns.{moved}
 use Rattle.lapd_restart_laws.specs.Restarts.{Change, Moves, NetworkRestarts, UserRestarts, link_after, changes, run_across}

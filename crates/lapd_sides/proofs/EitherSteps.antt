@@ -21,12 +21,12 @@ use Rattle.lapd_sides.specs.declared.links_and_timer.LinksAndTimer.{LinksAndTime
 use Rattle.lapd_sides.specs.declared.request.Request.TheVariants as request
 use Rattle.lapd_sides.specs.Either.{Answers, PredictsNone, SendsNone, Takes, meant_by, served_of, side_of, with_served}
 use Rattle.lapd_sides.specs.Meant.{gives_to_link, gives_to_own_link, predicted_is_not_for_layer_3}
-use Rattle.lapd_sides.specs.Network.{network_rules, network_takes}
+use Rattle.lapd_sides.specs.Network.{network_rules}
 use Rattle.lapd_sides.specs.Shows.{Receive, are_predicted, frame_on_links, is_predicted_on_links}
 use Rattle.lapd_sides.specs.ShowsNetwork.{is_assigner}
 use Rattle.lapd_sides.specs.ShowsUser.{ShowTerminal}
-use Rattle.lapd_sides.specs.SideState.{opposite}
-use Rattle.lapd_sides.specs.User.{own_link, user_rules, user_takes}
+use Rattle.lapd_frame.specs.Address.{other_side}
+use Rattle.lapd_sides.specs.User.{own_link, user_rules}
 use Rattle.lapd_sides.proofs.Calling.{sends_so}
 use Rattle.lapd_sides.proofs.Predicted.{not_read_as_predictable}
 use Rattle.lapd_sides.proofs.Steps.{predicted, sends_none_by, sent}
@@ -34,10 +34,9 @@ use Rattle.lapd_sides.proofs.Steps.{predicted, sends_none_by, sent}
 -- its link predicts a frame, and has processed it
 pub takes_predicted : (s : EitherSide) (served : LinksAndTimer) (octets : List ℕ)
     (p : PredictedFrame) (now : ℕ) (acts : Effects)
-    → frame_at (opposite (side_of s)) octets ≡ Ok (predicted_fields p)
+    → frame_at (other_side (side_of s)) octets ≡ Ok (predicted_fields p)
     → Receive (served_of s) served acts (frame_on_links now (predicted_fields p))
     → Takes octets now (Ok tt) s (with_served s served) acts
-unfolding network_takes user_takes
 takes_predicted (either.Network code) served octets p now acts found does =
     predicted is_assigner network_rules (λ config p. refl) code served octets p now acts found does
 takes_predicted (either.User code) served octets p now acts found does =
@@ -46,7 +45,7 @@ takes_predicted (either.User code) served octets p now acts found does =
 
 -- its link does not predict it
 pub declines : (s : EitherSide) (octets : List ℕ) (p : PredictedFrame)
-    → frame_at (opposite (side_of s)) octets ≡ Ok (predicted_fields p)
+    → frame_at (other_side (side_of s)) octets ≡ Ok (predicted_fields p)
     → LinksHaveNone (served_of s).links (is_predicted_on_links (predicted_fields p))
     → PredictsNone octets s
 declines (either.Network code) octets p found none = λ config s shown.
@@ -58,7 +57,7 @@ declines (either.User code) octets p found none = λ config s shown.
 
 -- the octets are no frame that a link may predict
 pub declines_unread : (s : EitherSide) (octets : List ℕ)
-    → is_read_predictable (frame_at (opposite (side_of s)) octets) ≡ false
+    → is_read_predictable (frame_at (other_side (side_of s)) octets) ≡ false
     → PredictsNone octets s
 declines_unread (either.Network code) octets none = λ config s shown.
     not_read_as_predictable _ s.served.links none

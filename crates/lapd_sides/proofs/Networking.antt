@@ -15,7 +15,8 @@ use Rattle.lapd_sides_links.specs.Links.{Served, is_served}
 use Rattle.lapd_sides.specs.declared.links_and_timer.LinksAndTimer.{LinksAndTimer}
 use Rattle.lapd_sides.specs.Calls.{HasDone}
 use Rattle.lapd_sides.specs.Management.{links_with, manages}
-use Rattle.lapd_sides.specs.Network.{Network, link_of_network, unit_requested, unit_to_group, assigner_acts}
+use Rattle.lapd_sides.specs.SideState.{link_of}
+use Rattle.lapd_sides.specs.Network.{Network, unit_requested, unit_to_group, assigner_acts}
 use Rattle.lapd_sides.specs.Shows.{ShowServed, HaveServed}
 use Rattle.lapd_sides.specs.ShowsNetwork.{NetSide, ShowNetwork}
 
@@ -37,6 +38,9 @@ none_given code config outs s none shown = subst (λ (t : Option ℕ). ShowServe
 
 -- unit data that is not for all terminals is for a link
 pub not_to_group : (own config : Config) (now : ℕ) (id : LinkId) (octets : List ℕ) (s : Network) (test : Bool) → test ≡ (is_served own id.sapi && (id.tei == group_tei)) → test ≡ false → own ≡ config
-    → unit_requested config now id octets s ≡ link_of_network now id (UnitData (length octets)) octets s
+    → unit_requested config now id octets s
+    ≡ link_of side.Network now id (UnitData (length octets)) octets s
 not_to_group own config now id octets s test is fails same =
-    ap (λ (b : Bool). if b then unit_to_group id.sapi octets s else link_of_network now id (UnitData (length octets)) octets s) (ap (λ (k : Config). is_served k id.sapi && (id.tei == group_tei)) (sym same) ∙ sym is ∙ fails)
+    ap (λ (b : Bool). if b then unit_to_group id.sapi octets s
+    else link_of side.Network now id (UnitData (length octets)) octets s)
+    (ap (λ (k : Config). is_served k id.sapi && (id.tei == group_tei)) (sym same) ∙ sym is ∙ fails)

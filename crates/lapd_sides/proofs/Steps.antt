@@ -3,6 +3,7 @@ use Rattle.std.proofs.Common.{◌≡◌, ℕ, List, [], ◌∷◌, Bool, true, f
 use Rattle.std.proofs.lemmas.List.{append-nil}
 use Rattle.std.specs.declared.alloc.Global.{Global}
 use Rattle.std.specs.Prelude.{Vec, OnOk, OnErr, IfErr, if◌then◌else◌}
+use Rattle.lapd_frame.specs.Address.{other_side}
 use Rattle.lapd_frame.specs.declared.Side.{Side}
 use Rattle.lapd_frame.specs.declared.Address.{Address}
 use Rattle.lapd_frame.specs.declared.fault_kind.FaultKind.{FaultKind}
@@ -35,7 +36,7 @@ use Rattle.lapd_sides.specs.Calls.{Answers, Grants, HasDone, HasExpired, HasFoll
 use Rattle.lapd_sides.specs.Management.{carries_message, one_more}
 use Rattle.lapd_sides.specs.Shows.{ShowServed, HaveReceived, LinkHasExpired, Receive, effects_after, fault_on_links, frame_on_links, links_after}
 use Rattle.lapd_sides.specs.ShowsSide.{ShowSide, Shows}
-use Rattle.lapd_sides.specs.SideState.{Rules, SideState, among_links, data_received, expires, fault_received, frame_received, given_for_frame, given_for_message, link_of, message_received, opposite, or_discarded, or_unmoved, received, sends_at_once, takes, unit_from_group}
+use Rattle.lapd_sides.specs.SideState.{Rules, SideState, among_links, data_received, expires, fault_received, frame_received, given_for_frame, given_for_message, link_of, message_received, or_discarded, or_unmoved, received, sends_at_once, takes, unit_from_group}
 use Rattle.lapd_sides.proofs.Calling.{granted_as}
 use Rattle.lapd_sides.proofs.Predicted.{predicted_is_no_message}
 
@@ -225,6 +226,7 @@ module _ {C M : Type 0} (represents : C → M → Type 0) (rules : Rules M) wher
       → LinkHasExpired rules.side served acts now s.served
       → HasExpired (Shows represents rules) (expires rules) (record code { served = served })
       config acts now s
+  unfolding expires
   link_expired code served config s acts now shown counted h = record {
     expiry = h.expiry;
     due = h.due;
@@ -325,10 +327,11 @@ module _ {C M : Type 0} (represents : C → M → Type 0) (rules : Rules M) wher
       → rules.is_for_layer_3 config (predicted_fields p) ≡ false)
       → (code : ManagedSide C) (served : LinksAndTimer) (octets : List ℕ) (p : PredictedFrame)
       (now : ℕ) (acts : Effects)
-      → frame_at (opposite rules.side) octets ≡ Ok (predicted_fields p)
+      → frame_at (other_side rules.side) octets ≡ Ok (predicted_fields p)
       → Receive code.served served acts (frame_on_links now (predicted_fields p))
       → SideDoes (Shows represents rules) code (record code { served = served }) acts
       (λ config. takes rules config octets now)
+  unfolding takes
   predicted for_link code served octets p now acts found does = λ config s shown.
       subst (λ (r : Result Fields FrameFault). HasDone (Shows represents rules)
       (record code { served = served }) config acts (received rules config now r s)) (sym found)

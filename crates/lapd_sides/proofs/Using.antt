@@ -29,7 +29,8 @@ use Rattle.lapd_sides_links.specs.declared.side_fault.SideKind.TheVariants.{NoLi
 use Rattle.lapd_sides_links.specs.Effects.{Effects, no_effects, and_then}
 use Rattle.lapd_sides_links.specs.Links.{Reaction, is_served, of_sapi, no_links, with_tei}
 use Rattle.lapd_sides.specs.Management.{links_with, manages}
-use Rattle.lapd_sides.specs.User.{User, PendingEstablishments, nothing_pending, with_kept, next, link_of_user, with_tei_or, establishes, establishes_pending, terminal_acts, assigned, pending_after, wants, has_tei, gives_up, with_pending, is_pending, forgets, sends_message, next_reference, advanced, drawn, links_of_fixed}
+use Rattle.lapd_sides.specs.SideState.{link_of}
+use Rattle.lapd_sides.specs.User.{User, PendingEstablishments, nothing_pending, with_kept, next, with_tei_or, establishes, establishes_pending, terminal_acts, assigned, pending_after, wants, has_tei, gives_up, with_pending, is_pending, forgets, sends_message, next_reference, advanced, drawn, links_of_fixed}
 use Rattle.lapd_sides_links.specs.Shown.{ShowLinks}
 use Rattle.lapd_sides_links.proofs.Acting.{in_order}
 use Rattle.lapd_sides.specs.Shows.{ShowServed, HaveServed, RequestOutcome}
@@ -50,7 +51,8 @@ pub record IsOwn (code : UserSide) (found : Option ℕ) (tei : ℕ) (sapi : Sapi
   pub named : id ≡ of_sapi sapi tei
 
 own_link : (phase : Phase) (tei now : ℕ) (sapi : Sapi) (input : Input) (octets : List ℕ) (otherwise : Result (Reaction User) SideKind) (s : User) → tei_of phase ≡ Some tei
-    → with_tei_or now phase sapi input octets otherwise s ≡ link_of_user now (of_sapi sapi tei) input octets s
+    → with_tei_or now phase sapi input octets otherwise s
+    ≡ link_of side.User now (of_sapi sapi tei) input octets s
 own_link Unassigned tei now sapi input octets otherwise s h = absurd (cc)
 own_link (Awaiting purpose count ri) tei now sapi input octets otherwise s h = absurd (cc)
 own_link (Assigned by own) tei now sapi input octets otherwise s h = let e : own ≡ tei = cc in rw e refl
@@ -63,9 +65,13 @@ no_own_link (Assigned by own) now sapi input octets otherwise s h = absurd (cc)
 
 -- with a TEI the link takes the step
 pub is_own : (code : UserSide) (config : Config) (s : User) (found : Option ℕ) (tei now : ℕ) (sapi : Sapi) (id : LinkId) (input : Input) (octets : List ℕ) (otherwise : Result (Reaction User) SideKind) → ShowUser code config s
-    → IsOwn code found tei sapi id → with_tei_or now s.management.terminal sapi input octets otherwise s ≡ link_of_user now id input octets s
+    → IsOwn code found tei sapi id
+    → with_tei_or now s.management.terminal sapi input octets otherwise s
+    ≡ link_of side.User now id input octets s
 is_own code config s found tei now sapi id input octets otherwise shown own =
-    own_link s.management.terminal tei now sapi input octets otherwise s (ap tei_of (sym shown.management.terminal) ∙ sym own.of ∙ own.is) ∙ ap (λ (i : LinkId). link_of_user now i input octets s) (sym own.named)
+    own_link s.management.terminal tei now sapi input octets otherwise s
+    (ap tei_of (sym shown.management.terminal) ∙ sym own.of ∙ own.is)
+    ∙ ap (λ (i : LinkId). link_of side.User now i input octets s) (sym own.named)
 
 -- without a TEI there is another result
 pub is_none : (code : UserSide) (config : Config) (s : User) (found : Option ℕ) (now : ℕ) (sapi : Sapi) (input : Input) (octets : List ℕ) (otherwise : Result (Reaction User) SideKind) → ShowUser code config s

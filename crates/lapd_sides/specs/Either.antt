@@ -17,9 +17,9 @@ use Rattle.lapd_sides.specs.declared.links_and_timer.LinksAndTimer.{LinksAndTime
 use Rattle.lapd_sides.specs.declared.request.Request.{Request}
 use Rattle.lapd_sides.specs.declared.either_side.EitherSide.{EitherSide}
 use Rattle.lapd_sides.specs.declared.either_side.EitherSide.TheVariants as either
-use Rattle.lapd_sides.specs.Network.{network_takes, network_requested, network_expires, given_for}
-use Rattle.lapd_sides.specs.SideState.{sends_at_once}
-use Rattle.lapd_sides.specs.User.{user_takes, user_requested, user_expires, got_for, own_link}
+use Rattle.lapd_sides.specs.Network.{network_requested, network_rules}
+use Rattle.lapd_sides.specs.SideState.{sends_at_once, expires, given_for, takes}
+use Rattle.lapd_sides.specs.User.{user_requested, own_link, user_rules}
 use Rattle.lapd_sides.specs.declared.request.Request.TheVariants as request
 use Rattle.lapd_sides_links.specs.Messages.{WithMessage}
 use Rattle.lapd_sides.specs.Requests.{LacksMessage, message_of}
@@ -58,10 +58,11 @@ meant_by (either.User code) id = own_link code.management.terminal id
 -- processes received octets, or an allocation fails
 abbrev pub Takes : List ℕ → ℕ → Result ⊤ SideFault → EitherSide → EitherSide → Effects → Type 0
 Takes octets now result (either.Network old) (either.Network new) acts = Receives ShowNetwork
-    result old new acts (λ s. given_for s.management octets)
-    (λ config. network_takes config octets now)
+    result old new acts (λ s. given_for network_rules s.management octets)
+    (λ config. takes network_rules config octets now)
 Takes octets now result (either.User old) (either.User new) acts = Receives ShowUser
-    result old new acts (λ s. got_for s octets) (λ config. user_takes config octets now)
+    result old new acts (λ s. given_for user_rules s.management octets)
+    (λ config. takes user_rules config octets now)
 Takes octets now result old new acts = ⊥
 
 -- executes or refuses a request
@@ -100,9 +101,9 @@ PredictsNone octets (either.User code) =
 -- the first due timer has expired
 abbrev pub Expires : ℕ → EitherSide → EitherSide → Effects → Type 0
 Expires now (either.Network old) (either.Network new) acts =
-    calls.Expires ShowNetwork network_expires old new acts now
+    calls.Expires ShowNetwork (expires network_rules) old new acts now
 Expires now (either.User old) (either.User new) acts =
-    calls.Expires ShowUser user_expires old new acts now
+    calls.Expires ShowUser (expires user_rules) old new acts now
 Expires now old new acts = ⊥
 
 -- nothing is due, and the side represents what it represented before

@@ -1,20 +1,14 @@
 -- The network side: its links and the assigner of TEIs, and the effects of a frame, a timer or a
 -- request.
-use Rattle.std.specs.Prelude.{ℕ, ◌==◌, ◌&&◌, nat_lt, if◌then◌else◌, false, List, [], ◌∷◌, length, Option, Some, Result, Ok, Err}
-use Rattle.lapd_timers.specs.declared.timer.Timer.{Timer}
+use Rattle.std.specs.Prelude.{ℕ, ◌==◌, ◌&&◌, nat_lt, if◌then◌else◌, false, List, [], ◌∷◌, length, Some, Result, Ok, Err}
 use Rattle.lapd_timers.specs.Due.{all_stopped}
 use Rattle.lapd_frame.specs.declared.Role.TheVariants.{Command}
 use Rattle.lapd_frame.specs.declared.Sapi.{Sapi}
 use Rattle.lapd_frame.specs.declared.Side.TheVariants as side
-use Rattle.lapd_frame.specs.declared.Address.{Address}
 use Rattle.lapd_frame.specs.declared.Control.TheVariants.{Ui}
-use Rattle.lapd_frame.specs.declared.frame_fault.FrameFault.{FrameFault}
-use Rattle.lapd_frame.specs.declared.fault_kind.FaultKind.{FaultKind}
 use Rattle.lapd_frame.specs.Frame.{Fields, n201, spelling}
 use Rattle.lapd_link_definition.specs.declared.event.LinkFault.TheVariants.{TooLong}
-use Rattle.lapd_link_definition.specs.Input.{Input, Establish, Release, UnitData, Give}
-use Rattle.lapd_tei.specs.declared.message.TeiMessage.{TeiMessage}
-use Rattle.lapd_tei.specs.declared.fault.TeiFault.{TeiFault}
+use Rattle.lapd_link_definition.specs.Input.{Establish, Release, UnitData, Give}
 use Rattle.lapd_tei.specs.declared.assigner.AssignerEvent.{AssignerEvent}
 use Rattle.lapd_tei.specs.declared.assigner.AssignerEvent.TheVariants as event
 use Rattle.lapd_tei.specs.Assigner.{AssignerState, AssignerStep, assigner_step, known_held}
@@ -29,9 +23,7 @@ use Rattle.lapd_sides_links.specs.declared.side_fault.SideKind.TheVariants.{Link
 use Rattle.lapd_sides_links.specs.Effects.{no_effects}
 use Rattle.lapd_sides_links.specs.Links.{Reaction, is_served, links_of_held}
 use Rattle.lapd_sides.specs.Management.{manages, busy_input}
-use Rattle.lapd_sides.specs.SideState as sides
-use Rattle.lapd_sides.specs.SideState.{SideState, Rules, link_of}
-pub use Rattle.lapd_sides.specs.SideState.{unmoved, discards, with_links, among_links, or_discarded, or_unmoved}
+use Rattle.lapd_sides.specs.SideState.{SideState, Rules, link_of, unmoved}
 
 -- the state of a network side
 abbrev pub Network : Type 0
@@ -62,12 +54,6 @@ assigned config now step s = record {
 unfoldable pub assigner_acts : Config → ℕ → AssignerEvent → Network → Reaction Network
 assigner_acts config now event s = assigned config now (assigner_step s.management event) s
 
--- ---- A link.
-
-abbrev pub link_of_network : ℕ → LinkId → Input → List ℕ → Network
-    → Result (Reaction Network) SideKind
-link_of_network now id input octets s = link_of side.Network now id input octets s
-
 -- ---- Requests.
 
 -- unit data to all terminals of a SAPI that is served (Q.921 5.2)
@@ -90,17 +76,18 @@ abbrev pub unit_requested : Config → ℕ → LinkId → List ℕ → Network
     → Result (Reaction Network) SideKind
 unit_requested config now id octets s =
     if is_served config id.sapi && (id.tei == group_tei) then unit_to_group id.sapi octets s
-    else link_of_network now id (UnitData (length octets)) octets s
+    else link_of side.Network now id (UnitData (length octets)) octets s
 
 unfoldable pub network_requested : Config → Request → ℕ → Network
     → Result (Reaction Network) SideKind
-network_requested config (request.Establish id) now s = link_of_network now id Establish [] s
-network_requested config (request.Release id) now s = link_of_network now id Release [] s
+network_requested config (request.Establish id) now s = link_of side.Network now id Establish [] s
+network_requested config (request.Release id) now s = link_of side.Network now id Release [] s
 network_requested config (request.Unit id octets) now s =
     unit_requested config now id octets.items s
 network_requested config (request.Give id message) now s =
-    link_of_network now id (Give message.items) [] s
-network_requested config (request.Busy id on) now s = link_of_network now id (busy_input on) [] s
+    link_of side.Network now id (Give message.items) [] s
+network_requested config (request.Busy id on) now s =
+    link_of side.Network now id (busy_input on) [] s
 network_requested config request.AskTei now s = Ok (unmoved s)
 network_requested config (request.Check tei) now s =
     Ok (assigner_acts config now (event.Check tei) s)
@@ -119,30 +106,3 @@ network_rules = record {
   requested = λ config request now s. network_requested config request now s;
   meant = λ a id. Some id;
 }
-
-abbrev pub message_received : Config → ℕ → Result TeiMessage TeiFault → Network → Reaction Network
-message_received config now found s = sides.message_received network_rules config now found s
-
-abbrev pub frame_received : Config → ℕ → Fields → Network → Reaction Network
-frame_received config now frame s = sides.frame_received network_rules config now frame s
-
-abbrev pub fault_received : ℕ → FaultKind → Option Address → Network → Reaction Network
-fault_received now kind found s = sides.fault_received side.Network now kind found s
-
-abbrev pub received : Config → ℕ → Result Fields FrameFault → Network → Reaction Network
-received config now frame s = sides.received network_rules config now frame s
-
-unfoldable pub network_takes : Config → List ℕ → ℕ → Network → Reaction Network
-network_takes config octets now s = sides.takes network_rules config octets now s
-
-abbrev pub given_for_message : AssignerState → Result TeiMessage TeiFault → Option ℕ
-given_for_message a found = sides.given_for_message network_rules a found
-
-abbrev pub given_for_frame : AssignerState → Result Fields FrameFault → Option ℕ
-given_for_frame a frame = sides.given_for_frame network_rules a frame
-
-unfoldable pub given_for : AssignerState → List ℕ → Option ℕ
-given_for a octets = sides.given_for network_rules a octets
-
-unfoldable pub network_expires : Config → ℕ → Timer → Option LinkId → Network → Reaction Network
-network_expires config now timer of s = sides.expires network_rules config now timer of s

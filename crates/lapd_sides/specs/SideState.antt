@@ -4,10 +4,10 @@ use Rattle.std.specs.Prelude.{ℕ, if◌then◌else◌, Bool, false, List, [], �
 use Rattle.lapd_timers.specs.declared.timer.Timer.{Timer}
 use Rattle.lapd_frame.specs.declared.Sapi.{Sapi}
 use Rattle.lapd_frame.specs.declared.Side.{Side}
-use Rattle.lapd_frame.specs.declared.Side.TheVariants as side
 use Rattle.lapd_frame.specs.declared.Address.{Address}
 use Rattle.lapd_frame.specs.declared.frame_fault.FrameFault.{FrameFault}
 use Rattle.lapd_frame.specs.declared.fault_kind.FaultKind.{FaultKind}
+use Rattle.lapd_frame.specs.Address.{other_side}
 use Rattle.lapd_frame.specs.Frame.{Fields}
 use Rattle.lapd_frame.specs.Reading.{frame_at}
 use Rattle.lapd_link_definition.specs.Input.{Input, Heard, Faulty}
@@ -43,8 +43,9 @@ pub record Rules (M : Type 0) : Type 0 where
   pub times_out : Config → ℕ → SideState M → Reaction (SideState M)
   -- whether a frame is unit data to all terminals, which no link receives
   pub is_for_layer_3 : Config → Fields → Bool
-  -- executes or refuses a request, for this link of those that the caller may name
+  -- executes or refuses a request
   pub requested : Config → Request → ℕ → SideState M → Result (Reaction (SideState M)) SideKind
+  -- the link that a caller means who names this one, if any
   pub meant : M → LinkId → Option LinkId
 
 -- nothing happens
@@ -131,15 +132,10 @@ abbrev pub received : {M : Type 0} → Rules M → Config → ℕ → Result Fie
 received rules config now (Ok frame) s = frame_received rules config now frame s
 received rules config now (Err fault) s = fault_received rules.side now fault.kind fault.address s
 
--- the other side of the interface
-abbrev pub opposite : Side → Side
-opposite side.Network = side.User
-opposite side.User = side.Network
-
-abbrev pub takes : {M : Type 0} → Rules M → Config → List ℕ → ℕ → SideState M
+unfoldable pub takes : {M : Type 0} → Rules M → Config → List ℕ → ℕ → SideState M
     → Reaction (SideState M)
 takes rules config octets now s =
-    received rules config now (frame_at (opposite rules.side) octets) s
+    received rules config now (frame_at (other_side rules.side) octets) s
 
 -- The TEI that is assigned or obtained because of these octets, if any: its links are added, which
 -- is the only allocation.
@@ -152,8 +148,8 @@ given_for_frame rules m (Ok frame) =
     if carries_message frame then given_for_message rules m (message_at frame.info) else None
 given_for_frame rules m (Err fault) = None
 
-abbrev pub given_for : {M : Type 0} → Rules M → M → List ℕ → Option ℕ
-given_for rules m octets = given_for_frame rules m (frame_at (opposite rules.side) octets)
+unfoldable pub given_for : {M : Type 0} → Rules M → M → List ℕ → Option ℕ
+given_for rules m octets = given_for_frame rules m (frame_at (other_side rules.side) octets)
 
 -- ---- Expiry of a timer.
 
@@ -163,7 +159,7 @@ with_stopped timer s = record s {
   served = record { links = s.served.links; timers = stopped timer s.served.timers };
 }
 
-abbrev pub expires : {M : Type 0} → Rules M → Config → ℕ → Timer → Option LinkId → SideState M
+unfoldable pub expires : {M : Type 0} → Rules M → Config → ℕ → Timer → Option LinkId → SideState M
     → Reaction (SideState M)
 expires rules config now timer None s = rules.times_out config now (with_stopped timer s)
 expires rules config now timer (Some id) s = or_unmoved s

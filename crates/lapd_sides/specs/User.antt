@@ -4,19 +4,13 @@ use Rattle.std.specs.Prelude.{ℕ, ◌&&◌, ◌==◌, ◌%◌, ◌^◌, if◌th
 use Rattle.rand_pcg.specs.Lcg.{Lcg}
 use Rattle.rand_core.specs.Pcg32Seed.{pcg32_seed}
 use Rattle.rand_pcg.specs.Pcg.{pcg32, pcg32_of_seed}
-use Rattle.lapd_timers.specs.declared.timer.Timer.{Timer}
 use Rattle.lapd_timers.specs.Due.{all_stopped}
 use Rattle.lapd_frame.specs.declared.Sapi.{Sapi}
 use Rattle.lapd_frame.specs.declared.Sapi.TheVariants as sapi
 use Rattle.lapd_frame.specs.declared.Side.TheVariants as side
-use Rattle.lapd_frame.specs.declared.Address.{Address}
-use Rattle.lapd_frame.specs.declared.frame_fault.FrameFault.{FrameFault}
-use Rattle.lapd_frame.specs.declared.fault_kind.FaultKind.{FaultKind}
 use Rattle.lapd_frame.specs.Frame.{Fields}
 use Rattle.lapd_link_definition.specs.declared.event.LinkFault.TheVariants.{NotEstablished}
 use Rattle.lapd_link_definition.specs.Input.{Input, Establish, Release, UnitData, Give}
-use Rattle.lapd_tei.specs.declared.message.TeiMessage.{TeiMessage}
-use Rattle.lapd_tei.specs.declared.fault.TeiFault.{TeiFault}
 use Rattle.lapd_tei.specs.declared.out.TeiOut.{TeiOut}
 use Rattle.lapd_tei.specs.declared.out.TeiOut.TheVariants as tei
 use Rattle.lapd_tei.specs.declared.phase.Phase.{Phase}
@@ -37,9 +31,7 @@ use Rattle.lapd_sides_links.specs.declared.side_fault.SideKind.TheVariants.{NoLi
 use Rattle.lapd_sides_links.specs.Effects.{no_effects, and_then}
 use Rattle.lapd_sides_links.specs.Links.{Links, Reaction, of_sapi, is_served, no_links, with_tei}
 use Rattle.lapd_sides.specs.Management.{is_unit_to_group, manages, busy_input}
-use Rattle.lapd_sides.specs.SideState as sides
 use Rattle.lapd_sides.specs.SideState.{SideState, Rules, link_of, or_unmoved, primitive_of_group, unmoved}
-pub use Rattle.lapd_sides.specs.SideState.{unmoved, discards, with_links, among_links, or_discarded, or_unmoved, primitive_of_group, unit_from_group}
 
 -- The SAPIs for which an establishment is kept until the terminal has a TEI.
 pub record PendingEstablishments : Type 0 where
@@ -104,11 +96,6 @@ sends_message (output ∷ outs) = sends_message outs
 abbrev pub drawn : List TeiOut → Lcg → Lcg
 drawn outs random = if sends_message outs then advanced (pcg32 random) else random
 
--- ---- A link.
-
-abbrev pub link_of_user : ℕ → LinkId → Input → List ℕ → User → Result (Reaction User) SideKind
-link_of_user now id input octets s = link_of side.User now id input octets s
-
 -- ---- TEI management: how its outcomes settle the kept establishments.
 
 -- one step after another
@@ -120,7 +107,7 @@ next a does = record {
 
 -- executes a kept establishment
 abbrev pub establishes : Bool → ℕ → LinkId → User → Reaction User
-establishes true now id s = or_unmoved s (link_of_user now id Establish [] s)
+establishes true now id s = or_unmoved s (link_of side.User now id Establish [] s)
 establishes false now id s = unmoved s
 
 -- With a TEI, the kept establishments are executed, SAPI 0 first; then none is kept.
@@ -177,7 +164,7 @@ terminal_acts config now event s =
 abbrev pub with_tei_or : ℕ → Phase → Sapi → Input → List ℕ → Result (Reaction User) SideKind → User
     → Result (Reaction User) SideKind
 with_tei_or now (Assigned by own) sapi input octets otherwise s =
-    link_of_user now (of_sapi sapi own) input octets s
+    link_of side.User now (of_sapi sapi own) input octets s
 with_tei_or now Unassigned sapi input octets otherwise s = otherwise
 with_tei_or now (Awaiting purpose count ri) sapi input octets otherwise s = otherwise
 
@@ -256,37 +243,3 @@ user_rules = record {
   requested = λ config request now s. user_requested config request now s;
   meant = λ m id. own_link m.terminal id;
 }
-
-abbrev pub message_received : Config → ℕ → Result TeiMessage TeiFault → User → Reaction User
-message_received config now found s = sides.message_received user_rules config now found s
-
-abbrev pub data_received : Config → ℕ → Fields → User → Reaction User
-data_received config now frame s = sides.data_received user_rules config now frame s
-
-abbrev pub frame_received : Config → ℕ → Fields → User → Reaction User
-frame_received config now frame s = sides.frame_received user_rules config now frame s
-
-abbrev pub fault_received : ℕ → FaultKind → Option Address → User → Reaction User
-fault_received now kind found s = sides.fault_received side.User now kind found s
-
-abbrev pub received : Config → ℕ → Result Fields FrameFault → User → Reaction User
-received config now frame s = sides.received user_rules config now frame s
-
-unfoldable pub user_takes : Config → List ℕ → ℕ → User → Reaction User
-user_takes config octets now s = sides.takes user_rules config octets now s
-
-abbrev pub got_for_message : User → Result TeiMessage TeiFault → Option ℕ
-got_for_message s found = sides.given_for_message user_rules s.management found
-
-abbrev pub got_for_frame : User → Result Fields FrameFault → Option ℕ
-got_for_frame s frame = sides.given_for_frame user_rules s.management frame
-
-unfoldable pub got_for : User → List ℕ → Option ℕ
-got_for s octets = sides.given_for user_rules s.management octets
-
-abbrev pub management_expires : Config → ℕ → Timer → User → Reaction User
-management_expires config now timer s =
-    terminal_acts config now event.T202 (sides.with_stopped timer s)
-
-unfoldable pub user_expires : Config → ℕ → Timer → Option LinkId → User → Reaction User
-user_expires config now timer of s = sides.expires user_rules config now timer of s

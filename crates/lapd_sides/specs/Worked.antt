@@ -20,8 +20,8 @@ use Rattle.lapd_sides.specs.declared.request.Request.TheVariants as request
 use Rattle.lapd_sides_links.specs.declared.side_fault.SideKind.{SideKind}
 use Rattle.lapd_sides_links.specs.Effects.{Effects}
 use Rattle.lapd_sides_links.specs.Links.{Linked, Reaction, of_sapi}
-use Rattle.lapd_sides.specs.Network.{Network, network_takes, network_expires, network_requested}
-use Rattle.lapd_sides.specs.User.{User, next_reference, advanced, user_takes, user_expires, user_requested}
+use Rattle.lapd_sides.specs.SideState.{Rules, SideState, expires, takes}
+use Rattle.lapd_sides.specs.User.{next_reference, advanced}
 
 -- octets from the line, the expiry of a timer, or a request; at a time in milliseconds
 pub data Happening : Type 0 where
@@ -29,15 +29,11 @@ pub data Happening : Type 0 where
   Expires : (timer : Timer) → (of : Option LinkId) → (now : ℕ) → Happening
   Asked : (request : Request) → (now : ℕ) → Happening
 
-abbrev pub network_does : Config → Happening → Network → Result (Reaction Network) SideKind
-network_does config (Arrives octets now) s = Ok (network_takes config octets now s)
-network_does config (Expires timer of now) s = Ok (network_expires config now timer of s)
-network_does config (Asked request now) s = network_requested config request now s
-
-abbrev pub user_does : Config → Happening → User → Result (Reaction User) SideKind
-user_does config (Arrives octets now) s = Ok (user_takes config octets now s)
-user_does config (Expires timer of now) s = Ok (user_expires config now timer of s)
-user_does config (Asked request now) s = user_requested config request now s
+abbrev pub side_does : {M : Type 0} → Rules M → Config → Happening → SideState M
+    → Result (Reaction (SideState M)) SideKind
+side_does rules config (Arrives octets now) s = Ok (takes rules config octets now s)
+side_does rules config (Expires timer of now) s = Ok (expires rules config now timer of s)
+side_does rules config (Asked request now) s = rules.requested config request now s
 
 -- the state after a step, and its effects; a refusal changes nothing
 abbrev pub left_by : {S : Type 0} → S → Result (Reaction S) SideKind → S
@@ -48,25 +44,16 @@ abbrev pub given_by : {S : Type 0} → Result (Reaction S) SideKind → Result E
 given_by (Ok a) = Ok a.effects
 given_by (Err kind) = Err kind
 
-abbrev pub network_run : Config → List Happening → Network → Network
-network_run config [] s = s
-network_run config (h ∷ hs) s = network_run config hs (left_by s (network_does config h s))
+abbrev pub side_run : {M : Type 0} → Rules M → Config → List Happening → SideState M → SideState M
+side_run rules config [] s = s
+side_run rules config (h ∷ hs) s = side_run rules config hs (left_by s (side_does rules config h s))
 
-abbrev pub network_gives : Config → List Happening → Network → List (Result Effects SideKind)
-network_gives config [] s = []
-network_gives config (h ∷ hs) s =
-    given_by (network_does config h s)
-    ∷ network_gives config hs (left_by s (network_does config h s))
-
-abbrev pub user_run : Config → List Happening → User → User
-user_run config [] s = s
-user_run config (h ∷ hs) s = user_run config hs (left_by s (user_does config h s))
-
-abbrev pub user_gives : Config → List Happening → User → List (Result Effects SideKind)
-user_gives config [] s = []
-user_gives config (h ∷ hs) s =
-    given_by (user_does config h s)
-    ∷ user_gives config hs (left_by s (user_does config h s))
+abbrev pub side_gives : {M : Type 0} → Rules M → Config → List Happening → SideState M
+    → List (Result Effects SideKind)
+side_gives rules config [] s = []
+side_gives rules config (h ∷ hs) s =
+    given_by (side_does rules config h s)
+    ∷ side_gives rules config hs (left_by s (side_does rules config h s))
 
 -- the queried parts of a link: its state, and the deadlines of its timers
 abbrev pub state_of : Option Linked → Option State

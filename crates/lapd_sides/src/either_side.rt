@@ -44,7 +44,6 @@ impl EitherSide {
     /// # Errors
     ///
     /// B3 if the links of a TEI cannot be allocated. The side is unchanged and `acts` is empty.
-    #[tactic(auto, unfolding(crate::specs::Network::network_takes, crate::specs::Network::given_for, crate::specs::User::user_takes, crate::specs::User::got_for))]
     pub fn take(&mut self, bytes: &[u8], now: u64, acts: &mut Acts) -> Result<(), SideFault>
         ensures side { side_of self.new ≡ side_of self.old }
         ensures received { Takes bytes.now now result self.old self.new acts.new }
@@ -59,7 +58,6 @@ impl EitherSide {
     /// Expires the first timer that is due at `now`, in milliseconds. Returns `false` if none is
     /// due; call it until then. Before you expire timers for a moment, pass in every frame that had
     /// arrived by then.
-    #[tactic(auto, unfolding(crate::specs::Network::network_expires, crate::specs::User::user_expires))]
     pub fn tick(&mut self, now: u64, acts: &mut Acts) -> bool
         ensures side { side_of self.new ≡ side_of self.old }
         ensures due { result ≡ true → Expires now self.old self.new acts.new }
@@ -167,7 +165,6 @@ impl EitherSide {
     /// # Errors
     ///
     /// B3 as `take`.
-    #[tactic(auto, unfolding(crate::specs::Network::network_takes, crate::specs::Network::given_for, crate::specs::User::user_takes, crate::specs::User::got_for))]
     pub(crate) fn take_any(
         &mut self,
         bytes: &[u8],

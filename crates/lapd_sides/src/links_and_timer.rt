@@ -15,7 +15,7 @@ ghost use Rattle.lapd_sides_links.specs.Rooms.{HasRoomForPredicted, IsEmpty};
 ghost use Rattle.lapd_sides_links.specs.Shown.{LinksHaveNone};
 ghost use Rattle.lapd_sides.specs.Management.{carries_message, is_unit_to_group, one_more};
 ghost use Rattle.lapd_sides.specs.Requests.{without_message};
-ghost use Rattle.lapd_sides.specs.SideState.{opposite};
+ghost use Rattle.lapd_frame.specs.Address.{other_side};
 ghost use Rattle.lapd_sides.specs.Shows.{ShowServed, Become, ShowAsBefore, CarryOut, Receive, StepLinks, ExpireFirst, frame_on_links, fault_on_links, is_predicted_on_links, with_given_links};
 
 use crate::{Acts, Config, Primitive, RunningTimer, SideFault, SideKind};
@@ -253,7 +253,7 @@ pub fn is_unit_to_group(frame: &Frame<'_>) -> bool
 /// The other side of an interface.
 #[inline(always)]
 pub fn opposite(side: Side) -> Side
-    ensures { result ≡ opposite side }
+    ensures { result ≡ other_side side }
 {
     match side {
         Side::Network => Side::User,

@@ -1,6 +1,7 @@
 //! A side, network or user.
 
 ghost use Rattle.std.specs.Prelude.{◌≡◌, ◌⊎◌, ◌≤◌, ◌<◌, ◌++◌, true, false, length, [], None, Some, Ok, IfErr, option_copied};
+ghost use Rattle.lapd_frame.specs.Address.{other_side};
 ghost use Rattle.lapd_frame.specs.Reading.{frame_at};
 ghost use Rattle.lapd_link_definition.specs.Input.{input_of};
 ghost use Rattle.lapd_table.specs.LinkTable.{IsFor};
@@ -13,7 +14,7 @@ ghost use Rattle.lapd_sides.specs.Calls.{Answers, EachShown, Expires, Grants, Re
 ghost use Rattle.lapd_sides.specs.Requests.{LacksMessage, message_of, without_message};
 ghost use Rattle.lapd_sides.specs.Shows.{are_predicted, ShowEnds};
 ghost use Rattle.lapd_sides.specs.ShowsSide.{Shows};
-ghost use Rattle.lapd_sides.specs.SideState.{data_received, expires, frame_received, given_for, given_for_frame, link_of, opposite, primitive_of_group, sends_at_once, takes};
+ghost use Rattle.lapd_sides.specs.SideState.{data_received, expires, frame_received, given_for, given_for_frame, link_of, primitive_of_group, sends_at_once, takes};
 
 use crate::links_and_timer::{Expired, LinksAndTimer, carries_message, opposite, without_message};
 use crate::{
@@ -75,7 +76,7 @@ impl<M: Management> ManagedSide<M> {
             SideDoes (Shows M.represents M.rules) self.old self.new given
             (λ config. takes M.rules config bytes.now now)) }
         ensures declined { result ≡ false → EachShown (Shows M.represents M.rules) self.old (λ s.
-            are_predicted (frame_at (opposite M.rules.side) bytes.now) s.served.links ≡ false) }
+            are_predicted (frame_at (other_side M.rules.side) bytes.now) s.served.links ≡ false) }
         ensures unchanged { result ≡ false → self.new ≡ self.old }
         ensures nothing { result ≡ false → acts.new ≡ acts.old }
     {

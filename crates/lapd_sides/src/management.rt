@@ -20,7 +20,7 @@ use lapd_table::LinkId;
 use lapd_tei::TeiMessage;
 use std::alloc::AllocError;
 
-/// What the code of a side's TEI management represents, and the rules of that side.
+/// The state that a side's TEI management represents, and the rules of that side.
 pub trait Represented: Drop {
     ghost State: { Type 0 };
 

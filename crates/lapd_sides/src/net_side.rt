@@ -9,7 +9,8 @@ ghost use Rattle.lapd_sides_links.specs.Effects.{no_effects};
 ghost use Rattle.lapd_sides_links.specs.Rooms.{IsEmpty};
 ghost use Rattle.lapd_sides.specs.Calls.{Answers, EachShown, Grants, SideDoes, SideRefusesAs, ShowsSideAsBefore};
 ghost use Rattle.lapd_sides.specs.Meant.{gives_to_link};
-ghost use Rattle.lapd_sides.specs.Network.{Network, new_network, assigner_acts, link_of_network, network_requested, network_rules, unit_requested, unit_to_group};
+ghost use Rattle.lapd_sides.specs.SideState.{link_of};
+ghost use Rattle.lapd_sides.specs.Network.{Network, new_network, assigner_acts, network_requested, network_rules, unit_requested, unit_to_group};
 ghost use Rattle.lapd_sides.specs.ShowsNetwork.{ShowNetwork, is_assigner};
 
 use crate::links_and_timer::LinksAndTimer;
@@ -189,7 +190,7 @@ impl NetSide {
     ) -> Result<(), SideFault>
         requires empty { IsEmpty acts.old }
         ensures { Answers ShowNetwork result self.old self.new acts.new (Some message)
-            (λ _. link_of_network now id (Give message.items) []) }
+            (λ _. link_of Side.Network now id (Give message.items) []) }
     {
         self.served.links.give(&id, message, now, acts)
     }

@@ -16,9 +16,9 @@ use Rattle.lapd_link_definition.specs.TeiAssigned.{tei_assigned}
 use Rattle.lapd_link_definition.specs.TimerRecovery.{i_frame_nr_in_recovery, poll, rr_nr_in_recovery, rnr_nr_in_recovery, timer_recovery_t200, timer_recovery}
 use Rattle.lapd_sides_links.specs.Links.{links_below, link_acts, link_expires, in_links, with_tei, without_tei, primitive_of_tei}
 use Rattle.lapd_sides.specs.Management.{manages}
-use Rattle.lapd_sides.specs.SideState.{link_of}
-use Rattle.lapd_sides.specs.Network.{assigner_acts, network_takes, network_expires, network_requested}
-use Rattle.lapd_sides.specs.User.{terminal_acts, user_takes, user_expires, user_requested}
+use Rattle.lapd_sides.specs.SideState.{link_of, expires, takes}
+use Rattle.lapd_sides.specs.Network.{assigner_acts, network_requested}
+use Rattle.lapd_sides.specs.User.{terminal_acts, user_requested}
 use Rattle.lapd_sides_links.specs.declared.primitive.What.TheVariants as what
 use Rattle.lapd_sides_links.specs.Links.{Linked}
 use Rattle.lapd_sides.specs.Worked as sides
@@ -47,7 +47,7 @@ one_of_each_holds : (u v w : Vec ℕ Global) (x : Fits u (1 ∷ [])) (y : Fits v
     (z : Fits w (3 ∷ []))
     → OneOfEach (holding u (1 ∷ []) x) (holding v (2 ∷ []) y) (holding w (3 ∷ []) z)
 unfolding link_acts link_expires in_links with_tei without_tei primitive_of_tei manages
-    assigner_acts link_of network_takes network_expires network_requested begin put
+    assigner_acts link_of takes expires network_requested begin put
     state_to rc_to increment_rc layer3_initiated_to release_pending_to start stop expired
     clear_exception_conditions zero_state_variables set_peer_busy set_own_busy enquiry_response
     transmit_enquiry queue_up discard_i_queue acknowledge invoke_retransmission i_frame_ns
@@ -61,7 +61,7 @@ unfolding link_acts link_expires in_links with_tei without_tei primitive_of_tei 
     without_exceptions with_zero_counters status_frame acknowledgement without_ack_pending
     poll_response is_accepted is_rejected after_i_frame i_frame_response is_valid_nr with_va
     acknowledged_count acknowledges_all with_vs may_send next_i_frame after_sending with_own_busy
-    with_peer_busy after steps lies_within terminal_acts user_takes user_expires
+    with_peer_busy after steps lies_within terminal_acts
     user_requested links_below does
 one_of_each_holds u v w x y z = record {
   keeps = refl;
@@ -101,7 +101,7 @@ then_removed_holds : (u v w : Vec ℕ Global) (x : Fits u (1 ∷ [])) (y : Fits 
     (z : Fits w (3 ∷ []))
     → ThenRemoved (holding u (1 ∷ []) x) (holding v (2 ∷ []) y) (holding w (3 ∷ []) z)
 unfolding link_acts link_expires in_links with_tei without_tei primitive_of_tei manages
-    assigner_acts link_of network_takes network_expires network_requested begin put
+    assigner_acts link_of takes expires network_requested begin put
     state_to rc_to increment_rc layer3_initiated_to release_pending_to start stop expired
     clear_exception_conditions zero_state_variables set_peer_busy set_own_busy enquiry_response
     transmit_enquiry queue_up discard_i_queue acknowledge invoke_retransmission i_frame_ns
@@ -115,7 +115,7 @@ unfolding link_acts link_expires in_links with_tei without_tei primitive_of_tei 
     without_exceptions with_zero_counters status_frame acknowledgement without_ack_pending
     poll_response is_accepted is_rejected after_i_frame i_frame_response is_valid_nr with_va
     acknowledged_count acknowledges_all with_vs may_send next_i_frame after_sending with_own_busy
-    with_peer_busy after steps lies_within terminal_acts user_takes user_expires
+    with_peer_busy after steps lies_within terminal_acts
     user_requested links_below does
 then_removed_holds u v w x y z = record {
   removed = refl;
@@ -140,7 +140,7 @@ none_of_one message k l neither none h = omega (arith, neither, none, h.counted)
 
 too_early_holds : (v : Vec ℕ Global) (x : Fits v (1 ∷ [])) → TooEarly (holding v (1 ∷ []) x)
 unfolding link_acts link_expires in_links with_tei without_tei primitive_of_tei manages
-    assigner_acts link_of network_takes network_expires network_requested begin put
+    assigner_acts link_of takes expires network_requested begin put
     state_to rc_to increment_rc layer3_initiated_to release_pending_to start stop expired
     clear_exception_conditions zero_state_variables set_peer_busy set_own_busy enquiry_response
     transmit_enquiry queue_up discard_i_queue acknowledge invoke_retransmission i_frame_ns
@@ -154,7 +154,7 @@ unfolding link_acts link_expires in_links with_tei without_tei primitive_of_tei 
     without_exceptions with_zero_counters status_frame acknowledgement without_ack_pending
     poll_response is_accepted is_rejected after_i_frame i_frame_response is_valid_nr with_va
     acknowledged_count acknowledges_all with_vs may_send next_i_frame after_sending with_own_busy
-    with_peer_busy after steps lies_within terminal_acts user_takes user_expires
+    with_peer_busy after steps lies_within terminal_acts
     user_requested links_below does
 too_early_holds v x = record {
   given = refl;

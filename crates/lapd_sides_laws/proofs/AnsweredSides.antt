@@ -23,11 +23,12 @@ use Rattle.lapd_sides_laws.specs.EndAnswers.{Asked, Establishment, Withdrawal, C
 use Rattle.lapd_sides_laws.specs.ExactTimers.{HaveExactTimers, SideStep, stepped_by_all, new_view}
 use Rattle.lapd_sides_laws.specs.Owed.{IsStep}
 use Rattle.lapd_sides_laws.specs.SideView.{Behaviour, SideEvent, Take, Lose, Expire, Ask, Overhear, SideView, runs_on}
-use Rattle.lapd_sides_laws.proofs.EachEvent.{IsClosed, Ways, moment_or, more_answers, answers_behind, all_go}
+use Rattle.lapd_sides_laws.proofs.EachEvent.{IsClosed, Ways, more_answers, answers_behind, all_go}
 use Rattle.lapd_sides_laws.proofs.EachLink.{HasLinks, after_step}
 use Rattle.lapd_sides_laws.proofs.EndAnswers.{Situation, Establishing, Leaving, Releasing, periods, some_left, at_most, runs_t200, IsOwing, starts}
 use Rattle.lapd_sides_laws.proofs.OwedAnswers.{IsOwed, Owed, owed_is_kept, owed_expires, reported}
 use Rattle.lapd_sides_laws.proofs.UsualLinks.{IsUsual, Usual}
+use Rattle.lapd_sides_laws.proofs.Reactions.{moment_or}
 
 -- ---- The debt of an existing link, and of a side.
 

@@ -1,6 +1,6 @@
 -- A user side without a TEI, from its creation, answers each request in time.
 use Rattle.std.proofs.Common.{◌≡◌, ◌∷◌, ◌++◌, inl, inr, ℕ, zero, suc, ◌+◌, ◌-◌, ◌*◌, ◌≤◌, ◌<◌, Bool, true, false, if◌then◌else◌, List, [], Option, Some, None, Result, Ok, Err, refl, sym, ap, subst, ◌∙◌, arith}
-use Rattle.std.specs.Prelude.{IfOk, is_some}
+use Rattle.std.specs.Prelude.{is_some}
 use Rattle.std.specs.List.{All, list_any}
 use Rattle.rand_pcg.specs.Lcg.{Lcg}
 use Rattle.lapd_timers.specs.declared.timer.Timer.TheVariants.{T202}
@@ -23,14 +23,15 @@ use Rattle.lapd_sides_links.specs.declared.primitive.What.TheVariants as what
 use Rattle.lapd_sides_links.specs.Effects.{no_effects}
 use Rattle.lapd_sides_links.specs.Links.{Reaction, of_sapi, is_served, parameters_for}
 use Rattle.lapd_sides.specs.Management.{manages}
-use Rattle.lapd_sides.specs.User.{User, PendingEstablishments, is_pending, with_pending, next_reference, assigned, terminal_acts, primitive_of_group, with_tei_or, wants, forgets, user_requested}
+use Rattle.lapd_sides.specs.SideState.{primitive_of_group}
+use Rattle.lapd_sides.specs.User.{User, PendingEstablishments, is_pending, with_pending, next_reference, assigned, terminal_acts, with_tei_or, wants, forgets, user_requested}
 use Rattle.lapd_sides_laws.specs.Answers.{asks, answers_for, HasAnswerFor, KeepsRequest, IsBy, most_periods, AreExpiredInTime, IsAnsweredFor, after_request, Throughout, IsPunctual, t202_expiries, expiries_of}
 use Rattle.lapd_sides_laws.specs.EndAnswers.{most_expiries, Asked, Establishment, Withdrawal, Clearing, request_of}
 use Rattle.lapd_sides_laws.specs.ExactTimers.{SideStep, stepped, stepped_by_all, new_view}
 use Rattle.lapd_sides_laws.specs.Interface.{user_behaviour}
 use Rattle.lapd_sides_laws.specs.ManagementTimers.{HasTimerOfTerminal}
 use Rattle.lapd_sides_laws.specs.NewLinks.{user_after}
-use Rattle.lapd_sides_laws.specs.SideView.{Behaviour, SideView, Ask, does, or_unmoved}
+use Rattle.lapd_sides_laws.specs.SideView.{Behaviour, SideView, Ask, or_unmoved}
 use Rattle.lapd_sides_laws.proofs.AnsweredSides.{Debt}
 use Rattle.lapd_sides_laws.proofs.EachLink.{HasLinks}
 use Rattle.lapd_sides_laws.proofs.EndAnswers.{some_left}
@@ -39,8 +40,8 @@ use Rattle.lapd_sides_laws.proofs.TerminalOwn.{Owns}
 use Rattle.lapd_sides_laws.specs.Answers.{requests_release}
 use Rattle.lapd_sides_links.specs.Links.{Linked}
 use Rattle.lapd_sides_laws.proofs.LinkParts.{any_more, any_behind}
-use Rattle.lapd_sides_laws.proofs.ManagementSides.{user_preserves_its_timer}
-use Rattle.lapd_sides_laws.proofs.UserOwn.{AreOwn, PreservesOwn, user_preserves}
+use Rattle.lapd_sides_laws.proofs.ManagementSides.{user_timer}
+use Rattle.lapd_sides_laws.proofs.OwnSides.{AreOwn, Has, PreservesOwned, user_preserves, user_steps_own}
 use Rattle.lapd_sides_laws.proofs.UsualTerminal.{IsCounted, HasUsual, user_has_usual}
 use Rattle.lapd_sides_laws.proofs.WaitingRuns.{Outcome, still_has, indebted_goes, all_wait, answered_by, ready_again}
 use Rattle.lapd_sides_laws.proofs.WaitingUser.{Establishes, IsWaiting}
@@ -63,15 +64,6 @@ one_by_one : (S : Type 0) (w : Behaviour S) (first second : List SideStep) (v : 
     → stepped_by_all w (first ++ second) v ≡ stepped_by_all w second (stepped_by_all w first v)
 one_by_one S w [] second v = refl
 one_by_one S w (x ∷ first) second v = one_by_one S w first second (stepped w x v)
-
-own_steps : (config : Config) (xs : List SideStep) (v : SideView User) → AreOwn v.now
-    → AreOwn (stepped_by_all (user_behaviour config) xs v).now
-unfolding does
-own_steps config [] v own = own
-own_steps config (x ∷ xs) v own =
-    let before : SideView User = record v { incoming = v.incoming ++ x.arrives } in
-    own_steps config xs (stepped (user_behaviour config) x v)
-    (user_preserves config before x.event own).after
 
 of_owner : (phase : Phase) (tei : ℕ) → Owns phase tei → tei_of phase ≡ Some tei
 of_owner (Assigned by own) tei h = ap (λ t. Some t) h
@@ -252,12 +244,12 @@ module _ (config : Config) (id : LinkId) (asked : Asked) (clock : Bool) (latenes
       own_after =
           let w = user_behaviour config in
           let kept = user_preserves config (new_view s) (Ask (asks asked id) now) usual.own in
-          (subst (λ r. PreservesOwn s (or_unmoved s r)) done kept).after
+          (subst (λ r. PreservesOwned Has s (or_unmoved s r)) done kept).after
 
       timer_after : HasTimerOfTerminal a.after
       timer_after =
-          subst (λ r. IfOk r (λ (x : Reaction User). HasTimerOfTerminal x.after)) done
-          ((user_preserves_its_timer config).requested now (asks asked id) s usual.timer)
+          subst (λ r. HasTimerOfTerminal (or_unmoved s r).after) done
+          (user_timer config (Ask (asks asked id) now) (new_view s) usual.timer)
 
       module _ (is : Establishes asked) where
         linked : HasLinks id.sapi
@@ -375,7 +367,7 @@ module _ (config : Config) (id : LinkId) (asked : Asked) (clock : Bool) (latenes
             let late : KeepsRequest asked side.User id second =
             λ may_not. any_second asks_release first second (keeps may_not) in
             let h = exhausted (n202 - t202_expiries first) v second (omega (arith, exhausts)) late
-            then_ready (own_steps config first (new_view a.after) own_after) enough
+            then_ready (user_steps_own config first (new_view a.after) own_after) enough
             (goes first early ready) in
             in_the_end (first ++ second) (subst
             (λ (y : SideView User). HasAnswerFor asked id.sapi y.delivered)

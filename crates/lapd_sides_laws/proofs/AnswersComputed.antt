@@ -13,9 +13,9 @@ use Rattle.lapd_link_definition.specs.TeiAssigned.{tei_assigned}
 use Rattle.lapd_link_definition.specs.TimerRecovery.{i_frame_nr_in_recovery, poll, rr_nr_in_recovery, rnr_nr_in_recovery, timer_recovery_t200, timer_recovery}
 use Rattle.lapd_sides_links.specs.Links.{links_below, link_acts, link_expires, in_links, with_tei, without_tei, primitive_of_tei}
 use Rattle.lapd_sides.specs.Management.{manages}
-use Rattle.lapd_sides.specs.SideState.{link_of}
-use Rattle.lapd_sides.specs.Network.{assigner_acts, network_takes, network_expires, network_requested}
-use Rattle.lapd_sides.specs.User.{terminal_acts, user_takes, user_expires, user_requested}
+use Rattle.lapd_sides.specs.SideState.{link_of, expires, takes}
+use Rattle.lapd_sides.specs.Network.{assigner_acts, network_requested}
+use Rattle.lapd_sides.specs.User.{terminal_acts, user_requested}
 use Rattle.lapd_sides_laws.specs.SideView.{does}
 use Rattle.lapd_frame.specs.declared.Sapi.TheVariants.{Call}
 use Rattle.lapd_link_definition.specs.declared.out.Letter.TheVariants as letter
@@ -75,7 +75,7 @@ pub record AreReached : Type 0 where
 
 pub are_reached : AreReached
 unfolding link_acts link_expires in_links with_tei without_tei primitive_of_tei manages
-    assigner_acts link_of network_takes network_expires network_requested begin put
+    assigner_acts link_of takes expires network_requested begin put
     state_to rc_to increment_rc layer3_initiated_to release_pending_to start stop expired
     clear_exception_conditions zero_state_variables set_peer_busy set_own_busy enquiry_response
     transmit_enquiry queue_up discard_i_queue acknowledge invoke_retransmission i_frame_ns
@@ -89,7 +89,7 @@ unfolding link_acts link_expires in_links with_tei without_tei primitive_of_tei 
     without_exceptions with_zero_counters status_frame acknowledgement without_ack_pending
     poll_response is_accepted is_rejected after_i_frame i_frame_response is_valid_nr with_va
     acknowledged_count acknowledges_all with_vs may_send next_i_frame after_sending with_own_busy
-    with_peer_busy after steps lies_within terminal_acts user_takes user_expires
+    with_peer_busy after steps lies_within terminal_acts
     user_requested links_below does
 are_reached = record {
   establish_accepted = refl;
@@ -237,7 +237,7 @@ tei = arriving assignment 6000
 pub establish_in_time : AreExpiredInTime 0 (user_behaviour sides.both_sapis) establishing
     three_expiries 4000
 unfolding link_acts link_expires in_links with_tei without_tei primitive_of_tei manages
-    assigner_acts link_of network_takes network_expires network_requested begin put
+    assigner_acts link_of takes expires network_requested begin put
     state_to rc_to increment_rc layer3_initiated_to release_pending_to start stop expired
     clear_exception_conditions zero_state_variables set_peer_busy set_own_busy enquiry_response
     transmit_enquiry queue_up discard_i_queue acknowledge invoke_retransmission i_frame_ns
@@ -251,7 +251,7 @@ unfolding link_acts link_expires in_links with_tei without_tei primitive_of_tei 
     without_exceptions with_zero_counters status_frame acknowledgement without_ack_pending
     poll_response is_accepted is_rejected after_i_frame i_frame_response is_valid_nr with_va
     acknowledged_count acknowledges_all with_vs may_send next_i_frame after_sending with_own_busy
-    with_peer_busy after steps lies_within terminal_acts user_takes user_expires
+    with_peer_busy after steps lies_within terminal_acts
     user_requested links_below does
 establish_in_time = record {
   at_each = (
@@ -275,7 +275,7 @@ establish_in_time = record {
 pub late_in_time : AreExpiredInTime 10 (user_behaviour sides.both_sapis) establishing
     three_late_expiries 4040
 unfolding link_acts link_expires in_links with_tei without_tei primitive_of_tei manages
-    assigner_acts link_of network_takes network_expires network_requested begin put
+    assigner_acts link_of takes expires network_requested begin put
     state_to rc_to increment_rc layer3_initiated_to release_pending_to start stop expired
     clear_exception_conditions zero_state_variables set_peer_busy set_own_busy enquiry_response
     transmit_enquiry queue_up discard_i_queue acknowledge invoke_retransmission i_frame_ns
@@ -289,7 +289,7 @@ unfolding link_acts link_expires in_links with_tei without_tei primitive_of_tei 
     without_exceptions with_zero_counters status_frame acknowledgement without_ack_pending
     poll_response is_accepted is_rejected after_i_frame i_frame_response is_valid_nr with_va
     acknowledged_count acknowledges_all with_vs may_send next_i_frame after_sending with_own_busy
-    with_peer_busy after steps lies_within terminal_acts user_takes user_expires
+    with_peer_busy after steps lies_within terminal_acts
     user_requested links_below does
 late_in_time = record {
   at_each = (
@@ -313,7 +313,7 @@ late_in_time = record {
 pub release_in_time : AreExpiredInTime 0 (user_behaviour sides.both_sapis) releasing six_expiries
     8000
 unfolding link_acts link_expires in_links with_tei without_tei primitive_of_tei manages
-    assigner_acts link_of network_takes network_expires network_requested begin put
+    assigner_acts link_of takes expires network_requested begin put
     state_to rc_to increment_rc layer3_initiated_to release_pending_to start stop expired
     clear_exception_conditions zero_state_variables set_peer_busy set_own_busy enquiry_response
     transmit_enquiry queue_up discard_i_queue acknowledge invoke_retransmission i_frame_ns
@@ -327,7 +327,7 @@ unfolding link_acts link_expires in_links with_tei without_tei primitive_of_tei 
     without_exceptions with_zero_counters status_frame acknowledgement without_ack_pending
     poll_response is_accepted is_rejected after_i_frame i_frame_response is_valid_nr with_va
     acknowledged_count acknowledges_all with_vs may_send next_i_frame after_sending with_own_busy
-    with_peer_busy after steps lies_within terminal_acts user_takes user_expires
+    with_peer_busy after steps lies_within terminal_acts
     user_requested links_below does
 release_in_time = record {
   at_each = (
@@ -377,7 +377,7 @@ release_in_time = record {
 pub without_tei_in_time : AreExpiredInTime 0 (user_behaviour sides.both_sapis) seeking
     late_assignment 10000
 unfolding link_acts link_expires in_links with_tei without_tei primitive_of_tei manages
-    assigner_acts link_of network_takes network_expires network_requested begin put
+    assigner_acts link_of takes expires network_requested begin put
     state_to rc_to increment_rc layer3_initiated_to release_pending_to start stop expired
     clear_exception_conditions zero_state_variables set_peer_busy set_own_busy enquiry_response
     transmit_enquiry queue_up discard_i_queue acknowledge invoke_retransmission i_frame_ns
@@ -391,7 +391,7 @@ unfolding link_acts link_expires in_links with_tei without_tei primitive_of_tei 
     without_exceptions with_zero_counters status_frame acknowledgement without_ack_pending
     poll_response is_accepted is_rejected after_i_frame i_frame_response is_valid_nr with_va
     acknowledged_count acknowledges_all with_vs may_send next_i_frame after_sending with_own_busy
-    with_peer_busy after steps lies_within terminal_acts user_takes user_expires
+    with_peer_busy after steps lies_within terminal_acts
     user_requested links_below does
 without_tei_in_time = record {
   at_each = (
@@ -427,7 +427,7 @@ without_tei_in_time = record {
 
 pub backwards_in_time : AreExpiredInTime 0 (user_behaviour sides.both_sapis) backwards [] 6000
 unfolding link_acts link_expires in_links with_tei without_tei primitive_of_tei manages
-    assigner_acts link_of network_takes network_expires network_requested begin put
+    assigner_acts link_of takes expires network_requested begin put
     state_to rc_to increment_rc layer3_initiated_to release_pending_to start stop expired
     clear_exception_conditions zero_state_variables set_peer_busy set_own_busy enquiry_response
     transmit_enquiry queue_up discard_i_queue acknowledge invoke_retransmission i_frame_ns
@@ -441,7 +441,7 @@ unfolding link_acts link_expires in_links with_tei without_tei primitive_of_tei 
     without_exceptions with_zero_counters status_frame acknowledgement without_ack_pending
     poll_response is_accepted is_rejected after_i_frame i_frame_response is_valid_nr with_va
     acknowledged_count acknowledges_all with_vs may_send next_i_frame after_sending with_own_busy
-    with_peer_busy after steps lies_within terminal_acts user_takes user_expires
+    with_peer_busy after steps lies_within terminal_acts
     user_requested links_below does
 backwards_in_time = record {
   at_each = tt;

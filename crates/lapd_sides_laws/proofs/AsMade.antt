@@ -17,9 +17,8 @@ use Rattle.lapd_sides_laws.specs.Interface.{Configs, Interface, Move, fresh_link
 use Rattle.lapd_sides_laws.specs.Premises.{is_removal, IsMoveGivingTeiOnce, IsMoveLeavingTeiTaken, GiveTeiOnce, LeaveTeiTaken, SatisfyPremisesAsMade}
 use Rattle.lapd_sides_laws.specs.SideView.{SideEvent, does}
 use Rattle.lapd_sides_laws.specs.Projects.{IsSafeAt}
-use Rattle.lapd_sides_laws.proofs.NetworkOwn.{AreHeld, network_preserves}
+use Rattle.lapd_sides_laws.proofs.OwnSides.{AreHeld, network_preserves, AreOwn, user_preserves}
 use Rattle.lapd_sides_laws.proofs.OwnTeis.{both_of}
-use Rattle.lapd_sides_laws.proofs.UserOwn.{AreOwn, user_preserves}
 use Rattle.lapd_sides_laws.proofs.Timed.{new_is_timed}
 use Rattle.lapd_sides_laws.proofs.Whole.{IsNew, link_safe_as}
 

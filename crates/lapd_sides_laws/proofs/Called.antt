@@ -12,18 +12,11 @@ use Rattle.lapd_sides_links.specs.declared.side_fault.SideFault.{SideFault}
 use Rattle.lapd_sides_links.specs.Effects.{Effects}
 use Rattle.lapd_sides_links.specs.Expiries.{IsDue, IsTimerOf, Runs, of_served}
 use Rattle.lapd_sides_links.specs.Links.{Linked, Served, Reaction}
-use Rattle.lapd_sides.specs.ShowsNetwork.{NetSide}
 use Rattle.lapd_sides.specs.declared.request.Request.{Request}
-use Rattle.lapd_sides.specs.ShowsUser.{UserSide}
-use Rattle.lapd_sides.specs.Network.{Network, given_for, network_takes, network_requested, network_expires}
-use Rattle.lapd_sides.specs.Calls as calls
-use Rattle.lapd_sides.specs.ShowsNetwork as net
-use Rattle.lapd_sides.specs.ShowsUser as usr
-use Rattle.lapd_sides.specs.SideState.{SideState}
-use Rattle.lapd_sides.specs.User.{User, got_for, user_takes, user_requested, user_expires}
-use Rattle.lapd_sides.specs.Calls.{HasDone, HasExpired, Receives, Answers}
-use Rattle.lapd_sides_laws.specs.Calls.{Puts, SideDoes, NetworkDoes, UserDoes, take_of}
-use Rattle.lapd_sides_laws.specs.Interface.{user_behaviour, network_behaviour}
+use Rattle.lapd_sides.specs.SideState.{SideState, Rules, expires, given_for, takes}
+use Rattle.lapd_sides.specs.Calls.{Answers, Expires, HasDone, Receives}
+use Rattle.lapd_sides_laws.specs.Calls.{Puts, SideDoes, take_of}
+use Rattle.lapd_sides_laws.specs.Interface.{behaviour}
 use Rattle.lapd_sides_laws.specs.SideView.{Behaviour, SideView, SideEvent, Take, Lose, Expire, Ask, unmoved, takes_first, runs_on, may_expire, or_unmoved, reaction, does}
 
 -- ---- A timer that is due may expire.
@@ -72,63 +65,48 @@ done {S = S} Show w code config acts event v a is h = record {
   puts = puts_so S (w config) acts event v (h.given ∙ ap (λ (x : Reaction S). x.effects) (sym is));
 }
 
-takes : {C S : Type 0} (Show : C → Config → S → Type 0) (w : Config → Behaviour S) (old new : C) (acts : Effects) (result : Result ⊤ SideFault) (octets : List ℕ) (rest : List (List ℕ)) (now : ℕ) (tei : S → Option ℕ)
-    → Receives Show result old new acts tei (λ config. (w config).takes octets now) → (config : Config) (v : SideView S) → Show old config v.now → v.incoming ≡ octets ∷ rest → SideDoes Show w new config acts (take_of result now) v
-takes Show w old new acts (Ok u) octets rest now tei h config v shown are =
-    done Show w new config acts (Take now) v ((w config).takes octets now v.now) (ap (λ line. takes_first (w config) now line v.now) are) (h config v.now shown)
-takes Show w old new acts (Err fault) octets rest now tei h config v shown are =
-    done Show w new config acts (Lose 0) v (unmoved v.now) refl (record { shown = h.unchanged config v.now shown; given = h.nothing })
+module _ {C M : Type 0} (Show : C → Config → SideState M → Type 0) (rules : Rules M) (old new : C)
+    (acts : Effects) where
+  abbrev Does : Config → SideEvent → SideView (SideState M) → Type 0
+  Does config event v = SideDoes Show (behaviour rules) new config acts event v
 
-ticks : {C M : Type 0} (Show : C → Config → SideState M → Type 0)
-    (w : Config → Behaviour (SideState M)) (old new : C) (acts : Effects) (now : ℕ)
-    (config : Config) (v : SideView (SideState M)) → (w config).served v.now ≡ v.now.served
-    → HasExpired Show (λ k. (w k).expires) new config acts now v.now
-    → (e : RunningTimer) × IsDue now v.now.served (Some e)
-    × SideDoes Show w new config acts (Expire e.timer e.of now) v
-ticks Show w old new acts now config v same x = (
-  x.expiry,
-  x.due,
-  done Show w new config acts (Expire x.expiry.timer x.expiry.of now) v
-      ((w config).expires now x.expiry.timer x.expiry.of v.now)
-      (expiry_is _ (w config) x.expiry now v
-      (subst (λ (own : Served). may_expire x.expiry.timer x.expiry.of own ≡ true) (sym same)
-      (due_may_expire now v.now.served x.expiry x.due))) x.done,
-)
+  pub call_takes : (result : Result ⊤ SideFault) (octets : List ℕ) (rest : List (List ℕ)) (now : ℕ)
+      → Receives Show result old new acts (λ s. given_for rules s.management octets)
+      (λ config. takes rules config octets now)
+      → (config : Config) (v : SideView (SideState M)) → Show old config v.now
+      → v.incoming ≡ octets ∷ rest → Does config (take_of result now) v
+  call_takes (Ok u) octets rest now h config v shown are =
+      done Show (behaviour rules) new config acts (Take now) v (takes rules config octets now v.now)
+      (ap (λ line. takes_first (behaviour rules config) now line v.now) are)
+      (h config v.now shown)
+  call_takes (Err fault) octets rest now h config v shown are =
+      done Show (behaviour rules) new config acts (Lose 0) v (unmoved v.now) refl
+      (record { shown = h.unchanged config v.now shown; given = h.nothing })
 
-requests : {C S : Type 0} (Show : C → Config → S → Type 0) (w : Config → Behaviour S) (old new : C) (acts : Effects) (result : Result ⊤ SideFault) (message : Option (Vec ℕ Global)) (request : Request) (now : ℕ)
-    → Answers Show result old new acts message (λ config. (w config).requested request now) → (config : Config) (v : SideView S) → Show old config v.now → SideDoes Show w new config acts (Ask request now) v
-requests Show w old new acts (Ok u) message request now h config v shown =
-    let x = h config v.now shown in
-    done Show w new config acts (Ask request now) v x.acted (ap (or_unmoved v.now) x.is) x.done
-requests Show w old new acts (Err fault) message request now h config v shown =
-    done Show w new config acts (Ask request now) v (unmoved v.now) (ap (or_unmoved v.now) (h.kind config v.now shown)) (record { shown = h.unchanged config v.now shown; given = h.nothing })
+  pub call_ticks : (now : ℕ) → Expires Show (expires rules) old new acts now
+      → (config : Config) (v : SideView (SideState M)) → Show old config v.now
+      → (e : RunningTimer) × IsDue now v.now.served (Some e)
+      × Does config (Expire e.timer e.of now) v
+  call_ticks now h config v shown =
+      let x = h config v.now shown in (
+        x.expiry,
+        x.due,
+        done Show (behaviour rules) new config acts (Expire x.expiry.timer x.expiry.of now) v
+            (expires rules config now x.expiry.timer x.expiry.of v.now)
+            (expiry_is _ (behaviour rules config) x.expiry now v
+            (due_may_expire now v.now.served x.expiry x.due)) x.done,
+      )
 
--- ---- A network side.
-
-pub net_takes : (old new : NetSide) (acts : Effects) (result : Result ⊤ SideFault) (octets : List ℕ) (rest : List (List ℕ)) (now : ℕ) → calls.Receives net.ShowNetwork result old new acts (λ s. given_for s.management octets) (λ config. network_takes config octets now)
-    → (config : Config) (v : SideView Network) → net.ShowNetwork old config v.now → v.incoming ≡ octets ∷ rest → NetworkDoes new config acts (take_of result now) v
-net_takes old new acts result octets rest now h = takes net.ShowNetwork network_behaviour old new acts result octets rest now (λ s. given_for s.management octets) h
-
-pub net_ticks : (old new : NetSide) (acts : Effects) (now : ℕ) → calls.Expires net.ShowNetwork network_expires old new acts now
-    → (config : Config) (v : SideView Network) → net.ShowNetwork old config v.now → (e : RunningTimer) × IsDue now v.now.served (Some e) × NetworkDoes new config acts (Expire e.timer e.of now) v
-net_ticks old new acts now h config v shown = ticks net.ShowNetwork network_behaviour old new acts now config v refl (h config v.now shown)
-
-pub net_requests : (old new : NetSide) (acts : Effects) (result : Result ⊤ SideFault) (message : Option (Vec ℕ Global)) (request : Request) (now : ℕ)
-    → calls.Answers net.ShowNetwork result old new acts message (λ config. network_requested config request now)
-    → (config : Config) (v : SideView Network) → net.ShowNetwork old config v.now → NetworkDoes new config acts (Ask request now) v
-net_requests old new acts result message request now h = requests net.ShowNetwork network_behaviour old new acts result message request now h
-
--- ---- A user side.
-
-pub usr_takes : (old new : UserSide) (acts : Effects) (result : Result ⊤ SideFault) (octets : List ℕ) (rest : List (List ℕ)) (now : ℕ) → calls.Receives usr.ShowUser result old new acts (λ s. got_for s octets) (λ config. user_takes config octets now)
-    → (config : Config) (v : SideView User) → usr.ShowUser old config v.now → v.incoming ≡ octets ∷ rest → UserDoes new config acts (take_of result now) v
-usr_takes old new acts result octets rest now h = takes usr.ShowUser user_behaviour old new acts result octets rest now (λ s. got_for s octets) h
-
-pub usr_ticks : (old new : UserSide) (acts : Effects) (now : ℕ) → calls.Expires usr.ShowUser user_expires old new acts now
-    → (config : Config) (v : SideView User) → usr.ShowUser old config v.now → (e : RunningTimer) × IsDue now v.now.served (Some e) × UserDoes new config acts (Expire e.timer e.of now) v
-usr_ticks old new acts now h config v shown = ticks usr.ShowUser user_behaviour old new acts now config v refl (h config v.now shown)
-
-pub usr_requests : (old new : UserSide) (acts : Effects) (result : Result ⊤ SideFault) (message : Option (Vec ℕ Global)) (request : Request) (now : ℕ)
-    → calls.Answers usr.ShowUser result old new acts message (λ config. user_requested config request now)
-    → (config : Config) (v : SideView User) → usr.ShowUser old config v.now → UserDoes new config acts (Ask request now) v
-usr_requests old new acts result message request now h = requests usr.ShowUser user_behaviour old new acts result message request now h
+  pub call_requests : (result : Result ⊤ SideFault) (message : Option (Vec ℕ Global))
+      (request : Request) (now : ℕ)
+      → Answers Show result old new acts message (λ config. rules.requested config request now)
+      → (config : Config) (v : SideView (SideState M)) → Show old config v.now
+      → Does config (Ask request now) v
+  call_requests (Ok u) message request now h config v shown =
+      let x = h config v.now shown in
+      done Show (behaviour rules) new config acts (Ask request now) v x.acted
+      (ap (or_unmoved v.now) x.is) x.done
+  call_requests (Err fault) message request now h config v shown =
+      done Show (behaviour rules) new config acts (Ask request now) v (unmoved v.now)
+      (ap (or_unmoved v.now) (h.kind config v.now shown))
+      (record { shown = h.unchanged config v.now shown; given = h.nothing })

@@ -18,9 +18,9 @@ use Rattle.lapd_pair_laws.specs.Schedule.{one_message, two_messages}
 use Rattle.lapd_sides_links.specs.declared.primitive.What.TheVariants as what
 use Rattle.lapd_sides_links.specs.Links.{links_below, link_acts, link_expires, in_links, with_tei, without_tei, primitive_of_tei}
 use Rattle.lapd_sides.specs.Management.{manages}
-use Rattle.lapd_sides.specs.SideState.{link_of}
-use Rattle.lapd_sides.specs.Network.{assigner_acts, network_takes, network_expires, network_requested}
-use Rattle.lapd_sides.specs.User.{terminal_acts, user_takes, user_expires, user_requested}
+use Rattle.lapd_sides.specs.SideState.{link_of, expires, takes}
+use Rattle.lapd_sides.specs.Network.{assigner_acts, network_requested}
+use Rattle.lapd_sides.specs.User.{terminal_acts, user_requested}
 use Rattle.lapd_sides_laws.specs.Establishments.{records_of, AreNeighbours, IsReceivedUnskipped}
 use Rattle.lapd_sides_laws.specs.Interface.{run}
 use Rattle.lapd_sides_laws.specs.Premises.{AreTimely, GiveTeiOnce, SatisfyPremises}
@@ -57,7 +57,7 @@ pub record BothLinks (message answer : Vec ℕ Global) : Type 0 where
   pub call_sent_in : (records_of configs call (both_links message answer) at_first).user.sent_in 0 ≡ Some 1
 
 both_links_hold : (v w : Vec ℕ Global) (x : Fits v (1 ∷ [])) (y : Fits w (2 ∷ [])) → BothLinks (holding v (1 ∷ []) x) (holding w (2 ∷ []) y)
-unfolding link_acts link_expires in_links with_tei without_tei primitive_of_tei manages assigner_acts link_of network_takes network_expires network_requested begin put state_to rc_to increment_rc layer3_initiated_to release_pending_to start stop expired clear_exception_conditions zero_state_variables set_peer_busy set_own_busy enquiry_response transmit_enquiry queue_up discard_i_queue acknowledge invoke_retransmission i_frame_ns discard_unacknowledged transmit_i_frame ensure_t200 transmit_rr establish_data_link reestablish_data_link end_establishment tei_assigned confirm_or_indicate ua_final awaiting_establishment_t200 awaiting_establishment confirm_release awaiting_release_t200 awaiting_release acknowledge_with_timers nr_error_recovery i_frame_nr i_frame_nr_in_recovery poll_or_final poll rr_nr rej_nr rnr_nr rr_nr_in_recovery rnr_nr_in_recovery timer_recovery_t200 busy_on busy_off in_7_and_8 established_t200 multiple_frame_established timer_recovery by_state report_fault row send_all acknowledge_pending end_step step initial_variables without_exceptions with_zero_counters status_frame acknowledgement without_ack_pending poll_response is_accepted is_rejected after_i_frame i_frame_response is_valid_nr with_va acknowledged_count acknowledges_all with_vs may_send next_i_frame after_sending with_own_busy with_peer_busy after steps lies_within terminal_acts user_takes user_expires user_requested links_below does
+unfolding link_acts link_expires in_links with_tei without_tei primitive_of_tei manages assigner_acts link_of takes expires network_requested begin put state_to rc_to increment_rc layer3_initiated_to release_pending_to start stop expired clear_exception_conditions zero_state_variables set_peer_busy set_own_busy enquiry_response transmit_enquiry queue_up discard_i_queue acknowledge invoke_retransmission i_frame_ns discard_unacknowledged transmit_i_frame ensure_t200 transmit_rr establish_data_link reestablish_data_link end_establishment tei_assigned confirm_or_indicate ua_final awaiting_establishment_t200 awaiting_establishment confirm_release awaiting_release_t200 awaiting_release acknowledge_with_timers nr_error_recovery i_frame_nr i_frame_nr_in_recovery poll_or_final poll rr_nr rej_nr rnr_nr rr_nr_in_recovery rnr_nr_in_recovery timer_recovery_t200 busy_on busy_off in_7_and_8 established_t200 multiple_frame_established timer_recovery by_state report_fault row send_all acknowledge_pending end_step step initial_variables without_exceptions with_zero_counters status_frame acknowledgement without_ack_pending poll_response is_accepted is_rejected after_i_frame i_frame_response is_valid_nr with_va acknowledged_count acknowledges_all with_vs may_send next_i_frame after_sending with_own_busy with_peer_busy after steps lies_within terminal_acts user_requested links_below does
 both_links_hold v w x y = record {
   call_premises = ((tt, (tt, (tt, (tt, (tt, (λ t o. (refl, refl), (tt, (tt, (tt, (tt, (tt, (tt, (tt, (λ t o. (refl, refl), (tt, (tt, (tt, (tt, tt)))))))))))))))))), (λ there. refl, (λ there. refl, (λ there. refl, (λ there. refl, (λ there. refl, (λ there. refl, (λ there. refl, (λ there. refl, (λ there. refl, (λ there. refl, (λ there. refl, (λ there. refl, (λ there. refl, (λ there. refl, (λ there. refl, (λ there. refl, (λ there. refl, (λ there. refl, tt)))))))))))))))))));
   packet_premises = ((tt, (tt, (tt, (tt, (tt, (λ t o. (refl, refl), (tt, (tt, (tt, (tt, (tt, (tt, (tt, (λ t o. (refl, refl), (tt, (tt, (tt, (tt, tt)))))))))))))))))), (λ there. refl, (λ there. refl, (λ there. refl, (λ there. refl, (λ there. refl, (λ there. refl, (λ there. refl, (λ there. refl, (λ there. refl, (λ there. refl, (λ there. refl, (λ there. refl, (λ there. refl, (λ there. refl, (λ there. refl, (λ there. refl, (λ there. refl, (λ there. refl, tt)))))))))))))))))));
@@ -80,7 +80,7 @@ pub record Assigned (message : Vec ℕ Global) : Type 0 where
   pub to_network : link_primitives call (run configs (assigned message) unassigned).delivered_to_network ≡ what.Established ∷ what.Up (1 ∷ []) ∷ []
 
 assigned_holds : (v : Vec ℕ Global) (x : Fits v (1 ∷ [])) → Assigned (holding v (1 ∷ []) x)
-unfolding link_acts link_expires in_links with_tei without_tei primitive_of_tei manages assigner_acts link_of network_takes network_expires network_requested begin put state_to rc_to increment_rc layer3_initiated_to release_pending_to start stop expired clear_exception_conditions zero_state_variables set_peer_busy set_own_busy enquiry_response transmit_enquiry queue_up discard_i_queue acknowledge invoke_retransmission i_frame_ns discard_unacknowledged transmit_i_frame ensure_t200 transmit_rr establish_data_link reestablish_data_link end_establishment tei_assigned confirm_or_indicate ua_final awaiting_establishment_t200 awaiting_establishment confirm_release awaiting_release_t200 awaiting_release acknowledge_with_timers nr_error_recovery i_frame_nr i_frame_nr_in_recovery poll_or_final poll rr_nr rej_nr rnr_nr rr_nr_in_recovery rnr_nr_in_recovery timer_recovery_t200 busy_on busy_off in_7_and_8 established_t200 multiple_frame_established timer_recovery by_state report_fault row send_all acknowledge_pending end_step step initial_variables without_exceptions with_zero_counters status_frame acknowledgement without_ack_pending poll_response is_accepted is_rejected after_i_frame i_frame_response is_valid_nr with_va acknowledged_count acknowledges_all with_vs may_send next_i_frame after_sending with_own_busy with_peer_busy after steps lies_within terminal_acts user_takes user_expires user_requested links_below does
+unfolding link_acts link_expires in_links with_tei without_tei primitive_of_tei manages assigner_acts link_of takes expires network_requested begin put state_to rc_to increment_rc layer3_initiated_to release_pending_to start stop expired clear_exception_conditions zero_state_variables set_peer_busy set_own_busy enquiry_response transmit_enquiry queue_up discard_i_queue acknowledge invoke_retransmission i_frame_ns discard_unacknowledged transmit_i_frame ensure_t200 transmit_rr establish_data_link reestablish_data_link end_establishment tei_assigned confirm_or_indicate ua_final awaiting_establishment_t200 awaiting_establishment confirm_release awaiting_release_t200 awaiting_release acknowledge_with_timers nr_error_recovery i_frame_nr i_frame_nr_in_recovery poll_or_final poll rr_nr rej_nr rnr_nr rr_nr_in_recovery rnr_nr_in_recovery timer_recovery_t200 busy_on busy_off in_7_and_8 established_t200 multiple_frame_established timer_recovery by_state report_fault row send_all acknowledge_pending end_step step initial_variables without_exceptions with_zero_counters status_frame acknowledgement without_ack_pending poll_response is_accepted is_rejected after_i_frame i_frame_response is_valid_nr with_va acknowledged_count acknowledges_all with_vs may_send next_i_frame after_sending with_own_busy with_peer_busy after steps lies_within terminal_acts user_requested links_below does
 assigned_holds v x = record {
   premises = ((tt, (tt, (tt, (tt, (tt, (tt, (tt, (tt, tt)))))))), (λ there. refl, (λ there. (let never : false ≡ true = there in cc), (λ there. (let never : false ≡ true = there in cc), (λ there. refl, (λ there. refl, (λ there. refl, (λ there. refl, (λ there. refl, tt)))))))));
   to_user = refl;
@@ -97,7 +97,7 @@ pub record Removed (first : Vec ℕ Global) : Type 0 where
   pub to_user : link_primitives call (run configs (removed first) at_first).delivered_to_user ≡ what.Confirmed ∷ what.Released ∷ []
 
 removed_holds : (v : Vec ℕ Global) (x : Fits v (1 ∷ [])) → Removed (holding v (1 ∷ []) x)
-unfolding link_acts link_expires in_links with_tei without_tei primitive_of_tei manages assigner_acts link_of network_takes network_expires network_requested begin put state_to rc_to increment_rc layer3_initiated_to release_pending_to start stop expired clear_exception_conditions zero_state_variables set_peer_busy set_own_busy enquiry_response transmit_enquiry queue_up discard_i_queue acknowledge invoke_retransmission i_frame_ns discard_unacknowledged transmit_i_frame ensure_t200 transmit_rr establish_data_link reestablish_data_link end_establishment tei_assigned confirm_or_indicate ua_final awaiting_establishment_t200 awaiting_establishment confirm_release awaiting_release_t200 awaiting_release acknowledge_with_timers nr_error_recovery i_frame_nr i_frame_nr_in_recovery poll_or_final poll rr_nr rej_nr rnr_nr rr_nr_in_recovery rnr_nr_in_recovery timer_recovery_t200 busy_on busy_off in_7_and_8 established_t200 multiple_frame_established timer_recovery by_state report_fault row send_all acknowledge_pending end_step step initial_variables without_exceptions with_zero_counters status_frame acknowledgement without_ack_pending poll_response is_accepted is_rejected after_i_frame i_frame_response is_valid_nr with_va acknowledged_count acknowledges_all with_vs may_send next_i_frame after_sending with_own_busy with_peer_busy after steps lies_within terminal_acts user_takes user_expires user_requested links_below does
+unfolding link_acts link_expires in_links with_tei without_tei primitive_of_tei manages assigner_acts link_of takes expires network_requested begin put state_to rc_to increment_rc layer3_initiated_to release_pending_to start stop expired clear_exception_conditions zero_state_variables set_peer_busy set_own_busy enquiry_response transmit_enquiry queue_up discard_i_queue acknowledge invoke_retransmission i_frame_ns discard_unacknowledged transmit_i_frame ensure_t200 transmit_rr establish_data_link reestablish_data_link end_establishment tei_assigned confirm_or_indicate ua_final awaiting_establishment_t200 awaiting_establishment confirm_release awaiting_release_t200 awaiting_release acknowledge_with_timers nr_error_recovery i_frame_nr i_frame_nr_in_recovery poll_or_final poll rr_nr rej_nr rnr_nr rr_nr_in_recovery rnr_nr_in_recovery timer_recovery_t200 busy_on busy_off in_7_and_8 established_t200 multiple_frame_established timer_recovery by_state report_fault row send_all acknowledge_pending end_step step initial_variables without_exceptions with_zero_counters status_frame acknowledgement without_ack_pending poll_response is_accepted is_rejected after_i_frame i_frame_response is_valid_nr with_va acknowledged_count acknowledges_all with_vs may_send next_i_frame after_sending with_own_busy with_peer_busy after steps lies_within terminal_acts user_requested links_below does
 removed_holds v x = record {
   premises = ((tt, (tt, (tt, (tt, (tt, (tt, (tt, (λ t o. (refl, refl), (tt, (tt, (tt, (λ t o. (refl, refl), (tt, (tt, tt)))))))))))))), (λ there. refl, (λ there. refl, (λ there. refl, (λ there. refl, (λ there. refl, (λ there. refl, (λ there. refl, (λ there. refl, (λ there. refl, (λ there. refl, (λ there. refl, (λ there. refl, (λ there. refl, (λ there. refl, tt)))))))))))))));
   to_user = refl;
@@ -146,7 +146,7 @@ pub record Hasty (first second : Vec ℕ Global) : Type 0 where
   pub received : (known_of call (run configs (hasty first second) at_first).delivered_to_user).received ≡ one_message
 
 hasty_holds : (v w : Vec ℕ Global) (x : Fits v (1 ∷ [])) (y : Fits w (2 ∷ [])) → Hasty (holding v (1 ∷ []) x) (holding w (2 ∷ []) y)
-unfolding link_acts link_expires in_links with_tei without_tei primitive_of_tei manages assigner_acts link_of network_takes network_expires network_requested begin put state_to rc_to increment_rc layer3_initiated_to release_pending_to start stop expired clear_exception_conditions zero_state_variables set_peer_busy set_own_busy enquiry_response transmit_enquiry queue_up discard_i_queue acknowledge invoke_retransmission i_frame_ns discard_unacknowledged transmit_i_frame ensure_t200 transmit_rr establish_data_link reestablish_data_link end_establishment tei_assigned confirm_or_indicate ua_final awaiting_establishment_t200 awaiting_establishment confirm_release awaiting_release_t200 awaiting_release acknowledge_with_timers nr_error_recovery i_frame_nr i_frame_nr_in_recovery poll_or_final poll rr_nr rej_nr rnr_nr rr_nr_in_recovery rnr_nr_in_recovery timer_recovery_t200 busy_on busy_off in_7_and_8 established_t200 multiple_frame_established timer_recovery by_state report_fault row send_all acknowledge_pending end_step step initial_variables without_exceptions with_zero_counters status_frame acknowledgement without_ack_pending poll_response is_accepted is_rejected after_i_frame i_frame_response is_valid_nr with_va acknowledged_count acknowledges_all with_vs may_send next_i_frame after_sending with_own_busy with_peer_busy after steps lies_within terminal_acts user_takes user_expires user_requested links_below does
+unfolding link_acts link_expires in_links with_tei without_tei primitive_of_tei manages assigner_acts link_of takes expires network_requested begin put state_to rc_to increment_rc layer3_initiated_to release_pending_to start stop expired clear_exception_conditions zero_state_variables set_peer_busy set_own_busy enquiry_response transmit_enquiry queue_up discard_i_queue acknowledge invoke_retransmission i_frame_ns discard_unacknowledged transmit_i_frame ensure_t200 transmit_rr establish_data_link reestablish_data_link end_establishment tei_assigned confirm_or_indicate ua_final awaiting_establishment_t200 awaiting_establishment confirm_release awaiting_release_t200 awaiting_release acknowledge_with_timers nr_error_recovery i_frame_nr i_frame_nr_in_recovery poll_or_final poll rr_nr rej_nr rnr_nr rr_nr_in_recovery rnr_nr_in_recovery timer_recovery_t200 busy_on busy_off in_7_and_8 established_t200 multiple_frame_established timer_recovery by_state report_fault row send_all acknowledge_pending end_step step initial_variables without_exceptions with_zero_counters status_frame acknowledgement without_ack_pending poll_response is_accepted is_rejected after_i_frame i_frame_response is_valid_nr with_va acknowledged_count acknowledges_all with_vs may_send next_i_frame after_sending with_own_busy with_peer_busy after steps lies_within terminal_acts user_requested links_below does
 hasty_holds v w x y = record {
   tei = (λ there. refl, (λ there. refl, (λ there. refl, (λ there. refl, (λ there. refl, (λ there. refl, (λ there. refl, (λ there. refl, (λ there. refl, tt)))))))));
   packet_premises = ((tt, (tt, (tt, (λ t o. (refl, refl), (tt, (tt, (tt, (tt, (tt, tt))))))))), (λ there. refl, (λ there. refl, (λ there. refl, (λ there. refl, (λ there. refl, (λ there. refl, (λ there. refl, (λ there. refl, (λ there. refl, tt))))))))));
@@ -177,7 +177,7 @@ pub record Skipping (first second third : Vec ℕ Global) : Type 0 where
   pub numbers : (records_of configs packet (skipping first second third) at_first).user.received_in ≡ 1 ∷ 1 ∷ []
 
 skipping_holds : (u v w : Vec ℕ Global) (x : Fits u (1 ∷ [])) (y : Fits v (2 ∷ [])) (z : Fits w (3 ∷ [])) → Skipping (holding u (1 ∷ []) x) (holding v (2 ∷ []) y) (holding w (3 ∷ []) z)
-unfolding link_acts link_expires in_links with_tei without_tei primitive_of_tei manages assigner_acts link_of network_takes network_expires network_requested begin put state_to rc_to increment_rc layer3_initiated_to release_pending_to start stop expired clear_exception_conditions zero_state_variables set_peer_busy set_own_busy enquiry_response transmit_enquiry queue_up discard_i_queue acknowledge invoke_retransmission i_frame_ns discard_unacknowledged transmit_i_frame ensure_t200 transmit_rr establish_data_link reestablish_data_link end_establishment tei_assigned confirm_or_indicate ua_final awaiting_establishment_t200 awaiting_establishment confirm_release awaiting_release_t200 awaiting_release acknowledge_with_timers nr_error_recovery i_frame_nr i_frame_nr_in_recovery poll_or_final poll rr_nr rej_nr rnr_nr rr_nr_in_recovery rnr_nr_in_recovery timer_recovery_t200 busy_on busy_off in_7_and_8 established_t200 multiple_frame_established timer_recovery by_state report_fault row send_all acknowledge_pending end_step step initial_variables without_exceptions with_zero_counters status_frame acknowledgement without_ack_pending poll_response is_accepted is_rejected after_i_frame i_frame_response is_valid_nr with_va acknowledged_count acknowledges_all with_vs may_send next_i_frame after_sending with_own_busy with_peer_busy after steps lies_within terminal_acts user_takes user_expires user_requested links_below does
+unfolding link_acts link_expires in_links with_tei without_tei primitive_of_tei manages assigner_acts link_of takes expires network_requested begin put state_to rc_to increment_rc layer3_initiated_to release_pending_to start stop expired clear_exception_conditions zero_state_variables set_peer_busy set_own_busy enquiry_response transmit_enquiry queue_up discard_i_queue acknowledge invoke_retransmission i_frame_ns discard_unacknowledged transmit_i_frame ensure_t200 transmit_rr establish_data_link reestablish_data_link end_establishment tei_assigned confirm_or_indicate ua_final awaiting_establishment_t200 awaiting_establishment confirm_release awaiting_release_t200 awaiting_release acknowledge_with_timers nr_error_recovery i_frame_nr i_frame_nr_in_recovery poll_or_final poll rr_nr rej_nr rnr_nr rr_nr_in_recovery rnr_nr_in_recovery timer_recovery_t200 busy_on busy_off in_7_and_8 established_t200 multiple_frame_established timer_recovery by_state report_fault row send_all acknowledge_pending end_step step initial_variables without_exceptions with_zero_counters status_frame acknowledgement without_ack_pending poll_response is_accepted is_rejected after_i_frame i_frame_response is_valid_nr with_va acknowledged_count acknowledges_all with_vs may_send next_i_frame after_sending with_own_busy with_peer_busy after steps lies_within terminal_acts user_requested links_below does
 skipping_holds u v w x y z = record {
   tei = (λ there. refl, (λ there. refl, (λ there. refl, (λ there. refl, (λ there. refl, (λ there. refl, (λ there. refl, (λ there. refl, (λ there. refl, (λ there. refl, (λ there. refl, (λ there. refl, (λ there. refl, tt)))))))))))));
   given = refl;
@@ -232,7 +232,7 @@ pub record Regained (first second : Vec ℕ Global) : Type 0 where
   pub received : (known_of call (run configs (regained first second) at_first).delivered_to_network).received ≡ (2 ∷ []) ∷ []
 
 regained_holds : (v w : Vec ℕ Global) (x : Fits v (1 ∷ [])) (y : Fits w (2 ∷ [])) → Regained (holding v (1 ∷ []) x) (holding w (2 ∷ []) y)
-unfolding link_acts link_expires in_links with_tei without_tei primitive_of_tei manages assigner_acts link_of network_takes network_expires network_requested begin put state_to rc_to increment_rc layer3_initiated_to release_pending_to start stop expired clear_exception_conditions zero_state_variables set_peer_busy set_own_busy enquiry_response transmit_enquiry queue_up discard_i_queue acknowledge invoke_retransmission i_frame_ns discard_unacknowledged transmit_i_frame ensure_t200 transmit_rr establish_data_link reestablish_data_link end_establishment tei_assigned confirm_or_indicate ua_final awaiting_establishment_t200 awaiting_establishment confirm_release awaiting_release_t200 awaiting_release acknowledge_with_timers nr_error_recovery i_frame_nr i_frame_nr_in_recovery poll_or_final poll rr_nr rej_nr rnr_nr rr_nr_in_recovery rnr_nr_in_recovery timer_recovery_t200 busy_on busy_off in_7_and_8 established_t200 multiple_frame_established timer_recovery by_state report_fault row send_all acknowledge_pending end_step step initial_variables without_exceptions with_zero_counters status_frame acknowledgement without_ack_pending poll_response is_accepted is_rejected after_i_frame i_frame_response is_valid_nr with_va acknowledged_count acknowledges_all with_vs may_send next_i_frame after_sending with_own_busy with_peer_busy after steps lies_within terminal_acts user_takes user_expires user_requested links_below does
+unfolding link_acts link_expires in_links with_tei without_tei primitive_of_tei manages assigner_acts link_of takes expires network_requested begin put state_to rc_to increment_rc layer3_initiated_to release_pending_to start stop expired clear_exception_conditions zero_state_variables set_peer_busy set_own_busy enquiry_response transmit_enquiry queue_up discard_i_queue acknowledge invoke_retransmission i_frame_ns discard_unacknowledged transmit_i_frame ensure_t200 transmit_rr establish_data_link reestablish_data_link end_establishment tei_assigned confirm_or_indicate ua_final awaiting_establishment_t200 awaiting_establishment confirm_release awaiting_release_t200 awaiting_release acknowledge_with_timers nr_error_recovery i_frame_nr i_frame_nr_in_recovery poll_or_final poll rr_nr rej_nr rnr_nr rr_nr_in_recovery rnr_nr_in_recovery timer_recovery_t200 busy_on busy_off in_7_and_8 established_t200 multiple_frame_established timer_recovery by_state report_fault row send_all acknowledge_pending end_step step initial_variables without_exceptions with_zero_counters status_frame acknowledgement without_ack_pending poll_response is_accepted is_rejected after_i_frame i_frame_response is_valid_nr with_va acknowledged_count acknowledges_all with_vs may_send next_i_frame after_sending with_own_busy with_peer_busy after steps lies_within terminal_acts user_requested links_below does
 regained_holds v w x y = record {
   timely = (tt, (tt, (tt, (tt, (tt, (tt, (tt, (λ t o. (refl, refl), (tt, (tt, (tt, (λ t o. (refl, refl), (tt, (tt, (tt, (tt, (tt, (tt, (tt, (tt, (tt, (tt, (tt, tt)))))))))))))))))))))));
   given = refl;
@@ -264,7 +264,7 @@ pub record SkippingRegained (first second third : Vec ℕ Global) : Type 0 where
   pub numbers : (records_of configs packet (skipping_regained first second third) at_first).network.received_in ≡ 1 ∷ 1 ∷ []
 
 skipping_regained_holds : (u v w : Vec ℕ Global) (x : Fits u (1 ∷ [])) (y : Fits v (2 ∷ [])) (z : Fits w (3 ∷ [])) → SkippingRegained (holding u (1 ∷ []) x) (holding v (2 ∷ []) y) (holding w (3 ∷ []) z)
-unfolding link_acts link_expires in_links with_tei without_tei primitive_of_tei manages assigner_acts link_of network_takes network_expires network_requested begin put state_to rc_to increment_rc layer3_initiated_to release_pending_to start stop expired clear_exception_conditions zero_state_variables set_peer_busy set_own_busy enquiry_response transmit_enquiry queue_up discard_i_queue acknowledge invoke_retransmission i_frame_ns discard_unacknowledged transmit_i_frame ensure_t200 transmit_rr establish_data_link reestablish_data_link end_establishment tei_assigned confirm_or_indicate ua_final awaiting_establishment_t200 awaiting_establishment confirm_release awaiting_release_t200 awaiting_release acknowledge_with_timers nr_error_recovery i_frame_nr i_frame_nr_in_recovery poll_or_final poll rr_nr rej_nr rnr_nr rr_nr_in_recovery rnr_nr_in_recovery timer_recovery_t200 busy_on busy_off in_7_and_8 established_t200 multiple_frame_established timer_recovery by_state report_fault row send_all acknowledge_pending end_step step initial_variables without_exceptions with_zero_counters status_frame acknowledgement without_ack_pending poll_response is_accepted is_rejected after_i_frame i_frame_response is_valid_nr with_va acknowledged_count acknowledges_all with_vs may_send next_i_frame after_sending with_own_busy with_peer_busy after steps lies_within terminal_acts user_takes user_expires user_requested links_below does
+unfolding link_acts link_expires in_links with_tei without_tei primitive_of_tei manages assigner_acts link_of takes expires network_requested begin put state_to rc_to increment_rc layer3_initiated_to release_pending_to start stop expired clear_exception_conditions zero_state_variables set_peer_busy set_own_busy enquiry_response transmit_enquiry queue_up discard_i_queue acknowledge invoke_retransmission i_frame_ns discard_unacknowledged transmit_i_frame ensure_t200 transmit_rr establish_data_link reestablish_data_link end_establishment tei_assigned confirm_or_indicate ua_final awaiting_establishment_t200 awaiting_establishment confirm_release awaiting_release_t200 awaiting_release acknowledge_with_timers nr_error_recovery i_frame_nr i_frame_nr_in_recovery poll_or_final poll rr_nr rej_nr rnr_nr rr_nr_in_recovery rnr_nr_in_recovery timer_recovery_t200 busy_on busy_off in_7_and_8 established_t200 multiple_frame_established timer_recovery by_state report_fault row send_all acknowledge_pending end_step step initial_variables without_exceptions with_zero_counters status_frame acknowledgement without_ack_pending poll_response is_accepted is_rejected after_i_frame i_frame_response is_valid_nr with_va acknowledged_count acknowledges_all with_vs may_send next_i_frame after_sending with_own_busy with_peer_busy after steps lies_within terminal_acts user_requested links_below does
 skipping_regained_holds u v w x y z = record {
   timely = (tt, (tt, (tt, (tt, (tt, (tt, (tt, (tt, (tt, (tt, (λ t o. (refl, refl), (tt, (tt, (tt, (λ t o. (refl, refl), (tt, (tt, (tt, (tt, (tt, (tt, (tt, (tt, (tt, (tt, tt)))))))))))))))))))))))));
   given = refl;
@@ -297,7 +297,7 @@ pub record AnsweredBefore (message : Vec ℕ Global) : Type 0 where
   pub received : (known_of call (run configs (answered_before message) with_old_frames).delivered_to_network).received ≡ []
 
 answered_before_holds : (v : Vec ℕ Global) (x : Fits v (1 ∷ [])) → AnsweredBefore (holding v (1 ∷ []) x)
-unfolding link_acts link_expires in_links with_tei without_tei primitive_of_tei manages assigner_acts link_of network_takes network_expires network_requested begin put state_to rc_to increment_rc layer3_initiated_to release_pending_to start stop expired clear_exception_conditions zero_state_variables set_peer_busy set_own_busy enquiry_response transmit_enquiry queue_up discard_i_queue acknowledge invoke_retransmission i_frame_ns discard_unacknowledged transmit_i_frame ensure_t200 transmit_rr establish_data_link reestablish_data_link end_establishment tei_assigned confirm_or_indicate ua_final awaiting_establishment_t200 awaiting_establishment confirm_release awaiting_release_t200 awaiting_release acknowledge_with_timers nr_error_recovery i_frame_nr i_frame_nr_in_recovery poll_or_final poll rr_nr rej_nr rnr_nr rr_nr_in_recovery rnr_nr_in_recovery timer_recovery_t200 busy_on busy_off in_7_and_8 established_t200 multiple_frame_established timer_recovery by_state report_fault row send_all acknowledge_pending end_step step initial_variables without_exceptions with_zero_counters status_frame acknowledgement without_ack_pending poll_response is_accepted is_rejected after_i_frame i_frame_response is_valid_nr with_va acknowledged_count acknowledges_all with_vs may_send next_i_frame after_sending with_own_busy with_peer_busy after steps lies_within terminal_acts user_takes user_expires user_requested links_below does
+unfolding link_acts link_expires in_links with_tei without_tei primitive_of_tei manages assigner_acts link_of takes expires network_requested begin put state_to rc_to increment_rc layer3_initiated_to release_pending_to start stop expired clear_exception_conditions zero_state_variables set_peer_busy set_own_busy enquiry_response transmit_enquiry queue_up discard_i_queue acknowledge invoke_retransmission i_frame_ns discard_unacknowledged transmit_i_frame ensure_t200 transmit_rr establish_data_link reestablish_data_link end_establishment tei_assigned confirm_or_indicate ua_final awaiting_establishment_t200 awaiting_establishment confirm_release awaiting_release_t200 awaiting_release acknowledge_with_timers nr_error_recovery i_frame_nr i_frame_nr_in_recovery poll_or_final poll rr_nr rej_nr rnr_nr rr_nr_in_recovery rnr_nr_in_recovery timer_recovery_t200 busy_on busy_off in_7_and_8 established_t200 multiple_frame_established timer_recovery by_state report_fault row send_all acknowledge_pending end_step step initial_variables without_exceptions with_zero_counters status_frame acknowledgement without_ack_pending poll_response is_accepted is_rejected after_i_frame i_frame_response is_valid_nr with_va acknowledged_count acknowledges_all with_vs may_send next_i_frame after_sending with_own_busy with_peer_busy after steps lies_within terminal_acts user_requested links_below does
 answered_before_holds v x = record {
   premises = ((tt, (tt, (tt, (tt, tt)))), (λ there. refl, (λ there. refl, (λ there. refl, (λ there. refl, tt)))));
   given = refl;

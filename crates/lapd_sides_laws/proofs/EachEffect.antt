@@ -7,7 +7,6 @@ use Rattle.lapd_timers.specs.declared.timer.Timer.TheVariants.{T200, T201, T202,
 use Rattle.lapd_timers.specs.Due.{Timers}
 use Rattle.lapd_frame.specs.declared.Address.{Address}
 use Rattle.lapd_frame.specs.declared.Side.{Side}
-use Rattle.lapd_frame.specs.declared.Side.TheVariants as side
 use Rattle.lapd_frame.specs.declared.fault_kind.FaultKind.{FaultKind}
 use Rattle.lapd_frame.specs.declared.frame_fault.FrameFault.{FrameFault}
 use Rattle.lapd_frame.specs.Address.{other_side}
@@ -26,14 +25,9 @@ use Rattle.lapd_table.proofs.Ids.{same_id_eq}
 use Rattle.lapd_sides_links.specs.declared.config.Config.{Config}
 use Rattle.lapd_sides_links.specs.declared.side_fault.SideKind.{SideKind}
 use Rattle.lapd_sides_links.specs.Effects.{Effects, stopped}
-use Rattle.lapd_sides_links.specs.Links.{Links, Linked, Reaction, in_links, link_acts, is_served}
+use Rattle.lapd_sides_links.specs.Links.{Links, Linked, Reaction, in_links, link_acts}
 use Rattle.lapd_sides.specs.declared.request.Request.{Request}
 use Rattle.lapd_sides.specs.Management.{is_management, is_ui, is_unit_to_group}
-use Rattle.lapd_sides.specs.SideState.{link_of}
-use Rattle.lapd_sides.specs.Network as network
-use Rattle.lapd_sides.specs.Network.{Network, link_of_network, network_takes}
-use Rattle.lapd_sides.specs.User as user
-use Rattle.lapd_sides.specs.User.{User, link_of_user, unit_from_group, data_received, user_takes}
 use Rattle.lapd_sides_laws.specs.Addressed.{is_named, is_for}
 use Rattle.lapd_sides_laws.specs.Interface.{fresh_link}
 use Rattle.lapd_sides_laws.specs.Owed.{PassesBy, IsStep, IsUnmovedBy, ServesLink}
@@ -43,6 +37,8 @@ use Rattle.lapd_sides_laws.specs.SideView.{Behaviour, SideView, SideEvent, Take,
 use Rattle.lapd_sides_laws.proofs.LinkParts.{absent_acts, own_granted, passes_by_nothing}
 use Rattle.lapd_sides_laws.proofs.Managed.{and_not}
 use Rattle.lapd_sides_laws.proofs.SideEvents.{none_accepted}
+use Rattle.lapd_sides.specs.SideState.{SideState, Rules, among_links, or_discarded, link_of, unit_from_group, message_received, data_received, fault_received, received, takes}
+use Rattle.lapd_sides_laws.proofs.Serves.{ServesMeant}
 
 -- ---- The effect of an event on a link, with the messages that the link accepts.
 
@@ -95,111 +91,61 @@ not_to_group id frame low named =
     and_not (is_ui frame.control) (frame.address.tei == group_tei)
     (grind (arith, nat_tests, same, low))
 
--- ---- The link's own octets arrive at a network side.
+-- ---- The link's own octets arrive.
 
-module _ (config : Config) (id : LinkId) (low : id.tei < 127) (now : ℕ) (s : Network) where
-  abbrev AffectsNetwork : Reaction Network → Type 0
-  AffectsNetwork a = Affects side.Network id (fresh_link config id) s.served.links
+module _ {M : Type 0} (rules : Rules M) (config : Config) (meant : ServesMeant rules config)
+    (id : LinkId) (low : id.tei < 127) (now : ℕ) (s : SideState M) where
+  abbrev AffectsIt : Reaction (SideState M) → Type 0
+  AffectsIt a = Affects rules.side id (fresh_link config id) s.served.links
       a.after.served.links a.effects []
 
-  network_input : (input : Input) (octets : List ℕ) (r : Result (Reaction Links) SideKind)
+  its_input : (input : Input) (octets : List ℕ) (r : Result (Reaction Links) SideKind)
       → messages_of input ≡ []
-      → in_links id (link_acts side.Network id now input octets) s.served.links ≡ r
-      → AffectsNetwork (network.or_discarded s (network.among_links s r))
-  network_input input octets (Ok b) none is = own_input side.Network id (fresh_link config id) now
+      → in_links id (link_acts rules.side id now input octets) s.served.links ≡ r
+      → AffectsIt (or_discarded s (among_links s r))
+  its_input input octets (Ok b) none is = own_input rules.side id (fresh_link config id) now
       input octets s.served.links b (s.served.links id) none refl is
-  network_input input octets (Err kind) none is = unaffected side.Network id (fresh_link config id)
-      s.served.links s.served.links _ (passes_by_nothing side.Network id s.served.links)
+  its_input input octets (Err kind) none is = unaffected rules.side id (fresh_link config id)
+      s.served.links s.served.links _ (passes_by_nothing rules.side id s.served.links)
 
-  network_link : (other : LinkId) (input : Input) (octets : List ℕ) → messages_of input ≡ []
+  its_link : (other : LinkId) (input : Input) (octets : List ℕ) → messages_of input ≡ []
       → id_eq id other ≡ true
-      → AffectsNetwork (network.or_discarded s (link_of_network now other input octets s))
+      → AffectsIt (or_discarded s (link_of rules.side now other input octets s))
   unfolding link_of
-  network_link other input octets none same =
-      subst (λ (k : LinkId). AffectsNetwork (network.or_discarded s (network.among_links s
-      (in_links k (link_acts side.Network k now input octets) s.served.links))))
-      (same_id_eq id other same) (network_input input octets
-      (in_links id (link_acts side.Network id now input octets) s.served.links) none refl)
+  its_link other input octets none same =
+      subst (λ (k : LinkId). AffectsIt (or_discarded s (among_links s
+      (in_links k (link_acts rules.side k now input octets) s.served.links))))
+      (same_id_eq id other same) (its_input input octets
+      (in_links id (link_acts rules.side id now input octets) s.served.links) none refl)
 
-  network_fault : (kind : FaultKind) (address : Option Address)
+  its_fault : (kind : FaultKind) (address : Option Address)
       → is_named id (fault_for address kind) ≡ true
-      → AffectsNetwork (network.fault_received now kind address s)
-  network_fault kind None named = cc
-  network_fault kind (Some address) named =
-      network_link (id_of_address address) (Faulty kind) [] refl named
+      → AffectsIt (fault_received rules.side now kind address s)
+  its_fault kind None named = cc
+  its_fault kind (Some address) named =
+      its_link (id_of_address address) (Faulty kind) [] refl named
 
-  network_frame : (r : Result Fields FrameFault) → is_named id (event_by r) ≡ true
-      → AffectsNetwork (network.received config now r s)
-  network_frame (Ok frame) named =
-      let does = network.or_discarded s (link_of_network now (id_of_address frame.address)
-      (Heard frame.control frame.address.role) frame.info s) in
-      subst (λ (b : Bool). AffectsNetwork
-      (if b then network.message_received config now (message_at frame.info) s else does))
-      (sym (and_not (is_management frame.address.sapi) (is_unit_to_group frame)
-      (not_to_group id frame low named)))
-      (network_link (id_of_address frame.address) (Heard frame.control frame.address.role)
-      frame.info refl named)
-  network_frame (Err fault) named = network_fault fault.kind fault.address named
-
-  pub network_own : (octets : List ℕ) → is_for side.User id octets ≡ true
-      → AffectsNetwork (network_takes config octets now s)
-  unfolding network_takes
-  network_own octets named = network_frame (frame_at side.User octets) named
-
--- ---- The link's own octets arrive at a user side.
-
-module _ (config : Config) (id : LinkId) (low : id.tei < 127) (now : ℕ) (s : User) where
-  abbrev AffectsUser : Reaction User → Type 0
-  AffectsUser a = Affects side.User id (fresh_link config id) s.served.links
-      a.after.served.links a.effects []
-
-  user_input : (input : Input) (octets : List ℕ) (r : Result (Reaction Links) SideKind)
-      → messages_of input ≡ []
-      → in_links id (link_acts side.User id now input octets) s.served.links ≡ r
-      → AffectsUser (user.or_discarded s (user.among_links s r))
-  user_input input octets (Ok b) none is = own_input side.User id (fresh_link config id) now
-      input octets s.served.links b (s.served.links id) none refl is
-  user_input input octets (Err kind) none is = unaffected side.User id (fresh_link config id)
-      s.served.links s.served.links _ (passes_by_nothing side.User id s.served.links)
-
-  user_link : (other : LinkId) (input : Input) (octets : List ℕ) → messages_of input ≡ []
-      → id_eq id other ≡ true
-      → AffectsUser (user.or_discarded s (link_of_user now other input octets s))
-  unfolding link_of
-  user_link other input octets none same =
-      subst (λ (k : LinkId). AffectsUser (user.or_discarded s (user.among_links s
-      (in_links k (link_acts side.User k now input octets) s.served.links))))
-      (same_id_eq id other same) (user_input input octets
-      (in_links id (link_acts side.User id now input octets) s.served.links) none refl)
-
-  user_fault : (kind : FaultKind) (address : Option Address)
-      → is_named id (fault_for address kind) ≡ true
-      → AffectsUser (user.fault_received now kind address s)
-  user_fault kind None named = cc
-  user_fault kind (Some address) named =
-      user_link (id_of_address address) (Faulty kind) [] refl named
-
-  user_frame : (r : Result Fields FrameFault) → is_named id (event_by r) ≡ true
-      → AffectsUser (user.received config now r s)
-  user_frame (Ok frame) named =
+  its_frame : (r : Result Fields FrameFault) → is_named id (event_by r) ≡ true
+      → AffectsIt (received rules config now r s)
+  its_frame (Ok frame) named =
       let group = not_to_group id frame low named in
-      let does = user.or_discarded s (link_of_user now (id_of_address frame.address)
+      let does = or_discarded s (link_of rules.side now (id_of_address frame.address)
       (Heard frame.control frame.address.role) frame.info s) in
       let all = unit_from_group frame.address.sapi frame.info s in
-      subst (λ (b : Bool). AffectsUser
-      (if b then user.message_received config now (message_at frame.info) s
-      else data_received config now frame s))
+      subst (λ (b : Bool). AffectsIt
+      (if b then message_received rules config now (message_at frame.info) s
+      else data_received rules config now frame s))
       (sym (and_not (is_management frame.address.sapi) (is_unit_to_group frame) group))
-      (subst (λ (b : Bool). AffectsUser (if b then all else does))
-      (sym (and_not (is_served config frame.address.sapi) (is_unit_to_group frame) group))
-      (user_link (id_of_address frame.address) (Heard frame.control frame.address.role)
+      (subst (λ (b : Bool). AffectsIt (if b then all else does))
+      (sym (meant.spares frame group))
+      (its_link (id_of_address frame.address) (Heard frame.control frame.address.role)
       frame.info refl named))
-  user_frame (Err fault) named = user_fault fault.kind fault.address named
+  its_frame (Err fault) named = its_fault fault.kind fault.address named
 
-  pub user_own : (octets : List ℕ) → is_for side.Network id octets ≡ true
-      → AffectsUser (user_takes config octets now s)
-  unfolding user_takes
-  user_own octets named = user_frame (frame_at side.Network octets) named
+  pub takes_its : (octets : List ℕ) → is_for (other_side rules.side) id octets ≡ true
+      → AffectsIt (takes rules config octets now s)
+  unfolding takes
+  takes_its octets named = its_frame (frame_at (other_side rules.side) octets) named
 
 -- ---- Every event.
 

@@ -23,26 +23,19 @@ use Rattle.lapd_sides_links.specs.declared.side_fault.SideKind.{SideKind}
 use Rattle.lapd_sides_links.specs.Effects.{what_of, stopped}
 use Rattle.lapd_sides_links.specs.Links.{Linked, Reaction}
 use Rattle.lapd_sides.specs.declared.request.Request.{Request}
-use Rattle.lapd_sides.specs.Network.{Network}
-use Rattle.lapd_sides.specs.User.{User}
+use Rattle.lapd_sides.specs.Network.{Network, network_rules}
+use Rattle.lapd_sides.specs.SideState.{SideState, Rules, expires}
+use Rattle.lapd_sides.specs.User.{User, user_rules}
 use Rattle.lapd_sides_laws.specs.Answers.{is_t200_of, expiries_of, requests_release, Throughout}
 use Rattle.lapd_sides_laws.specs.ExactTimers.{SideStep, stepped, stepped_by_all}
-use Rattle.lapd_sides_laws.specs.Interface.{network_behaviour, user_behaviour}
+use Rattle.lapd_sides_laws.specs.Interface.{behaviour, network_behaviour, user_behaviour}
 use Rattle.lapd_sides_laws.specs.Primitives.{what_for, link_primitives}
 use Rattle.lapd_sides_laws.specs.SideView.{Behaviour, SideView, SideEvent, Take, Lose, Expire, Ask, Overhear, unmoved, takes_first, runs_on, may_expire, or_unmoved, reaction, does}
 use Rattle.lapd_sides_laws.proofs.EachLink.{IsKept, after_step}
-use Rattle.lapd_sides_laws.proofs.EachNetwork.{network_expired, network_takes_on, network_managed, network_requested_on}
-use Rattle.lapd_sides_laws.proofs.EachUser.{user_expired, user_takes_on, user_managed, user_requested_on}
+use Rattle.lapd_sides_laws.proofs.EachSide.{Allows, GoesOn, network_keeps, side_expired, side_takes, user_keeps}
 use Rattle.lapd_sides_laws.proofs.EndAnswers.{one_expiry}
 use Rattle.lapd_sides_laws.proofs.LinkParts.{any_more, any_behind}
-
--- the moment of an event, or that of the last one before
-abbrev pub moment_or : ℕ → SideEvent → ℕ
-moment_or last (Take now) = now
-moment_or last (Lose at) = last
-moment_or last (Expire timer of now) = now
-moment_or last (Ask request now) = now
-moment_or last (Overhear octets now) = now
+use Rattle.lapd_sides_laws.proofs.Reactions.{HoldsOfRules, moment_or}
 
 -- one if T200 of the link expires
 abbrev pub one_of : LinkId → SideEvent → ℕ
@@ -109,14 +102,15 @@ module _ (id : LinkId) (may : Bool) (p : What → Bool) (O : ℕ → ℕ → Opt
     pub record Ways (side : Side) : Type 0 where
       pub takes : (m now : ℕ) (octets : List ℕ) (s : S) → HoldsAt m now s
           → GoesAt m now (w.takes octets now s)
-      pub managed : (m now : ℕ) (timer : Timer) (s : S) → HoldsAt m now s
+      pub managed : (m now : ℕ) (timer : Timer) (s : S)
+          → may_expire timer None (w.served s) ≡ true → HoldsAt m now s
           → GoesAt m now (w.expires now timer None s)
       pub expired : (m now : ℕ) (timer : Timer) (other : LinkId) (s : S) → HoldsAt m now s
           → GoesAt (m - one_of id (Expire timer (Some other) now)) now
           (w.expires now timer (Some other) s)
       pub requested : (m now : ℕ) (request : Request) (s : S)
           → (may ≡ false → requests_release side id (Ask request now) ≡ false)
-          → HoldsAt m now s → IfOk (w.requested request now s) (GoesAt m now)
+          → IfOk (w.requested request now s) (λ a. HoldsAt m now s → GoesAt m now a)
 
     module _ (side : Side) (closed : IsClosed) (ways : Ways side) where
       first_taken : (m now : ℕ) (line : List (List ℕ)) (s : S) → HoldsAt m now s
@@ -125,8 +119,9 @@ module _ (id : LinkId) (may : Bool) (p : What → Bool) (O : ℕ → ℕ → Opt
       first_taken m now (octets ∷ line) s o = ways.takes m now octets s o
 
       otherwise_unmoved : (m now : ℕ) (s : S) (r : Result (Reaction S) SideKind)
-          → HoldsAt m now s → IfOk r (GoesAt m now) → GoesAt m now (or_unmoved s r)
-      otherwise_unmoved m now s (Ok a) o h = h
+          → HoldsAt m now s → IfOk r (λ a. HoldsAt m now s → GoesAt m now a)
+          → GoesAt m now (or_unmoved s r)
+      otherwise_unmoved m now s (Ok a) o h = h o
       otherwise_unmoved m now s (Err kind) o h = inr o
 
       less_or_same : (m now : ℕ) (event : SideEvent) (a : Reaction S) → one_of id event ≡ 0
@@ -160,7 +155,7 @@ module _ (id : LinkId) (may : Bool) (p : What → Bool) (O : ℕ → ℕ → Opt
           (if test then w.expires now timer of s else unmoved s)
       expires_if m now timer None s true is o =
           less_or_same m now (Expire timer None now) (w.expires now timer None s)
-          (management_is_other id timer now) (ways.managed m now timer s o)
+          (management_is_other id timer now) (ways.managed m now timer s is o)
       expires_if m now timer None s false is o =
           less_or_same m now (Expire timer None now) (unmoved s)
           (management_is_other id timer now) (inr o)
@@ -183,7 +178,7 @@ module _ (id : LinkId) (may : Bool) (p : What → Bool) (O : ℕ → ℕ → Opt
           less_or_same m now (Ask request now)
           (or_unmoved v.now (w.requested request now v.now)) refl
           (otherwise_unmoved m now v.now (w.requested request now v.now) o
-          (ways.requested m now request v.now keeps o))
+          (ways.requested m now request v.now keeps))
       reacts (Overhear octets now) v m last keeps o =
           less_or_same m now (Overhear octets now) (w.takes octets now v.now) refl
           (ways.takes m now octets v.now o)
@@ -265,34 +260,29 @@ module _ (id : LinkId) (may : Bool) (p : What → Bool) (O : ℕ → ℕ → Opt
       ⊎ O (m - k) now (Some (after_step now (stopped timer l.timers) s)))
       (sym (own_is_one id other timer now same)) (closed.expires m now timer l s o done)
 
-  pub network_ways : IsClosed → Ways Network (network_behaviour config) side.Network
-  network_ways closed = record {
+  ways : {M : Type 0} (rules : Rules M) → (closed : IsClosed)
+      → ((m now : ℕ) → HoldsOfRules rules config now (GoesOn id may (O m now) p)
+      (Allows id may (O m now) p config now (closed.kept m now) rules))
+      → Ways (SideState M) (behaviour rules config) rules.side
+  unfolding expires
+  ways rules closed by_rules = record {
     takes = λ m now octets s o.
-        network_takes_on id may (O m now) p config now (closed.kept m now) octets s o;
-    managed = λ m now timer s o.
-        network_managed id may (O m now) p config now (closed.kept m now) timer s o;
+        side_takes id may (O m now) p config now (closed.kept m now) rules
+        (by_rules m now).hears octets s o;
+    managed = λ m now timer s may o. (by_rules m now).times_out timer s may o;
     expired = λ m now timer other s o.
         let less = m - one_of id (Expire timer (Some other) now) in
-        network_expired id may (O m now) p config now (O less now) other timer
+        side_expired id may (O m now) p rules config now (O less now) other timer
         (λ apart l held. unspent m now (one_of id (Expire timer (Some other) now)) l
         (other_is_other id other timer now apart) held) (closed.absent m less now)
         (own_expiry m now timer other closed) s o;
-    requested = λ m now request s keeps o.
-        network_requested_on id may (O m now) p config now (closed.kept m now) request s keeps o;
+    requested = λ m now request s keeps. (by_rules m now).requested request s keeps;
   }
 
+  pub network_ways : IsClosed → Ways Network (network_behaviour config) side.Network
+  network_ways closed = ways network_rules closed
+      (λ m now. network_keeps id may (O m now) p config now (closed.kept m now))
+
   pub user_ways : IsClosed → Ways User (user_behaviour config) side.User
-  user_ways closed = record {
-    takes = λ m now octets s o.
-        user_takes_on id may (O m now) p config now (closed.kept m now) octets s o;
-    managed = λ m now timer s o.
-        user_managed id may (O m now) p config now (closed.kept m now) timer s o;
-    expired = λ m now timer other s o.
-        let less = m - one_of id (Expire timer (Some other) now) in
-        user_expired id may (O m now) p config now (O less now) other timer
-        (λ apart l held. unspent m now (one_of id (Expire timer (Some other) now)) l
-        (other_is_other id other timer now apart) held) (closed.absent m less now)
-        (own_expiry m now timer other closed) s o;
-    requested = λ m now request s keeps o.
-        user_requested_on id may (O m now) p config now (closed.kept m now) request s keeps o;
-  }
+  user_ways closed = ways user_rules closed
+      (λ m now. user_keeps id may (O m now) p config now (closed.kept m now))

@@ -30,8 +30,8 @@ use Rattle.lapd_sides.specs.Management.{links_with, links_without, removal_primi
 use Rattle.lapd_sides_laws.specs.EndAnswers.{is_release}
 use Rattle.lapd_sides_laws.specs.Owed.{PassesBy, IsStep}
 use Rattle.lapd_sides_laws.specs.Primitives.{what_for, link_primitives}
-use Rattle.lapd_sides_laws.proofs.ExactLinks.{IsNoExpiry}
 use Rattle.lapd_sides_laws.proofs.LinkParts.{any_more, any_behind, absent_acts, other_acts, other_expires, own_granted, own_reaction, own_is_step, own_expires}
+use Rattle.lapd_sides_laws.proofs.Reactions.{IsNoExpiry}
 
 -- call control and packet communication have links
 abbrev pub HasLinks : Sapi → Type 0

@@ -376,17 +376,7 @@ module _ (r : Reading) where
   refusable : (input : Input) (e : End) (fault : LinkFault) → refused input e ≡ Some fault
       → is_t200_expiry input ≡ false
   refusable (Expiry T200) e fault h = cc
-  refusable (Expiry T201) e fault h = refl
-  refusable (Expiry T202) e fault h = refl
-  refusable (Expiry T203) e fault h = refl
-  refusable (Heard control role) e fault h = refl
-  refusable (Faulty kind) e fault h = refl
-  refusable Establish e fault h = refl
-  refusable Release e fault h = refl
-  refusable BusyOn e fault h = refl
-  refusable BusyOff e fault h = refl
-  refusable (UnitData len) e fault h = refl
-  refusable (Give message) e fault h = refl
+  refusable other e fault h = refl
 
   either_way : (was : Situation) (input : Input) (e : End) (refusal : Option LinkFault)
       (s : StepState) → refused input e ≡ refusal → Owes was e → Continues was input e s

@@ -1,6 +1,6 @@
 -- Each timer of a link runs exactly when its end says so: after a step of the link, and among the
 -- links of a side. In the frames that a side sends, N(S) and N(R) are tags.
-use Rattle.std.proofs.Common.{◌≡◌, ℕ, ◌+◌, ◌*◌, ◌≤◌, Bool, true, false, if◌then◌else◌, List, [], ◌∷◌, ◌++◌, length, Option, Some, None, Result, Ok, Err, refl, sym, ap, subst, ◌∙◌, arith}
+use Rattle.std.proofs.Common.{◌≡◌, ℕ, ◌+◌, ◌*◌, ◌≤◌, Bool, false, if◌then◌else◌, List, [], ◌∷◌, ◌++◌, length, Option, Some, None, Result, Ok, Err, refl, sym, ap, subst, ◌∙◌, arith}
 use Rattle.std.specs.Prelude.{is_some, IfOk, ◌==◌}
 use Rattle.std.specs.List.{All, filter_map}
 use Rattle.std.proofs.lemmas.List.Elements.{All-nil, All-cons, All-head, All-tail}
@@ -13,7 +13,7 @@ use Rattle.lapd_frame.specs.declared.Role.{Role}
 use Rattle.lapd_frame.specs.declared.Role.TheVariants.{Command}
 use Rattle.lapd_frame.specs.declared.Address.{Address}
 use Rattle.lapd_frame.specs.declared.Control.{Control}
-use Rattle.lapd_frame.specs.declared.Control.TheVariants.{I, Rr, Rnr, Rej, Sabme, Dm, Ui, Disc, Ua, Frmr, Xid}
+use Rattle.lapd_frame.specs.declared.Control.TheVariants.{I, Rr, Rnr, Rej, Ui}
 use Rattle.lapd_frame.specs.declared.frame_fault.FrameFault.{FrameFault}
 use Rattle.lapd_frame.specs.declared.fault_kind.FaultKind.{FaultKind}
 use Rattle.lapd_frame.specs.Address.{sapi_value}
@@ -26,7 +26,7 @@ use Rattle.lapd_mod128.specs.Counting.{Tagged}
 use Rattle.lapd_supervision.specs.StateVariables.{AreTags, initial_variables}
 use Rattle.lapd_link_definition.specs.declared.event.LinkFault.{LinkFault}
 use Rattle.lapd_link_definition.specs.declared.out.Out.{Out}
-use Rattle.lapd_link_definition.specs.declared.out.Out.TheVariants.{Send, SendMessage, SendUnit, Up, UnitUp, Established, Confirmed, Released, ReleaseConfirm, Acknowledged, Dropped, Start, Stop, Report}
+use Rattle.lapd_link_definition.specs.declared.out.Out.TheVariants.{Send, SendMessage, SendUnit, Start, Stop}
 use Rattle.lapd_link_definition.specs.End.{End, StepState, runs}
 use Rattle.lapd_link_definition.specs.Input.{Input, Expiry}
 use Rattle.lapd_link_definition.specs.Numbers.{CarriesNumbers, AreNumbered}
@@ -49,6 +49,7 @@ use Rattle.lapd_sides_links.specs.Links.{Links, Linked, Reaction, Served, acted,
 use Rattle.lapd_sides.specs.Management.{links_with, links_without, manages}
 use Rattle.lapd_sides_laws.specs.ExactTimers.{HasExactTimers, HaveExactTimers, RunByState, IsOctet, AreOctets}
 use Rattle.lapd_sides_laws.proofs.Timed.{is_on}
+use Rattle.lapd_sides_laws.proofs.Reactions.{IsNoExpiry, if_either}
 
 -- ---- A timer has a deadline exactly if it runs by the outputs.
 
@@ -73,18 +74,7 @@ deadline_set T203 T203 deadline t = refl
 runs_by_out : (timer : Timer) (now : ℕ) (out : Out) (t : Timers) → is_on timer (timed_by now out t) ≡ runs_after_out timer out (is_on timer t)
 runs_by_out timer now (Start started) t = deadline_set timer started (Some (deadline_from now (length_of started t.durations))) t
 runs_by_out timer now (Stop stopped) t = deadline_set timer stopped None t
-runs_by_out timer now (Send role control) t = refl
-runs_by_out timer now (SendMessage n control) t = refl
-runs_by_out timer now SendUnit t = refl
-runs_by_out timer now Up t = refl
-runs_by_out timer now UnitUp t = refl
-runs_by_out timer now Established t = refl
-runs_by_out timer now Confirmed t = refl
-runs_by_out timer now Released t = refl
-runs_by_out timer now ReleaseConfirm t = refl
-runs_by_out timer now (Acknowledged n) t = refl
-runs_by_out timer now (Dropped n) t = refl
-runs_by_out timer now (Report letter) t = refl
+runs_by_out timer now other t = refl
 
 runs_by_outs : (timer : Timer) (now : ℕ) (outs : List Out) (t : Timers) → is_on timer (timed now outs t) ≡ runs_after timer outs (is_on timer t)
 runs_by_outs timer now [] t = refl
@@ -95,10 +85,6 @@ runs_by_outs timer now (out ∷ outs) t = runs_by_outs timer now outs (timed_by 
 -- as a step begins, each timer runs as the state table has it
 abbrev RunsAsBefore : Input → End → Timers → Type 0
 RunsAsBefore input e t = (timer : Timer) → is_on timer t ≡ runs_before timer input e
-
-abbrev pub IsNoExpiry : Input → Type 0
-IsNoExpiry (Expiry timer) = ⊥
-IsNoExpiry input = Unit {0}
 
 plain_before : (input : Input) (l : Linked) → IsNoExpiry input → HasExactTimers l → RunsAsBefore input l.end l.timers
 plain_before (Expiry expired) l plain h timer = absurd plain
@@ -183,13 +169,7 @@ in_octets (I ns nr p) info h =
 in_octets (Rr nr pf) info h = second_octet 0x01 nr pf info h
 in_octets (Rnr nr pf) info h = second_octet 0x05 nr pf info h
 in_octets (Rej nr pf) info h = second_octet 0x09 nr pf info h
-in_octets (Sabme p) info h = tt
-in_octets (Dm f) info h = tt
-in_octets (Ui p) info h = tt
-in_octets (Disc p) info h = tt
-in_octets (Ua f) info h = tt
-in_octets (Frmr f) info h = tt
-in_octets (Xid pf) info h = tt
+in_octets other info h = tt
 
 behind_address : (from : Side) (f : Fields) → AreOctets (spelling from f) → AreOctets (control_octets f.control ++ f.info)
 behind_address from f h =
@@ -215,17 +195,7 @@ module _ (side : Side) (id : LinkId) (e : End) (octets : List ℕ) where
   sent_carry_tags (Send role control ∷ outs) h = All-cons (CarriesTags side) _ (Sent outs) (parts_carry_tags role control [] h.0) (sent_carry_tags outs h.1)
   sent_carry_tags (SendMessage n control ∷ outs) h = All-cons (CarriesTags side) _ (Sent outs) (parts_carry_tags Command control _ h.0) (sent_carry_tags outs h.1)
   sent_carry_tags (SendUnit ∷ outs) h = All-cons (CarriesTags side) _ (Sent outs) (parts_carry_tags Command (Ui false) octets tt) (sent_carry_tags outs h.1)
-  sent_carry_tags (Up ∷ outs) h = sent_carry_tags outs h.1
-  sent_carry_tags (UnitUp ∷ outs) h = sent_carry_tags outs h.1
-  sent_carry_tags (Established ∷ outs) h = sent_carry_tags outs h.1
-  sent_carry_tags (Confirmed ∷ outs) h = sent_carry_tags outs h.1
-  sent_carry_tags (Released ∷ outs) h = sent_carry_tags outs h.1
-  sent_carry_tags (ReleaseConfirm ∷ outs) h = sent_carry_tags outs h.1
-  sent_carry_tags (Acknowledged n ∷ outs) h = sent_carry_tags outs h.1
-  sent_carry_tags (Dropped n ∷ outs) h = sent_carry_tags outs h.1
-  sent_carry_tags (Start timer ∷ outs) h = sent_carry_tags outs h.1
-  sent_carry_tags (Stop timer ∷ outs) h = sent_carry_tags outs h.1
-  sent_carry_tags (Report letter ∷ outs) h = sent_carry_tags outs h.1
+  sent_carry_tags (other ∷ outs) h = sent_carry_tags outs h.1
 
 -- ---- Among the links of a side: the links after an event, and its effects.
 
@@ -251,10 +221,6 @@ some_is_exact l h m is = subst HasExactTimers (same l m is) h
 
 pub no_link_is_exact : OfSome None
 no_link_is_exact m is = cc
-
-pub if_either : {X : Type 0} (P : X → Type 0) (test : Bool) (a b : X) → P a → P b → P (if test then a else b)
-if_either P true a b first second = first
-if_either P false a b first second = second
 
 with_exact : (id : LinkId) (l : Linked) (links : Links) → HasExactTimers l → HaveExactTimers links → HaveExactTimers (with_link id (Some l) links)
 with_exact id l links one all other = if_either OfSome (id_eq other id) (Some l) (links other) (some_is_exact l one) (all other)
@@ -324,15 +290,7 @@ without_freed (Some tei) links all = λ id. if_either OfSome (id.tei == tei) Non
 messages_carry_tags : (side : Side) (outs : List TeiOut) → All (CarriesTags side) (filter_map (message_sent side) outs)
 messages_carry_tags side [] = All-nil (CarriesTags side)
 messages_carry_tags side (outcome.Send message ∷ outs) = All-cons (CarriesTags side) _ _ (spelled_carries_tags side (frame_of_message message) tt) (messages_carry_tags side outs)
-messages_carry_tags side (outcome.Start timer ∷ outs) = messages_carry_tags side outs
-messages_carry_tags side (outcome.Stop timer ∷ outs) = messages_carry_tags side outs
-messages_carry_tags side (outcome.Got t ∷ outs) = messages_carry_tags side outs
-messages_carry_tags side (outcome.Gone t ∷ outs) = messages_carry_tags side outs
-messages_carry_tags side (outcome.Failed ∷ outs) = messages_carry_tags side outs
-messages_carry_tags side (outcome.Given t ∷ outs) = messages_carry_tags side outs
-messages_carry_tags side (outcome.Free t ∷ outs) = messages_carry_tags side outs
-messages_carry_tags side (outcome.InUse t ∷ outs) = messages_carry_tags side outs
-messages_carry_tags side (outcome.Doubled t ∷ outs) = messages_carry_tags side outs
+messages_carry_tags side (other ∷ outs) = messages_carry_tags side outs
 
 pub manages_exactly : (side : Side) (config : Config) (now : ℕ) (outs : List TeiOut) (s : Served) → HaveExactTimers s.links → IsExact side (manages side config now outs s).after.links (manages side config now outs s).effects
 unfolding manages

@@ -78,13 +78,7 @@ learned o (Dropped n) outs k t is rest = rest (after_output o (Dropped n) t) (le
 learned o (Send role control) outs k t is rest = rest (after_output o (Send role control) t) k is
 learned o (SendMessage n control) outs k t is rest = rest (after_output o (SendMessage n control) t) k is
 learned o SendUnit outs k t is rest = rest (after_output o SendUnit t) k is
-learned o Established outs k t is rest = rest t k is
-learned o Confirmed outs k t is rest = rest t k is
-learned o Released outs k t is rest = rest t k is
-learned o ReleaseConfirm outs k t is rest = rest t k is
-learned o (Start timer) outs k t is rest = rest t k is
-learned o (Stop timer) outs k t is rest = rest t k is
-learned o (Report letter) outs k t is rest = rest t k is
+learned o other outs k t is rest = rest t k is
 
 pub delivered_is_known : (o : Occasion) (outs : List Out) (t : Story) (k : Known) → k ≡ known_by t.history → learns_all (filter_map (what_of o.octets) outs) k ≡ known_by (after_outputs o outs t).history
 delivered_is_known o [] t k is = is

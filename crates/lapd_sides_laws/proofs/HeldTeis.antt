@@ -110,10 +110,7 @@ reception_is_exact : (a : AssignerState) (k : TeiKind) (ri ai : ℕ) → GivesFr
 reception_is_exact a kind.Request ri ai = serving a ri (least_free a.held) refl
 reception_is_exact a kind.CheckResponse ri ai = counting a ai a.check
 reception_is_exact a kind.Verify ri ai = checks a ai a.check (nat_lt ai group_tei) refl refl
-reception_is_exact a kind.Assigned ri ai = none_changes a a.check
-reception_is_exact a kind.Denied ri ai = none_changes a a.check
-reception_is_exact a kind.CheckRequest ri ai = none_changes a a.check
-reception_is_exact a kind.Remove ri ai = none_changes a a.check
+reception_is_exact a other ri ai = none_changes a a.check
 
 pub gives_free : (a : AssignerState) (e : AssignerEvent) → GivesFree a.held (assigner_step a e)
 gives_free a (event.Heard m) = reception_is_exact a m.kind m.ri m.ai

@@ -1,4 +1,4 @@
--- A step of any link creates no link, and reports no TEI as assigned or obtained.
+-- A step of any link creates no link, and delivers nothing about a TEI.
 use Rattle.std.proofs.Common.{◌≡◌, ℕ, List, [], ◌∷◌, ◌++◌, map, Bool, true, false, if◌then◌else◌, Option, Some, None, Result, Ok, Err, refl, ap, subst, ◌∙◌}
 use Rattle.std.specs.Prelude.{is_some, ◌||◌}
 use Rattle.std.specs.List.{list_any, filter_map}
@@ -13,20 +13,28 @@ use Rattle.lapd_link_definition.specs.Table.{step}
 use Rattle.lapd_table.specs.declared.link_id.LinkId.{LinkId}
 use Rattle.lapd_table.specs.LinkId.{id_eq}
 use Rattle.lapd_table.proofs.Ids.{same_id_eq}
-use Rattle.lapd_sides_links.specs.declared.primitive.Primitive.TheVariants.{Of}
+use Rattle.lapd_sides_links.specs.declared.primitive.Primitive.{Primitive}
+use Rattle.lapd_sides_links.specs.declared.primitive.Primitive.TheVariants.{Of, Management}
 use Rattle.lapd_sides_links.specs.declared.primitive.What.{What}
 use Rattle.lapd_sides_links.specs.declared.side_fault.SideKind.{SideKind}
 use Rattle.lapd_sides_links.specs.Effects.{what_of, timed, stopped, effects_of_link}
 use Rattle.lapd_sides_links.specs.Links.{Links, Linked, Reaction, acted, link_acts, link_expires, in_place, where_there, in_links, with_link}
-use Rattle.lapd_sides_laws.specs.Premises.{is_assignment}
+
+-- a primitive about a TEI, and not of a link
+abbrev pub is_of_management : Primitive → Bool
+is_of_management (Of id w) = false
+is_of_management (Management o) = true
+
+abbrev pub ArePlain : List Primitive → Type 0
+ArePlain ps = list_any is_of_management ps ≡ false
 
 pub record IsLinkOp (before : Links) (a : Reaction Links) : Type 0 where
   pub adds_none : (k : LinkId) → is_some (a.after k) ≡ true → is_some (before k) ≡ true
-  pub quiet : (tei : ℕ) → list_any (is_assignment tei) a.effects.primitives ≡ false
+  pub plain : ArePlain a.effects.primitives
 
-pub link_primitives_are_quiet : (tei : ℕ) (id : LinkId) (reports_of_link : List What) → list_any (is_assignment tei) (map (Of id) reports_of_link) ≡ false
-link_primitives_are_quiet tei id [] = refl
-link_primitives_are_quiet tei id (w ∷ ws) = link_primitives_are_quiet tei id ws
+plain_of_link : (id : LinkId) (ws : List What) → ArePlain (map (Of id) ws)
+plain_of_link id [] = refl
+plain_of_link id (w ∷ ws) = plain_of_link id ws
 
 pub none_of_both : {X : Type 0} (test : X → Bool) (xs ys : List X) → list_any test xs ≡ false → list_any test ys ≡ false → list_any test (xs ++ ys) ≡ false
 none_of_both test [] ys hx hy = hy
@@ -54,7 +62,7 @@ module _ (side : Side) (other : LinkId) (links : Links) (now : ℕ) (octets : Li
       subst (IsLinkOp links) (same_op (record { after = with_link other (Some x) links; effects = effects_of_link side other s.end octets s.outs }) a is)
       (record {
         adds_none = λ k h. held_by k x l (id_eq k other) there refl h;
-        quiet = λ tei. link_primitives_are_quiet tei other (filter_map (what_of octets) s.outs);
+        plain = plain_of_link other (filter_map (what_of octets) s.outs);
       })
 
   op_there : (input : Input) (change : Timers → Timers) (o : Option Linked) (a : Reaction Links) → links other ≡ o

@@ -20,7 +20,7 @@ use Rattle.lapd_frame.proofs.FrameAt.{parts_again}
 use Rattle.lapd_mod128.specs.Counting.{Tagged}
 use Rattle.lapd_link_definition.specs.declared.event.LinkFault.{LinkFault}
 use Rattle.lapd_link_definition.specs.declared.out.Out.{Out}
-use Rattle.lapd_link_definition.specs.declared.out.Out.TheVariants.{Send, SendMessage, SendUnit, Up, UnitUp, Established, Confirmed, Released, ReleaseConfirm, Acknowledged, Dropped, Start, Stop, Report}
+use Rattle.lapd_link_definition.specs.declared.out.Out.TheVariants.{Send, SendMessage, SendUnit}
 use Rattle.lapd_link_definition.specs.End.{End, StepState}
 use Rattle.lapd_link_definition.specs.Input.{Input, Expiry}
 use Rattle.lapd_link_definition.specs.Table.{step}
@@ -84,17 +84,7 @@ module _ (side : Side) (id other : LinkId) where
   sent_is_named e octets (Send role control) = framed role control []
   sent_is_named e octets (SendMessage n control) = framed Command control _
   sent_is_named e octets SendUnit = framed Command (Ui false) octets
-  sent_is_named e octets Up = tt
-  sent_is_named e octets UnitUp = tt
-  sent_is_named e octets Established = tt
-  sent_is_named e octets Confirmed = tt
-  sent_is_named e octets Released = tt
-  sent_is_named e octets ReleaseConfirm = tt
-  sent_is_named e octets (Acknowledged n) = tt
-  sent_is_named e octets (Dropped n) = tt
-  sent_is_named e octets (Start timer) = tt
-  sent_is_named e octets (Stop timer) = tt
-  sent_is_named e octets (Report letter) = tt
+  sent_is_named e octets other = tt
 
   named_so : (test : Bool) → id_eq id other ≡ test → (o : Option (List ℕ)) → IfSome o (λ frame. is_for side id frame ≡ id_eq id other) → IfSome o (λ frame. is_for side id frame ≡ test)
   named_so test is None h = tt

@@ -69,14 +69,7 @@ given_is_other : (tei : ℕ) (outs : List TeiOut) → list_any (is_assignment te
 given_is_other tei [] h t is = cc
 given_is_other tei (outcome.Given u ∷ outs) h t is = subst (λ (x : ℕ). (x == tei) ≡ false) (some_same u t is) (neither (u == tei) _ h).0
 given_is_other tei (outcome.Got u ∷ outs) h t is = subst (λ (x : ℕ). (x == tei) ≡ false) (some_same u t is) (neither (u == tei) _ h).0
-given_is_other tei (outcome.Free u ∷ outs) h t is = given_is_other tei outs h t is
-given_is_other tei (outcome.Doubled u ∷ outs) h t is = given_is_other tei outs h t is
-given_is_other tei (outcome.Gone u ∷ outs) h t is = given_is_other tei outs h t is
-given_is_other tei (outcome.InUse u ∷ outs) h t is = given_is_other tei outs h t is
-given_is_other tei (outcome.Failed ∷ outs) h t is = given_is_other tei outs h t is
-given_is_other tei (outcome.Send message ∷ outs) h t is = given_is_other tei outs h t is
-given_is_other tei (outcome.Start timer ∷ outs) h t is = given_is_other tei outs h t is
-given_is_other tei (outcome.Stop timer ∷ outs) h t is = given_is_other tei outs h t is
+given_is_other tei (other ∷ outs) h t is = given_is_other tei outs h t is
 
 abbrev pub freed_here : ℕ → Option ℕ → Bool
 freed_here tei None = false
@@ -93,16 +86,10 @@ or_so false b h = cc
 
 pub freed_is_reported : (tei : ℕ) (outs : List TeiOut) → freed_here tei (tei_freed outs) ≡ true → list_any (is_removal tei) (filter_map outcome_of outs) ≡ true
 freed_is_reported tei [] h = cc
-freed_is_reported tei (outcome.Given u ∷ outs) h = freed_is_reported tei outs h
-freed_is_reported tei (outcome.Got u ∷ outs) h = freed_is_reported tei outs h
 freed_is_reported tei (outcome.Free u ∷ outs) h = or_so (u == tei) _ h
 freed_is_reported tei (outcome.Doubled u ∷ outs) h = or_so (u == tei) _ h
 freed_is_reported tei (outcome.Gone u ∷ outs) h = or_so (u == tei) _ h
-freed_is_reported tei (outcome.InUse u ∷ outs) h = freed_is_reported tei outs h
-freed_is_reported tei (outcome.Failed ∷ outs) h = freed_is_reported tei outs h
-freed_is_reported tei (outcome.Send message ∷ outs) h = freed_is_reported tei outs h
-freed_is_reported tei (outcome.Start timer ∷ outs) h = freed_is_reported tei outs h
-freed_is_reported tei (outcome.Stop timer ∷ outs) h = freed_is_reported tei outs h
+freed_is_reported tei (other ∷ outs) h = freed_is_reported tei outs h
 
 -- ---- Links of another TEI join and are removed.
 
@@ -147,15 +134,7 @@ removal_of_other id (Some t) links other =
 
 message_is_other : (side : Side) (id : LinkId) (out : TeiOut) → id.tei < 127 → IfSome (message_sent side out) (λ octets. is_for side id octets ≡ false)
 message_is_other side id (outcome.Send message) low = spelled_is_for side id (frame_of_message message) ∙ not_of_group Management id low
-message_is_other side id (outcome.Start timer) low = tt
-message_is_other side id (outcome.Stop timer) low = tt
-message_is_other side id (outcome.Got t) low = tt
-message_is_other side id (outcome.Gone t) low = tt
-message_is_other side id outcome.Failed low = tt
-message_is_other side id (outcome.Given t) low = tt
-message_is_other side id (outcome.Free t) low = tt
-message_is_other side id (outcome.InUse t) low = tt
-message_is_other side id (outcome.Doubled t) low = tt
+message_is_other side id other low = tt
 
 outcomes_are_other : (id : LinkId) (outs : List TeiOut) → link_primitives id (filter_map outcome_of outs) ≡ []
 outcomes_are_other id [] = refl
@@ -192,14 +171,8 @@ nothing_silent = record { teaches = λ k. refl; expected = tt }
 quiet_by : (w : What) (test : Bool) → IsQuietOfLink w → AreSilent (cons_option (if test then Some w else None) [])
 quiet_by what.Released true h = record { teaches = λ k. refl; expected = (tt, tt) }
 quiet_by what.ReleaseConfirm true h = record { teaches = λ k. refl; expected = (tt, tt) }
-quiet_by (what.Up octets) true h = absurd h
-quiet_by (what.UnitUp octets) true h = absurd h
-quiet_by what.Established true h = absurd h
-quiet_by what.Confirmed true h = absurd h
-quiet_by (what.Acknowledged n) true h = absurd h
-quiet_by (what.Dropped n) true h = absurd h
-quiet_by (what.Report letter) true h = absurd h
 quiet_by w false h = nothing_silent
+quiet_by other true h = absurd h
 
 quiet_primitives : (id at : LinkId) (w : Option What) → IfSome w IsQuietOfLink → AreSilent (link_primitives id (primitives_of at w))
 quiet_primitives id at None h = nothing_silent

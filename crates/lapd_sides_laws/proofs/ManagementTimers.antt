@@ -25,7 +25,7 @@ use Rattle.lapd_tei.specs.Message.{group_tei}
 use Rattle.lapd_tei.specs.Terminal.{TerminalStep, moves_to, n202, is_automatic, names, is_got_by, asks_again, awaiting_receives, assigned_receives, terminal_step, is_awaiting}
 use Rattle.lapd_sides_links.specs.Effects.{managed, stopped, started}
 use Rattle.lapd_sides_laws.specs.ManagementTimers.{RunsAlone}
-use Rattle.lapd_sides_laws.proofs.ExactLinks.{if_either}
+use Rattle.lapd_sides_laws.proofs.Reactions.{if_either}
 
 -- ---- One timer of TEI management is started or stopped.
 

@@ -1,5 +1,5 @@
 -- A side assigns or obtains no TEI whose links exist, after any steps from its creation.
-use Rattle.std.proofs.Common.{◌≡◌, ℕ, List, [], ◌∷◌, ◌++◌, Bool, true, false, if◌then◌else◌, Option, Some, None, Result, Ok, Err, refl, sym, subst, ◌∙◌, arith}
+use Rattle.std.proofs.Common.{◌≡◌, ℕ, List, [], ◌∷◌, Bool, true, false, if◌then◌else◌, Option, Some, None, Result, Ok, Err, refl, sym, subst, ◌∙◌, arith}
 use Rattle.std.specs.Prelude.{is_some, ◌==◌, ◌||◌}
 use Rattle.std.specs.List.{list_any, filter_map}
 use Rattle.std.proofs.lemmas.Bool.Decides.{nat_tests}
@@ -8,6 +8,7 @@ use Rattle.lapd_timers.specs.Due.{Timers}
 use Rattle.lapd_frame.specs.declared.Side.{Side}
 use Rattle.lapd_frame.specs.declared.Side.TheVariants as side
 use Rattle.lapd_frame.specs.declared.frame_fault.FrameFault.{FrameFault}
+use Rattle.lapd_frame.specs.Address.{other_side}
 use Rattle.lapd_frame.specs.Frame.{Fields}
 use Rattle.lapd_frame.specs.Reading.{frame_at}
 use Rattle.lapd_link.specs.declared.link.Link.{Link}
@@ -28,19 +29,17 @@ use Rattle.lapd_sides_links.specs.Effects.{outcome_of}
 use Rattle.lapd_sides_links.specs.Links.{Links, Linked}
 use Rattle.lapd_sides_links.specs.Shown.{timers_at, IsLinked}
 use Rattle.lapd_sides.specs.Management.{carries_message}
-use Rattle.lapd_sides.specs.Network.{Network, new_network, given_for_message, given_for_frame, given_for}
-use Rattle.lapd_sides.specs.User.{User, new_user, next_reference, got_for_message, got_for_frame, got_for}
-use Rattle.lapd_sides_laws.specs.ExactTimers.{SideStep, stepped, stepped_by_all, new_view}
-use Rattle.lapd_sides_laws.specs.Interface.{network_behaviour, user_behaviour}
+use Rattle.lapd_sides.specs.SideState.{SideState, Rules, given_for, given_for_frame, given_for_message}
+use Rattle.lapd_sides.specs.Network.{new_network, network_rules}
+use Rattle.lapd_sides.specs.User.{new_user, next_reference, user_rules}
+use Rattle.lapd_sides_laws.specs.ExactTimers.{SideStep, new_view}
 use Rattle.lapd_sides_laws.specs.NewLinks.{network_after, user_after, IsAbsent, HasNoLinks}
 use Rattle.lapd_sides_laws.specs.Premises.{is_assignment}
-use Rattle.lapd_sides_laws.specs.SideView.{SideView, does}
 use Rattle.lapd_sides_laws.proofs.AsMade.{new_are_own, new_are_held}
 use Rattle.lapd_sides_laws.proofs.Managed.{some_same}
-use Rattle.lapd_sides_laws.proofs.NetworkOwn.{AreHeld, network_preserves, assigner_leaves}
+use Rattle.lapd_sides_laws.proofs.OwnSides.{assigner_leaves, network_steps_held, user_steps_own}
 use Rattle.lapd_sides_laws.proofs.OwnTeis.{AreOf, LeavesOwn}
 use Rattle.lapd_sides_laws.proofs.TerminalOwn.{terminal_leaves}
-use Rattle.lapd_sides_laws.proofs.UserOwn.{AreOwn, user_preserves}
 
 -- ---- The TEI of these outputs.
 
@@ -56,14 +55,7 @@ given_is_reported : (t : ℕ) (outs : List TeiOut) → tei_given outs ≡ Some t
 given_is_reported t [] is = cc
 given_is_reported t (outcome.Given u ∷ outs) is = same_or u t _ (some_same u t is)
 given_is_reported t (outcome.Got u ∷ outs) is = same_or u t _ (some_same u t is)
-given_is_reported t (outcome.Free u ∷ outs) is = given_is_reported t outs is
-given_is_reported t (outcome.Doubled u ∷ outs) is = given_is_reported t outs is
-given_is_reported t (outcome.Gone u ∷ outs) is = given_is_reported t outs is
-given_is_reported t (outcome.InUse u ∷ outs) is = given_is_reported t outs is
-given_is_reported t (outcome.Failed ∷ outs) is = given_is_reported t outs is
-given_is_reported t (outcome.Send message ∷ outs) is = given_is_reported t outs is
-given_is_reported t (outcome.Start timer ∷ outs) is = given_is_reported t outs is
-given_is_reported t (outcome.Stop timer ∷ outs) is = given_is_reported t outs is
+given_is_reported t (other ∷ outs) is = given_is_reported t outs is
 
 absent_in : (l : Option Linked) (links : Links) (id : LinkId) → links id ≡ l → (is_some (links id) ≡ true → ⊥) → l ≡ None
 absent_in None links id is none = refl
@@ -94,56 +86,46 @@ either : (side : Side) (links : Links) (test : Bool) (tei : Option ℕ) → HasN
 either side links true tei h = h
 either side links false tei h = no_tei side links
 
--- ---- A network side.
+-- ---- Octets arrive, if a message gives no TEI of a link.
 
-module _ (s : Network) (held : AreHeld s) where
-  message_to_network : (m : Result TeiMessage TeiFault) → HasNoLinks side.Network s.served.links (given_for_message s.management m)
-  message_to_network (Ok m) = free_of_links side.Network s.served.links (assigner_step s.management (assigner.Heard m)).outs _ _ (assigner_leaves s (assigner.Heard m)) held
-  message_to_network (Err fault) = no_tei side.Network s.served.links
+module _ {M : Type 0} (rules : Rules M) (s : SideState M) (each : (m : TeiMessage)
+    → HasNoLinks rules.side s.served.links (rules.given s.management m)) where
+  of_message : (found : Result TeiMessage TeiFault)
+      → HasNoLinks rules.side s.served.links (given_for_message rules s.management found)
+  of_message (Ok m) = each m
+  of_message (Err fault) = no_tei rules.side s.served.links
 
-  frame_to_network : (f : Result Fields FrameFault) → HasNoLinks side.Network s.served.links (given_for_frame s.management f)
-  frame_to_network (Ok frame) = either side.Network s.served.links (carries_message frame) (given_for_message s.management (message_at frame.info)) (message_to_network (message_at frame.info))
-  frame_to_network (Err fault) = no_tei side.Network s.served.links
+  of_frame : (f : Result Fields FrameFault)
+      → HasNoLinks rules.side s.served.links (given_for_frame rules s.management f)
+  of_frame (Ok frame) = either rules.side s.served.links (carries_message frame)
+      (given_for_message rules s.management (message_at frame.info))
+      (of_message (message_at frame.info))
+  of_frame (Err fault) = no_tei rules.side s.served.links
 
-  octets_to_network : (octets : List ℕ) → HasNoLinks side.Network s.served.links (given_for s.management octets)
+  of_octets : (octets : List ℕ)
+      → HasNoLinks rules.side s.served.links (given_for rules s.management octets)
   unfolding given_for
-  octets_to_network octets = frame_to_network (frame_at side.User octets)
+  of_octets octets = of_frame (frame_at (other_side rules.side) octets)
 
-pub network_steps_held : (config : Config) (side_steps : List SideStep) (v : SideView Network) → AreHeld v.now → AreHeld (stepped_by_all (network_behaviour config) side_steps v).now
-unfolding does
-network_steps_held config [] v held = held
-network_steps_held config (side_step ∷ side_steps) v held =
-    let before : SideView Network = record v { incoming = v.incoming ++ side_step.arrives } in
-    network_steps_held config side_steps (stepped (network_behaviour config) side_step v) (network_preserves config before side_step.event held).after
+pub network_adds_new : (config : Config) (known : List ℕ) (steps : List SideStep)
+    (octets : List ℕ)
+    → HasNoLinks side.Network (network_after config known steps).served.links
+    (given_for network_rules (network_after config known steps).management octets)
+network_adds_new config known steps octets =
+    let s = network_after config known steps in
+    of_octets network_rules s (λ m. free_of_links side.Network s.served.links
+    (assigner_step s.management (assigner.Heard m)).outs _ _
+    (assigner_leaves s.management (assigner.Heard m)) (network_steps_held config steps
+    (new_view (new_network config known)) (new_are_held config known))) octets
 
-pub network_adds_new : (config : Config) (known : List ℕ) (side_steps : List SideStep) (octets : List ℕ)
-    → HasNoLinks side.Network (network_after config known side_steps).served.links (given_for (network_after config known side_steps).management octets)
-network_adds_new config known side_steps octets =
-    octets_to_network (network_after config known side_steps) (network_steps_held config side_steps (new_view (new_network config known)) (new_are_held config known)) octets
-
--- ---- A user side.
-
-module _ (s : User) (own : AreOwn s) where
-  message_to_user : (m : Result TeiMessage TeiFault) → HasNoLinks side.User s.served.links (got_for_message s m)
-  message_to_user (Ok m) = free_of_links side.User s.served.links (terminal_step s.management.terminal (terminal.Heard m (next_reference s.management.random))).outs _ _ (terminal_leaves s.management.terminal (terminal.Heard m (next_reference s.management.random))) own
-  message_to_user (Err fault) = no_tei side.User s.served.links
-
-  frame_to_user : (f : Result Fields FrameFault) → HasNoLinks side.User s.served.links (got_for_frame s f)
-  frame_to_user (Ok frame) = either side.User s.served.links (carries_message frame) (got_for_message s (message_at frame.info)) (message_to_user (message_at frame.info))
-  frame_to_user (Err fault) = no_tei side.User s.served.links
-
-  octets_to_user : (octets : List ℕ) → HasNoLinks side.User s.served.links (got_for s octets)
-  unfolding got_for
-  octets_to_user octets = frame_to_user (frame_at side.Network octets)
-
-pub user_steps_own : (config : Config) (side_steps : List SideStep) (v : SideView User) → AreOwn v.now → AreOwn (stepped_by_all (user_behaviour config) side_steps v).now
-unfolding does
-user_steps_own config [] v own = own
-user_steps_own config (side_step ∷ side_steps) v own =
-    let before : SideView User = record v { incoming = v.incoming ++ side_step.arrives } in
-    user_steps_own config side_steps (stepped (user_behaviour config) side_step v) (user_preserves config before side_step.event own).after
-
-pub user_adds_new : (config : Config) (fixed : Option ℕ) (random : Lcg) (side_steps : List SideStep) (octets : List ℕ)
-    → HasNoLinks side.User (user_after config fixed random side_steps).served.links (got_for (user_after config fixed random side_steps) octets)
-user_adds_new config fixed random side_steps octets =
-    octets_to_user (user_after config fixed random side_steps) (user_steps_own config side_steps (new_view (new_user config fixed random)) (new_are_own config fixed random)) octets
+pub user_adds_new : (config : Config) (fixed : Option ℕ) (random : Lcg) (steps : List SideStep)
+    (octets : List ℕ)
+    → HasNoLinks side.User (user_after config fixed random steps).served.links
+    (given_for user_rules (user_after config fixed random steps).management octets)
+user_adds_new config fixed random steps octets =
+    let s = user_after config fixed random steps in
+    of_octets user_rules s (λ m.
+    let e = terminal.Heard m (next_reference s.management.random) in
+    free_of_links side.User s.served.links (terminal_step s.management.terminal e).outs _ _
+    (terminal_leaves s.management.terminal e) (user_steps_own config steps
+    (new_view (new_user config fixed random)) (new_are_own config fixed random))) octets

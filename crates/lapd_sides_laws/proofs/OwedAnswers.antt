@@ -27,7 +27,7 @@ use Rattle.lapd_sides_laws.specs.Answers.{answers}
 use Rattle.lapd_sides_laws.specs.EndAnswers.{Asked, Establishment, Withdrawal, Clearing, may_release, is_answer, is_answered, is_t200_expiry, is_release}
 use Rattle.lapd_sides_laws.proofs.EachLink.{HasLinks, after_step, IsKept}
 use Rattle.lapd_sides_laws.proofs.EndAnswers.{Situation, Establishing, Leaving, Releasing, Owes, OwesBy, IsIn, left, periods, IsNoT200, LeaveT200, RestartT200, Next, one_expiry, next_of, goes_on}
-use Rattle.lapd_sides_laws.proofs.ExactLinks.{IsNoExpiry}
+use Rattle.lapd_sides_laws.proofs.Reactions.{IsNoExpiry}
 
 -- ---- The deadline of T200 after the outputs of a step.
 

@@ -5,18 +5,17 @@ use Rattle.std.specs.Prelude.{is_some}
 use Rattle.std.specs.List.{list_any, filter_map}
 use Rattle.std.proofs.lemmas.Bool.Decides.{nat_tests}
 use Rattle.lapd_frame.specs.declared.Side.{Side}
-use Rattle.lapd_frame.specs.declared.Sapi.TheVariants.{Call, Packet}
 use Rattle.lapd_tei.specs.declared.out.TeiOut.{TeiOut}
 use Rattle.lapd_tei.specs.Out.{tei_given, tei_freed}
 use Rattle.lapd_table.specs.declared.link_id.LinkId.{LinkId}
 use Rattle.lapd_sides_links.specs.declared.config.Config.{Config}
-use Rattle.lapd_sides_links.specs.declared.primitive.What.{What}
 use Rattle.lapd_sides_links.specs.Effects.{Effects, outcome_of}
-use Rattle.lapd_sides_links.specs.Links.{Links, Linked, Served, of_sapi, is_served, is_link_of, or_new, with_tei, primitives_of, primitives_at_removal, release_at_removal, primitive_of_tei}
+use Rattle.lapd_sides_links.specs.Links.{Links, Linked, Served, is_served, is_link_of, or_new, with_tei}
 use Rattle.lapd_sides.specs.Management.{links_with, links_without, removal_primitives, manages}
 use Rattle.lapd_sides_laws.specs.Interface.{fresh_link}
 use Rattle.lapd_sides_laws.specs.Premises.{is_assignment}
 use Rattle.lapd_sides_laws.proofs.LinkOps.{none_of_both}
+use Rattle.lapd_sides_laws.proofs.Plain.{plain_no_assignment, plain_removals}
 use Rattle.lapd_sides_laws.proofs.Managed.{freed_here, freed_is_other, without_this, without_other}
 
 -- each existing link has such a TEI
@@ -31,20 +30,6 @@ pub both_of : (a b : Bool) → (a && b) ≡ true → (a ≡ true) × (b ≡ true
 both_of true true h = (refl, refl)
 both_of true false h = cc
 both_of false b h = cc
-
-quiet_primitives : (tei : ℕ) (at : LinkId) (w : Option What) → list_any (is_assignment tei) (primitives_of at w) ≡ false
-quiet_primitives tei at None = refl
-quiet_primitives tei at (Some w) = refl
-
-quiet_at : (tei : ℕ) (at : LinkId) (l : Option Linked) → list_any (is_assignment tei) (primitives_at_removal at l) ≡ false
-quiet_at tei at None = refl
-quiet_at tei at (Some l) = quiet_primitives tei at (release_at_removal l.end.state l.end.release_pending)
-
-quiet_without : (tei : ℕ) (freed : Option ℕ) (links : Links) → list_any (is_assignment tei) (removal_primitives freed links) ≡ false
-unfolding primitive_of_tei
-quiet_without tei None links = refl
-quiet_without tei (Some t) links = none_of_both (is_assignment tei) (primitives_at_removal (of_sapi Call t) (links (of_sapi Call t))) (primitives_at_removal (of_sapi Packet t) (links (of_sapi Packet t)))
-    (quiet_at tei (of_sapi Call t) (links (of_sapi Call t))) (quiet_at tei (of_sapi Packet t) (links (of_sapi Packet t)))
 
 -- what a step of TEI management does to its TEIs: `P` holds for those before it, `Q` for those
 -- after
@@ -90,4 +75,6 @@ module _ (side : Side) (config : Config) (now : ℕ) (outs : List TeiOut) (s : S
   pub managed_is_quiet : IsQuietFor s.links (manages side config now outs s).effects
   unfolding manages
   managed_is_quiet k there = none_of_both (is_assignment k.tei) (filter_map outcome_of outs) (removal_primitives (tei_freed outs) (links_with config (tei_given outs) s.links))
-      (own.quiet k.tei (are k there)) (quiet_without k.tei (tei_freed outs) (links_with config (tei_given outs) s.links))
+      (own.quiet k.tei (are k there)) (plain_no_assignment k.tei
+      (removal_primitives (tei_freed outs) (links_with config (tei_given outs) s.links))
+      (plain_removals (tei_freed outs) (links_with config (tei_given outs) s.links)))

@@ -5,7 +5,7 @@ use Rattle.std.specs.List.{filter_map}
 use Rattle.std.proofs.lemmas.List.{map-append, append-nil, append_cancel_left}
 use Rattle.std.proofs.lemmas.List.Elements.{filter_map-append}
 use Rattle.lapd_link_definition.specs.declared.out.Out.{Out}
-use Rattle.lapd_link_definition.specs.declared.out.Out.TheVariants.{Send, SendMessage, SendUnit, Up, UnitUp, Established, Confirmed, Released, ReleaseConfirm, Acknowledged, Dropped, Start, Stop, Report}
+use Rattle.lapd_link_definition.specs.declared.out.Out.TheVariants.{Up}
 use Rattle.lapd_link_definition.specs.End.{End, StepState}
 use Rattle.lapd_pair_laws.specs.Histories.{Occasion, Receipt, Story, with_beginning, after_output, after_outputs}
 use Rattle.lapd_pair_laws.specs.Move.{Station, View, story_after, view_after}
@@ -25,31 +25,12 @@ numbers_of received = map (λ (message : Receipt). message.establishment) receiv
 -- one output
 one_number : (o : Occasion) (out : Out) (t : Story) → numbers_of (after_output o out t).history.received ≡ numbers_of t.history.received ++ number_each o.establishment (filter_map (what_of o.octets) (out ∷ []))
 one_number o Up t = map-append (λ (message : Receipt). message.establishment) t.history.received _
-one_number o UnitUp t = sym (append-nil _)
-one_number o (Acknowledged n) t = sym (append-nil _)
-one_number o (Dropped n) t = sym (append-nil _)
-one_number o (Send role control) t = sym (append-nil _)
-one_number o (SendMessage n control) t = sym (append-nil _)
-one_number o SendUnit t = sym (append-nil _)
-one_number o Established t = sym (append-nil _)
-one_number o Confirmed t = sym (append-nil _)
-one_number o Released t = sym (append-nil _)
-one_number o ReleaseConfirm t = sym (append-nil _)
-one_number o (Start timer) t = sym (append-nil _)
-one_number o (Stop timer) t = sym (append-nil _)
-one_number o (Report letter) t = sym (append-nil _)
+one_number o other t = sym (append-nil _)
 
 number_both : (n : ℕ) (xs ys : List What) → number_each n (xs ++ ys) ≡ number_each n xs ++ number_each n ys
 number_both n [] ys = refl
 number_both n (what.Up octets ∷ xs) ys = ap (λ l. n ∷ l) (number_both n xs ys)
-number_both n (what.UnitUp octets ∷ xs) ys = number_both n xs ys
-number_both n (what.Established ∷ xs) ys = number_both n xs ys
-number_both n (what.Confirmed ∷ xs) ys = number_both n xs ys
-number_both n (what.Released ∷ xs) ys = number_both n xs ys
-number_both n (what.ReleaseConfirm ∷ xs) ys = number_both n xs ys
-number_both n (what.Acknowledged m ∷ xs) ys = number_both n xs ys
-number_both n (what.Dropped m ∷ xs) ys = number_both n xs ys
-number_both n (what.Report letter ∷ xs) ys = number_both n xs ys
+number_both n (other ∷ xs) ys = number_both n xs ys
 
 all_numbers : (o : Occasion) (outs : List Out) (t : Story) → numbers_of (after_outputs o outs t).history.received ≡ numbers_of t.history.received ++ number_each o.establishment (filter_map (what_of o.octets) outs)
 all_numbers o [] t = sym (append-nil _)
@@ -80,25 +61,14 @@ learned_messages : (ws : List What) (k : Known) → (learns_all ws k).received �
 learned_messages [] k = sym (append-nil _)
 learned_messages (what.Up octets ∷ ws) k = learned_messages ws (learns (what.Up octets) k) ∙ append_assoc k.received (octets ∷ []) (messages_in ws)
 learned_messages (what.UnitUp octets ∷ ws) k = learned_messages ws (learns (what.UnitUp octets) k)
-learned_messages (what.Established ∷ ws) k = learned_messages ws k
-learned_messages (what.Confirmed ∷ ws) k = learned_messages ws k
-learned_messages (what.Released ∷ ws) k = learned_messages ws k
-learned_messages (what.ReleaseConfirm ∷ ws) k = learned_messages ws k
 learned_messages (what.Acknowledged m ∷ ws) k = learned_messages ws (learns (what.Acknowledged m) k)
 learned_messages (what.Dropped m ∷ ws) k = learned_messages ws (learns (what.Dropped m) k)
-learned_messages (what.Report letter ∷ ws) k = learned_messages ws k
+learned_messages (other ∷ ws) k = learned_messages ws k
 
 none_to_number : (n : ℕ) (ws : List What) → messages_in ws ≡ [] → number_each n ws ≡ []
 none_to_number n [] none = refl
 none_to_number n (what.Up octets ∷ ws) none = cc
-none_to_number n (what.UnitUp octets ∷ ws) none = none_to_number n ws none
-none_to_number n (what.Established ∷ ws) none = none_to_number n ws none
-none_to_number n (what.Confirmed ∷ ws) none = none_to_number n ws none
-none_to_number n (what.Released ∷ ws) none = none_to_number n ws none
-none_to_number n (what.ReleaseConfirm ∷ ws) none = none_to_number n ws none
-none_to_number n (what.Acknowledged m ∷ ws) none = none_to_number n ws none
-none_to_number n (what.Dropped m ∷ ws) none = none_to_number n ws none
-none_to_number n (what.Report letter ∷ ws) none = none_to_number n ws none
+none_to_number n (other ∷ ws) none = none_to_number n ws none
 
 -- primitives that teach nothing bring no message
 pub none_numbered : (n : ℕ) (ws : List What) (k : Known) → (learns_all ws k).received ≡ k.received → number_each n ws ≡ []

@@ -8,7 +8,6 @@ use Rattle.std.proofs.lemmas.List.Elements.{filter_map-append}
 use Rattle.rand_pcg.specs.Lcg.{Lcg}
 use Rattle.lapd_timers.specs.Due.{Timers}
 use Rattle.lapd_frame.specs.declared.Side.{Side}
-use Rattle.lapd_frame.specs.declared.Side.TheVariants as side
 use Rattle.lapd_frame.specs.Address.{other_side}
 use Rattle.lapd_mod128.specs.Counting.{Tagged}
 use Rattle.lapd_link_definition.specs.declared.out.Out.{Out}
@@ -34,26 +33,26 @@ use Rattle.lapd_sides_links.specs.declared.primitive.What.{What}
 use Rattle.lapd_sides_links.specs.declared.primitive.What.TheVariants as what
 use Rattle.lapd_sides_links.specs.Effects.{Effects, what_of}
 use Rattle.lapd_sides_links.specs.Links.{Links, Linked, with_link, is_served, is_link_of, is_held_below, with_tei, links_below, parameters_for}
-use Rattle.lapd_sides.specs.Network.{Network, new_network, network_takes}
-use Rattle.lapd_sides.specs.User.{User, new_user, user_takes}
+use Rattle.lapd_sides.specs.SideState.{SideState, Rules, takes}
+use Rattle.lapd_sides.specs.Network.{new_network, network_rules}
+use Rattle.lapd_sides.specs.User.{new_user, user_rules}
 use Rattle.lapd_sides_laws.specs.Accounts.{queue_of, waiting_of, IsAccounted, since, KeepsTei, IsAccountedSince}
 use Rattle.lapd_sides_laws.specs.Addressed.{is_for}
 use Rattle.lapd_sides_laws.specs.ExactTimers.{SideStep, stepped, stepped_by_all, new_view}
-use Rattle.lapd_sides_laws.specs.Interface.{fresh_link, network_behaviour, user_behaviour}
+use Rattle.lapd_sides_laws.specs.Interface.{behaviour, fresh_link, network_behaviour, user_behaviour}
 use Rattle.lapd_sides_laws.specs.NewLinks.{network_after, user_after}
 use Rattle.lapd_sides_laws.specs.Owed.{PassesBy, IsStep, ServesLink}
 use Rattle.lapd_sides_laws.specs.Premises.{is_removal}
 use Rattle.lapd_sides_laws.specs.Primitives.{Known, nothing_known, learns, learns_all, what_for, link_primitives, message_for, given_to, known_of}
 use Rattle.lapd_sides_laws.specs.SideView.{Behaviour, SideView, SideEvent, accepted, reaction, does}
 use Rattle.lapd_sides_laws.proofs.AsMade.{new_are_held, new_are_own}
-use Rattle.lapd_sides_laws.proofs.EachEffect.{Affects, network_own, user_own, each_effect}
+use Rattle.lapd_sides_laws.proofs.EachEffect.{Affects, takes_its, each_effect}
 use Rattle.lapd_sides_laws.proofs.LinkParts.{now_there, any_more, any_behind, learns_both}
-use Rattle.lapd_sides_laws.proofs.NetworkOwn.{AreHeld, network_preserves}
-use Rattle.lapd_sides_laws.proofs.Networks.{of_network}
-use Rattle.lapd_sides_laws.proofs.NewLinks.{network_steps_held, user_steps_own}
+use Rattle.lapd_sides_laws.proofs.OwnSides.{AreOwned, Has, Holds, PreservesOwned, network_preserves, network_steps_held, user_preserves, user_steps_own}
+use Rattle.lapd_sides_laws.proofs.Networks.{network_meant, of_network}
+use Rattle.lapd_sides_laws.proofs.Serves.{ServesMeant}
 use Rattle.lapd_sides_laws.proofs.OwnTeis.{IsQuietFor}
-use Rattle.lapd_sides_laws.proofs.UserOwn.{AreOwn, user_preserves}
-use Rattle.lapd_sides_laws.proofs.Users.{of_user}
+use Rattle.lapd_sides_laws.proofs.Users.{of_user, user_meant}
 
 -- ---- The primitives of a step report the messages that leave the queue.
 
@@ -388,19 +387,39 @@ module _ (config : Config) (id : LinkId) (low : id.tei < 127)
   new_sound true = fresh_is.sound
   new_sound false = tt
 
-  -- ---- A network side.
+  -- ---- A side whose TEI management has the TEIs of its links.
 
-  network_its : (octets : List ℕ) (now : ℕ) (s : Network) → is_for side.User id octets ≡ true
-      → Affects side.Network id (fresh_link config id) s.served.links
-      (network_takes config octets now s).after.served.links
-      (network_takes config octets now s).effects []
-  network_its octets now s named = network_own config id low now s octets named
+  module _ {M : Type 0} (rules : Rules M) (meant : ServesMeant rules config)
+      (serves : ServesLink (behaviour rules config) rules.side id false) (Own : M → ℕ → Type 0)
+      (preserves : (v : SideView (SideState M)) (event : SideEvent) → AreOwned Own v.now
+      → PreservesOwned Own v.now (reaction (behaviour rules config) event v))
+      (s : SideState M) (own : AreOwned Own s) (sound : AreSound (s.served.links id)) where
+    abbrev W : Behaviour (SideState M)
+    W = behaviour rules config
 
-  network_kept : (v : SideView Network) (event : SideEvent) → AreHeld v.now
-      → AreHeld (reaction (network_behaviour config) event v).after
-      × IsQuietFor v.now.served.links (reaction (network_behaviour config) event v).effects
-  network_kept v event held =
-      let preserves = network_preserves config v event held in (preserves.after, preserves.quiet)
+    abbrev Then : List SideStep → SideState M
+    Then before = (stepped_by_all W before (new_view s)).now
+
+    kept : (v : SideView (SideState M)) (event : SideEvent) → AreOwned Own v.now
+        → AreOwned Own (reaction W event v).after
+        × IsQuietFor v.now.served.links (reaction W event v).effects
+    kept v event own = let p = preserves v event own in (p.after, p.quiet)
+
+    its : (octets : List ℕ) (now : ℕ) (s : SideState M)
+        → is_for (other_side rules.side) id octets ≡ true
+        → Affects rules.side id (fresh_link config id) s.served.links
+        (takes rules config octets now s).after.served.links
+        (takes rules config octets now s).effects []
+    its octets now s named = takes_its rules config meant id low now s octets named
+
+    accounts : (before after : List SideStep) → AreOwned Own (Then before)
+        → KeepsTei id (since W (Then before) after)
+        → IsAccountedSince W id (Then before) after
+    accounts before after still keeps =
+        accounted_since (SideState M) W rules.side id serves its fresh_is (AreOwned Own) kept after
+        (Then before) still
+        (sound_after (SideState M) W rules.side id serves its fresh_is (AreOwned Own) kept before
+        (new_view s) own sound) keeps
 
   new_network_sound : (known : List ℕ)
       → AreSound ((new_network config known).served.links id)
@@ -411,29 +430,12 @@ module _ (config : Config) (id : LinkId) (low : id.tei < 127)
   pub network_accounts : (known : List ℕ) (before after : List SideStep)
       → KeepsTei id (since (network_behaviour config) (network_after config known before) after)
       → IsAccountedSince (network_behaviour config) id (network_after config known before) after
-  network_accounts known before after keeps =
-      let w = network_behaviour config in
-      let serves = of_network config id low false in
+  network_accounts known before after =
+      let new = new_network config known in
       let held = new_are_held config known in
-      accounted_since Network w side.Network id serves network_its fresh_is AreHeld network_kept
-      after (network_after config known before)
-      (network_steps_held config before (new_view (new_network config known)) held)
-      (sound_after Network w side.Network id serves network_its fresh_is AreHeld network_kept before
-      (new_view (new_network config known)) held (new_network_sound known)) keeps
-
-  -- ---- A user side.
-
-  user_its : (octets : List ℕ) (now : ℕ) (s : User) → is_for side.Network id octets ≡ true
-      → Affects side.User id (fresh_link config id) s.served.links
-      (user_takes config octets now s).after.served.links
-      (user_takes config octets now s).effects []
-  user_its octets now s named = user_own config id low now s octets named
-
-  user_kept : (v : SideView User) (event : SideEvent) → AreOwn v.now
-      → AreOwn (reaction (user_behaviour config) event v).after
-      × IsQuietFor v.now.served.links (reaction (user_behaviour config) event v).effects
-  user_kept v event held =
-      let preserves = user_preserves config v event held in (preserves.after, preserves.quiet)
+      accounts network_rules (network_meant config) (of_network config id low false) Holds
+      (network_preserves config) new held (new_network_sound known) before after
+      (network_steps_held config before (new_view new) held)
 
   new_user_sound : (fixed : Option ℕ) (random : Lcg)
       → AreSound ((new_user config fixed random).served.links id)
@@ -444,12 +446,9 @@ module _ (config : Config) (id : LinkId) (low : id.tei < 127)
   pub user_accounts : (fixed : Option ℕ) (random : Lcg) (before after : List SideStep)
       → KeepsTei id (since (user_behaviour config) (user_after config fixed random before) after)
       → IsAccountedSince (user_behaviour config) id (user_after config fixed random before) after
-  user_accounts fixed random before after keeps =
-      let w = user_behaviour config in
-      let serves = of_user config id low false in
-      let are_own = new_are_own config fixed random in
-      accounted_since User w side.User id serves user_its fresh_is AreOwn user_kept after
-      (user_after config fixed random before)
-      (user_steps_own config before (new_view (new_user config fixed random)) are_own)
-      (sound_after User w side.User id serves user_its fresh_is AreOwn user_kept before
-      (new_view (new_user config fixed random)) are_own (new_user_sound fixed random)) keeps
+  user_accounts fixed random before after =
+      let new = new_user config fixed random in
+      let own = new_are_own config fixed random in
+      accounts user_rules (user_meant config) (of_user config id low false) Has
+      (user_preserves config) new own (new_user_sound fixed random) before after
+      (user_steps_own config before (new_view new) own)

@@ -44,21 +44,13 @@ again purpose count ri new = either (Awaiting purpose count ri) (nat_lt count n2
 
 awaiting : (purpose : Purpose) (count ri : ℕ) (k : TeiKind) (its ai : ℕ) → Leaves (Awaiting purpose count ri) (awaiting_receives purpose count ri k its ai)
 awaiting purpose count ri kind.Assigned its ai = either (Awaiting purpose count ri) ((its == ri) && is_automatic ai) _ _ (without (moves_to (Assigned (Some ri) ai) (Stop T202 ∷ Got ai ∷ [])) (λ t is. some_same ai t is)) (still (Awaiting purpose count ri))
-awaiting purpose count ri kind.Request its ai = still (Awaiting purpose count ri)
-awaiting purpose count ri kind.Denied its ai = still (Awaiting purpose count ri)
-awaiting purpose count ri kind.CheckRequest its ai = still (Awaiting purpose count ri)
-awaiting purpose count ri kind.CheckResponse its ai = still (Awaiting purpose count ri)
-awaiting purpose count ri kind.Remove its ai = still (Awaiting purpose count ri)
-awaiting purpose count ri kind.Verify its ai = still (Awaiting purpose count ri)
+awaiting purpose count ri other its ai = still (Awaiting purpose count ri)
 
 assigned : (by : Option ℕ) (tei : ℕ) (k : TeiKind) (its ai new : ℕ) → Leaves (Assigned by tei) (assigned_receives by tei k its ai new)
 assigned by tei kind.Assigned its ai new = either (Assigned by tei) ((ai == tei) && not (is_got_by by its)) _ _ (now_absent by tei) (still (Assigned by tei))
 assigned by tei kind.CheckRequest its ai new = either (Assigned by tei) (names ai tei) _ _ (record { given = λ t is. cc; stays = λ n own. inr own; quiet = λ n own. refl }) (still (Assigned by tei))
 assigned by tei kind.Remove its ai new = either (Assigned by tei) (names ai tei) _ _ (now_absent by tei) (still (Assigned by tei))
-assigned by tei kind.Request its ai new = still (Assigned by tei)
-assigned by tei kind.Denied its ai new = still (Assigned by tei)
-assigned by tei kind.CheckResponse its ai new = still (Assigned by tei)
-assigned by tei kind.Verify its ai new = still (Assigned by tei)
+assigned by tei other its ai new = still (Assigned by tei)
 
 pub terminal_leaves : (phase : Phase) (e : TerminalEvent) → Leaves phase (terminal_step phase e)
 terminal_leaves Unassigned (event.Ask ri) = without (asks Assignment ri) (λ t is. cc)

@@ -9,7 +9,7 @@ use Rattle.lapd_frame.specs.declared.Control.{Control}
 use Rattle.lapd_mod128.specs.Counting.{Reading}
 use Rattle.lapd_supervision.specs.StateVariables.{is_accepted, i_frame_response, acknowledged_count}
 use Rattle.lapd_link_definition.specs.declared.out.Out.{Out}
-use Rattle.lapd_link_definition.specs.declared.out.Out.TheVariants.{Send, SendMessage, SendUnit, Up, UnitUp, Established, Confirmed, Released, ReleaseConfirm, Acknowledged, Dropped, Start, Stop, Report}
+use Rattle.lapd_link_definition.specs.declared.out.Out.TheVariants.{Up, UnitUp, Established, Acknowledged, Dropped, Start, Stop}
 use Rattle.lapd_link_definition.specs.End.{End, StepState, begin, waiting, runs, with_timer}
 use Rattle.lapd_link_definition.specs.Input.{Input, Expiry}
 use Rattle.lapd_link_definition.specs.Parameters.{Parameters}
@@ -39,40 +39,18 @@ timed_both now [] ys t = refl
 timed_both now (x ∷ xs) ys t = timed_both now xs ys (timed_by now x t)
 
 still_by : (now : ℕ) (out : Out) (t : Timers) → IsStill out → timed_by now out t ≡ t
-still_by now (Send role control) t h = refl
-still_by now (SendMessage n control) t h = refl
-still_by now SendUnit t h = refl
-still_by now Up t h = refl
-still_by now UnitUp t h = refl
-still_by now Established t h = refl
-still_by now Confirmed t h = refl
-still_by now Released t h = refl
-still_by now ReleaseConfirm t h = refl
-still_by now (Acknowledged n) t h = refl
-still_by now (Dropped n) t h = refl
 still_by now (Start timer) t h = absurd h
 still_by now (Stop timer) t h = absurd h
-still_by now (Report letter) t h = refl
+still_by now other t h = refl
 
 still : (now : ℕ) (outs : List Out) (t : Timers) → AreStill outs → timed now outs t ≡ t
 still now [] t h = refl
 still now (out ∷ outs) t h = ap (timed now outs) (still_by now out t h.0) ∙ still now outs t h.1
 
 put_is_still : (out : Out) → IsPut out → IsStill out
-put_is_still (Send role control) h = tt
-put_is_still SendUnit h = tt
-put_is_still Established h = tt
-put_is_still Confirmed h = tt
-put_is_still Released h = tt
-put_is_still ReleaseConfirm h = tt
-put_is_still (Report letter) h = tt
-put_is_still UnitUp h = tt
-put_is_still Up h = tt
-put_is_still (SendMessage n control) h = tt
-put_is_still (Acknowledged n) h = tt
-put_is_still (Dropped n) h = tt
 put_is_still (Start timer) h = absurd h
 put_is_still (Stop timer) h = absurd h
+put_is_still other h = tt
 
 still_where : (on : Bool) (out : Out) → IsStill out → AreStill (out_where on out)
 still_where true out h = (h, tt)

@@ -26,17 +26,18 @@ use Rattle.lapd_sides_links.specs.declared.primitive.What.{What}
 use Rattle.lapd_sides_links.specs.Effects.{timed, timed_by, stopped}
 use Rattle.lapd_sides_links.specs.Links.{Linked, Reaction, is_served, parameters_for, new_linked, is_link_of, with_tei, is_held_below, links_below}
 use Rattle.lapd_sides.specs.declared.request.Request.{Request}
-use Rattle.lapd_sides.specs.Network.{Network, new_network, network_requested}
-use Rattle.lapd_sides.specs.User.{User, new_user, user_requested}
+use Rattle.lapd_sides.specs.Network.{Network, new_network}
+use Rattle.lapd_sides.specs.User.{User, new_user}
 use Rattle.lapd_sides_laws.specs.Answers.{IsBy, Throughout, expiries_of}
 use Rattle.lapd_sides_laws.specs.ExactTimers.{SideStep, stepped, stepped_by_all, new_view}
 use Rattle.lapd_sides_laws.specs.Interface.{network_behaviour, user_behaviour}
 use Rattle.lapd_sides_laws.specs.NewLinks.{network_after, user_after}
 use Rattle.lapd_sides_laws.specs.Primitives.{link_primitives}
 use Rattle.lapd_sides_laws.specs.SideView.{Behaviour, SideEvent, Take, Lose, Expire, Ask, Overhear, SideView}
-use Rattle.lapd_sides_laws.proofs.EachEvent.{IsClosed, GoesAt, moment_or, network_ways, user_ways, Ways, all_go}
+use Rattle.lapd_sides_laws.proofs.EachEvent.{IsClosed, GoesAt, network_ways, user_ways, Ways, all_go}
 use Rattle.lapd_sides_laws.proofs.EachLink.{after_step, IsKept}
 use Rattle.lapd_sides_laws.proofs.OwedAnswers.{durations_stay, stopped_durations}
+use Rattle.lapd_sides_laws.proofs.Reactions.{moment_or}
 
 -- no primitive counts as an answer here
 abbrev pub none_answers : What → Bool
@@ -186,15 +187,14 @@ module _ (config : Config) (id : LinkId) (clock : Bool) (bound : ℕ) where
         → (side_steps : List SideStep) (s : S)
         → (clock ≡ true → All (λ x. IsBy bound x.event) side_steps)
         → Usual 0 0 ((w.served s).links id)
-        → (last : ℕ)
-        × Usual 0 last ((w.served (stepped_by_all w side_steps (new_view s)).now).links id)
+        → Usual 0 bound ((w.served (stepped_by_all w side_steps (new_view s)).now).links id)
     usual_after side_of ways side_steps s by u =
         elim (all_go id true none_answers Usual config S w side_of usual_closed ways Comes comes
         side_steps (new_view s) 0 (λ no. cc) (throughout side_steps (new_view s) by)
         (inr (0, u))) [
           | inl h ↦ absurd (never (link_primitives id
               (stepped_by_all w side_steps (new_view s)).delivered) h)
-          | inr (last, v) ↦ (last, same_m last v)
+          | inr (last, v) ↦ later 0 last bound _ (λ ticks. omega arith) (same_m last v)
         ]
       where
         same_m : (last : ℕ)
@@ -205,6 +205,18 @@ module _ (config : Config) (id : LinkId) (clock : Bool) (bound : ℕ) where
             let none : 0 - expiries_of id side_steps ≡ 0 = omega arith in
             subst (λ k. Usual k last
             ((w.served (stepped_by_all w side_steps (new_view s)).now).links id)) none v
+
+    -- and after a request
+    pub request_usual : (side_of : Side) → Ways id true none_answers Usual config S w side_of
+        → (request : Request) (s : S) (a : Reaction S) → w.requested request bound s ≡ Ok a
+        → Usual 0 bound ((w.served s).links id) → Usual 0 bound ((w.served a.after).links id)
+    request_usual side_of ways request s a done u =
+        elim (subst (λ r. IfOk r (λ (x : Reaction S). Usual 0 bound ((w.served s).links id)
+        → GoesAt id true none_answers Usual config S w 0 bound x)) done
+        (ways.requested 0 bound request s (λ no. cc)) u) [
+          | inl h ↦ absurd (never (link_primitives id a.effects.primitives) h)
+          | inr v ↦ v
+        ]
 
   fresh_or_none : (test : Bool) → (test ≡ true → is_served config id.sapi ≡ true)
       → Usual 0 0
@@ -229,50 +241,18 @@ module _ (config : Config) (id : LinkId) (clock : Bool) (bound : ℕ) where
   new_user_usual None random = λ ticks. omega arith
   new_user_usual (Some tei) random = fresh_or_none (is_link_of config tei id) (first_is _ _)
 
-  at_bound : (last : ℕ) (l : Option Linked) → Usual 0 last l → Usual 0 bound l
-  at_bound last l u = later 0 last bound l (λ ticks. omega arith) u
-
   pub network_usual : (known : List ℕ) (side_steps : List SideStep)
       → (clock ≡ true → All (λ x. IsBy bound x.event) side_steps)
       → Usual 0 bound ((network_after config known side_steps).served.links id)
   network_usual known side_steps by =
-      let w = network_behaviour config in
-      let u = usual_after Network w side.Network
+      usual_after Network (network_behaviour config) side.Network
       (network_ways id true none_answers Usual config usual_closed) side_steps
-      (new_network config known) by (new_network_usual known) in
-      at_bound u.0 _ u.1
+      (new_network config known) by (new_network_usual known)
 
   pub user_usual : (fixed : Option ℕ) (random : Lcg) (side_steps : List SideStep)
       → (clock ≡ true → All (λ x. IsBy bound x.event) side_steps)
       → Usual 0 bound ((user_after config fixed random side_steps).served.links id)
   user_usual fixed random side_steps by =
-      let w = user_behaviour config in
-      let u = usual_after User w side.User
+      usual_after User (user_behaviour config) side.User
       (user_ways id true none_answers Usual config usual_closed) side_steps
-      (new_user config fixed random) by (new_user_usual fixed random) in
-      at_bound u.0 _ u.1
-
-  -- and after a request
-  pub network_request_usual : (request : Request) (s : Network) (a : Reaction Network)
-      → network_requested config request bound s ≡ Ok a → Usual 0 bound (s.served.links id)
-      → Usual 0 bound (a.after.served.links id)
-  network_request_usual request s a done u =
-      elim (subst (λ r. IfOk r (GoesAt id true none_answers Usual config Network
-      (network_behaviour config) 0 bound)) done
-      ((network_ways id true none_answers Usual config usual_closed).requested 0 bound request s
-      (λ no. cc) u)) [
-        | inl h ↦ absurd (never (link_primitives id a.effects.primitives) h)
-        | inr v ↦ v
-      ]
-
-  pub user_request_usual : (request : Request) (s : User) (a : Reaction User)
-      → user_requested config request bound s ≡ Ok a → Usual 0 bound (s.served.links id)
-      → Usual 0 bound (a.after.served.links id)
-  user_request_usual request s a done u =
-      elim (subst (λ r. IfOk r (GoesAt id true none_answers Usual config User
-      (user_behaviour config) 0 bound)) done
-      ((user_ways id true none_answers Usual config usual_closed).requested 0 bound request s
-      (λ no. cc) u)) [
-        | inl h ↦ absurd (never (link_primitives id a.effects.primitives) h)
-        | inr v ↦ v
-      ]
+      (new_user config fixed random) by (new_user_usual fixed random)

@@ -3,7 +3,6 @@
 use Rattle.std.proofs.Common.{◌≡◌, sym, if◌then◌else◌, ◌⊎◌, inl, inr, ℕ, ◌+◌, ◌-◌, ◌*◌, ◌≤◌, ◌<◌, ◌==◌, ◌&&◌, ◌||◌, Bool, true, false, List, [], ◌∷◌, ◌++◌, Option, Some, None, refl, ap, subst, arith}
 use Rattle.std.specs.Prelude.{is_some, cond}
 use Rattle.std.proofs.lemmas.List.Sums.{sum_by-cons}
-use Rattle.lapd_sides.specs.User.{management_expires, user_expires}
 use Rattle.lapd_sides_laws.specs.SideView.{unmoved}
 use Rattle.lapd_sides_laws.specs.Answers.{is_t202, t202_expiries}
 use Rattle.lapd_sides_links.specs.Links.{Reaction}
@@ -19,6 +18,7 @@ use Rattle.lapd_tei.specs.declared.phase.Phase.{Phase}
 use Rattle.lapd_table.specs.declared.link_id.LinkId.{LinkId}
 use Rattle.lapd_table.specs.LinkId.{id_eq}
 use Rattle.lapd_table.proofs.Ids.{same_id_eq}
+use Rattle.lapd_tei.specs.declared.terminal.TerminalEvent.TheVariants as event
 use Rattle.lapd_sides_links.specs.declared.config.Config.{Config}
 use Rattle.lapd_sides_links.specs.declared.primitive.Primitive.{Primitive}
 use Rattle.lapd_sides_links.specs.declared.primitive.Primitive.TheVariants.{Of, Management}
@@ -26,7 +26,8 @@ use Rattle.lapd_sides_links.specs.declared.primitive.What.{What}
 use Rattle.lapd_sides_links.specs.declared.running_timer.RunningTimer.{RunningTimer}
 use Rattle.lapd_sides_links.specs.Expiries.{IsQuietBefore}
 use Rattle.lapd_sides_links.specs.Links.{Linked, Links, Served, parameters_for}
-use Rattle.lapd_sides.specs.User.{User}
+use Rattle.lapd_sides.specs.SideState.{expires, with_stopped}
+use Rattle.lapd_sides.specs.User.{User, user_rules, terminal_acts}
 use Rattle.lapd_sides_laws.specs.Answers.{answers, answers_for, HasAnswer, HasAnswerFor, KeepsRequest, requests_release, IsAtMostLate, IsPunctual, Throughout, expiries_of, most_periods}
 use Rattle.lapd_sides_laws.specs.EndAnswers.{Asked, may_release, most_expiries}
 use Rattle.lapd_sides_laws.specs.ExactTimers.{SideStep, stepped, stepped_by_all}
@@ -35,15 +36,16 @@ use Rattle.lapd_sides_laws.specs.ManagementTimers.{HasTimerOfTerminal}
 use Rattle.lapd_sides_laws.specs.Primitives.{link_primitives}
 use Rattle.lapd_sides_laws.specs.SideView.{SideView, SideEvent, Take, Lose, Expire, Ask, Overhear, reaction, does}
 use Rattle.lapd_sides_laws.proofs.AnsweredSides.{Debt, debt_closed, advance, Ready, quiet_until}
-use Rattle.lapd_sides_laws.proofs.EachEvent.{moment_or, user_ways, all_go}
+use Rattle.lapd_sides_laws.proofs.EachEvent.{user_ways, all_go}
 use Rattle.lapd_sides_laws.proofs.EachLink.{HasLinks}
-use Rattle.lapd_sides_laws.proofs.EachTerminal.{IsNow, user_reacts}
 use Rattle.lapd_sides_laws.proofs.LinkParts.{any_more, any_behind}
-use Rattle.lapd_sides_laws.proofs.ManagementSides.{preserved_by_event, user_preserves_its_timer}
-use Rattle.lapd_sides_laws.proofs.UserOwn.{AreOwn, user_preserves}
+use Rattle.lapd_sides_laws.proofs.ManagementSides.{user_timer}
+use Rattle.lapd_sides_laws.proofs.OwnSides.{AreOwn, user_preserves}
 use Rattle.lapd_sides_laws.proofs.TerminalOwn.{Owns}
-use Rattle.lapd_sides_laws.proofs.WaitingSteps.{waiting_is_ruled, expired}
-use Rattle.lapd_sides_laws.proofs.WaitingUser.{Establishes, Waits, Continues, IsReady, HasBegun, Answers, GoesWith, with_tei_of}
+use Rattle.lapd_sides_laws.proofs.WaitingSteps.{Allows, Waiting, expired, waiting_goes}
+use Rattle.lapd_sides_laws.proofs.WaitingUser.{Establishes, Waits, IsReady, HasBegun, GoesWith, with_tei_of}
+use Rattle.lapd_sides_laws.proofs.Reactions as reactions
+use Rattle.lapd_sides_laws.proofs.Reactions.{AnyInput, any_event, moment_or}
 
 -- ---- An answer about a link is one about its SAPI.
 
@@ -173,20 +175,6 @@ module _ (config : Config) (id : LinkId) (asked : Asked) (clock : Bool) (latenes
   at_event (Ask request moment) m last s quiet h = later m last moment s h quiet
   at_event (Overhear octets moment) m last s quiet h = later m last moment s h quiet
 
-  abbrev Happens : ℕ → ℕ → SideEvent → Type 0
-  Happens m now event = IsNow config now id (may_release asked)
-      (Answers config id asked clock lateness limit)
-      (IsReady config id asked clock lateness limit m now)
-      (Continues config id asked clock lateness limit m now)
-      (waiting_is_ruled config id asked clock lateness limit is m now) event
-
-  at_its_moment : (event : SideEvent) (m last : ℕ) → Happens m (moment_or last event) event
-  at_its_moment (Take moment) m last = refl
-  at_its_moment (Lose at) m last = tt
-  at_its_moment (Expire timer of moment) m last = refl
-  at_its_moment (Ask request moment) m last = refl
-  at_its_moment (Overhear octets moment) m last = refl
-
   abbrev GoesTo : ℕ → ℕ → Reaction User → Type 0
   GoesTo m now a = GoesWith config id asked clock lateness limit m now m a
 
@@ -195,12 +183,11 @@ module _ (config : Config) (id : LinkId) (asked : Asked) (clock : Bool) (latenes
       → IsReady config id asked clock lateness limit m (moment_or last event) v.now
       → GoesTo m (moment_or last event) (reaction (user_behaviour config) event v)
   reacts event v m last keeps ready =
-      let now = moment_or last event in
-      user_reacts config now id (may_release asked) (Answers config id asked clock lateness limit)
-      (IsReady config id asked clock lateness limit m now)
-      (Continues config id asked clock lateness limit m now)
-      (waiting_is_ruled config id asked clock lateness limit is m now) event v
-      (at_its_moment event m last) keeps ready
+      reactions.reacts {R = λ now. Waiting config id asked clock lateness limit is m now}
+      (waiting_goes config id asked clock lateness limit is m) last event v
+      (any_event AnyInput (λ id control role info. tt) (λ id kind. tt) user_rules
+      (Allows config id asked clock lateness limit is m) event v (λ request now is may_not.
+      subst (λ e. requests_release side.User id e ≡ false) is (keeps may_not))) ready
 
   none_spent : (m now spent : ℕ) (a : Reaction User) → spent ≡ 0 → GoesTo m now a
       → GoesWith config id asked clock lateness limit m now (m - spent) a
@@ -213,11 +200,12 @@ module _ (config : Config) (id : LinkId) (asked : Asked) (clock : Bool) (latenes
       → IsReady config id asked clock lateness limit m (moment_or last event) v.now
       → GoesWith config id asked clock lateness limit m (moment_or last event) (m - one_202 event)
       (reaction (user_behaviour config) event v)
-  unfolding user_expires
+  unfolding expires
   spends (Expire T202 None now) v m last keeps ready =
       let on : is_some (deadline_of T202 v.now.served.timers) ≡ true = rw ready.waits.runs refl in
       subst (λ test. GoesWith config id asked clock lateness limit m now (m - 1)
-      (if test then management_expires config now T202 v.now else unmoved v.now)) (sym on)
+      (if test then terminal_acts config now event.T202 (with_stopped T202 v.now)
+      else unmoved v.now)) (sym on)
       (expired config id asked clock lateness limit is m now v.now ready)
   spends event v m last keeps ready =
       none_spent m (moment_or last event) (one_202 event)
@@ -252,8 +240,7 @@ module _ (config : Config) (id : LinkId) (asked : Asked) (clock : Bool) (latenes
       let before : SideView User = record v { incoming = v.incoming ++ x.arrives } in
       let ready = at_event x.event m last v.now quiet h.ready in
       let own = (user_preserves config before x.event h.own).after in
-      let timer = preserved_by_event User w HasTimerOfTerminal (user_preserves_its_timer config)
-      x.event before h.ready.timer in
+      let timer = user_timer config x.event before h.ready.timer in
       elim (spends x.event before m last keeps ready) [
         | inl answered ↦ inl (any_behind (answers_for asked id.sapi) v.delivered
             (reaction w x.event before).effects.primitives answered)

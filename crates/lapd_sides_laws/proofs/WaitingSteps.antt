@@ -1,6 +1,5 @@
 -- Each event while a terminal awaits a TEI for a kept establishment, and any list of them.
-use Rattle.std.proofs.Common.{◌≡◌, ◌-◌, inl, inr, ℕ, ◌+◌, ◌<◌, ◌==◌, ◌&&◌, nat_lt, Bool, true, false, if◌then◌else◌, [], ◌∷◌, Some, None, Result, Ok, Err, refl, sym, subst, ◌∙◌, arith}
-use Rattle.std.specs.Prelude.{IfOk}
+use Rattle.std.proofs.Common.{◌≡◌, ◌-◌, inl, inr, ℕ, ◌+◌, ◌<◌, ◌==◌, ◌&&◌, nat_lt, Bool, true, false, if◌then◌else◌, [], ◌∷◌, Some, None, Ok, Err, refl, sym, subst, ◌∙◌, arith}
 use Rattle.std.specs.List.{list_any}
 use Rattle.lapd_timers.specs.declared.timer.Timer.{Timer}
 use Rattle.lapd_timers.specs.declared.timer.Timer.TheVariants.{T200, T201, T202, T203}
@@ -19,17 +18,21 @@ use Rattle.lapd_tei.specs.Terminal.{moves_to, n202, is_automatic, awaiting_recei
 use Rattle.lapd_table.specs.declared.link_id.LinkId.{LinkId}
 use Rattle.lapd_sides_links.specs.declared.config.Config.{Config}
 use Rattle.lapd_sides_links.specs.declared.primitive.What.TheVariants as what
-use Rattle.lapd_sides_links.specs.declared.side_fault.SideKind.{SideKind}
 use Rattle.lapd_sides_links.specs.declared.side_fault.SideKind.TheVariants.{NoLink}
 use Rattle.lapd_sides_links.specs.Effects.{no_effects, stopped}
 use Rattle.lapd_sides_links.specs.Links.{Reaction, is_served}
-use Rattle.lapd_sides.specs.User.{User, PendingEstablishments, is_pending, with_pending, next_reference, assigned, terminal_acts, management_expires, primitive_of_group, wants, forgets, has_tei}
+use Rattle.lapd_frame.specs.declared.Side.TheVariants as side
+use Rattle.lapd_sides.specs.declared.request.Request.{Request}
+use Rattle.lapd_sides.specs.SideState.{primitive_of_group, with_stopped}
+use Rattle.lapd_sides.specs.User.{User, TerminalState, PendingEstablishments, user_rules, with_kept, is_pending, with_pending, next_reference, assigned, terminal_acts, has_tei}
 use Rattle.lapd_sides_laws.specs.Answers.{answers_for}
 use Rattle.lapd_sides_laws.specs.EndAnswers.{Asked, Establishment, Withdrawal, Clearing, may_release}
 use Rattle.lapd_sides_laws.specs.SideView.{may_expire}
-use Rattle.lapd_sides_laws.proofs.EachTerminal.{IsRuled}
-use Rattle.lapd_sides_laws.proofs.ExactLinks.{if_either}
-use Rattle.lapd_sides_laws.proofs.WaitingUser.{Establishes, Continues, IsReady, Answers, Goes, GoesWith, Acts, awaits, again, fails, obtains}
+use Rattle.lapd_sides_laws.specs.Answers.{requests_release}
+use Rattle.lapd_sides_laws.specs.SideView.{Ask}
+use Rattle.lapd_sides_laws.proofs.Requests.{HoldsOfTerminal, UserIfOk, forgotten_by, user_asked}
+use Rattle.lapd_sides_laws.proofs.WaitingUser.{Establishes, IsReady, Goes, GoesWith, Acts, awaits, again, fails, obtains}
+use Rattle.lapd_sides_laws.proofs.Reactions.{AnyInput, HoldsOfEvents, HoldsOfLinks, Law, each_request, if_either}
 
 -- ---- Kept establishments of either SAPI.
 
@@ -156,7 +159,8 @@ module _ (config : Config) (id : LinkId) (asked : Asked) (clock : Bool) (latenes
       not_both (subst (λ phase. has_tei tei (tei_of phase) ≡ true) h.waits.phase has)
 
   -- T202 expires
-  pub expired : (s : User) → Ready s → NextWith (m - 1) (management_expires config now T202 s)
+  pub expired : (s : User) → Ready s
+      → NextWith (m - 1) (terminal_acts config now event.T202 (with_stopped T202 s))
   unfolding terminal_acts
   expired s h =
       let w = h.waits in
@@ -193,21 +197,12 @@ module _ (config : Config) (id : LinkId) (asked : Asked) (clock : Bool) (latenes
   }))
 
   expires : (timer : Timer) (s : User) → may_expire timer None s.served ≡ true → Ready s
-      → Next (management_expires config now timer s)
-  expires T202 s may h = fewer (management_expires config now T202 s) (expired s h)
+      → Next (terminal_acts config now event.T202 (with_stopped timer s))
+  expires T202 s may h =
+      fewer (terminal_acts config now event.T202 (with_stopped T202 s)) (expired s h)
   expires T200 s may h = absurd (not_both (sym (h.timer T200) ∙ may))
   expires T201 s may h = absurd (not_both (sym (h.timer T201) ∙ may))
   expires T203 s may h = absurd (not_both (sym (h.timer T203) ∙ may))
-
-  abbrev NextIfOk : Result (Reaction User) SideKind → Type 0
-  NextIfOk r = IfOk r Next
-
-  wanted : (other : Sapi) (s : User) → Ready s → NextIfOk (wants config now other s)
-  wanted other s h =
-      if_either NextIfOk (is_served config other)
-      (Ok (terminal_acts config now event.Want
-      (record s { management = record s.management { pending = with_pending other true s.management.pending } }))) (Err NoLink)
-      (wanting other s h) tt
 
   forgot : (other : Sapi) (s : User) (test : Bool)
       → (sapi_value id.sapi == sapi_value other) ≡ test
@@ -236,29 +231,44 @@ module _ (config : Config) (id : LinkId) (asked : Asked) (clock : Bool) (latenes
         in_time = w.in_time;
       }))
 
-  forgotten : (other : Sapi) (s : User)
-      → (may_release asked ≡ false → (sapi_value id.sapi == sapi_value other) ≡ false) → Ready s
-      → NextIfOk (forgets other s)
-  forgotten other s keeps h =
-      if_either NextIfOk (is_pending other s.management.pending) (Ok (record {
-        after = record s { management = record s.management { pending = with_pending other false s.management.pending } };
-        effects = record no_effects {
-          primitives = primitive_of_group other what.ReleaseConfirm;
-        };
-      })) (Err NoLink)
-      (forgot other s (sapi_value id.sapi == sapi_value other) refl keeps h) tt
+  abbrev pub Waiting : Law TerminalState
+  Waiting s a = Ready s → Next a
 
-  pub waiting_is_ruled : IsRuled config now id (may_release asked) (Answers config id asked clock
-      lateness limit)
-      Ready (Continues config id asked clock lateness limit m now)
-  waiting_is_ruled = record {
-    same = λ s h. inl h.waits;
-    relinked = λ links s h. inl h.waits;
-    counted = λ n s h. inl h.waits;
-    hears = hears;
-    expires = expires;
-    asks = asks;
-    leaves = λ tei s has h. absurd (leaving tei s has h);
-    wanted = wanted;
-    forgotten = forgotten;
+  abbrev pub Allows : Request → Type 0
+  Allows request =
+      may_release asked ≡ false → requests_release side.User id (Ask request now) ≡ false
+
+  of_terminal : HoldsOfTerminal config now Waiting Allows
+  of_terminal = record {
+    asked = asks;
+    wanted = λ other s.
+        if_either (UserIfOk Waiting s) (is_served config other)
+        (Ok (terminal_acts config now event.Want
+        (with_kept s (with_pending other true s.management.pending)))) (Err NoLink)
+        (wanting other s) tt;
+    forgotten = λ other s keeps.
+        if_either (UserIfOk Waiting s) (is_pending other.sapi s.management.pending)
+        (Ok (forgotten_by other.sapi s)) (Err NoLink)
+        (forgot other.sapi s (sapi_value id.sapi == sapi_value other.sapi) refl keeps) tt;
+    left = λ tei s has h. absurd (leaving tei s has h);
+  }
+
+  of_links : HoldsOfLinks user_rules now Waiting AnyInput
+  of_links = record {
+    still = λ s h. inr (inl h.waits);
+    counts = λ s h. inr (inl h.waits);
+    reports = λ at octets s h. inr (inl h.waits);
+    steps = λ id input octets s b plain permits done h. inr (inl h.waits);
+  }
+
+  pub waiting_goes : HoldsOfEvents user_rules config now Waiting AnyInput Allows
+  waiting_goes = record {
+    links = of_links;
+    expires = λ id timer s b done h. inr (inl h.waits);
+    by_rules = record {
+      hears = hears;
+      times_out = expires;
+      requested = λ request s allows. user_asked of_links config of_terminal request s allows
+          (each_request user_rules s.management request);
+    };
   }

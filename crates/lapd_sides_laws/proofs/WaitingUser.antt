@@ -33,9 +33,9 @@ use Rattle.lapd_tei.specs.Terminal.{TerminalStep, moves_to, n202}
 use Rattle.lapd_sides_links.specs.declared.primitive.Primitive.{Primitive}
 use Rattle.lapd_sides_links.specs.Effects.{stopped}
 use Rattle.lapd_sides.specs.Management.{manages}
-use Rattle.lapd_sides.specs.SideState.{link_of}
-use Rattle.lapd_sides.specs.User as user
-use Rattle.lapd_sides.specs.User.{User, PendingEstablishments, nothing_pending, is_pending, drawn, among_links, establishes, establishes_pending, primitive_of_group, primitive_of_sapi, assigned}
+use Rattle.lapd_sides.specs.SideState.{link_of, among_links, primitive_of_group}
+use Rattle.lapd_sides.specs.SideState as sides
+use Rattle.lapd_sides.specs.User.{User, PendingEstablishments, nothing_pending, is_pending, drawn, establishes, establishes_pending, primitive_of_sapi, assigned}
 use Rattle.lapd_sides_links.specs.declared.primitive.What.TheVariants as what
 use Rattle.lapd_sides_links.specs.declared.side_fault.SideKind.{SideKind}
 use Rattle.std.proofs.lemmas.Bool.Decides.{nat_tests}
@@ -174,7 +174,7 @@ begun_by config now id s was =
     let p = parameters_for config id.sapi in
     let done = own_acts side.User id s.served.links now input.Establish [] (fresh config id)
     (begun p) was (begins p) in
-    ap (λ r. (user.or_unmoved s (among_links s r)).after.served.links id) done
+    ap (λ r. (sides.or_unmoved s (among_links s r)).after.served.links id) done
     ∙ now_there id (begun_link config id now) s.served.links
 
 others_stay : (now : ℕ) (on : Bool) (id other : LinkId) (s : User) → id_eq id other ≡ false
@@ -187,7 +187,7 @@ others_stay now true id other s apart =
   where
     by_result : (r : Result (Reaction Links) SideKind)
         → in_links other (link_acts side.User other now input.Establish []) s.served.links ≡ r
-        → (user.or_unmoved s (among_links s r)).after.served.links id ≡ s.served.links id
+        → (sides.or_unmoved s (among_links s r)).after.served.links id ≡ s.served.links id
     by_result (Ok b) done =
         (other_acts side.User id other s.served.links now input.Establish [] b apart done).links
     by_result (Err kind) err = refl

@@ -1,16 +1,17 @@
 -- An interface: a user side, a network side, and the octets in transit between them, in the order
 -- in which they were sent.
-use Rattle.std.specs.Prelude.{ℕ, List, [], ◌∷◌}
+use Rattle.std.specs.Prelude.{ℕ, List, [], ◌∷◌, Option, Some, None}
 use Rattle.lapd_frame.specs.declared.Side.{Side}
 use Rattle.lapd_frame.specs.declared.Side.TheVariants as side
 use Rattle.lapd_tei.specs.declared.phase.Phase.{Phase}
-use Rattle.lapd_tei.specs.declared.phase.Phase.TheVariants.{Unassigned, Awaiting, Assigned}
 use Rattle.lapd_table.specs.declared.link_id.LinkId.{LinkId}
 use Rattle.lapd_sides_links.specs.declared.config.Config.{Config}
 use Rattle.lapd_sides_links.specs.declared.primitive.Primitive.{Primitive}
-use Rattle.lapd_sides_links.specs.Links.{Linked, of_sapi, new_linked, parameters_for}
-use Rattle.lapd_sides.specs.Network.{Network, network_takes, network_expires, network_requested}
-use Rattle.lapd_sides.specs.User.{User, user_takes, user_expires, user_requested}
+use Rattle.lapd_sides_links.specs.Links.{Linked, new_linked, parameters_for}
+use Rattle.lapd_sides.specs.SideState.{Rules, SideState, expires, takes}
+use Rattle.lapd_sides.specs.Network.{Network, network_rules}
+use Rattle.lapd_sides.specs.User as user
+use Rattle.lapd_sides.specs.User.{User, user_rules}
 use Rattle.lapd_sides_laws.specs.SideView.{Behaviour, SideView, SideEvent, does}
 
 -- ---- The two sides.
@@ -19,31 +20,29 @@ use Rattle.lapd_sides_laws.specs.SideView.{Behaviour, SideView, SideEvent, does}
 abbrev pub fresh_link : Config → LinkId → Linked
 fresh_link config id = new_linked (parameters_for config id.sapi) config.durations
 
--- a request of the user side refers to the link with the terminal's own TEI, if it has one
+-- the link that a request refers to: the one that is meant, if any
+abbrev pub or_named : LinkId → Option LinkId → LinkId
+or_named id None = id
+or_named id (Some own) = own
+
 abbrev pub own_link : Phase → LinkId → LinkId
-own_link (Assigned by own) id = of_sapi id.sapi own
-own_link Unassigned id = id
-own_link (Awaiting purpose count ri) id = id
+own_link phase id = or_named id (user.own_link phase id)
+
+abbrev pub behaviour : {M : Type 0} → Rules M → Config → Behaviour (SideState M)
+behaviour rules config = record {
+  takes = takes rules config;
+  expires = expires rules config;
+  requested = rules.requested config;
+  means = λ s id. or_named id (rules.meant s.management id);
+  served = λ s. s.served;
+  fresh = fresh_link config;
+}
 
 abbrev pub network_behaviour : Config → Behaviour Network
-network_behaviour config = record {
-  takes = network_takes config;
-  expires = network_expires config;
-  requested = network_requested config;
-  means = λ s id. id;
-  served = λ s. s.served;
-  fresh = fresh_link config;
-}
+network_behaviour = behaviour network_rules
 
 abbrev pub user_behaviour : Config → Behaviour User
-user_behaviour config = record {
-  takes = user_takes config;
-  expires = user_expires config;
-  requested = user_requested config;
-  means = λ s id. own_link s.management.terminal id;
-  served = λ s. s.served;
-  fresh = fresh_link config;
-}
+user_behaviour = behaviour user_rules
 
 -- the configurations of both sides
 pub record Configs : Type 0 where

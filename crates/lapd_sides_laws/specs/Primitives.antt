@@ -27,7 +27,7 @@ message_for id (other, message) = if id_eq id other then Some message else None
 abbrev pub given_to : LinkId → List (LinkId × List ℕ) → List (List ℕ)
 given_to id given = filter_map (message_for id) given
 
--- ---- What layer 3 knows by them.
+-- ---- The knowledge of layer 3.
 
 -- The messages and the unit data received; the positions of layer 3's own messages, counted from 0,
 -- that were acknowledged or dropped; and the count of these. A primitive always reports the next

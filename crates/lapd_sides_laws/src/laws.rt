@@ -21,11 +21,12 @@ ghost use Rattle.lapd_sides_links.specs.Links.{Linked, Served, new_linked, param
 ghost use Rattle.lapd_sides.specs.ShowsNetwork.{NetSide};
 ghost use Rattle.lapd_sides.specs.declared.request.Request.{Request};
 ghost use Rattle.lapd_sides.specs.ShowsUser.{UserSide};
-ghost use Rattle.lapd_sides.specs.Network.{Network, new_network, given_for, network_takes, network_requested, network_expires};
+ghost use Rattle.lapd_sides.specs.SideState.{expires, given_for, takes};
+ghost use Rattle.lapd_sides.specs.Network.{Network, new_network, network_requested, network_rules};
 ghost use Rattle.lapd_sides.specs.Calls as calls;
 ghost use Rattle.lapd_sides.specs.ShowsNetwork as net;
 ghost use Rattle.lapd_sides.specs.ShowsUser as usr;
-ghost use Rattle.lapd_sides.specs.User.{User, new_user, got_for, user_takes, user_requested, user_expires};
+ghost use Rattle.lapd_sides.specs.User.{User, new_user, user_requested, user_rules};
 ghost use Rattle.lapd_sides_laws.specs.Addressed.{those_for};
 ghost use Rattle.lapd_sides_laws.specs.Calls.{NetworkDoes, UserDoes, take_of};
 ghost use Rattle.lapd_sides_laws.specs.Establishments.{records_of};
@@ -110,12 +111,13 @@ pub fn each_link_gets_its_own()
 pub fn calls_are_events()
     ensures network_takes { (old new : NetSide) (acts : Effects) (result : Result ⊤ SideFault)
         (octets : List ℕ) (rest : List (List ℕ)) (now : ℕ)
-        → calls.Receives net.ShowNetwork result old new acts (λ s. given_for s.management octets)
-        (λ config. network_takes config octets now)
+        → calls.Receives net.ShowNetwork result old new acts
+        (λ s. given_for network_rules s.management octets)
+        (λ config. takes network_rules config octets now)
         → (config : Config) (v : SideView Network) → net.ShowNetwork old config v.now
         → v.incoming ≡ octets ∷ rest → NetworkDoes new config acts (take_of result now) v }
     ensures network_ticks { (old new : NetSide) (acts : Effects) (now : ℕ)
-        → calls.Expires net.ShowNetwork network_expires old new acts now
+        → calls.Expires net.ShowNetwork (expires network_rules) old new acts now
         → (config : Config) (v : SideView Network) → net.ShowNetwork old config v.now
         → (e : RunningTimer) × IsDue now v.now.served (Some e)
         × NetworkDoes new config acts (Expire e.timer e.of now) v }
@@ -127,12 +129,13 @@ pub fn calls_are_events()
         → NetworkDoes new config acts (Ask request now) v }
     ensures user_takes { (old new : UserSide) (acts : Effects) (result : Result ⊤ SideFault)
         (octets : List ℕ) (rest : List (List ℕ)) (now : ℕ)
-        → calls.Receives usr.ShowUser result old new acts (λ s. got_for s octets)
-        (λ config. user_takes config octets now)
+        → calls.Receives usr.ShowUser result old new acts
+        (λ s. given_for user_rules s.management octets)
+        (λ config. takes user_rules config octets now)
         → (config : Config) (v : SideView User) → usr.ShowUser old config v.now
         → v.incoming ≡ octets ∷ rest → UserDoes new config acts (take_of result now) v }
     ensures user_ticks { (old new : UserSide) (acts : Effects) (now : ℕ)
-        → calls.Expires usr.ShowUser user_expires old new acts now
+        → calls.Expires usr.ShowUser (expires user_rules) old new acts now
         → (config : Config) (v : SideView User) → usr.ShowUser old config v.now
         → (e : RunningTimer) × IsDue now v.now.served (Some e)
         × UserDoes new config acts (Expire e.timer e.of now) v }
@@ -320,16 +323,16 @@ pub fn management_timers_run_while_it_waits()
 /// A TEI has no links when a side assigns or obtains it. So all links that it has then are new.
 ///
 /// This holds for a newly created side after any steps, whatever octets arrive, and needs no
-/// premise: a TEI may be removed and assigned again. `given_for` and `got_for` are the TEI that
-/// received octets make a side assign or obtain. A table of links in code that represents the side
-/// has no link of this TEI either (`IsAbsent`).
+/// premise: a TEI may be removed and assigned again. `given_for` is the TEI that received octets
+/// make a side assign or obtain. A table of links in code that represents the side has no link of
+/// this TEI either (`IsAbsent`).
 pub fn added_links_are_new()
     ensures network { (config : Config) (known : List ℕ) (side_steps : List SideStep)
         (octets : List ℕ)
         → HasNoLinks side.Network (network_after config known side_steps).served.links
-        (given_for (network_after config known side_steps).management octets) }
+        (given_for network_rules (network_after config known side_steps).management octets) }
     ensures user { (config : Config) (fixed : Option ℕ) (random : Lcg)
         (side_steps : List SideStep) (octets : List ℕ)
         → HasNoLinks side.User (user_after config fixed random side_steps).served.links
-        (got_for (user_after config fixed random side_steps) octets) }
+        (given_for user_rules (user_after config fixed random side_steps).management octets) }
 {}

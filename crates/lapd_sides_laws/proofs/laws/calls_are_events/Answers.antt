@@ -1,5 +1,16 @@
-use Rattle.lapd_sides_laws.proofs.Called.{net_takes, net_ticks, net_requests, usr_takes, usr_ticks, usr_requests}
+use Rattle.lapd_sides.specs.Network.{network_rules}
+use Rattle.lapd_sides.specs.ShowsNetwork.{ShowNetwork}
+use Rattle.lapd_sides.specs.ShowsUser.{ShowUser}
+use Rattle.lapd_sides.specs.User.{user_rules}
+use Rattle.lapd_sides_laws.proofs.Called.{call_takes, call_ticks, call_requests}
 use Rattle.lapd_sides_laws.proofs.laws.calls_are_events.Goals as goal
 
 pub returns : goal.returns
-returns c = record { network_takes = net_takes; network_ticks = net_ticks; network_requests = net_requests; user_takes = usr_takes; user_ticks = usr_ticks; user_requests = usr_requests }
+returns c = record {
+  network_takes = call_takes ShowNetwork network_rules;
+  network_ticks = call_ticks ShowNetwork network_rules;
+  network_requests = call_requests ShowNetwork network_rules;
+  user_takes = call_takes ShowUser user_rules;
+  user_ticks = call_ticks ShowUser user_rules;
+  user_requests = call_requests ShowUser user_rules;
+}

@@ -3,6 +3,7 @@ use Rattle.lapd_sides_links.specs.Effects.{stopped}
 use Rattle.lapd_sides_links.specs.Links.{Served}
 use Rattle.lapd_sides.specs.declared.links_and_timer.Expired.{Expired}
 use Rattle.lapd_sides.specs.Shows.{HaveExpired}
+use Rattle.lapd_sides.specs.SideState.{expires}
 use Rattle.lapd_sides.proofs.Calling.{expired_so}
 use Rattle.lapd_sides.proofs.Steps.{link_expired, reserved}
 use Rattle.lapd_sides.proofs.managed_side.ManagedSide.tick.Goals as goal
@@ -19,6 +20,7 @@ returns-in-Nothing-clause-none g c = λ is config s shown.
     )
 
 pub returns-in-Link-clause-due : goal.returns-in-Link-clause-due
+unfolding expires
 returns-in-Link-clause-due g c = λ is config s shown.
     let side = g.M.Represented.rules.side in
     let h = subst (λ (o : Expired). HaveExpired side o c.expire_first.new.self
@@ -29,6 +31,7 @@ returns-in-Link-clause-due g c = λ is config s shown.
     c.expire_first.ensures.discarded h
 
 pub returns-in-Management-clause-due : goal.returns-in-Management-clause-due
+unfolding expires
 returns-in-Management-clause-due g c = λ is config s shown.
     let side = g.M.Represented.rules.side in
     let h = subst (λ (o : Expired). HaveExpired side o c.expire_first.new.self
