@@ -38,7 +38,7 @@ use Rattle.lapd_sides_links.specs.Links.{is_served, Links, Linked, Reaction, whe
 use Rattle.lapd_sides.specs.Management.{links_with, links_without, removal_primitives, manages}
 use Rattle.lapd_sides.specs.SideState.{with_links, with_stopped}
 use Rattle.lapd_sides.specs.Network as network
-use Rattle.lapd_sides.specs.Network.{Network, assigner_acts, group_frame, network_rules}
+use Rattle.lapd_sides.specs.Network.{Network, assigner_acts, group_frame, network_rules, sends_to_all}
 use Rattle.lapd_sides_laws.specs.Interface.{network_behaviour}
 use Rattle.lapd_sides_laws.specs.Owed.{PassesBy}
 use Rattle.lapd_sides_laws.specs.Premises.{is_assignment, is_removal}
@@ -52,6 +52,7 @@ use Rattle.lapd_sides_laws.proofs.LinkParts.{any_more, absent_acts, other_expire
 use Rattle.lapd_sides_laws.proofs.Managed.{freed_is_reported}
 use Rattle.lapd_bus_laws.specs.Assignments.{Assignment, assignment_in}
 use Rattle.lapd_bus_laws.proofs.Messages.{management_id, others_assign_nothing, assignment_again, links_assign_nothing}
+use Rattle.lapd_sides.specs.AllTeis.{check_of_all, holds_any, removal_of_all}
 
 -- ---- A step of the assigner.
 
@@ -75,6 +76,17 @@ removing_sends : (tei : ℕ) (rest : List TeiOut) → Sent rest ≡ []
 removing_sends tei rest none =
     let one = others_assign_nothing (remove tei) refl in
     one_sent (remove tei) one (out.Send (remove tei) ∷ rest) (one_sent (remove tei) one rest none)
+
+-- messages to all terminals assign nothing
+check_assigns_nothing : (check : Option Check) → Sent (check_of_all check) ≡ []
+check_assigns_nothing None = one_sent (check_request group_tei)
+    (others_assign_nothing (check_request group_tei) refl) [] refl
+check_assigns_nothing (Some check) = refl
+
+removal_assigns_nothing : (held : Bool) → Sent (if held then []
+    else out.Send (remove group_tei) ∷ out.Send (remove group_tei) ∷ []) ≡ []
+removal_assigns_nothing true = refl
+removal_assigns_nothing false = removing_sends group_tei [] refl
 
 -- A step sends no assignment, or one of the least TEI that is not held.
 abbrev StepAssigns : AssignerState → AssignerStep → Type 0
@@ -419,7 +431,13 @@ module _ (config : Config) where
       requested = λ asked s any.
           network_asked (of_links now) config (λ tei. acting now (event.Check tei))
           (λ tei. acting now (event.Remove tei))
-          (λ at octets s served none. to_group config now s none at octets served) asked s
+          (λ at octets s served none. to_group config now s none at octets served)
+          (λ s none. assigns_nothing config now s none
+          (sends_to_all (check_of_all s.management.check) s) refl refl
+          (check_assigns_nothing s.management.check) refl)
+          (λ s none. assigns_nothing config now s none
+          (sends_to_all (removal_of_all s.management.held) s) refl refl
+          (removal_assigns_nothing (holds_any s.management.held)) refl) asked s
           (each_request network_rules s.management asked);
     };
   }

@@ -1,5 +1,6 @@
 pub mod Management
 pub mod SideState
+pub mod AllTeis
 pub mod Network
 pub mod User
 pub mod Worked

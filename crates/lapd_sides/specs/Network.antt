@@ -9,6 +9,7 @@ use Rattle.lapd_frame.specs.declared.Control.TheVariants.{Ui}
 use Rattle.lapd_frame.specs.Frame.{Fields, n201, spelling}
 use Rattle.lapd_link_definition.specs.declared.event.LinkFault.TheVariants.{TooLong}
 use Rattle.lapd_link_definition.specs.Input.{Establish, Release, UnitData, Give}
+use Rattle.lapd_tei.specs.declared.out.TeiOut.{TeiOut}
 use Rattle.lapd_tei.specs.declared.assigner.AssignerEvent.{AssignerEvent}
 use Rattle.lapd_tei.specs.declared.assigner.AssignerEvent.TheVariants as event
 use Rattle.lapd_tei.specs.Assigner.{AssignerState, AssignerStep, assigner_step, known_held}
@@ -22,6 +23,7 @@ use Rattle.lapd_sides_links.specs.declared.side_fault.SideKind.{SideKind}
 use Rattle.lapd_sides_links.specs.declared.side_fault.SideKind.TheVariants.{Link}
 use Rattle.lapd_sides_links.specs.Effects.{no_effects}
 use Rattle.lapd_sides_links.specs.Links.{Reaction, is_served, links_of_held}
+use Rattle.lapd_sides.specs.AllTeis.{check_of_all, removal_of_all, sending}
 use Rattle.lapd_sides.specs.Management.{manages, busy_input}
 use Rattle.lapd_sides.specs.SideState.{SideState, Rules, link_of, unmoved}
 
@@ -78,6 +80,10 @@ unit_requested config now id octets s =
     if is_served config id.sapi && (id.tei == group_tei) then unit_to_group id.sapi octets s
     else link_of side.Network now id (UnitData (length octets)) octets s
 
+-- TEI messages to all terminals; the side is unchanged
+abbrev pub sends_to_all : List TeiOut → Network → Reaction Network
+sends_to_all messages s = record { after = s; effects = sending messages }
+
 unfoldable pub network_requested : Config → Request → ℕ → Network
     → Result (Reaction Network) SideKind
 network_requested config (request.Establish id) now s = link_of side.Network now id Establish [] s
@@ -93,6 +99,10 @@ network_requested config (request.Check tei) now s =
     Ok (assigner_acts config now (event.Check tei) s)
 network_requested config (request.Remove tei) now s =
     Ok (assigner_acts config now (event.Remove tei) s)
+network_requested config request.CheckAll now s =
+    Ok (sends_to_all (check_of_all s.management.check) s)
+network_requested config request.RemoveAll now s =
+    Ok (sends_to_all (removal_of_all s.management.held) s)
 
 -- ---- The rules of this side.
 

@@ -221,6 +221,8 @@ user_requested config (request.Busy id on) now s =
 user_requested config request.AskTei now s = Ok (terminal_acts config now event.Ask s)
 user_requested config (request.Check tei) now s = Ok (unmoved s)
 user_requested config (request.Remove tei) now s = gives_up config now tei s
+user_requested config request.CheckAll now s = Ok (unmoved s)
+user_requested config request.RemoveAll now s = Ok (unmoved s)
 
 -- ---- The rules of this side.
 

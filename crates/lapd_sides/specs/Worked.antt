@@ -102,6 +102,14 @@ vain_check = Asked (request.Check 64) 600 ∷ Expires T201 None 1600 ∷ Expires
 abbrev pub removed_at : ℕ → List Happening
 removed_at now = Asked (request.Remove 64) now ∷ Asked (request.Remove 127) now ∷ []
 
+-- all TEIs are checked and removed at this moment
+abbrev pub all_at : ℕ → List Happening
+all_at now = Asked request.CheckAll now ∷ Asked request.RemoveAll now ∷ []
+
+-- the same during the check of one
+abbrev pub check_and_all : ℕ → List Happening
+check_and_all now = Asked (request.Check 64) now ∷ all_at now
+
 -- octets that do not form a frame for an existing link, four times, and then a SABME
 abbrev pub four_and_sabme : List Happening
 four_and_sabme =
@@ -127,6 +135,10 @@ reference n = next_reference (after n random)
 abbrev pub asking : ℕ → List ℕ
 asking ri = spelling side.User (frame_of_message (tei.request ri))
 
+-- the octets of an answer to a check
+abbrev pub answering : ℕ → ℕ → List ℕ
+answering ri own = spelling side.User (frame_of_message (tei.check_response ri own))
+
 -- a request to establish, with no answer from the network side
 abbrev pub vain_want : List Happening
 vain_want =
@@ -138,6 +150,13 @@ abbrev pub want_and_tei : List Happening
 want_and_tei =
     Asked (request.Establish (of_sapi Call 0)) 0
     ∷ Arrives (0xFE ∷ 0xFF ∷ 0x03 ∷ 0x0F ∷ 0x00 ∷ 0x00 ∷ 0x02 ∷ 0x81 ∷ []) 100 ∷ []
+
+-- a check of all TEIs and a removal of all arrive, and then the check again
+abbrev pub all_arrive : List Happening
+all_arrive =
+    Arrives (0xFE ∷ 0xFF ∷ 0x03 ∷ 0x0F ∷ 0x00 ∷ 0x00 ∷ 0x04 ∷ 0xFF ∷ []) 0
+    ∷ Arrives (0xFE ∷ 0xFF ∷ 0x03 ∷ 0x0F ∷ 0x00 ∷ 0x00 ∷ 0x06 ∷ 0xFF ∷ []) 0
+    ∷ Arrives (0xFE ∷ 0xFF ∷ 0x03 ∷ 0x0F ∷ 0x00 ∷ 0x00 ∷ 0x04 ∷ 0xFF ∷ []) 0 ∷ []
 
 -- a terminal gives up its TEI 64: another TEI is not its own, nor is this one afterwards
 abbrev pub given_up : List Happening

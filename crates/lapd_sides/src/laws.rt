@@ -13,7 +13,7 @@ ghost use Rattle.lapd_sides_links.specs.Effects.{no_effects};
 ghost use Rattle.lapd_sides_links.specs.Links.{of_sapi};
 ghost use Rattle.lapd_sides.specs.Network.{new_network, network_rules};
 ghost use Rattle.lapd_sides.specs.User.{new_user, user_rules};
-ghost use Rattle.lapd_sides.specs.Worked.{side_run, side_gives, state_of, ends_at, asking, reference, both_sapis, call_control_alone, tei_and_disc, both_established, one_released, vain_check, removed_at, four_and_sabme, random, vain_want, want_and_tei, given_up};
+ghost use Rattle.lapd_sides.specs.Worked.{side_run, side_gives, state_of, ends_at, asking, reference, both_sapis, call_control_alone, tei_and_disc, both_established, one_released, vain_check, removed_at, four_and_sabme, random, vain_want, want_and_tei, given_up, all_at, check_and_all, all_arrive, answering};
 
 /// A network side assigns a TEI, and from then on its two links respond. A DISC for another TEI is
 /// discarded.
@@ -96,6 +96,37 @@ pub fn removed_teis_lose_their_links()
         (new_user both_sapis (Some 64) random)
         ≡ Err NoLink ∷ Ok (record { frames = []; primitives = Management (tei.Gone 64) ∷ [] })
         ∷ Err NoLink ∷ [] }
+{}
+
+/// A network side that holds no TEI checks all TEIs by one message, and removes all by two. While it
+/// holds a TEI it only checks; while it checks one, it sends nothing. A terminal answers with its TEI
+/// and gives it up.
+pub fn all_teis_are_checked_and_removed()
+    ensures none_held { side_gives network_rules both_sapis (all_at 0) (new_network both_sapis [])
+        ≡ Ok (record {
+          frames = (0xFE ∷ 0xFF ∷ 0x03 ∷ 0x0F ∷ 0x00 ∷ 0x00 ∷ 0x04 ∷ 0xFF ∷ []) ∷ [];
+          primitives = [];
+        })
+        ∷ Ok (record {
+          frames = (0xFE ∷ 0xFF ∷ 0x03 ∷ 0x0F ∷ 0x00 ∷ 0x00 ∷ 0x06 ∷ 0xFF ∷ [])
+              ∷ (0xFE ∷ 0xFF ∷ 0x03 ∷ 0x0F ∷ 0x00 ∷ 0x00 ∷ 0x06 ∷ 0xFF ∷ []) ∷ [];
+          primitives = [];
+        }) ∷ [] }
+    ensures held { side_gives network_rules both_sapis (all_at 0) (new_network both_sapis (64 ∷ []))
+        ≡ Ok (record {
+          frames = (0xFE ∷ 0xFF ∷ 0x03 ∷ 0x0F ∷ 0x00 ∷ 0x00 ∷ 0x04 ∷ 0xFF ∷ []) ∷ [];
+          primitives = [];
+        }) ∷ Ok no_effects ∷ [] }
+    ensures checking { side_gives network_rules both_sapis (check_and_all 0)
+        (new_network both_sapis (64 ∷ []))
+        ≡ Ok (record {
+          frames = (0xFE ∷ 0xFF ∷ 0x03 ∷ 0x0F ∷ 0x00 ∷ 0x00 ∷ 0x04 ∷ 0x81 ∷ []) ∷ [];
+          primitives = [];
+        }) ∷ Ok no_effects ∷ Ok no_effects ∷ [] }
+    ensures obeyed { side_gives user_rules both_sapis all_arrive (new_user both_sapis (Some 64) random)
+        ≡ Ok (record { frames = answering (reference 0) 64 ∷ []; primitives = [] })
+        ∷ Ok (record { frames = []; primitives = Management (tei.Gone 64) ∷ [] })
+        ∷ Ok no_effects ∷ [] }
 {}
 
 /// Octets with F1, F2 and F3, and a frame for a TEI without links, are discarded and counted; a

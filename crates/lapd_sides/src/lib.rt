@@ -56,6 +56,7 @@
 //! to know counts, for each link, the messages accepted less those acknowledged or dropped.
 #![tactic(auto)]
 
+mod all_teis;
 mod backlog;
 mod either_side;
 mod laws;
@@ -78,9 +79,9 @@ pub use lapd_sides_links::{
 };
 pub use lapd_tei::{Assigner, Terminal};
 pub use laws::{
-    assignments_make_links, discarded_frames_are_counted, freed_teis_lose_their_links,
-    pending_establishments_are_done, releases_leave_other_links, removed_teis_lose_their_links,
-    vain_requests_are_released,
+    all_teis_are_checked_and_removed, assignments_make_links, discarded_frames_are_counted,
+    freed_teis_lose_their_links, pending_establishments_are_done, releases_leave_other_links,
+    removed_teis_lose_their_links, vain_requests_are_released,
 };
 pub use managed_side::ManagedSide;
 pub use management::{Management, Represented};

@@ -13,6 +13,7 @@ ghost use Rattle.lapd_sides.specs.SideState.{link_of};
 ghost use Rattle.lapd_sides.specs.Network.{Network, new_network, assigner_acts, network_requested, network_rules, unit_requested, unit_to_group};
 ghost use Rattle.lapd_sides.specs.ShowsNetwork.{ShowNetwork, is_assigner};
 
+use crate::all_teis::{put_check_of_all, put_removal_of_all};
 use crate::links_and_timer::LinksAndTimer;
 use crate::{Acts, Config, ManagedSide, Management, Represented, Request, SideFault, SideKind};
 use lapd_frame::{Address, Control, Frame, Role, Sapi, Side, Tei};
@@ -87,6 +88,14 @@ impl Management for Assigner {
             side.manage(AssignerEvent::Remove(*tei), now, acts);
             return Ok(());
         }
+        if let Request::CheckAll = &request {
+            put_check_of_all(&side.management, acts);
+            return Ok(());
+        }
+        if let Request::RemoveAll = &request {
+            put_removal_of_all(&side.management, acts);
+            return Ok(());
+        }
         match request {
             Request::Establish(id) => side.act(id, Event::Establish, now, acts),
             Request::Release(id) => side.act(id, Event::Release, now, acts),
@@ -94,7 +103,11 @@ impl Management for Assigner {
             Request::Busy(id, false) => side.act(id, Event::BusyOff, now, acts),
             Request::Unit(id, octets) => side.send_unit(id, octets, now, acts),
             Request::Give(id, message) => side.give_message(id, message, now, acts),
-            Request::AskTei | Request::Check(_) | Request::Remove(_) => Ok(()),
+            Request::AskTei
+            | Request::Check(_)
+            | Request::CheckAll
+            | Request::Remove(_)
+            | Request::RemoveAll => Ok(()),
         }
     }
 }

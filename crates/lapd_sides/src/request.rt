@@ -20,8 +20,17 @@ pub enum Request {
     AskTei,
     /// Check this TEI. A user side ignores it.
     Check(Tei),
+    /// Check all TEIs: a network side sends one check request to all terminals, and each that has a
+    /// TEI answers with it (Q.921 5.3.3). No check begins, and the side ignores the answers. During
+    /// a check it ignores the request, since it would count the answers for that check. A user side
+    /// ignores it.
+    CheckAll,
     /// Remove this TEI (MDL-REMOVE request). A network side sends Identity remove twice, and
     /// removes the TEI's links; it ignores the group TEI. A user side gives up its TEI if it is
     /// this one.
     Remove(Tei),
+    /// Remove all TEIs from a bus whose TEIs are not known, as after a restart: a network side that
+    /// holds no TEI sends Identity remove to all terminals twice (Q.921 5.3.4). A network side that
+    /// holds a TEI ignores it: first remove each TEI that it holds. A user side ignores it.
+    RemoveAll,
 }

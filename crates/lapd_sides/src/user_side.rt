@@ -105,7 +105,11 @@ impl Management for TerminalManagement {
             Request::Busy(id, false) => side.be_busy(id.sapi, Event::BusyOff, now, acts),
             Request::Unit(id, octets) => side.send_unit(id.sapi, octets, now, acts),
             Request::Give(id, message) => side.give_message(id.sapi, message, now, acts),
-            Request::AskTei | Request::Check(_) | Request::Remove(_) => Ok(()),
+            Request::AskTei
+            | Request::Check(_)
+            | Request::CheckAll
+            | Request::Remove(_)
+            | Request::RemoveAll => Ok(()),
         }
     }
 }

@@ -118,6 +118,8 @@ module _ (id : LinkId) (may : Bool) (O : Option Linked → Type 0) (p : What →
     permits rules its m request.AskTei allows = tt
     permits rules its m (request.Check tei) allows = tt
     permits rules its m (request.Remove tei) allows = tt
+    permits rules its m request.CheckAll allows = tt
+    permits rules its m request.RemoveAll allows = tt
 
     -- ---- A network side.
 
@@ -138,7 +140,8 @@ module _ (id : LinkId) (may : Bool) (O : Option Linked → Type 0) (p : What →
       times_out = λ timer s may o. assigning assigner.T201 (with_stopped timer s) o;
       requested = λ asked s allows.
           network_asked (of_links network_rules) config (λ tei. assigning (assigner.Check tei))
-          (λ tei. assigning (assigner.Remove tei)) (λ at octets s served o. inr o) asked s
+          (λ tei. assigning (assigner.Remove tei)) (λ at octets s served o. inr o)
+          (λ s o. inr o) (λ s o. inr o) asked s
           (permits network_rules network_concerns s.management asked allows);
     }
 

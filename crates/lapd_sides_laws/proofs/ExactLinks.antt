@@ -287,7 +287,7 @@ unfolding without_tei
 without_freed None links all = all
 without_freed (Some tei) links all = λ id. if_either OfSome (id.tei == tei) None (links id) no_link_is_exact (all id)
 
-messages_carry_tags : (side : Side) (outs : List TeiOut) → All (CarriesTags side) (filter_map (message_sent side) outs)
+pub messages_carry_tags : (side : Side) (outs : List TeiOut) → All (CarriesTags side) (filter_map (message_sent side) outs)
 messages_carry_tags side [] = All-nil (CarriesTags side)
 messages_carry_tags side (outcome.Send message ∷ outs) = All-cons (CarriesTags side) _ _ (spelled_carries_tags side (frame_of_message message) tt) (messages_carry_tags side outs)
 messages_carry_tags side (other ∷ outs) = messages_carry_tags side outs

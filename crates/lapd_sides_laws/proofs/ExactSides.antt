@@ -27,15 +27,17 @@ use Rattle.lapd_table.specs.declared.link_id.LinkId.{LinkId}
 use Rattle.lapd_sides_links.specs.declared.config.Config.{Config}
 use Rattle.lapd_sides_links.specs.Effects.{no_effects}
 use Rattle.lapd_sides_links.specs.Links.{is_served, is_held_below, links_below, no_links}
-use Rattle.lapd_sides.specs.Network.{Network, new_network, network_rules, assigner_acts, group_frame}
+use Rattle.lapd_sides.specs.Network.{Network, new_network, network_rules, assigner_acts, group_frame, sends_to_all}
 use Rattle.lapd_sides.specs.SideState.{Rules, SideState, with_stopped}
 use Rattle.lapd_sides.specs.User.{User, new_user, user_rules, terminal_acts}
 use Rattle.lapd_sides_laws.specs.ExactTimers.{HaveExactTimers, BothHaveExactTimers, AreOctets, SideStep, BringsOctets, stepped, stepped_by_all, new_view, OverhearsOctets, OverhearOctets}
 use Rattle.lapd_sides_laws.specs.Interface.{Configs, Interface, Move, behaviour, user_behaviour, network_behaviour, new_interface, by_user, by_network, side_does, happens, run}
 use Rattle.lapd_sides_laws.specs.SideView.{Behaviour, SideView, SideEvent, Take, Lose, Expire, Ask, Overhear, reaction, left, does}
-use Rattle.lapd_sides_laws.proofs.ExactLinks.{CarriesTags, octets_carry_tags, spelled_carries_tags, IsExact, IsExactAmong, quietly, acts_exactly, expires_exactly, fresh_or, no_link_is_exact, with_tei_exact, manages_exactly}
+use Rattle.lapd_sides_laws.proofs.ExactLinks.{CarriesTags, octets_carry_tags, spelled_carries_tags, IsExact, IsExactAmong, quietly, acts_exactly, expires_exactly, fresh_or, no_link_is_exact, with_tei_exact, manages_exactly, messages_carry_tags}
 use Rattle.lapd_sides_laws.proofs.Reactions.{AnyRequest, Inputs, Law, HoldsOfLinks, HoldsOfRules, HoldsOfEvents, IsOfRequest, PermitsEvent, PermitsFault, PermitsFirst, PermitsFrame, any_request, reacts}
 use Rattle.lapd_sides_laws.proofs.Requests.{HoldsInTurn, by_events, network_asked, sent_to_group, step_at, terminal_so, user_asked}
+use Rattle.lapd_sides.specs.AllTeis.{check_of_all, removal_of_all}
+use Rattle.lapd_tei.specs.declared.out.TeiOut.{TeiOut}
 
 -- an input carries tags, if it carries numbers
 abbrev pub CarriesNumbersOf : Inputs
@@ -99,6 +101,13 @@ module _ (config : Config) (now : ℕ) where
         (All-nil (CarriesTags side.Network));
   }
 
+  sends_all : (messages : List TeiOut) (s : Network)
+      → Exact network_rules s (sends_to_all messages s)
+  sends_all messages s all = record {
+    timers = all;
+    frames = messages_carry_tags side.Network messages;
+  }
+
   pub network_exactly : HoldsOfRules network_rules config now (Exact network_rules) AnyRequest
   network_exactly = record {
     hears = λ m. assigning (assigner.Heard m);
@@ -106,7 +115,8 @@ module _ (config : Config) (now : ℕ) where
     requested = λ asked s any.
         network_asked (links_exactly network_rules now) config
         (λ tei. assigning (assigner.Check tei)) (λ tei. assigning (assigner.Remove tei))
-        sends_exactly asked s
+        sends_exactly (λ s. sends_all (check_of_all s.management.check) s)
+        (λ s. sends_all (removal_of_all s.management.held) s) asked s
         (any_request network_rules CarriesNumbersOf of_request s.management asked);
   }
 

@@ -132,7 +132,7 @@ removal_of_other id (Some t) links other =
 
 -- ---- Messages and outcomes.
 
-message_is_other : (side : Side) (id : LinkId) (out : TeiOut) → id.tei < 127 → IfSome (message_sent side out) (λ octets. is_for side id octets ≡ false)
+pub message_is_other : (side : Side) (id : LinkId) (out : TeiOut) → id.tei < 127 → IfSome (message_sent side out) (λ octets. is_for side id octets ≡ false)
 message_is_other side id (outcome.Send message) low = spelled_is_for side id (frame_of_message message) ∙ not_of_group Management id low
 message_is_other side id other low = tt
 

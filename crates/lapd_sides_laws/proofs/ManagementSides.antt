@@ -75,7 +75,7 @@ module _ (config : Config) where
     requested = λ asked s any.
         network_asked (of_links network_rules config Checks now) config
         (λ tei. assigning now (assigner.Check tei)) (λ tei. assigning now (assigner.Remove tei))
-        (λ at octets s served h. h) asked s
+        (λ at octets s served h. h) (λ s h. h) (λ s h. h) asked s
         (each_request network_rules s.management asked);
   }
 

@@ -10,14 +10,17 @@ use Rattle.lapd_table.specs.declared.link_id.LinkId.{LinkId}
 use Rattle.lapd_sides_links.specs.declared.config.Config.{Config}
 use Rattle.lapd_sides_links.specs.Links.{is_served}
 use Rattle.lapd_sides.specs.Meant.{gives_to_link}
-use Rattle.lapd_sides.specs.Network.{Network, network_rules, assigner_acts, group_frame}
+use Rattle.lapd_sides.specs.Network.{Network, network_rules, assigner_acts, group_frame, sends_to_all}
 use Rattle.lapd_sides.specs.SideState.{with_stopped}
 use Rattle.lapd_sides_laws.specs.Interface.{network_behaviour}
 use Rattle.lapd_sides_laws.specs.Owed.{ServesLink}
-use Rattle.lapd_sides_laws.proofs.LinkParts.{spelled_is_for}
-use Rattle.lapd_sides_laws.proofs.Managed.{managing, not_of_group}
+use Rattle.lapd_sides_laws.proofs.LinkParts.{spelled_is_for, none_pass}
+use Rattle.lapd_sides_laws.proofs.Managed.{managing, not_of_group, message_is_other}
 use Rattle.lapd_sides_laws.proofs.Requests.{network_asked, sent_to_group}
 use Rattle.lapd_sides_laws.proofs.Serves.{Asks, ServesMeant, Spares, SparesLink, asked_links, moves, no_request, serves}
+use Rattle.lapd_sides.specs.AllTeis.{check_of_all, removal_of_all}
+use Rattle.lapd_tei.specs.declared.out.TeiOut.{TeiOut}
+use Rattle.lapd_sides_links.specs.Effects.{message_sent}
 
 pub network_meant : (config : Config) → ServesMeant network_rules config
 network_meant config = record {
@@ -55,6 +58,16 @@ module _ (config : Config) (id : LinkId) (low : id.tei < 127) (removed : Bool) w
         delivered = refl;
       }))
 
+  to_all : (now : ℕ) (messages : List TeiOut) (s : Network)
+      → Asks network_rules config id low removed now s (sends_to_all messages s)
+  to_all now messages s = no_request network_rules config id low removed now s
+      (sends_to_all messages s) (λ once. inl (record {
+        links = refl;
+        frames = none_pass (is_for side.Network id) (message_sent side.Network) messages
+            (λ out. message_is_other side.Network id out low);
+        delivered = refl;
+      }))
+
   of_tei : (now : ℕ) (e : AssignerEvent) (s : Network)
       → Asks network_rules config id low removed now s (assigner_acts config now e s)
   of_tei now e s =
@@ -69,7 +82,8 @@ module _ (config : Config) (id : LinkId) (low : id.tei < 127) (removed : Bool) w
     requested = λ now asked s none.
         network_asked (asked_links network_rules config id low removed now) config
         (λ tei. of_tei now (event.Check tei)) (λ tei. of_tei now (event.Remove tei))
-        (to_group now) asked s
+        (to_group now) (λ s. to_all now (check_of_all s.management.check) s)
+        (λ s. to_all now (removal_of_all s.management.held) s) asked s
         (moves network_rules config id low removed s.management asked none);
   }
 

@@ -126,7 +126,9 @@ module _ (config : Config) where
     requested = λ asked s any.
         network_asked (of_links network_rules config Holds now) config
         (λ tei. assigning now (assigner.Check tei)) (λ tei. assigning now (assigner.Remove tei))
-        (λ at octets s served held. record { after = held; quiet = λ k there. refl }) asked s
+        (λ at octets s served held. record { after = held; quiet = λ k there. refl })
+        (λ s held. record { after = held; quiet = λ k there. refl })
+        (λ s held. record { after = held; quiet = λ k there. refl }) asked s
         (each_request network_rules s.management asked);
   }
 

@@ -304,6 +304,8 @@ any_request rules Permits any m (request.Busy id false) = λ own is. any own _ _
 any_request rules Permits any m request.AskTei = tt
 any_request rules Permits any m (request.Check tei) = tt
 any_request rules Permits any m (request.Remove tei) = tt
+any_request rules Permits any m request.CheckAll = tt
+any_request rules Permits any m request.RemoveAll = tt
 
 -- ---- A law that permits each input and allows each request.
 

@@ -30,9 +30,10 @@ use Rattle.lapd_sides.specs.declared.request.Request.{Request}
 use Rattle.lapd_sides.specs.declared.request.Request.TheVariants as request
 use Rattle.lapd_sides.specs.Management.{manages}
 use Rattle.lapd_sides.specs.SideState.{link_of, primitive_of_group}
-use Rattle.lapd_sides.specs.Network.{Network, network_rules, assigner_acts, group_frame, unit_to_group, network_requested}
+use Rattle.lapd_sides.specs.Network.{Network, network_rules, assigner_acts, group_frame, unit_to_group, network_requested, sends_to_all}
 use Rattle.lapd_sides.specs.User.{User, TerminalState, PendingEstablishments, user_rules, own_link, nothing_pending, with_kept, next, next_reference, drawn, establishes, establishes_pending, gives_up_pending, pending_after, terminal_acts, with_tei_or, is_pending, with_pending, wants, forgets, has_tei, user_requested}
 use Rattle.lapd_sides_laws.proofs.Reactions.{Inputs, Law, HoldsOfLinks, IsNoExpiry, PermitsRequest, if_either, linked, or_still}
+use Rattle.lapd_sides.specs.AllTeis.{check_of_all, removal_of_all}
 
 -- ---- A network side.
 
@@ -49,6 +50,8 @@ module _ {now : ℕ} {R : Law AssignerState} {Permits : Inputs}
     (removes : (tei : ℕ) (s : Network) → R s (assigner_acts config now (assigner.Remove tei) s))
     (sends : (sapi : Sapi) (octets : List ℕ) (s : Network) → is_served config sapi ≡ true
     → R s (sent_to_group sapi octets s))
+    (checks_all : (s : Network) → R s (sends_to_all (check_of_all s.management.check) s))
+    (removes_all : (s : Network) → R s (sends_to_all (removal_of_all s.management.held) s))
   where
     abbrev NetworkIfOk : Network → Result (Reaction Network) SideKind → Type 0
     NetworkIfOk s r = IfOk r (R s)
@@ -90,6 +93,8 @@ module _ {now : ℕ} {R : Law AssignerState} {Permits : Inputs}
     network_asked request.AskTei s permits = law.still s
     network_asked (request.Check tei) s permits = checks tei s
     network_asked (request.Remove tei) s permits = removes tei s
+    network_asked request.CheckAll s permits = checks_all s
+    network_asked request.RemoveAll s permits = removes_all s
 
 -- ---- A user side.
 
@@ -149,6 +154,8 @@ module _ {now : ℕ} {R : Law TerminalState} {Permits : Inputs}
       with_own s.management.terminal id input.BusyOff [] (Err NoLink) s tt permits tt
   user_asked config own request.AskTei s allows permits = own.asked s
   user_asked config own (request.Check tei) s allows permits = law.still s
+  user_asked config own request.CheckAll s allows permits = law.still s
+  user_asked config own request.RemoveAll s allows permits = law.still s
   user_asked config own (request.Remove tei) s allows permits =
       left_by config own tei s (has_tei tei (tei_of s.management.terminal)) refl
 

@@ -278,6 +278,8 @@ module _ {M : Type 0} (rules : Rules M) (config : Config) (id : LinkId) (low : i
   moves m request.AskTei none = tt
   moves m (request.Check tei) none = tt
   moves m (request.Remove tei) none = tt
+  moves m request.CheckAll none = tt
+  moves m request.RemoveAll none = tt
 
   module _ (meant : ServesMeant rules config)
       (requested : (now : ℕ) (asked : Request) (s : SideState M) → GivesNone asked
@@ -323,6 +325,8 @@ module _ {M : Type 0} (rules : Rules M) (config : Config) (id : LinkId) (low : i
     asked request.AskTei is = other_asked request.AskTei tt is
     asked (request.Check tei) is = other_asked (request.Check tei) tt is
     asked (request.Remove tei) is = other_asked (request.Remove tei) tt is
+    asked request.CheckAll is = other_asked request.CheckAll tt is
+    asked request.RemoveAll is = other_asked request.RemoveAll tt is
 
   -- ---- Every event, if TEI management spares the link.
 

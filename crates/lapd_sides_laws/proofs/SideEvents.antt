@@ -499,6 +499,8 @@ module _ (S : Type 0) (w : Behaviour S) (side : Side) (id : LinkId) where
   none_accepted request.AskTei now s kind is = refl
   none_accepted (request.Check tei) now s kind is = refl
   none_accepted (request.Remove tei) now s kind is = refl
+  none_accepted request.CheckAll now s kind is = refl
+  none_accepted request.RemoveAll now s kind is = refl
 
   asks_by : Serves → (v : SideView S) (view : View) (request : Request) (now : ℕ) (r : Result (Reaction S) SideKind) → w.requested request now v.now ≡ r → Projects w side id v view → IsConsistentView Tagged view
       → Once v (or_unmoved v.now r) → Outcome v (view_after_event v (or_unmoved v.now r) (accepted_by w request now v.now) v.incoming) view

@@ -143,6 +143,8 @@ fn request_of(alloc: Global, word: &str, behind: &str) -> Option<Request> {
         "ask" => Some(Request::AskTei),
         "check" => Some(Request::Check(id.tei)),
         "remove" => Some(Request::Remove(id.tei)),
+        "check-all" => Some(Request::CheckAll),
+        "remove-all" => Some(Request::RemoveAll),
         _ => None,
     }
 }

@@ -194,6 +194,45 @@ net 64
 shows: network;discarded 4;holds 64;
 exact: yes
 
+# without a held TEI all are checked by one message, if none is under check, and removed by two
+net packets
+0 check-all: feff030f000004ff;
+1 take fcff030f56780581
+1 take fcff030f9abc0583
+2 remove-all: feff030f000006ff;feff030f000006ff;
+100 take fcff030f123401ff: feff030f12340281;tei given 64;
+100 check-all: feff030f000004ff;
+100 remove-all
+100 check 0 65: feff030f00000483;
+200 check-all
+300 remove-all
+300 remove 0 64: feff030f00000681;feff030f00000681;tei free 64;
+300 remove-all: feff030f000006ff;feff030f000006ff;
+1100 tick: feff030f00000483;
+2100 tick: tei free 65;
+shows: network;discarded 0;holds;
+exact: yes
+
+# both requests, and two terminals that obey them: one with a fixed TEI, one with an assigned TEI
+net
+0 check-all: feff030f000004ff;
+0 remove-all: feff030f000006ff;feff030f000006ff;
+user 64
+0 check-all
+0 remove-all
+0 take feff030f000004ff: fcff030f61990581;
+0 take feff030f000006ff: tei gone 64;
+0 take feff030f000006ff
+shows: user;discarded 0;state 1;asked 0;
+user
+0 ask: fcff030f619901ff;
+0 take feff030f61990283: tei got 65;
+0 take feff030f000004ff: fcff030f76910583;
+0 take feff030f000006ff: tei gone 65;
+0 take feff030f000006ff
+shows: user;discarded 0;state 1;asked 0;
+exact: yes
+
 # what TEI management ignores is not counted
 net 64
 0 take fcff03
