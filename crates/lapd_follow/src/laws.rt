@@ -11,8 +11,8 @@ ghost use Rattle.lapd_follow.specs.Tallies.{middle_of, no_times, with_times};
 ghost use Rattle.lapd_follow.specs.Worked.{told, undisturbed, vr_not_reset, sent_again, without_cause, to_busy, four_messages, to_released, without_bits, before_answers, collision};
 ghost use Rattle.lapd_follow.specs.WorkedTeis.{notes, said, said_but, assignment, checks, assigned_twice, assigned_below, assigned_anew};
 
-/// The remarks on each frame of worked dialogues: only establishments and answers on an undisturbed
-/// link, recoveries after a loss, and violations if an end has an error.
+/// Worked dialogues have the expected remarks. They are only establishments and answers on an
+/// undisturbed link, recoveries after a loss, and violations if an end has an error.
 pub fn remarks_are_computed()
     ensures undisturbed { told undisturbed ≡ [] ∷ (Begins 1 ∷ Answers 1 (Some 1000) ∷ []) ∷ []
         ∷ [] ∷ [] ∷ [] ∷ [] ∷ (Answers 7 (Some 1000) ∷ []) ∷ [] }
@@ -44,8 +44,8 @@ pub fn remarks_are_computed()
         ∷ [] ∷ [] }
 {}
 
-/// The remarks on worked messages of TEI management: each message of an assignment and of a check
-/// has its remark, and a TEI that is assigned twice is a violation.
+/// Worked TEI messages have the expected remarks. Each message of an assignment and of a check has
+/// its remark, and a TEI that is assigned twice is a violation.
 pub fn identities_are_computed()
     ensures assigned { notes assignment ≡ said (Request 1) ∷ said (Assigned 64 1) ∷ said (Request 2)
         ∷ said (Denied 2) ∷ said_but (Assigned 64 1) Unrequested
@@ -83,10 +83,10 @@ pub fn middles_are_computed()
         ≡ Some (record { from = 100000000; to = 700000000 }) }
 {}
 
-/// The middle lies where it is reported. At least half of the times are in its class or in one
-/// before, and fewer than half are in one before. So at least half are not above its greater bound,
-/// and fewer than half are below its lesser one. The greater is at most 2.5 times the lesser,
-/// unless it is at most 1 ms or the lesser at least 100 s.
+/// The two times that are reported for the middle answer time enclose it. At least half of the
+/// times are in its class or in one before, and fewer than half are in one before. So at least half
+/// are not above its greater bound, and fewer than half are below its lesser one. The greater is at
+/// most 2.5 times the lesser, unless it is at most 1 ms or the lesser at least 100 s.
 pub fn middle_is_between()
     ensures by_class { (times : List ℕ) → 0 < length times → length times < 2 ^ 64
         → Halve (λ n. nat_le (class_of n) (middle_class (with_times times no_times).classes))

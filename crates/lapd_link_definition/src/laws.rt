@@ -94,6 +94,8 @@ pub fn establishments_are_counted()
         → step r input e ≡ Ok s → s.end.establishments ≡ e.establishments }
 {}
 
+/// A step keeps accepted messages, and reports each acknowledged, dropped or delivered one once.
+///
 /// Messages are reported correctly (Q.921 5.6.2, 5.6.3.2):
 ///
 /// - Accepted messages stay in the list, and a newly accepted message is appended.

@@ -50,10 +50,11 @@ pub fn each_side_asks_one_at_a_time()
         → (moves : List Move) → AskOneAtATime (run r moves (new_world user network)) }
 {}
 
-/// Every run is safe under a weaker premise on T200 too. In the moves above, T200 does not expire
-/// while any command with P=1 of its side, or any response with F=1 to it, is in transit. Here only
-/// the frames that T200 guards and their answers delay it: in states 5 and 6 SABME, DISC, UA and
-/// DM; in state 8 polling commands and supervisory responses with F=1; in state 7 none.
+/// Every run is safe also if T200 waits only for the frames that it guards and their answers. In
+/// the moves above, T200 does not expire while any command with P=1 of its side, or any response
+/// with F=1 to it, is in transit. Here only the frames that T200 guards and their answers delay it:
+/// in states 5 and 6 SABME, DISC, UA and DM; in state 8 polling commands and supervisory responses
+/// with F=1; in state 7 none.
 pub fn every_eager_run_is_safe()
     ensures safe { (r : Reading) (user network : Parameters) → user.k ≤ 127 → network.k ≤ 127
         → (moves : List Move) → AreSafe (run_eagerly r moves (new_world user network)) }
@@ -75,10 +76,10 @@ pub fn eager_moves_are_admitted()
         → expires_eagerly r side v ≡ Ok acted → (v.station.end.t200 ≡ true) × (awaited_in v ≡ 0) }
 {}
 
-/// Some eager moves are not admitted otherwise. In this schedule an enquiry is in transit that
-/// nobody will answer, and the next message is lost. T200 guards that message, but may not expire
-/// because of the enquiry. Eagerly it expires: the message is retransmitted, received once and
-/// acknowledged.
+/// In a worked schedule T200 expires as an eager move that the stricter premise refuses. In this
+/// schedule an enquiry is in transit that nobody will answer, and the next message is lost. T200
+/// guards that message, but may not expire because of the enquiry. Eagerly it expires: the message
+/// is retransmitted, received once and acknowledged.
 pub fn eager_schedule_is_computed()
     ensures refused { (r : Reading) → happens r (of_user Expire200) (run r passed_over worked.start)
         ≡ Err (NotYet side.Network 0) }
@@ -113,9 +114,10 @@ pub fn the_invariant_is_preserved()
         → IsInvariant (run Whole moves w) }
 {}
 
-/// The invariant implies what the laws above state. The histories are safe, a move reports only F,
-/// G, H and I, and no old message arrives. The first frame in transit to a side carries numbers
-/// near the side's own, so each of a list of moves has the same effect on tags as on whole numbers.
+/// The invariant implies safe histories, only the reports F to I, and no old message. The histories
+/// are safe, a move reports only F, G, H and I, and no old message arrives. The first frame in
+/// transit to a side carries numbers near the side's own, so each of a list of moves has the same
+/// effect on tags as on whole numbers.
 pub fn the_invariant_gives_safe()
     ensures safe { (w : World) → IsInvariant w → AreSafe w }
     ensures reports { (move : Move) (w : World) → IsInvariant w

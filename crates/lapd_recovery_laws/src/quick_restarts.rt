@@ -17,11 +17,12 @@ ghost use Rattle.lapd_pair_laws.specs.Schedule.{figures, of_network, start};
 ghost use Rattle.lapd_pair_laws.specs.World.{World, new_world, view_of, happens, world_after};
 ghost use Rattle.lapd_recovery_laws.specs.QuickRestart.{restart_and_losses, restarted_keeping, responses, happens_keeping, run_keeping, run_quickly, outcomes_quickly, across_a_restart, user_at_end, network_at_end, with_a_command, with_an_answer};
 
-/// Every run is safe under a weaker premise on restarts too. In the moves of `lapd_pair_laws` a
-/// restart drops all frames in transit. Here they stay, and may arrive after the restart, unless a
-/// SABME or DISC of the side that restarts, or a UA or DM to it, is among them; then they are
-/// dropped. All other moves are eager: T200 waits only for the frames that it guards and their
-/// answers. Conclusions and other premises are those of `every_eager_run_is_safe`.
+/// Every run is safe also if a restart leaves frames in transit, except a SABME or DISC of its side
+/// or a UA or DM to it. In the moves of `lapd_pair_laws` a restart drops all frames in transit.
+/// Here they stay, and may arrive after the restart, unless a SABME or DISC of the side that
+/// restarts, or a UA or DM to it, is among them; then they are dropped. All other moves are eager:
+/// T200 waits only for the frames that it guards and their answers. Conclusions and other premises
+/// are those of `every_eager_run_is_safe`.
 pub fn every_run_with_quick_restarts_is_safe()
     ensures safe { (r : Reading) (user network : Parameters) → user.k ≤ 127 → network.k ≤ 127
         → (moves : List Move) → AreSafe (run_quickly r moves (new_world user network)) }
@@ -34,8 +35,8 @@ pub fn every_run_with_quick_restarts_is_safe()
         → (moves : List Move) → AllAreFresh (run_quickly r moves (new_world user network)) }
 {}
 
-/// A restart that drops all frames in transit, as in `Move`, is one of these moves and then losses:
-/// if each frame in transit is lost after it, one by one, both worlds are the same.
+/// A restart that drops all frames equals one that leaves them, followed by the loss of each. Both
+/// lead to the same world.
 pub fn a_restart_may_drop_all_frames()
     ensures { (r : Reading) (side : Side) (w : World)
         → run_quickly r (restart_and_losses side (view_of side w)) w
@@ -51,17 +52,19 @@ pub fn quick_restarts_keep_the_invariant()
         → IsInvariant (run_keeping Whole moves w) }
 {}
 
-/// Nothing shows whether V(S), V(A) and V(R) were kept. Whatever the inputs after a restart, on
-/// whole numbers or on tags, the end that kept them has the same outputs and refusals as the one
-/// that set them to 0. No row reads them before an establishment sets them to 0.
+/// After a restart an end responds alike whether it kept V(S), V(A) and V(R) or set them to 0.
+/// Whatever the inputs after a restart, on whole numbers or on tags, the end that kept them has the
+/// same outputs and refusals as the one that set them to 0. No row reads them before an
+/// establishment sets them to 0.
 pub fn both_restarts_respond_alike()
     ensures { (r : Reading) (inputs : List Input) (e : End)
         → responses r inputs (restarted_keeping e) ≡ responses r inputs (restarted e) }
 {}
 
-/// A message outlasts a restart. The user restarts while a message is in transit in each direction.
-/// The network receives the user's message, and later the one that the user sends after it has
-/// established again, once each. The user ignores the network's message, which is dropped.
+/// In a worked run a message outlasts a restart and is received once. The user restarts while a
+/// message is in transit in each direction. The network receives the user's message, and later the
+/// one that the user sends after it has established again, once each. The user ignores the
+/// network's message, which is dropped.
 pub fn quick_restart_is_computed()
     ensures user { (r : Reading) → figures (run_quickly r across_a_restart start).user
         ≡ user_at_end }
@@ -69,10 +72,10 @@ pub fn quick_restart_is_computed()
         ≡ network_at_end }
 {}
 
-/// The premise is needed, in both parts. If the frames stay although the network's SABME, or the UA
-/// that answers it, is in transit, then the network reports an unsolicited UA (C) after its
-/// restart, at the fourth move. With the UA the histories can become unsafe too
-/// (`each_premise_is_needed` of `lapd_pair_laws`).
+/// If a SABME of the restarting side or the UA to it stays in transit, the side reports C. If the
+/// frames stay although the network's SABME, or the UA that answers it, is in transit, then the
+/// network reports an unsolicited UA (C) after its restart, at the fourth move. With the UA the
+/// histories can become unsafe too (`each_premise_is_needed` of `lapd_pair_laws`).
 pub fn quick_restart_premise_is_needed()
     ensures command { ReportsExpected
         (freely (Admitted (of_network Deliver)) (run_freely with_a_command start)) → ⊥ }

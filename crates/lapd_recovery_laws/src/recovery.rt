@@ -225,12 +225,12 @@ pub fn every_world_comes_back()
         → WorldComesBack r n200 (run r moves (new_world user network)) }
 {}
 
-/// T203 in state 7 at both ends disturbs nothing. Besides the own moves, it expires at any moment
-/// while the ends are in step: no message is left, and both ends are in state 7, or in state 8 with
-/// a poll or the response to it in transit. After as many moves as [`every_world_comes_back`]
-/// counts at most, or more, in any order, no message is left, and both ends are in state 4, or both
-/// in states 7 and 8 with equal numbers. The same holds after any such moves from ends that agree.
-/// The premises are those of that law.
+/// Ends that agree stay in agreement if T203 expires in state 7 at both. Besides the own moves, it
+/// expires at any moment while the ends are in step: no message is left, and both ends are in state
+/// 7, or in state 8 with a poll or the response to it in transit. After as many moves as
+/// [`every_world_comes_back`] counts at most, or more, in any order, no message is left, and both
+/// ends are in state 4, or both in states 7 and 8 with equal numbers. The same holds after any such
+/// moves from ends that agree. The premises are those of that law.
 pub fn every_agreement_is_kept()
     ensures { (r : Reading) (n200 : ℕ) → 1 ≤ n200 → (user network : Parameters)
         → user.k ≤ 127 → network.k ≤ 127 → 1 ≤ user.k → 1 ≤ network.k → (moves : List Move)

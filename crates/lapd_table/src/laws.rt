@@ -20,9 +20,10 @@ pub fn link_is_as_it_is_alone()
         → ends id ≡ Some e → IsAsAlone side arrivals ends id e }
 {}
 
-/// `dispatch`, `handle` and `give` are steps of that definition. If the links of a table represent
-/// some ends, then after a call they represent the ends after one step, with the outputs that the
-/// call returned. After a refused call they are unchanged, and nothing is sent.
+/// The calls `dispatch`, `handle` and `give` of a table are steps of the definition of links alone.
+/// If the links of a table represent some ends, then after a call they represent the ends after one
+/// step, with the outputs that the call returned. After a refused call they are unchanged, and
+/// nothing is sent.
 pub fn calls_are_steps()
     ensures dispatched { (old new : LinkTable) (octets : List ℕ) (id : LinkId) (outs : List Out)
         → HasDispatched old new octets id outs → Follows old new (Octets octets) id outs }

@@ -92,16 +92,17 @@ pub fn terminals_are_single()
         → Single (run (new_bus terminals) moves) }
 {}
 
-/// A run in which a freed TEI is assigned to another terminal meets both premises.
+/// A worked run meets both premises of `terminals_are_single`. In it a freed TEI is assigned to
+/// another terminal.
 pub fn premises_can_be_met()
     ensures met { MeetsPremises 2 got_by_another }
     ensures got { (run (new_bus 2) got_by_another).terminals
         ≡ Unassigned ∷ Assigned (Some 3) 64 ∷ [] }
 {}
 
-/// Neither premise can be dropped. Two terminals end up with the same TEI if two requests share a
-/// reference, if a check frees a TEI that a terminal holds, or if it frees one whose assignment is
-/// in transit.
+/// Each premise of `terminals_are_single` is needed. Two terminals end up with the same TEI if two
+/// requests share a reference, if a check frees a TEI that a terminal holds, or if it frees one
+/// whose assignment is in transit.
 pub fn premises_are_needed()
     ensures references { Single (run (new_bus 2) one_reference) → ⊥ }
     ensures holders { Single (run (new_bus 2) freed_while_held) → ⊥ }
@@ -159,12 +160,12 @@ pub fn service_premises_can_be_met()
         ≡ Assigned (Some 7) 66 ∷ Unassigned ∷ [] }
 {}
 
-/// None of the four premises can be dropped. With the other three met, two terminals end up with
-/// the same TEI in each of these cases: one requests by the other's reference, outstanding or the
-/// one that it was assigned by; a check frees a TEI that is held or whose assignment is in transit;
-/// a TEI that is held is removed, and its terminal does not receive the removal; the network side
-/// restarts without knowing such a TEI; a terminal joins with a fixed TEI that is held, whose
-/// assignment is in transit, or that the network side does not know.
+/// Each of the four premises of a bus in service is needed. With the other three met, two terminals
+/// end up with the same TEI in each of these cases: one requests by the other's reference,
+/// outstanding or the one that it was assigned by; a check frees a TEI that is held or whose
+/// assignment is in transit; a TEI that is held is removed, and its terminal does not receive the
+/// removal; the network side restarts without knowing such a TEI; a terminal joins with a fixed TEI
+/// that is held, whose assignment is in transit, or that the network side does not know.
 pub fn service_premises_are_needed()
     ensures outstanding { AreNotEnough FreesNobodysTei RestartsKnowing JoinsByItsOwn
         reference_outstanding }
