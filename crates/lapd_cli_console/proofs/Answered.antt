@@ -8,10 +8,10 @@ use Rattle.std.specs.Io.KnownBytes.{Consumes, IsAtEnd}
 use Rattle.std.proofs.lemmas.List.{take-append-drop}
 use Rattle.lapd_cli_script.specs.Script.{lines_of}
 use Rattle.lapd_cli_script.specs.WalkState.{HasNoFeed}
-use Rattle.lapd_cli_console.specs.declared.script.Script.{Script}
+use Rattle.lapd_cli_grammar.specs.declared.script.Script.{Script}
 use Rattle.lapd_cli_console.specs.Answered.{KeepsAnswers, all_answers_of, answers_next}
 use Rattle.lapd_cli_console.specs.Answers.{AddsAll, Answer, Helped, Refused, answer_to, answers_to, answers_to_line}
-use Rattle.lapd_cli_console.specs.Forms.{is_line_of}
+use Rattle.lapd_cli_grammar.specs.Values.{is_line_of}
 use Rattle.lapd_cli_console.specs.Tidied.{tidied_line}
 use Rattle.lapd_cli_console.specs.Typed.{IsUsedUp, Typing, after_line, before_end, ends_input}
 use Rattle.lapd_cli_console.proofs.Typed.{lines_of-last, lines_of-line}

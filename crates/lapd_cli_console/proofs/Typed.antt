@@ -9,8 +9,8 @@ use Rattle.std.proofs.lemmas.List.{take-append-drop}
 use Rattle.lapd_cli_script.specs.Line.{text_line}
 use Rattle.lapd_cli_script.specs.Script.{lines_of, with_first}
 use Rattle.lapd_cli_script.specs.WalkState.{HasNoFeed}
-use Rattle.lapd_cli_console.specs.declared.script.Script.{Script}
-use Rattle.lapd_cli_console.specs.Forms.{is_line_of}
+use Rattle.lapd_cli_grammar.specs.declared.script.Script.{Script}
+use Rattle.lapd_cli_grammar.specs.Values.{is_line_of}
 use Rattle.lapd_cli_console.specs.Tidied.{tidied_line}
 use Rattle.lapd_cli_console.specs.Typed.{IsUsedUp, Typing, after_line, before_end, ends_input, passed_lines, passed_next, passed_on, passed_text}
 

@@ -3,8 +3,8 @@ use Rattle.std.specs.Prelude.{◌≡◌, ℕ, if◌then◌else◌, List, [], ◌
 use Rattle.std.specs.List.{cons_option, filter_map}
 use Rattle.std.specs.Str.{bytes_eq}
 use Rattle.lapd_cli_script.specs.Script.{lines_of}
-use Rattle.lapd_cli_console.specs.declared.script.Script.{Script}
-use Rattle.lapd_cli_console.specs.Forms.{is_line_of}
+use Rattle.lapd_cli_grammar.specs.declared.script.Script.{Script}
+use Rattle.lapd_cli_grammar.specs.Values.{is_line_of}
 use Rattle.lapd_cli_console.specs.Tidied.{tidied_line}
 use Rattle.lapd_cli_console.specs.Typed.{before_end, ends_input}
 

@@ -1,7 +1,6 @@
 pub mod Answered
 pub mod Answers
 pub mod Fault
-pub mod Forms
 pub mod Recent
 pub mod Tidied
 pub mod Typed

@@ -3,9 +3,10 @@ use Rattle.std.specs.Prelude.{◌≢◌, ℕ, ◌==◌, ◌&&◌, ◌||◌, if�
 use Rattle.std.specs.List.{AllByRecursion, flat_map, slice_split}
 use Rattle.std.specs.Str.{bytes_eq}
 use Rattle.lapd_cli_script.specs.Line.{words_of}
-use Rattle.lapd_cli_console.specs.declared.form.Argument.{Argument}
-use Rattle.lapd_cli_console.specs.declared.script.Script.{Script}
-use Rattle.lapd_cli_console.specs.Forms.{Shape, is_hex, shape_named}
+use Rattle.lapd_cli_grammar.specs.declared.form.Argument.{Argument}
+use Rattle.lapd_cli_grammar.specs.declared.script.Script.{Script}
+use Rattle.lapd_cli_grammar.specs.Forms.{Shape, shape_named}
+use Rattle.lapd_cli_grammar.specs.Values.{is_hex}
 
 -- ---- Spaces around a line.
 

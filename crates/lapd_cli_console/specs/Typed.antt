@@ -4,9 +4,9 @@ use Rattle.std.specs.List.{filter, flat_map}
 use Rattle.std.specs.Str.{bytes_eq}
 use Rattle.lapd_cli_script.specs.Line.{text_line}
 use Rattle.lapd_cli_script.specs.Script.{lines_of}
-use Rattle.lapd_cli_console.specs.declared.script.Script.{Script}
+use Rattle.lapd_cli_grammar.specs.declared.script.Script.{Script}
 use Rattle.lapd_cli_console.specs.declared.session.Session.{Session}
-use Rattle.lapd_cli_console.specs.Forms.{is_line_of}
+use Rattle.lapd_cli_grammar.specs.Values.{is_line_of}
 use Rattle.lapd_cli_console.specs.Tidied.{tidied_line}
 
 -- ---- Which lines are passed on.

@@ -4,7 +4,7 @@ ghost use Rattle.std.specs.Prelude.{None, Option, List};
 ghost use Rattle.lapd_cli_console.specs.Answers.{Adds, Answer, Helped, Refused};
 
 use crate::help::put_help;
-use crate::script::Script;
+use lapd_cli_grammar::Script;
 use std::io::Write;
 
 /// Answers a person who types lines.

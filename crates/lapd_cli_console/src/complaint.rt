@@ -1,9 +1,7 @@
 //! Complaints about the form of a line.
 
-use crate::form::{Argument, Form, Forms};
-use crate::line_forms::{form_of, forms};
-use crate::script::Script;
 use crate::shown::Shown;
+use lapd_cli_grammar::{Argument, Form, FormFault, Forms, Script, form_of, forms};
 use std::fmt;
 
 /// A complaint about the form of a line.
@@ -21,18 +19,8 @@ pub(crate) enum Complaint<'a> {
     SpaceAtEnd,
     /// Two spaces follow each other.
     TwoSpaces,
-    /// No line of this command begins with this word.
-    NoLine(Script, &'a [u8]),
-    /// The word of this argument is missing.
-    Missing(Form, Argument),
-    /// This word is not a valid value of the argument.
-    OutOfRange(Form, Argument, &'a [u8]),
-    /// This octet is not a hexadecimal digit.
-    NoDigit(Form, u8),
-    /// The number of hexadecimal digits is odd.
-    OddDigits(Form),
-    /// This word follows a line that is complete without it.
-    Behind(Form, &'a [u8]),
+    /// It has no form of this command's.
+    Form(Script, FormFault<'a>),
 }
 
 impl fmt::Display for Complaint<'_> {
@@ -46,15 +34,23 @@ impl fmt::Display for Complaint<'_> {
             Complaint::SpaceAtFront => f.write_str("the line begins with a space"),
             Complaint::SpaceAtEnd => f.write_str("the line ends with a space"),
             Complaint::TwoSpaces => f.write_str("there are two spaces in a row in the line"),
-            Complaint::NoLine(script, word) => put_no_line(*script, word, f),
-            Complaint::Missing(form, argument) => write!(f, "{form}: {argument} is missing"),
-            Complaint::OutOfRange(form, argument, word) => put_out_of_range(
-                form, *argument, word, f,
-            ),
-            Complaint::NoDigit(form, octet) => put_no_digit(form, *octet, f),
-            Complaint::OddDigits(form) => write!(f, "{form}: an odd number of digits"),
-            Complaint::Behind(form, word) => put_behind(form, word, f),
+            Complaint::Form(script, fault) => put_form_fault(*script, fault, f),
         }
+    }
+}
+
+/// Says what is wrong with the words of a line of this command.
+fn put_form_fault<W: fmt::Write>(
+    script: Script,
+    fault: &FormFault<'_>,
+    f: &mut fmt::Formatter<W>,
+) -> fmt::Result {
+    match fault {
+        FormFault::NoForm(word) => put_no_line(script, word, f),
+        FormFault::Missing(form, argument) => write!(f, "{form}: {argument} is missing"),
+        FormFault::OutOfRange(form, Argument::Hex, word) => put_no_octets(form, word, f),
+        FormFault::OutOfRange(form, argument, word) => put_out_of_range(form, *argument, word, f),
+        FormFault::Behind(form, word) => put_behind(form, word, f),
     }
 }
 
@@ -99,13 +95,20 @@ fn put_out_of_range<W: fmt::Write>(
     write!(f, "{form}: {argument} must be {range}, not {word}")
 }
 
-/// Says which octet is not a hexadecimal digit.
-fn put_no_digit<W: fmt::Write>(form: &Form, octet: u8, f: &mut fmt::Formatter<W>) -> fmt::Result {
-    write!(
-        f,
-        "{form}: '{}' is not a hexadecimal digit",
-        octet.escape_ascii()
-    )
+/// Says why a word does not spell octets: its first octet that is not a hexadecimal digit, or the
+/// number of its digits.
+fn put_no_octets<W: fmt::Write>(
+    form: &Form,
+    word: &[u8],
+    f: &mut fmt::Formatter<W>,
+) -> fmt::Result {
+    for octet in word {
+        if !octet.is_ascii_hexdigit() {
+            let shown = octet.escape_ascii();
+            return write!(f, "{form}: '{shown}' is not a hexadecimal digit");
+        }
+    }
+    write!(f, "{form}: an odd number of digits")
 }
 
 /// Says which word follows a line that is complete without it.

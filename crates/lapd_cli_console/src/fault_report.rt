@@ -1,7 +1,7 @@
 //! The report on standard error of a fault that ended a script.
 
 use crate::judge::reason;
-use crate::script::Script;
+use lapd_cli_grammar::Script;
 use lapd_cli_script::{KindReason, ScriptFault, port_reason};
 use std::io::ErrorKind;
 

@@ -1,7 +1,6 @@
 //! The output of `help` for typed lines.
 
-use crate::line_forms::forms;
-use crate::script::Script;
+use lapd_cli_grammar::{Script, forms};
 use std::io::{self, Write};
 
 /// Prints the forms of a command's lines, followed by `help` and `quit`.

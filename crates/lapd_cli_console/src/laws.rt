@@ -1,9 +1,8 @@
 //! Laws over the definitions. The functions do nothing when they are called.
 
-ghost use Rattle.std.specs.Prelude.{◌≡◌, ◌≤◌, ◌+◌, ◌∷◌, ◌++◌, ℕ, List, Some, [], codes, false, slice_get, take, true};
+ghost use Rattle.std.specs.Prelude.{◌≡◌, ◌≤◌, ◌+◌, ◌∷◌, ◌++◌, ℕ, List, Some, [], codes, slice_get, take};
 ghost use Rattle.lapd_cli_script.specs.Script.{lines_of};
-ghost use Rattle.lapd_cli_console.specs.declared.script.Script.TheVariants.{Answer, LiveNet, LiveUser, Net};
-ghost use Rattle.lapd_cli_console.specs.Forms.{is_line_of};
+ghost use Rattle.lapd_cli_grammar.specs.declared.script.Script.TheVariants.{Answer, LiveNet, LiveUser, Net};
 ghost use Rattle.lapd_cli_console.specs.Recent.{ReadOctets, feeds, kept_line};
 ghost use Rattle.lapd_cli_console.specs.Tidied.{tidied_line};
 ghost use Rattle.lapd_cli_console.specs.Typed.{passed_on};
@@ -17,20 +16,6 @@ pub fn worked_typed_lines()
     ensures no_hex { tidied_line Net (codes "check 0x40 ") ≡ codes "check 0x40" }
     ensures no_form { tidied_line Net (codes " hex 0x 1") ≡ codes "hex 0x 1" }
     ensures expected { tidied_line LiveNet (codes "expect 0x : 5") ≡ codes "expect 0x : 5" }
-{}
-
-/// The documented examples of valid and invalid lines, with each clock.
-pub fn worked_lines_by_form()
-    ensures state { is_line_of LiveNet (codes "state") ≡ true }
-    ensures state_of_link { is_line_of LiveNet (codes "state 0 64") ≡ true }
-    ensures no_tei { is_line_of LiveNet (codes "state 0") ≡ false }
-    ensures own_tei { is_line_of LiveUser (codes "state 0") ≡ true }
-    ensures script { is_line_of Net (codes "state") ≡ false }
-    ensures tick { is_line_of LiveNet (codes "tick 5") ≡ false }
-    ensures impair { is_line_of LiveUser (codes "impair 20% 100") ≡ true }
-    ensures too_much { is_line_of LiveUser (codes "impair 101%") ≡ false }
-    ensures no_words { is_line_of LiveNet (codes "expect 100") ≡ false }
-    ensures words { is_line_of LiveNet (codes "expect 0 64  established 100") ≡ true }
 {}
 
 /// Examples of typed octets, and those that a session of `answer` passes on.

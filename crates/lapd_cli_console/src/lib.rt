@@ -1,8 +1,7 @@
 //! Messages of the program `lapd` to people about its script and its standard streams.
 //!
-//! - [`reason`] returns in one line of text what is wrong with a line of a command's script, and
-//!   [`forms`] lists the command's lines. The lines with the real clock are those of
-//!   [`Script::LiveNet`] and [`Script::LiveUser`].
+//! - [`reason`] returns in one line of text what is wrong with a line of a command's script, by the
+//!   forms of `lapd_cli_grammar`.
 //! - [`RecentLines`] reads a script and keeps the lines it read last, so that a line can be shown by
 //!   its number.
 //! - [`Watched`] is a writer that remembers how a write failed, and [`Refusals`] one that notes the
@@ -14,16 +13,12 @@
 
 mod answers;
 mod complaint;
-mod cuts;
 mod fault_report;
-mod form;
 mod help;
 mod judge;
 mod laws;
-mod line_forms;
 mod recent_lines;
 mod refusals;
-mod script;
 mod session;
 mod shown;
 mod typed_line;
@@ -32,16 +27,12 @@ mod watched;
 
 pub use answers::{Answers, PrintedAnswers};
 pub use fault_report::FaultReport;
-pub use form::{Argument, Form};
 pub use help::put_help;
 pub use judge::reason;
-pub use laws::{
-    lines_have_the_numbers_of_a_script, worked_lines_by_form, worked_sessions, worked_typed_lines,
-};
-pub use line_forms::forms;
+pub use lapd_cli_grammar::Script;
+pub use laws::{lines_have_the_numbers_of_a_script, worked_sessions, worked_typed_lines};
 pub use recent_lines::RecentLines;
 pub use refusals::Refusals;
-pub use script::Script;
 pub use session::Session;
 pub use typed_line::tidied;
 pub use watched::Watched;

@@ -8,14 +8,14 @@ ghost use Rattle.lapd_cli_script.specs.Line.{text_line};
 ghost use Rattle.lapd_cli_script.specs.WalkState.{HasNoFeed};
 ghost use Rattle.lapd_cli_console.specs.Answered.{KeepsAnswers, all_answers};
 ghost use Rattle.lapd_cli_console.specs.Answers.{AddsAll, answers_to_line};
-ghost use Rattle.lapd_cli_console.specs.Forms.{is_line_of};
+ghost use Rattle.lapd_cli_grammar.specs.Values.{is_line_of};
 ghost use Rattle.lapd_cli_console.specs.Typed.{IsReady, IsUsedUp, after_line, left_to_pass, passed_on, typing_of};
 
 use crate::answers::Answers;
 use crate::judge::reason;
-use crate::script::Script;
 use crate::typed_line::tidied;
 use crate::unreturned::Unreturned;
+use lapd_cli_grammar::Script;
 use lapd_cli_script::first_line;
 use std::alloc::Global;
 use std::io::{self, BufRead, ErrorKind, Read};

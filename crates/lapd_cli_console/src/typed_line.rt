@@ -3,9 +3,7 @@
 ghost use Rattle.std.specs.Prelude.{◌≡◌, ◌<◌, ◌++◌, ◌∷◌, [], length, IfNone, IfOk, IfSome, MatchOption, OnOk};
 ghost use Rattle.lapd_cli_console.specs.Tidied.{HasNoColon, arguments_named, digits_of_part, digits_of_word, hex_words, spaced, tidied_behind, tidied_line, trimmed as trimmed_of, without_end as end_dropped, without_front as front_dropped};
 
-use crate::form::Argument;
-use crate::line_forms::form_of;
-use crate::script::Script;
+use lapd_cli_grammar::{Argument, Script, form_of};
 use lapd_cli_script::Words;
 use memchr::memchr;
 use std::alloc::{AllocError, Global};

@@ -1,11 +1,15 @@
 -- The first word of a line, and the words of a line one octet further.
-use Rattle.std.proofs.Common.{◌≡◌, ◌≢◌, ℕ, ◌-◌, ◌==◌, ◌&&◌, List, [], ◌∷◌, ◌++◌, length, take, drop, Bool, true, false, None, Some, option_and_then, refl, sym, ap, ◌∙◌, if◌then◌else◌}
+use Rattle.std.proofs.Common.{arith, ◌≡◌, ◌≢◌, ℕ, ◌-◌, ◌==◌, ◌&&◌, List, [], ◌∷◌, ◌++◌, length, take, drop, Bool, true, false, None, Some, option_and_then, refl, sym, ap, ◌∙◌, if◌then◌else◌}
 use Rattle.std.specs.Prelude.{is_some, nat_eq}
 use Rattle.std.specs.List.{AllByRecursion, starts_with}
 use Rattle.std.proofs.lemmas.Bool.{ne_eqb}
+use Rattle.std.proofs.lemmas.List.{length-drop, take_all}
 use Rattle.lapd_cli_script.specs.Line.{HasNoSpace}
 use Rattle.lapd_cli_live_text.specs.AwaitedLine.{begins_as, behind_word, behind_words, first_word}
-use Rattle.lapd_cli_live_text.proofs.Expected.{rest_is}
+
+-- the octets from a place on
+rest_is : (at : ℕ) (octets : List ℕ) → take (length octets - at) (drop at octets) ≡ drop at octets
+rest_is at octets = take_all (length octets - at) (drop at octets) (omega (arith, length-drop at octets))
 
 first_of : (word rest : List ℕ) → HasNoSpace word → first_word (word ++ 32 ∷ rest) ≡ word
 first_of [] rest h = refl

@@ -1,14 +1,15 @@
 //! Laws over the definitions. The functions do nothing.
 
-ghost use Rattle.std.specs.Prelude.{◌≡◌, ◌≢◌, ◌∷◌, ℕ, List, [], codes, false, true, nat_eq, None, Some};
+ghost use Rattle.std.specs.Prelude.{◌≡◌, ◌≢◌, ◌∷◌, ℕ, List, [], codes, false, true, is_some, nat_eq, None, Some};
 ghost use Rattle.std.specs.List.{AllByRecursion, starts_with};
 ghost use Rattle.lapd_frame.specs.declared.Side.{Side};
 ghost use Rattle.lapd_frame.specs.declared.Side.TheVariants.{Network, User};
 ghost use Rattle.lapd_frame.specs.declared.Sapi.TheVariants.{Call, Packet};
-ghost use Rattle.lapd_cli_side_lines.specs.LineRequests.{Release, Remove, named};
+ghost use Rattle.lapd_cli_grammar.specs.Values.{parsed_line};
+ghost use Rattle.lapd_cli_side_lines.specs.LineRequests.{Busy, Release, Remove, named};
 ghost use Rattle.lapd_cli_live_text.specs.AwaitedLine.{awaited_line, begins_as};
 ghost use Rattle.lapd_cli_live_text.specs.AwaitedText.{shown_chars};
-ghost use Rattle.lapd_cli_live_text.specs.LiveRequests.{Ask, Busy, Expect, Impair, Read, Run, State, live_request_of_line};
+ghost use Rattle.lapd_cli_live_text.specs.LiveRequests.{Ask, Expect, Impair, Read, Run, State, live_request_of_line, live_script_of};
 ghost use Rattle.lapd_cli_live_text.specs.Histories.{CountsEvents, StatsEvent, stats_after};
 ghost use Rattle.lapd_cli_live_text.specs.Stats.{nothing_counted, received_words, reports_words, sent_words};
 ghost use Rattle.lapd_cli_live_text.specs.LineObjects.{words_object};
@@ -61,7 +62,7 @@ pub fn worked_requests()
     ensures release { live_request_of_line User 70 (codes "release 0")
         ≡ Some (Ask (Release (named Call 70))) }
     ensures busy { live_request_of_line Network 127 (codes "busy 16 5 off")
-        ≡ Some (Busy (named Packet 5) false) }
+        ≡ Some (Ask (Busy (named Packet 5) false)) }
     ensures remove { live_request_of_line Network 127 (codes "remove 64")
         ≡ Some (Ask (Remove 64)) }
     ensures impair { live_request_of_line Network 127 (codes "impair 20% 100")
@@ -69,6 +70,14 @@ pub fn worked_requests()
     ensures no_delay { live_request_of_line User 70 (codes "impair 0") ≡ Some (Impair 0 0) }
     ensures too_much { live_request_of_line User 70 (codes "impair 101%") ≡ None }
     ensures tick { live_request_of_line Network 127 (codes "tick 5") ≡ None }
+{}
+
+/// A line of a side with the real clock requests something exactly if it has a form of the
+/// command's.
+pub fn each_form_has_a_live_request()
+    ensures { (side : Side) (own : ℕ) (line : List ℕ)
+        → is_some (live_request_of_line side own line)
+        ≡ is_some (parsed_line (live_script_of side) line) }
 {}
 
 /// Words without `*` are the first octets of a line that begins with them.

@@ -25,8 +25,9 @@ mod words;
 
 pub use awaited::awaited_text;
 pub use laws::{
-    each_event_is_counted, plain_words_are_first_octets, rejected_message_is_sent_again,
-    worked_awaited_lines, worked_expectations, worked_lines, worked_requests,
+    each_event_is_counted, each_form_has_a_live_request, plain_words_are_first_octets,
+    rejected_message_is_sent_again, worked_awaited_lines, worked_expectations, worked_lines,
+    worked_requests,
 };
 pub use line_objects::words_object;
 pub use link_text::{push_link, push_management, push_number, push_timers};

@@ -28,6 +28,9 @@ impl<'a> Model for Words<'a> {
 }
 
 impl<'a> Words<'a> {
+    ghost use Rattle.std.specs.Prelude.{option_map};
+    ghost use Rattle.lapd_cli_script.specs.Line.{words_left};
+
     /// The words of a line, which has no line feed. There is always at least one.
     pub fn of(line: &'a [u8]) -> Words<'a>
         ensures { result ≡ words_of line.now }
@@ -42,6 +45,13 @@ impl<'a> Words<'a> {
         let (word, rest) = first_word(self.rest?);
         self.rest = rest;
         Some(word)
+    }
+
+    /// The rest of the line. `None` if no word is left.
+    pub fn rest(&self) -> Option<&'a [u8]>
+        ensures { words_left (option_map (λ rest. rest.now) result) ≡ self.now }
+    {
+        self.rest
     }
 
     /// Checks that no word is left.

@@ -1,13 +1,14 @@
 -- The request lines of the commands `net` and `user`, and what each requests.
-use Rattle.std.specs.Prelude.{ℕ, ◌&&◌, nat_le, if◌then◌else◌, List, [], ◌∷◌, codes, Option, Some, None, option_map, option_and_then, Result, Ok, Err, ⊤}
+use Rattle.std.specs.Prelude.{ℕ, Bool, if◌then◌else◌, List, codes, Option, Some, None, option_map, option_and_then, unwrap_or, Result, Ok, Err, ⊤}
 use Rattle.std.specs.Str.{bytes_eq}
 use Rattle.lapd_frame.specs.declared.Side.{Side}
 use Rattle.lapd_frame.specs.declared.Side.TheVariants.{Network, User}
 use Rattle.lapd_frame.specs.declared.Sapi.{Sapi}
-use Rattle.lapd_frame.specs.Address.{sapi_at, number_at}
-use Rattle.lapd_cli_script.specs.Line.{words_of, nothing_of, number_behind, parsed_number, octets_behind}
 use Rattle.lapd_cli_script.specs.declared.script.LineFault.{LineFault}
 use Rattle.lapd_cli_script.specs.declared.script.LineFault.TheVariants.{Bad}
+use Rattle.lapd_cli_grammar.specs.declared.script.Script.{Script}
+use Rattle.lapd_cli_grammar.specs.declared.script.Script.TheVariants as script
+use Rattle.lapd_cli_grammar.specs.Values.{LineValues, parsed_line}
 use Rattle.lapd_table.specs.declared.link_id.LinkId.{LinkId}
 use Rattle.lapd_sides.specs.declared.request.Request.{Request}
 use Rattle.lapd_sides.specs.declared.request.Request.TheVariants as request
@@ -15,8 +16,8 @@ use Rattle.lapd_cli_side_lines.specs.declared.side_lines.SideLine.{SideLine}
 use Rattle.lapd_cli_side_lines.specs.declared.side_lines.SideLine.TheVariants as line
 
 -- The request of a line: read one frame; advance the clock by some milliseconds; establish or
--- release a link; send a message or unit data on a link; assign a TEI to this terminal; check or
--- remove a TEI.
+-- release a link; send a message or unit data on a link; enter or leave the own receiver busy
+-- condition of a link; assign a TEI to this terminal; check or remove a TEI.
 pub data LineRequest : Type 0 where
   Read : LineRequest
   Tick : (ms : ℕ) → LineRequest
@@ -24,87 +25,55 @@ pub data LineRequest : Type 0 where
   Release : (id : LinkId) → LineRequest
   Give : (id : LinkId) → (message : List ℕ) → LineRequest
   Unit : (id : LinkId) → (octets : List ℕ) → LineRequest
-  Busy : LineRequest
+  Busy : (id : LinkId) → (on : Bool) → LineRequest
   AskTei : LineRequest
   Check : (tei : ℕ) → LineRequest
   Remove : (tei : ℕ) → LineRequest
 
--- ---- Numbers.
-
--- a number below 256 in decimal digits; likewise a TEI, 0 to 127, and a SAPI, 0, 16 or 63
-abbrev pub octet_at : ℕ → Option ℕ
-octet_at n = if nat_le n 255 then Some n else None
-
-abbrev pub parsed_octet : List ℕ → Option ℕ
-parsed_octet word = option_and_then octet_at (parsed_number word)
-
-abbrev pub parsed_tei : List ℕ → Option ℕ
-parsed_tei word = option_and_then number_at (parsed_octet word)
-
-abbrev pub parsed_sapi : List ℕ → Option Sapi
-parsed_sapi word = option_and_then sapi_at (parsed_octet word)
+-- ---- The requests of a side, with either clock. Which lines there are, and the words that each
+-- has, is in the table of forms.
 
 -- a link, by its SAPI and its TEI
 abbrev pub named : Sapi → ℕ → LinkId
 named sapi tei = record { sapi = sapi; tei = tei }
 
-abbrev pub parsed_id : List ℕ → List ℕ → Option LinkId
-parsed_id sapi tei = option_and_then (λ s. option_map (named s) (parsed_tei tei)) (parsed_sapi sapi)
+-- the link that a line names; if it names the SAPI alone, the link has the side's own TEI
+abbrev pub link_of : ℕ → LineValues → Option LinkId
+link_of own v = option_map (λ sapi. named sapi (unwrap_or v.tei own)) v.sapi
 
--- one line advances the clock by 1 ms to an hour
-abbrev pub span_at : ℕ → Option ℕ
-span_at ms = if nat_le 1 ms && nat_le ms 3600000 then Some ms else None
+-- what a word requests of a link
+abbrev pub link_request : List ℕ → LineValues → LinkId → Option LineRequest
+link_request word v id =
+    if bytes_eq word (codes "establish") then Some (Establish id) else (
+    if bytes_eq word (codes "release") then Some (Release id) else (
+    if bytes_eq word (codes "give") then Some (Give id v.octets) else (
+    if bytes_eq word (codes "unit") then Some (Unit id v.octets) else (
+    if bytes_eq word (codes "busy") then Some (Busy id v.on) else None))))
 
--- ---- The words of a line.
+-- what a word requests of a side
+abbrev pub side_request : ℕ → List ℕ → LineValues → Option LineRequest
+side_request own word v =
+    if bytes_eq word (codes "ask") then Some AskTei else (
+    if bytes_eq word (codes "check") then option_map Check v.tei else (
+    if bytes_eq word (codes "remove") then option_map Remove v.tei
+    else option_and_then (link_request word v) (link_of own v)))
 
--- a word with nothing after it
-abbrev pub bare_request : LineRequest → List (List ℕ) → Option LineRequest
-bare_request line_request behind = option_map (λ none. line_request) (nothing_of behind)
+-- ---- The lines of a script.
 
-abbrev pub tick_request : List (List ℕ) → Option LineRequest
-tick_request behind = option_map Tick (option_and_then span_at (number_behind behind))
+-- the lines of `net` and `user` with the script's clock; each names the TEI of its link
+abbrev pub script_of : Side → Script
+script_of Network = script.Net
+script_of User = script.User
 
--- the TEI of the last word
-abbrev pub tei_behind : List (List ℕ) → Option ℕ
-tei_behind [] = None
-tei_behind (word ∷ words) = option_and_then (λ none. parsed_tei word) (nothing_of words)
-
--- what a word requests of a link, with the words after its SAPI and TEI
-abbrev pub link_request : List ℕ → LinkId → List (List ℕ) → Option LineRequest
-link_request word id behind =
-    if bytes_eq word (codes "establish") then bare_request (Establish id) behind else (
-    if bytes_eq word (codes "release") then bare_request (Release id) behind else (
-    if bytes_eq word (codes "give") then option_map (Give id) (octets_behind behind) else (
-    if bytes_eq word (codes "unit") then option_map (Unit id) (octets_behind behind) else None)))
-
-abbrev pub with_tei : List ℕ → List ℕ → List (List ℕ) → Option LineRequest
-with_tei word sapi [] = None
-with_tei word sapi (tei ∷ behind) = option_and_then (λ id. link_request word id behind)
-    (parsed_id sapi tei)
-
-abbrev pub with_sapi : List ℕ → List (List ℕ) → Option LineRequest
-with_sapi word [] = None
-with_sapi word (sapi ∷ behind) = with_tei word sapi behind
-
--- only the user side has the word `ask`, only the network side the word `check`
-abbrev pub own_request : Side → List ℕ → List (List ℕ) → Option LineRequest
-own_request User word behind = if bytes_eq word (codes "ask") then bare_request AskTei behind
-    else with_sapi word behind
-own_request Network word behind = if bytes_eq word (codes "check")
-    then option_map Check (tei_behind behind) else with_sapi word behind
-
-abbrev pub request_of_word : Side → List ℕ → List (List ℕ) → Option LineRequest
-request_of_word side word behind =
-    if bytes_eq word (codes "read") then bare_request Read behind else (
-    if bytes_eq word (codes "tick") then tick_request behind else own_request side word behind)
-
-abbrev pub request_of_words : Side → List (List ℕ) → Option LineRequest
-request_of_words side [] = None
-request_of_words side (word ∷ behind) = request_of_word side word behind
+abbrev pub script_request : List ℕ × LineValues → Option LineRequest
+script_request line =
+    if bytes_eq line.0 (codes "read") then Some Read else (
+    if bytes_eq line.0 (codes "tick") then option_map Tick line.1.ms
+    else side_request 127 line.0 line.1)
 
 -- what a line of a side's script requests
 abbrev pub request_of_line : Side → List ℕ → Option LineRequest
-request_of_line side octets = request_of_words side (words_of octets)
+request_of_line side octets = option_and_then script_request (parsed_line (script_of side) octets)
 
 -- ---- How a line ends.
 
@@ -121,7 +90,7 @@ line_request_of (request.Establish id) = Establish id
 line_request_of (request.Release id) = Release id
 line_request_of (request.Unit id octets) = Unit id octets.items
 line_request_of (request.Give id message) = Give id message.items
-line_request_of (request.Busy id on) = Busy
+line_request_of (request.Busy id on) = Busy id on
 line_request_of request.AskTei = AskTei
 line_request_of (request.Check tei) = Check tei
 line_request_of (request.Remove tei) = Remove tei

@@ -1,17 +1,15 @@
-//! Parses the request lines of `net` and `user`.
+//! The request lines of `net` and `user`.
 
-ghost use Rattle.std.specs.Prelude.{◌≡◌, option_map};
-ghost use Rattle.lapd_frame.specs.Address.{number_at, sapi_at};
+ghost use Rattle.std.specs.Prelude.{◌≡◌};
 ghost use Rattle.lapd_cli_script.specs.Line.{Reads};
-ghost use Rattle.lapd_cli_side_lines.specs.LineRequests.{bare_request, tei_behind, parsed_id, link_request, parsed_octet, own_request, parsed_sapi, span_at, parsed_tei, tick_request, request_of, request_of_line, request_of_word, with_sapi};
+ghost use Rattle.lapd_cli_grammar.specs.Values.{line_values};
+ghost use Rattle.lapd_cli_side_lines.specs.LineRequests.{line_request_of, link_of as link_named, link_request as request_of_link, request_of, request_of_line, script_of as script_named, script_request, side_request as request_of_side};
 
-use lapd_cli_script::{LineFault, Words, number_of};
-use lapd_frame::{Sapi, Side, Tei};
+use lapd_cli_grammar::{FormedLine, Script, Values, read_form};
+use lapd_cli_script::LineFault;
+use lapd_frame::{Side, Tei};
 use lapd_sides::{LinkId, Request};
 use std::alloc::Global;
-
-/// The longest step of the clock in one line, in milliseconds: an hour.
-const MOST_MS: u64 = 3_600_000;
 
 /// The request of a line of a side's script.
 #[derive(Drop)]
@@ -33,172 +31,96 @@ pub enum SideLine {
 pub fn read_line(alloc: Global, side: Side, line: &[u8]) -> Result<SideLine, LineFault>
     ensures { Reads request_of result (request_of_line side line.now) }
 {
-    let mut words = Words::of(line);
-    let Some(word) = words.next_word() else {
-        return Err(LineFault::Bad);
-    };
-    line_by(alloc, side, word, words)
+    let line = read_form(alloc, script_of(side), line)?;
+    script_line(line)
 }
 
-/// Parses a line from its first word and the words after it.
-fn line_by(alloc: Global, side: Side, word: &[u8], behind: Words<'_>) -> Result<SideLine, LineFault>
-    ensures { Reads request_of result (request_of_word side word.now behind.entry) }
-{
-    if word == b"read".as_slice() {
-        alone(behind, SideLine::Read)
-    } else if word == b"tick".as_slice() {
-        tick(behind)
-    } else {
-        own_line(alloc, side, word, behind)
-    }
-}
-
-/// Parses a line that only one side has (`ask` on the user side, `check` on the network side), or a
-/// line for a link.
-fn own_line(
-    alloc: Global,
-    side: Side,
-    word: &[u8],
-    behind: Words<'_>,
-) -> Result<SideLine, LineFault>
-    ensures { Reads request_of result (own_request side word.now behind.entry) }
+/// The script with the lines of this side.
+fn script_of(side: Side) -> Script
+    ensures { result ≡ script_named side }
 {
     match side {
-        Side::User => {
-            if word == b"ask".as_slice() {
-                return alone(behind, SideLine::Ask(Request::AskTei));
-            }
+        Side::Network => Script::Net,
+        Side::User => Script::User,
+    }
+}
+
+/// The request of a line of a script.
+fn script_line(line: FormedLine<'_>) -> Result<SideLine, LineFault>
+    ensures { Reads request_of result (script_request
+        (line.entry.word.now, line_values line.entry.values)) }
+{
+    let FormedLine { word, values } = line;
+    if word == b"read".as_slice() {
+        Ok(SideLine::Read)
+    } else if word == b"tick".as_slice() {
+        match values.ms {
+            Some(ms) => Ok(SideLine::Tick(ms)),
+            None => Err(LineFault::Bad),
         }
-        Side::Network => {
-            if word == b"check".as_slice() {
-                return Ok(SideLine::Ask(Request::Check(last_tei(behind)?)));
-            }
+    } else {
+        Ok(SideLine::Ask(side_request(Tei::group(), word, values)?))
+    }
+}
+
+/// The request of the side in a line with this first word and these values, with either clock. The
+/// link of a line that names the SAPI alone has the TEI `own`.
+///
+/// # Errors
+///
+/// `Bad` if the word requests nothing of a side, or a value is missing.
+pub fn side_request(own: Tei, word: &[u8], values: Values<'_>) -> Result<Request, LineFault>
+    ensures { Reads line_request_of result (request_of_side own word.now (line_values values.entry)) }
+{
+    if word == b"ask".as_slice() {
+        Ok(Request::AskTei)
+    } else if word == b"check".as_slice() {
+        Ok(Request::Check(tei_of(&values)?))
+    } else if word == b"remove".as_slice() {
+        Ok(Request::Remove(tei_of(&values)?))
+    } else {
+        match link_of(own, &values) {
+            Some(id) => link_request(word, values, id),
+            None => Err(LineFault::Bad),
         }
     }
-    of_link(alloc, word, behind)
 }
 
-/// Returns this line if no word follows.
-fn alone(behind: Words<'_>, line: SideLine) -> Result<SideLine, LineFault>
-    ensures { Reads request_of result (bare_request (request_of line) behind.entry) }
+/// The TEI that a line names.
+fn tei_of(values: &Values<'_>) -> Result<Tei, LineFault>
+    ensures { Reads (λ tei. tei) result values.now.tei }
 {
-    behind.nothing()?;
-    Ok(line)
-}
-
-/// Parses the number of milliseconds after `tick`.
-fn tick(behind: Words<'_>) -> Result<SideLine, LineFault>
-    ensures { Reads request_of result (tick_request behind.entry) }
-{
-    let ms = behind.number()?;
-    if 1 <= ms && ms <= MOST_MS {
-        Ok(SideLine::Tick(ms))
-    } else {
-        Err(LineFault::Bad)
-    }
-}
-
-/// The TEI of the last word.
-///
-/// # Errors
-///
-/// `Bad` if no word is left, or several, or the word is not a TEI, 0 to 127.
-pub fn last_tei(mut behind: Words<'_>) -> Result<Tei, LineFault>
-    ensures { Reads (λ tei. tei) result (tei_behind behind.entry) }
-{
-    let Some(word) = behind.next_word() else {
-        return Err(LineFault::Bad);
-    };
-    behind.nothing()?;
-    tei_of(word)
-}
-
-/// Parses the line of a link, whose SAPI and TEI are the next two words.
-fn of_link(alloc: Global, word: &[u8], mut behind: Words<'_>) -> Result<SideLine, LineFault>
-    ensures { Reads request_of result (with_sapi word.now behind.entry) }
-{
-    let Some(sapi) = behind.next_word() else {
-        return Err(LineFault::Bad);
-    };
-    let Some(tei) = behind.next_word() else {
-        return Err(LineFault::Bad);
-    };
-    let id = id_of(sapi, tei)?;
-    link_line(alloc, word, id, behind)
-}
-
-/// Parses what `word` requests of this link, with the words after its SAPI and TEI.
-///
-/// # Errors
-///
-/// `Bad` if the word is not a request for a link or the words after it do not match, and `Memory`
-/// if an allocation fails.
-pub fn link_line(
-    alloc: Global,
-    word: &[u8],
-    id: LinkId,
-    behind: Words<'_>,
-) -> Result<SideLine, LineFault>
-    ensures { Reads request_of result (link_request word.now id behind.entry) }
-{
-    if word == b"establish".as_slice() {
-        alone(behind, SideLine::Ask(Request::Establish(id)))
-    } else if word == b"release".as_slice() {
-        alone(behind, SideLine::Ask(Request::Release(id)))
-    } else if word == b"give".as_slice() {
-        Ok(SideLine::Ask(Request::Give(id, behind.octets(alloc)?)))
-    } else if word == b"unit".as_slice() {
-        Ok(SideLine::Ask(Request::Unit(id, behind.octets(alloc)?)))
-    } else {
-        Err(LineFault::Bad)
-    }
-}
-
-/// Parses the SAPI and the TEI of a link.
-fn id_of(sapi: &[u8], tei: &[u8]) -> Result<LinkId, LineFault>
-    ensures { Reads (λ id. id) result (parsed_id sapi.now tei.now) }
-{
-    let sapi = sapi_of(sapi)?;
-    let tei = tei_of(tei)?;
-    Ok(LinkId { sapi, tei })
-}
-
-/// Parses a SAPI in decimal digits: 0, 16 or 63.
-///
-/// # Errors
-///
-/// `Bad` if the word is not a valid SAPI.
-pub fn sapi_of(word: &[u8]) -> Result<Sapi, LineFault>
-    ensures { Reads (λ sapi. sapi) result (parsed_sapi word.now) }
-{
-    let number = octet_of(word)?;
-    match Sapi::new(number) {
-        Some(sapi) => Ok(sapi),
-        None => Err(LineFault::Bad),
-    }
-}
-
-/// Parses a TEI in decimal digits: 0 to 127.
-///
-/// # Errors
-///
-/// `Bad` if the word is not a valid TEI.
-pub fn tei_of(word: &[u8]) -> Result<Tei, LineFault>
-    ensures { Reads (λ tei. tei) result (parsed_tei word.now) }
-{
-    let number = octet_of(word)?;
-    match Tei::new(number) {
+    match values.tei {
         Some(tei) => Ok(tei),
         None => Err(LineFault::Bad),
     }
 }
 
-/// Parses a number below 256 in decimal digits.
-fn octet_of(word: &[u8]) -> Result<u8, LineFault>
-    ensures { Reads (λ n. n) result (parsed_octet word.now) }
+/// The link that a line names. If it names the SAPI alone, the link has the TEI `own`. `None` if it
+/// names no SAPI.
+pub fn link_of(own: Tei, values: &Values<'_>) -> Option<LinkId>
+    ensures { result ≡ link_named own (line_values values.now) }
 {
-    match number_of(word) {
-        Some(number) if number <= 255 => Ok(number as u8),
-        _ => Err(LineFault::Bad),
+    let sapi = values.sapi?;
+    let tei = values.tei.unwrap_or(own);
+    Some(LinkId { sapi, tei })
+}
+
+/// The request of this link.
+fn link_request(word: &[u8], values: Values<'_>, id: LinkId) -> Result<Request, LineFault>
+    ensures { Reads line_request_of result (request_of_link word.now (line_values values.entry) id) }
+{
+    if word == b"establish".as_slice() {
+        Ok(Request::Establish(id))
+    } else if word == b"release".as_slice() {
+        Ok(Request::Release(id))
+    } else if word == b"give".as_slice() {
+        Ok(Request::Give(id, values.octets))
+    } else if word == b"unit".as_slice() {
+        Ok(Request::Unit(id, values.octets))
+    } else if word == b"busy".as_slice() {
+        Ok(Request::Busy(id, values.on))
+    } else {
+        Err(LineFault::Bad)
     }
 }

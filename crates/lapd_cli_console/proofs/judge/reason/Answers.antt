@@ -1,6 +1,6 @@
 use Rattle.std.proofs.Common.{rules, ◌≡◌, true, false}
 use Rattle.lapd_cli_console.proofs.AnswerLines.{answer_implied}
-use Rattle.lapd_cli_console.specs.Forms.{is_line_of}
+use Rattle.lapd_cli_grammar.specs.Values.{is_line_of}
 use Rattle.lapd_cli_console.proofs.judge.reason.Goals as goal
 
 pub returns-in-None-clause-answer : goal.returns-in-None-clause-answer

@@ -1,0 +1,3 @@
+mod Shapes
+mod TextWords
+pub mod Requests
