@@ -38,7 +38,7 @@ use Rattle.lapd_bus_laws.proofs.Checks.{throughout_by, leaves_alone, leaves_alon
 use Rattle.lapd_bus_laws.proofs.Lists.{either_some}
 use Rattle.lapd_sides.specs.Worked as sides
 
--- ---- What a terminal received, submitted and knows, if it exists.
+-- ---- The messages that a terminal received and submitted, and its knowledge, if it exists.
 
 abbrev received_at : Option (SideView User) → List (List ℕ)
 received_at None = []

@@ -90,7 +90,7 @@ impl Drop for Handle {
 }
 
 /// Takes the side out of a handle, if it owns one.
-pub(crate) fn opened(handle: &mut Handle, alloc: Global) -> Option<Box<HeldSide>>
+pub(crate) fn take_side(handle: &mut Handle, alloc: Global) -> Option<Box<HeldSide>>
     ensures owned { MatchOption result (handle.old.held ≡ None)
         (λ b. handle.old.held ≡ Some b.value) }
     ensures left { handle.new.held ≡ None }
@@ -102,7 +102,7 @@ pub(crate) fn opened(handle: &mut Handle, alloc: Global) -> Option<Box<HeldSide>
 }
 
 /// Puts a side into a handle that owns none.
-pub(crate) fn shut(handle: &mut Handle, side: Box<HeldSide>)
+pub(crate) fn put_side(handle: &mut Handle, side: Box<HeldSide>)
     requires { handle.old.held ≡ None }
     ensures { handle.new.held ≡ Some side.value }
 {

@@ -35,7 +35,7 @@ mod settings;
 
 use codes::{DONE, MEMORY, NO_SIDE, OUT_OF_RANGE};
 use flat_primitive::{FlatPrimitive, link_of};
-use handle::{Handle, opened, shut};
+use handle::{Handle, put_side, take_side};
 use held_side::HeldSide;
 use lapd_sides::{Durations, LinkId, Request, Side, Tei};
 use lapd_trace::line;
@@ -103,8 +103,8 @@ fn put(handle: &mut Handle, side: Box<HeldSide>, alloc: Global) -> u32
     ensures owned { handle.new.held ≡ Some side.value }
     ensures done { result ≡ 0 }
 {
-    drop(opened(handle, alloc));
-    shut(handle, side);
+    drop(take_side(handle, alloc));
+    put_side(handle, side);
     DONE
 }
 
@@ -113,7 +113,7 @@ fn put(handle: &mut Handle, side: Box<HeldSide>, alloc: Global) -> u32
 pub extern "C" fn lapd_side_free(handle: &mut Handle, alloc: Global)
     ensures { handle.new.held ≡ None }
 {
-    let _side = opened(handle, alloc);
+    let _side = take_side(handle, alloc);
 }
 
 /// Processes the octets of a frame received from the line, without flags and check sequence, at the

@@ -1,8 +1,8 @@
 //! `net` and `user` with the real clock.
 
+use crate::console_notes::ConsoleNotes;
 use crate::ending::Stop;
 use crate::job::{SideSetup, config_of};
-use crate::person::Speaker;
 use lapd_cli_console::Script;
 use lapd_cli_io::{ConnectionSetup, Connections, NoTaps, Notes, TapSetup, Taps, connect_side};
 use lapd_cli_live::{
@@ -106,8 +106,8 @@ fn serve<R: Read, W: Write>(
     serve_on: bool,
 ) -> Result<(), LiveStop> {
     let (ended, live) = if rt.stdin().is_terminal() {
-        let mut person = Speaker::new(rt.alloc(), lines_of(side), notes);
-        live_session(rt.alloc(), live, script, &mut person, serve_on)
+        let mut console = ConsoleNotes::new(rt.alloc(), lines_of(side), notes);
+        live_session(rt.alloc(), live, script, &mut console, serve_on)
     } else {
         live_script(rt.alloc(), live, script, serve_on)
     };

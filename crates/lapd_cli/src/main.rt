@@ -13,12 +13,12 @@
 #![tactic(auto)]
 
 mod capture;
+mod console_notes;
 mod ending;
 mod files;
 mod greeting;
 mod job;
 mod live;
-mod person;
 mod picture;
 
 use capture::{do_capture, print_no_file};

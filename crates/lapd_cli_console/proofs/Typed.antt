@@ -27,7 +27,7 @@ pub lines_of-last : (o : ℕ) (line : List ℕ) → HasNoFeed (o ∷ line) → l
 lines_of-last o [] h = lines_of-other o [] h.0
 lines_of-last o (p ∷ line) h = lines_of-other o (p ∷ line) h.0 ∙ ap (with_first o) (lines_of-last p line h.1)
 
--- ---- What is passed on of the first line, and behind it.
+-- ---- The part of the first line that is passed on, and the lines behind it.
 
 by_tests : (script : Script) (line : List ℕ) (lines : List (List ℕ)) (ends valid : Bool) → is_line_of script line ≡ valid
     → flat_map text_line (filter (is_line_of script) (cond ends [] (line ∷ lines)))
@@ -106,7 +106,7 @@ end_kept a b c f g (Some []) (Some (y ∷ ys)) [] at_end k p q m h = absurd cc
 end_kept a b c f g (Some []) (Some ys) (x ∷ bs) at_end k p q m h = absurd cc
 end_kept a b c f g (Some (x ∷ xs)) (Some ys) bs at_end k p q m h = absurd cc
 
--- ---- What is left after a line was handled, or could not be.
+-- ---- The lines left after a line was handled, or could not be.
 
 handled : {T E : Type 0} (r : Result T E) (t u target : Typing) (old new : Option (List ℕ)) → new ≡ old → OnOk r (u ≡ target) → OnErr r (u ≡ t)
     → Keeps (option_map (passed_next t) old) (option_map (passed_next target) old) → Keeps (option_map (passed_next t) old) (option_map (passed_next u) new)

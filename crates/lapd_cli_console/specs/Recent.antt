@@ -4,7 +4,7 @@ use Rattle.std.specs.List.{slice_split}
 use Rattle.std.specs.declared.io.Error.{Error}
 use Rattle.lapd_cli_console.specs.declared.recent_lines.RecentLines.{RecentLines}
 
--- ---- What was read.
+-- ---- The octets that were read.
 
 -- all octets up to the last read that returned any, and those of that read
 pub record ReadOctets : Type 0 where
@@ -48,7 +48,7 @@ abbrev pub kept_line : ReadOctets → ℕ → Option (List ℕ)
 kept_line r number = if nat_lt (feeds r.before) number
     then option_map (take 4096) (slice_get (lines_in (r.before ++ r.last)) (number - 1)) else None
 
--- ---- What is kept.
+-- ---- The lines that are kept.
 
 -- the octets before the first line feed
 abbrev pub line_front : List ℕ → List ℕ

@@ -30,7 +30,7 @@ passed_lines script lines =
 abbrev pub passed_on : Script → List ℕ → List ℕ
 passed_on script octets = flat_map text_line (passed_lines script (lines_of octets))
 
--- ---- What a session has yet to pass on.
+-- ---- The octets that a session has yet to pass on.
 
 -- a session's octets: those that were typed and not handled, and those of its line that were not
 -- returned

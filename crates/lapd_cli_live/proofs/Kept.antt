@@ -4,7 +4,7 @@ use Rattle.std.specs.Prelude.{Bool, ◌||◌, Option, is_some}
 use Rattle.std.specs.List.{list_any}
 use Rattle.std.specs.declared.alloc.Global.{Global}
 use Rattle.std.specs.declared.vec.Vec.{Vec}
-use Rattle.lapd_cli_live.specs.Unseen.{begins_with, has_line, line_octets}
+use Rattle.lapd_cli_live.specs.RecentOutput.{begins_with, has_line, line_octets}
 
 begins_in : (words : List ℕ) (lines : List (Vec ℕ Global)) → list_any (begins_with words) lines ≡ has_line words (line_octets lines)
 begins_in words [] = refl

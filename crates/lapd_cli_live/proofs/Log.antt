@@ -102,7 +102,7 @@ prints_on_both contents own xs ys p q r first last = record {
       (prints_as q.style p.style own own ys (shown contents q) (shown contents r) first.style refl last.prints);
 }
 
--- ---- What happens.
+-- ---- Entries of the log.
 
 pub happen_both : (xs ys : List LiveEvent) (a b c : LiveState) → Happen xs a b → Happen ys b c → Happen (xs ++ ys) a c
 happen_both xs ys a b c p q = record {

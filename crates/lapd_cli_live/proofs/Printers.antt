@@ -6,7 +6,7 @@ use Rattle.lapd_frame.specs.declared.Side.{Side}
 use Rattle.lapd_cli_live.specs.declared.printer.Printer.{Printer}
 use Rattle.lapd_cli_live.specs.Entries.{Entry, begins_so, counted, entry_text, line_kept, line_of, moment_after, object_of, printed_line}
 use Rattle.lapd_cli_live.specs.Printers.{PrintsOn, PutsLine}
-use Rattle.lapd_cli_live.specs.Unseen.{recent_lines}
+use Rattle.lapd_cli_live.specs.RecentOutput.{recent_lines}
 
 appends_known : (known : Option (List ℕ)) (a b : List ℕ) → Appends (append_known known a) (append_known known (a ++ b)) b
 appends_known None a b = tt
@@ -20,7 +20,7 @@ pub record IsBeside {W : Type 0} (old mid : Printer W) : Type 0 where
   pub awaited : mid.awaited ≡ old.awaited
   pub text : mid.text ≡ old.text
   pub matched : mid.is_matched ≡ old.is_matched
-  pub unseen : mid.unseen ≡ old.unseen
+  pub recent_output : mid.recent_output ≡ old.recent_output
 
 -- a line is printed from a printer that differs in the buffer for it
 pub puts_same : {W : Type 0} (line other object : List ℕ) (old mid new : Printer W) → IsBeside old mid → mid.stats ≡ old.stats → line ≡ other
@@ -37,9 +37,9 @@ puts_same line other object old mid new beside stats is puts = record {
       ∙ ap (λ line. old.text.items ++ printed_line old.style old.moment line object) is;
   matched = puts.matched ∙ ap (λ matched. matched || begins_so mid.awaited.items line) beside.matched
       ∙ ap (λ awaited. old.is_matched || begins_so awaited.items line) beside.awaited ∙ ap (λ line. old.is_matched || begins_so old.awaited.items line) is;
-  keeps = puts.keeps ∙ ap (λ unseen. unseen.is_retained) beside.unseen;
-  kept = puts.kept ∙ ap (λ unseen. line_kept unseen.is_retained line (recent_lines unseen)) beside.unseen
-      ∙ ap (λ line. line_kept old.unseen.is_retained line (recent_lines old.unseen)) is;
+  keeps = puts.keeps ∙ ap (λ recent_output. recent_output.is_retained) beside.recent_output;
+  kept = puts.kept ∙ ap (λ recent_output. line_kept recent_output.is_retained line (recent_lines recent_output)) beside.recent_output
+      ∙ ap (λ line. line_kept old.recent_output.is_retained line (recent_lines old.recent_output)) is;
 }
 
 or_false : (a : Bool) → a ≡ (a || false)
@@ -75,8 +75,8 @@ prints_entry {W = W} contents own entry line object old mid new beside stats sta
         stats = puts.stats ∙ stats;
         awaited = ap (λ awaited. awaited.items) (puts.awaited ∙ beside.awaited);
         matched = matched;
-        keeps = puts.keeps ∙ ap (λ unseen. unseen.is_retained) beside.unseen;
-        kept = puts.kept ∙ ap (λ unseen. line_kept unseen.is_retained line (recent_lines unseen)) beside.unseen
-            ∙ ap (λ line. line_kept old.unseen.is_retained line (recent_lines old.unseen)) is;
+        keeps = puts.keeps ∙ ap (λ recent_output. recent_output.is_retained) beside.recent_output;
+        kept = puts.kept ∙ ap (λ recent_output. line_kept recent_output.is_retained line (recent_lines recent_output)) beside.recent_output
+            ∙ ap (λ line. line_kept old.recent_output.is_retained line (recent_lines old.recent_output)) is;
       };
     }

@@ -21,7 +21,7 @@ use Rattle.lapd_cli_live_text.specs.Stats.{received_counted, received_words, rep
 use Rattle.lapd_cli_line.specs.declared.outside.Sending.{Sending}
 use Rattle.lapd_cli_line.specs.declared.outside.Sending.TheVariants as sending
 use Rattle.lapd_cli_live.specs.declared.style.Style.{Style}
-use Rattle.lapd_cli_live.specs.Unseen.{with_line}
+use Rattle.lapd_cli_live.specs.RecentOutput.{with_line}
 
 -- Lines have this moment from here on. A frame is received, sent, or lost on purpose. A primitive
 -- is passed to layer 3. A line consists of a name and a text, or of words and numbers.

@@ -8,4 +8,4 @@ pub mod LineDone
 pub mod PromptLine
 pub mod Typed
 pub mod Sessions
-pub mod Unseen
+pub mod RecentOutput

@@ -17,7 +17,7 @@ use Rattle.lapd_cli_live.specs.Entries.{Named}
 use Rattle.lapd_cli_live.specs.Log.{HappenBeside, LiveState, Shows}
 use Rattle.lapd_cli_live.specs.Steps.{IsAsked}
 use Rattle.lapd_cli_live.specs.StateLines.{StatesAll, StatesCounts, StatesLink}
-use Rattle.lapd_cli_live.specs.Unseen.{has_line}
+use Rattle.lapd_cli_live.specs.RecentOutput.{has_line}
 use Rattle.lapd_cli_live.specs.WaitingLines.{Expects, Reads, Runs, behind_line, forgetting}
 
 -- ---- `expect`

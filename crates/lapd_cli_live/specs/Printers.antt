@@ -6,7 +6,7 @@ use Rattle.lapd_cli_live.specs.declared.printer.Printer.{Printer}
 use Rattle.lapd_cli_line.specs.IoEvents.{Adds, IoEvent, all_sent}
 use Rattle.lapd_cli_line.specs.declared.impairment.Impairment.{Impairment}
 use Rattle.lapd_cli_live.specs.Entries.{Entry, Outgoing, Prints, Shown, begins_so, line_kept, octets_of, outgoing_entry, printed_line}
-use Rattle.lapd_cli_live.specs.Unseen.{recent_lines}
+use Rattle.lapd_cli_live.specs.RecentOutput.{recent_lines}
 
 -- the printed text is what the writer has, followed by the text that is not written yet
 abbrev pub shown : {W : Type 0} → (W → Option (List ℕ)) → Printer W → Shown
@@ -16,8 +16,8 @@ shown contents printer = record {
   stats = printer.stats;
   awaited = printer.awaited.items;
   matched = printer.is_matched;
-  keeps = printer.unseen.is_retained;
-  kept = recent_lines printer.unseen;
+  keeps = printer.recent_output.is_retained;
+  kept = recent_lines printer.recent_output;
 }
 
 -- exactly these entries are printed and counted, in the same style
@@ -36,9 +36,9 @@ pub record PutsLine {W : Type 0} (line object : List ℕ) (old new : Printer W) 
   pub text : new.text.items
       ≡ old.text.items ++ printed_line old.style old.moment line object
   pub matched : new.is_matched ≡ (old.is_matched || begins_so old.awaited.items line)
-  pub keeps : new.unseen.is_retained ≡ old.unseen.is_retained
-  pub kept : recent_lines new.unseen
-      ≡ line_kept old.unseen.is_retained line (recent_lines old.unseen)
+  pub keeps : new.recent_output.is_retained ≡ old.recent_output.is_retained
+  pub kept : recent_lines new.recent_output
+      ≡ line_kept old.recent_output.is_retained line (recent_lines old.recent_output)
 
 -- from here on a line that begins with these words is awaited, and none was printed since
 pub record Awaits {W : Type 0} (words : List ℕ) (old new : Printer W) : Type 0 where
@@ -49,7 +49,7 @@ pub record Awaits {W : Type 0} (words : List ℕ) (old new : Printer W) : Type 0
   pub text : new.text ≡ old.text
   pub awaited : new.awaited.items ≡ words
   pub matched : new.is_matched ≡ false
-  pub unseen : new.unseen ≡ old.unseen
+  pub recent_output : new.recent_output ≡ old.recent_output
 
 -- these frames are sent, with the same impairment, and each is printed once it is sent
 pub record SendsAll {W : Type 0} (own : Side) (frames : List (List ℕ))

@@ -192,9 +192,9 @@ pub record Session : Type 0 where
 
 abbrev pub session_of : {O W P : Type 0} → (O → Option (List IoEvent)) → (O → Option Impairment)
     → (W → Option (List ℕ)) → (P → Option (List Delivered)) → LiveSide O W → P → Session
-session_of io_events impaired_by contents reported live person = record {
+session_of io_events impaired_by contents reported live console = record {
   live = state_of io_events impaired_by contents live;
-  reported = reported person;
+  reported = reported console;
 }
 
 -- input is awaited, and no message is sent

@@ -20,7 +20,7 @@ use Rattle.lapd_cli_line.specs.IoEvents.{Arrives, FindsNone, Waits, is_reached}
 use Rattle.lapd_cli_live.specs.Entries.{Received, refused}
 use Rattle.lapd_cli_live.specs.Log.{Around, CarriesOut, CarriesOutAll, Chain, Happen, HappenBeside, LiveEvent, LiveState, ReadsClock, Shows, is_matched, moment_of, read_at}
 
--- ---- What ends a service.
+-- ---- The end of a service.
 
 -- a received frame ends it, or a printed line, if the service lasts until then
 abbrev pub ended_by : Until → Bool → Bool → Option EndReason

@@ -11,7 +11,7 @@ use Rattle.lapd_cli_live.specs.declared.service.EndReason.TheVariants as end_rea
 use Rattle.lapd_cli_live.specs.Entries.{Named, Worded, is_awaited}
 use Rattle.lapd_cli_live.specs.Log.{Happen, HappenBeside, LiveEvent, LiveState, Shows, entries_in, is_matched}
 use Rattle.lapd_cli_live.specs.Steps.{EndsAfter, IsServed}
-use Rattle.lapd_cli_live.specs.Unseen.{lines_behind}
+use Rattle.lapd_cli_live.specs.RecentOutput.{lines_behind}
 
 abbrev pub service : Option ℕ → Until → Lines → Service
 service end until lines = record { end = end; until = until; lines = lines }

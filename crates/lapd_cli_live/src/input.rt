@@ -51,12 +51,12 @@ impl From<AllocError> for LiveStop {
     }
 }
 
-/// Messages to a person at a terminal, beside the printed lines. No call may block.
+/// Messages to the person at a terminal, beside the printed lines. No call may block.
 ///
-/// An implementation that records its messages returns them by `told`. One whose rule for tidying
+/// An implementation that records its messages returns them by `reported`. One whose rule for tidying
 /// lines is known states it by `tidy`. Clauses about these hold for such an implementation, and all
 /// others for every implementation.
-pub trait Person {
+pub trait Console {
     /// The person's tidied form of a line, if it is known.
     ghost tidy: { List ℕ → Option (List ℕ) } = { λ _. None };
 
@@ -138,20 +138,20 @@ pub fn live_script<R: Read, O: Outside, W: Write>(
 /// # Errors
 ///
 /// `Device` if a read of the lines or a write fails, `Memory` and `Port`.
-pub fn live_session<R: Read, P: Person, O: Outside, W: Write>(
+pub fn live_session<R: Read, P: Console, O: Outside, W: Write>(
     alloc: Global,
     mut live: LiveSide<O, W>,
     lines: &mut R,
-    person: &mut P,
+    console: &mut P,
     serve_on: bool,
 ) -> (Result<(), LiveStop>, LiveSide<O, W>)
     ensures { IfSome (R.remaining lines.old) (λ octets. OnOk result.0
         (GreetedAndEnds P.tidy serve_on (lines_of octets)
-        (session_of O.io_events O.impaired_by W.contents P.reported live person.old)
-        (session_of O.io_events O.impaired_by W.contents P.reported result.1 person.new))) }
+        (session_of O.io_events O.impaired_by W.contents P.reported live console.old)
+        (session_of O.io_events O.impaired_by W.contents P.reported result.1 console.new))) }
 {
-    person.greet();
-    match converse(alloc, &mut live, lines, person, serve_on) {
+    console.greet();
+    match converse(alloc, &mut live, lines, console, serve_on) {
         Ok(()) => (Ok(()), live),
         Err(fault) => (Err(LiveStop::from(fault)), live),
     }
@@ -225,17 +225,17 @@ fn do_script_line<O: Outside, W: Write>(
 }
 
 /// Runs a side on typed lines.
-fn converse<R: Read, P: Person, O: Outside, W: Write>(
+fn converse<R: Read, P: Console, O: Outside, W: Write>(
     alloc: Global,
     live: &mut LiveSide<O, W>,
     lines: &mut R,
-    person: &mut P,
+    console: &mut P,
     serve_on: bool,
 ) -> Result<(), LiveFault>
     ensures { IfSome (R.remaining lines.old) (λ octets. OnOk result
         (SessionEnds P.tidy serve_on (lines_of octets)
-        (session_of O.io_events O.impaired_by W.contents P.reported live.old person.old)
-        (session_of O.io_events O.impaired_by W.contents P.reported live.new person.new))) }
+        (session_of O.io_events O.impaired_by W.contents P.reported live.old console.old)
+        (session_of O.io_events O.impaired_by W.contents P.reported live.new console.new))) }
 {
     let mut typed = TypedLines::new(alloc);
     for _read in 0..u64::MAX {
@@ -243,12 +243,12 @@ fn converse<R: Read, P: Person, O: Outside, W: Write>(
             return Ok(());
         }
         if !read_part(lines, &mut typed)? {
-            if !do_last(live, typed.last_line(), person)? {
+            if !do_last(live, typed.last_line(), console)? {
                 return Ok(());
             }
             return serve_to_end(live, serve_on);
         }
-        if !do_typed_lines(live, &mut typed, person)? {
+        if !do_typed_lines(live, &mut typed, console)? {
             return Ok(());
         }
     }
@@ -256,21 +256,21 @@ fn converse<R: Read, P: Person, O: Outside, W: Write>(
 }
 
 /// Executes the complete typed lines. Returns `false` if one of them ends the session.
-fn do_typed_lines<P: Person, O: Outside, W: Write>(
+fn do_typed_lines<P: Console, O: Outside, W: Write>(
     live: &mut LiveSide<O, W>,
     typed: &mut TypedLines,
-    person: &mut P,
+    console: &mut P,
 ) -> Result<bool, LiveFault>
     ensures { IfOk result (λ goes_on.
         LinesType P.tidy goes_on typed.old.text.items typed.new.text.items
-        (session_of O.io_events O.impaired_by W.contents P.reported live.old person.old)
-        (session_of O.io_events O.impaired_by W.contents P.reported live.new person.new)) }
+        (session_of O.io_events O.impaired_by W.contents P.reported live.old console.old)
+        (session_of O.io_events O.impaired_by W.contents P.reported live.new console.new)) }
 {
     for _line in 0..u64::MAX {
         let Some(line) = typed.next_line()? else {
             return Ok(true);
         };
-        if !do_typed(live, line.as_slice(), person)? {
+        if !do_typed(live, line.as_slice(), console)? {
             return Ok(false);
         }
     }
@@ -278,42 +278,42 @@ fn do_typed_lines<P: Person, O: Outside, W: Write>(
 }
 
 /// Executes the last line, if it lacks its line feed. Returns `false` if it ends the session.
-fn do_last<P: Person, O: Outside, W: Write>(
+fn do_last<P: Console, O: Outside, W: Write>(
     live: &mut LiveSide<O, W>,
     line: &[u8],
-    person: &mut P,
+    console: &mut P,
 ) -> Result<bool, LiveFault>
     ensures { IfOk result (λ goes_on. TypesLast P.tidy line.now goes_on
-        (session_of O.io_events O.impaired_by W.contents P.reported live.old person.old)
-        (session_of O.io_events O.impaired_by W.contents P.reported live.new person.new)) }
+        (session_of O.io_events O.impaired_by W.contents P.reported live.old console.old)
+        (session_of O.io_events O.impaired_by W.contents P.reported live.new console.new)) }
 {
     match line {
         [] => Ok(true),
-        [..] => do_typed(live, line, person),
+        [..] => do_typed(live, line, console),
     }
 }
 
 /// Executes a typed line. Returns `false` if it ends the session.
-fn do_typed<P: Person, O: Outside, W: Write>(
+fn do_typed<P: Console, O: Outside, W: Write>(
     live: &mut LiveSide<O, W>,
     line: &[u8],
-    person: &mut P,
+    console: &mut P,
 ) -> Result<bool, LiveFault>
     ensures { IfOk result (λ goes_on. Types P.tidy line.now goes_on
-        (session_of O.io_events O.impaired_by W.contents P.reported live.old person.old)
-        (session_of O.io_events O.impaired_by W.contents P.reported live.new person.new)) }
+        (session_of O.io_events O.impaired_by W.contents P.reported live.old console.old)
+        (session_of O.io_events O.impaired_by W.contents P.reported live.new console.new)) }
 {
-    let line = person.tidied(line)?;
+    let line = console.tidied(line)?;
     let line = line.as_slice();
     match typed_action(line) {
         TypedAction::Pass => Ok(true),
         TypedAction::Help => {
-            person.help();
+            console.help();
             Ok(true)
         }
         TypedAction::Quit => Ok(false),
         TypedAction::Obey => {
-            obey_typed(live, line, person)?;
+            obey_typed(live, line, console)?;
             Ok(true)
         }
     }
@@ -334,19 +334,19 @@ pub(crate) fn typed_action(line: &[u8]) -> TypedAction
     }
 }
 
-/// Executes a line of a person, or reports why it is not a line of the side.
-fn obey_typed<P: Person, O: Outside, W: Write>(
+/// Executes a line of a console, or reports why it is not a line of the side.
+fn obey_typed<P: Console, O: Outside, W: Write>(
     live: &mut LiveSide<O, W>,
     line: &[u8],
-    person: &mut P,
+    console: &mut P,
 ) -> Result<(), LiveFault>
     ensures { OnOk result (TypedEnds Obey line.now true
-        (session_of O.io_events O.impaired_by W.contents P.reported live.old person.old)
-        (session_of O.io_events O.impaired_by W.contents P.reported live.new person.new)) }
+        (session_of O.io_events O.impaired_by W.contents P.reported live.old console.old)
+        (session_of O.io_events O.impaired_by W.contents P.reported live.new console.new)) }
 {
     match live.obey(line, Lines::Awaited)? {
         Obeyed::Bad => {
-            person.refuse_line(line);
+            console.refuse_line(line);
             Ok(())
         }
         Obeyed::Done | Obeyed::Unmet => Ok(()),

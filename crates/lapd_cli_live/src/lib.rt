@@ -20,13 +20,13 @@ mod live_lines;
 mod live_side;
 mod obeyed;
 mod printer;
+mod recent_output;
 mod service;
 mod style;
 mod typed_lines;
-mod unseen;
 
 pub use fault::LiveFault;
-pub use input::{LiveStop, Person, live_script, live_session};
+pub use input::{Console, LiveStop, live_script, live_session};
 pub use lapd_cli_line::{Impaired, Impairment, Lines, Outside, Sending, Tap, Tapped, Woken};
 pub use lapd_cli_side_lines::LineStyle;
 pub use laws::{

@@ -142,7 +142,7 @@ impl<O: Outside, W: Write> LiveSide<O, W> {
     }
 
     /// Processes the next frame that has arrived. Returns `false` if none has.
-    fn look(&mut self) -> Result<bool, LiveFault>
+    fn receive_one(&mut self) -> Result<bool, LiveFault>
         ensures { IfOk result (λ matched.
             Between O.io_events O.impaired_by W.contents self.old self.new (Looks matched)) }
     {
@@ -165,7 +165,7 @@ impl<O: Outside, W: Write> LiveSide<O, W> {
             (HasReceived until end_reason)) }
     {
         for _frame in 0..self.most {
-            if !self.look()? {
+            if !self.receive_one()? {
                 return Ok(None);
             }
             let end_reason = ended_by(until, true, self.printer.is_matched());
@@ -178,7 +178,7 @@ impl<O: Outside, W: Write> LiveSide<O, W> {
 
     /// Expires all timers that are due at the printer's moment, one after another, and sends and
     /// prints the output. The bound is never reached; it only proves termination.
-    fn do_due(&mut self) -> Result<(), LiveFault>
+    fn expire_due(&mut self) -> Result<(), LiveFault>
         ensures { OnOk result
             (Between O.io_events O.impaired_by W.contents self.old self.new DoesDue) }
     {
@@ -200,7 +200,7 @@ impl<O: Outside, W: Write> LiveSide<O, W> {
             (Between O.io_events O.impaired_by W.contents self.old self.new (CatchesUp Until.End)) }
     {
         self.receive_all(Until::End)?;
-        self.do_due()?;
+        self.expire_due()?;
         Ok(self.printer.moment())
     }
 
@@ -260,7 +260,7 @@ impl<O: Outside, W: Write> LiveSide<O, W> {
         if end_reason.is_some() {
             return Ok(end_reason);
         }
-        self.do_due()?;
+        self.expire_due()?;
         let end_reason = ended_by(service.until, false, self.printer.is_matched());
         if end_reason.is_some() {
             return Ok(end_reason);

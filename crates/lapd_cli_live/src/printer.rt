@@ -13,10 +13,10 @@ ghost use Rattle.lapd_cli_script.specs.Line.{text_line};
 ghost use Rattle.lapd_cli_side_lines.specs.SideTexts.{frame_text_line};
 
 use crate::fault::LiveFault;
+use crate::recent_output::RecentOutput;
 use crate::style::Style;
-use crate::unseen::Unseen;
-use lapd_cli_live_text::{Stats, begins_as, words_object};
 use lapd_cli_line::Sending;
+use lapd_cli_live_text::{Stats, begins_as, words_object};
 use lapd_cli_script::LineFault;
 use lapd_cli_side_lines::{LineStyle, push_primitive, push_trace_of};
 use lapd_frame::{Frame, FrameFault, Side, read};
@@ -42,14 +42,14 @@ pub struct Printer<W> {
     pub(crate) is_matched: bool,
     pub(crate) stats: Stats,
     /// The lines that were printed while a line of input was awaited.
-    pub(crate) unseen: Unseen,
+    pub(crate) recent_output: RecentOutput,
 }
 
 impl<W: Write> Printer<W> {
     ghost use Rattle.std.specs.Prelude.{true, false};
     ghost use Rattle.std.specs.Io.KnownBytes.{Keeps};
     ghost use Rattle.lapd_cli_live.specs.Printers.{Awaits, PrintsOn, PutsLine, shown};
-    ghost use Rattle.lapd_cli_live.specs.Unseen.{has_line, recent_lines, lines_behind, with_line};
+    ghost use Rattle.lapd_cli_live.specs.RecentOutput.{has_line, recent_lines, lines_behind, with_line};
 
     /// Prints lines of this style.
     pub fn new(alloc: Global, out: W, style: Style) -> Printer<W>
@@ -57,8 +57,8 @@ impl<W: Write> Printer<W> {
         ensures text { result.text.items ≡ [] }
         ensures style { result.style ≡ style }
         ensures moment { result.moment ≡ 0 }
-        ensures lines { recent_lines result.unseen ≡ [] }
-        ensures preserved { result.unseen.is_retained ≡ false }
+        ensures lines { recent_lines result.recent_output ≡ [] }
+        ensures preserved { result.recent_output.is_retained ≡ false }
     {
         Printer {
             alloc,
@@ -70,7 +70,7 @@ impl<W: Write> Printer<W> {
             awaited: Vec::new(alloc),
             is_matched: false,
             stats: Stats::new(),
-            unseen: Unseen::new(alloc),
+            recent_output: RecentOutput::new(alloc),
         }
     }
 
@@ -127,32 +127,32 @@ impl<W: Write> Printer<W> {
     /// Keeps the lines that are printed from now on for the next `expect`, as a line of input is
     /// awaited.
     pub(crate) fn retain_unseen(&mut self)
-        ensures same { self.new ≡ record self.old { unseen = self.new.unseen } }
-        ensures lines { recent_lines self.new.unseen ≡ recent_lines self.old.unseen }
-        ensures preserved { self.new.unseen.is_retained ≡ true }
+        ensures same { self.new ≡ record self.old { recent_output = self.new.recent_output } }
+        ensures lines { recent_lines self.new.recent_output ≡ recent_lines self.old.recent_output }
+        ensures preserved { self.new.recent_output.is_retained ≡ true }
     {
-        self.unseen.retain();
+        self.recent_output.retain();
     }
 
     /// Forgets the kept lines, as a line of input is executed that isn't an `expect`.
     pub(crate) fn forget_unseen(&mut self)
-        ensures same { self.new ≡ record self.old { unseen = self.new.unseen } }
-        ensures lines { recent_lines self.new.unseen ≡ [] }
-        ensures preserved { self.new.unseen.is_retained ≡ false }
+        ensures same { self.new ≡ record self.old { recent_output = self.new.recent_output } }
+        ensures lines { recent_lines self.new.recent_output ≡ [] }
+        ensures preserved { self.new.recent_output.is_retained ≡ false }
     {
-        self.unseen.forget();
+        self.recent_output.forget();
     }
 
     /// Returns whether a kept line begins with these words. The first such line is forgotten with
     /// the lines before it, or all lines if there is none.
     pub(crate) fn take_unseen(&mut self, words: &[u8]) -> bool
-        ensures same { self.new ≡ record self.old { unseen = self.new.unseen } }
-        ensures matched { result ≡ has_line words.now (recent_lines self.old.unseen) }
-        ensures lines { recent_lines self.new.unseen
-            ≡ lines_behind words.now (recent_lines self.old.unseen) }
-        ensures preserved { self.new.unseen.is_retained ≡ false }
+        ensures same { self.new ≡ record self.old { recent_output = self.new.recent_output } }
+        ensures matched { result ≡ has_line words.now (recent_lines self.old.recent_output) }
+        ensures lines { recent_lines self.new.recent_output
+            ≡ lines_behind words.now (recent_lines self.old.recent_output) }
+        ensures preserved { self.new.recent_output.is_retained ≡ false }
     {
-        self.unseen.take(words)
+        self.recent_output.take(words)
     }
 
     /// Whether the awaited line was printed.
@@ -431,18 +431,18 @@ impl<W: Write> Printer<W> {
         ensures matched { OnOk result (self.new ≡ record self.old {
           is_matched = self.old.is_matched
               || begins self.old.awaited.items (string_bytes self.old.line);
-          unseen = self.new.unseen;
+          recent_output = self.new.recent_output;
         }) }
-        ensures lines { OnOk result (recent_lines self.new.unseen
-            ≡ with_line self.old.unseen.is_retained (string_bytes self.old.line)
-            (recent_lines self.old.unseen)) }
+        ensures lines { OnOk result (recent_lines self.new.recent_output
+            ≡ with_line self.old.recent_output.is_retained (string_bytes self.old.line)
+            (recent_lines self.old.recent_output)) }
         ensures preserved { OnOk result
-            (self.new.unseen.is_retained ≡ self.old.unseen.is_retained) }
+            (self.new.recent_output.is_retained ≡ self.old.recent_output.is_retained) }
     {
         if begins_so(self.awaited.as_slice(), self.line.as_bytes()) {
             self.is_matched = true;
         }
-        self.unseen.add(self.line.as_bytes())
+        self.recent_output.add(self.line.as_bytes())
     }
 }
 

@@ -84,7 +84,7 @@ counts_frames from frames = record {
   octets = octets_summed from frames no_traffic (omega arith) ∙ from_zero 0 (sum_by (λ octets. length octets) frames) refl;
 }
 
--- ---- What a step leaves of the counts.
+-- ---- The counts after a step.
 
 record PreservesCounts (old new : Stats) : Type 0 where
   sent : new.sent ≡ old.sent

@@ -55,7 +55,7 @@ reports_in (Sent octets ∷ events) = reports_in events
 reports_in (Received octets ∷ events) = reports_in events
 reports_in (Delivered primitive ∷ events) = with_report primitive (reports_in events)
 
--- ---- What the counts say.
+-- ---- The meaning of the counts.
 
 -- octets of this sender are of this kind
 abbrev pub is_of_kind : Side → FrameKind → List ℕ → Bool

@@ -248,7 +248,7 @@ impl<W: Write, S: Source, K: Sink> SideRunner<W, S, K> {
         match moment_behind(self.now, ms) {
             Some(now) => {
                 self.now = now;
-                self.do_due()
+                self.expire_due()
             }
             None => Err(LineFault::Bad),
         }
@@ -257,7 +257,7 @@ impl<W: Write, S: Source, K: Sink> SideRunner<W, S, K> {
     /// Expires all due timers, one after another. No timer started at this moment is due at it,
     /// since each runs for at least a millisecond. The bound of the loop is never reached; it only
     /// proves termination.
-    fn do_due(&mut self) -> Result<(), LineFault>
+    fn expire_due(&mut self) -> Result<(), LineFault>
         ensures side { side_of self.new.side ≡ side_of self.old.side }
         ensures clock { self.new.now ≡ self.old.now }
         ensures good { IsGood result }

@@ -73,7 +73,7 @@ rest_left old (Some ys) xs reception left later is ends taken =
     let p = parted xs reception left (append_cancel_right (socket_text xs) (socket_text reception ++ left) later all) in
     (p.0, p.1, ends ∙ ap (λ (zs : List ℕ). Some (zs ++ later)) p.2)
 
--- ---- What is written.
+-- ---- The octets that are written.
 
 pub same_text : (old new : Option (List ℕ)) (one two : List ℕ) → IsSome old → Appends old new one → Appends old new two → one ≡ two
 same_text None new one two known p q = let no : ⊥ = cc in absurd no

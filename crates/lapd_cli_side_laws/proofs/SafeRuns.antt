@@ -28,7 +28,7 @@ run_safely c fixed known random lines a b at did =
       safe = λ id low few_u few_n. made_link_safe c id fixed known random low few_u few_n p.moves;
     }
 
--- ---- What is printed.
+-- ---- The printed lines.
 
 received_so : (id : LinkId) (given gave : List (LinkId × List ℕ)) (sent_in : ℕ → Option ℕ) (own owned other others : List Primitive) (numbers : List ℕ) → given ≡ gave → own ≡ owned → other ≡ others
     → IsReceivedUnskipped (given_to id given) sent_in (known_of id own).acked (known_of id other).received numbers → IsReceivedUnskipped (given_to id gave) sent_in (known_of id owned).acked (known_of id others).received numbers

@@ -50,7 +50,7 @@ use Rattle.lapd_cli_side_laws.proofs.Lines.{Did, HasEvents, network_has, user_ha
 use Rattle.lapd_cli_side_laws.proofs.Prints.{acts_are, acts_lines, acts_read, network_prints, reads_as}
 use Rattle.lapd_cli_side_laws.proofs.WorkedRuns.{HasFrames, IsAt, IsLine, appends_so, asked, frames_at, is_known, known_after, net, never_ends, reads, same_establish, still_frames, usr}
 
--- ---- What a line prints that takes a frame.
+-- ---- The output of a line that takes a frame.
 
 record PrintsTaken {S : Type 0} (w : Behaviour S) (a b : AtWork) (v : SideView S) : Type 0 where
   printed : List PrintedLine

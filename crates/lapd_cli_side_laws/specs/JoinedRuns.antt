@@ -83,7 +83,7 @@ abbrev pub sides_at_first : Configs → Option ℕ → List ℕ → Interface
 sides_at_first c fixed known =
     new_interface (new_user c.user fixed (seeded c.user.seed)) (new_network c.network known)
 
--- ---- What is printed is right.
+-- ---- The printed lines are right.
 
 -- the transcripts contain what the sides of the interface delivered and accepted
 pub record ArePrinted (fixed : Option ℕ) (network user : List ExecutedLine) (i : Interface)

@@ -15,7 +15,7 @@ use Rattle.lapd_cli_side_lines.specs.declared.line_style.LineStyle.{LineStyle}
 use Rattle.lapd_cli_side_lines.specs.LineRequests.{LineRequest, Give}
 use Rattle.lapd_cli_side_lines.specs.SideTexts.{end_line, frame_text_line, primitive_line, refusal_line}
 
--- ---- What is printed.
+-- ---- The printed lines.
 
 -- A printed line: a frame that a side sent, a primitive, the reason why a request was refused, or
 -- the end of the input. The line of a primitive begins with the SAPI and the TEI of its link and

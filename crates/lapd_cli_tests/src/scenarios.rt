@@ -66,7 +66,7 @@ fn scenarios_print_what_they_state(rt: HostRuntime) -> Result<(), Fail> {
     }
 }
 
-/// What the script of a scenario prints if nothing is on the port.
+/// The output of a scenario's script if nothing is on the port.
 fn printed_by(alloc: Global, row: &str) -> Vec<u8> {
     let (words, scenario) = row.split_once('\n').unwrap_or((row, ""));
     let words = words_of(alloc, words);

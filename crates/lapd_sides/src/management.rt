@@ -1,4 +1,4 @@
-//! What differs between the network side and a user side.
+//! The differences between the network side and a user side.
 
 ghost use Rattle.std.specs.Prelude.{◌≡◌, ℕ, false, [], Some};
 ghost use Rattle.lapd_frame.specs.declared.predicted_frame.PredictedFrame.{PredictedFrame};

@@ -86,7 +86,7 @@ dropped_leave n = leave_where (nat_lt 0 n) (Dropped n) tt
 restart_after : (before : List Out) → LeaveT200 before → RestartT200 (before ++ Start T200 ∷ [])
 restart_after before left = record { before = before; left = left; same = refl }
 
--- ---- What a step does meanwhile.
+-- ---- The steps meanwhile.
 
 pub data Continues (was : Situation) (input : Input) (e : End) (s : StepState) : Type 0 where
   answered : is_answered (asked_in was) s.outs ≡ true → Continues was input e s

@@ -28,7 +28,7 @@ use Rattle.lapd_sides_laws.specs.Projects.{IsTimed}
 use Rattle.lapd_sides_laws.specs.SideView.{Behaviour, accepted_by}
 use Rattle.lapd_sides_laws.specs.Primitives.{link_primitives, given_to, Known, learns_all, AreExpectedOfLink}
 
--- ---- What an event of a side does to one of its links: nothing, or one step.
+-- ---- An event of a side does nothing to one of its links, or one step.
 
 -- the link stays unchanged, and no frame and no primitive is for it
 pub record PassesBy (side : Side) (id : LinkId) (before now : Links) (effects : Effects) : Type 0

@@ -46,7 +46,7 @@ struct Row {
 }
 
 /// The result of the lines of input, the surroundings afterwards, the output, and the reports to a
-/// person.
+/// console.
 #[derive(Drop)]
 pub(crate) struct ScenarioRun<'s> {
     pub(crate) ended: Result<(), LiveStop>,

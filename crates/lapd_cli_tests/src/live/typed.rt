@@ -1,6 +1,6 @@
 //! Lines of input that arrive in parts, and a person who types them.
 
-use lapd_cli_live::Person;
+use lapd_cli_live::Console;
 use std::alloc::{AllocError, Global};
 use std::cell::Cell;
 use std::io::{self, ErrorKind, Read};
@@ -82,7 +82,7 @@ impl Reader {
     }
 }
 
-impl Person for Reader {
+impl Console for Reader {
     fn greet(&mut self) {
         let _ = self.lines_printed.push_str("greet\n");
     }

@@ -28,5 +28,5 @@ received_line contents own from octets result old mid new is beside stats puts =
 pub returns : goal.returns
 returns g c =
     received_line g.W.Write.contents c.args.own c.other.result c.args.octets.now c.put_frame.result c.args.self.now _ c.put_frame.new.self c.other.ensures
-    (record { out = refl; style = refl; moment = refl; awaited = refl; text = refl; matched = refl; unseen = refl })
+    (record { out = refl; style = refl; moment = refl; awaited = refl; text = refl; matched = refl; recent_output = refl })
     (c.count_received.ensures (other_side c.args.own) c.requires.was_read) c.put_frame.ensures

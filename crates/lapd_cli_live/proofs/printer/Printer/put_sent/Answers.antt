@@ -44,11 +44,11 @@ lost_line contents own octets fate result old mid new is beside stats puts =
 pub returns-in-Sent : goal.returns-in-Sent
 returns-in-Sent g c =
     sent_line g.W.Write.contents c.args.own c.args.octets.now c.args.sending c.put_frame.result c.args.self.now _ c.put_frame.new.self c.in-Sent.is
-    (record { out = refl; style = refl; moment = refl; awaited = refl; text = refl; matched = refl; unseen = refl })
+    (record { out = refl; style = refl; moment = refl; awaited = refl; text = refl; matched = refl; recent_output = refl })
     (c.count_sent.ensures c.args.own c.read-frame.ensures.exact) c.put_frame.ensures
 
 pub returns-in-Lost : goal.returns-in-Lost
 returns-in-Lost g c =
     lost_line g.W.Write.contents c.args.own c.args.octets.now c.args.sending c.put_lost.result c.args.self.now _ c.put_lost.new.self c.in-Lost.is
-    (record { out = refl; style = refl; moment = refl; awaited = refl; text = refl; matched = refl; unseen = refl })
+    (record { out = refl; style = refl; moment = refl; awaited = refl; text = refl; matched = refl; recent_output = refl })
     (c.count_sent.ensures c.args.own c.read-frame.ensures.exact) c.put_lost.ensures

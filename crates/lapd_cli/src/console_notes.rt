@@ -1,22 +1,22 @@
-//! The person at the terminal of a live session, who is informed by notes.
+//! The console of a live session: notes to the person at the terminal.
 
 use lapd_cli_console::{Script, put_help, reason, tidied};
 use lapd_cli_io::Notes;
-use lapd_cli_live::Person;
+use lapd_cli_live::Console;
 use std::alloc::{AllocError, Global};
 
 /// Notes which lines a command has, and what is wrong with a line.
 #[derive(Drop)]
-pub struct Speaker<'a> {
+pub struct ConsoleNotes<'a> {
     alloc: Global,
     script: Script,
     notes: &'a Notes<'a>,
 }
 
-impl<'a> Speaker<'a> {
+impl<'a> ConsoleNotes<'a> {
     /// Notes about the lines of this command.
-    pub fn new(alloc: Global, script: Script, notes: &'a Notes<'a>) -> Speaker<'a> {
-        Speaker {
+    pub fn new(alloc: Global, script: Script, notes: &'a Notes<'a>) -> ConsoleNotes<'a> {
+        ConsoleNotes {
             alloc,
             script,
             notes,
@@ -32,7 +32,7 @@ impl<'a> Speaker<'a> {
     }
 }
 
-impl Person for Speaker<'_> {
+impl Console for ConsoleNotes<'_> {
     fn greet(&mut self) {
         self.notes
             .print("type a line; help lists the lines, quit ends the session");

@@ -1,6 +1,6 @@
 ghost use Rattle.std.specs.Prelude.{◌<◌, ◌≡◌, ◌+◌, drop, length, [], IfSome, None, is_some};
 ghost use Rattle.std.specs.List.{list_any};
-ghost use Rattle.lapd_cli_live.specs.Unseen.{begins_with, line_octets, lines_behind};
+ghost use Rattle.lapd_cli_live.specs.RecentOutput.{begins_with, line_octets, lines_behind};
 
 use lapd_cli_live_text::begins_as;
 use std::alloc::{AllocError, Global};
@@ -11,22 +11,22 @@ const MOST_LINES: usize = 1000;
 /// The lines that were printed while a line of input was awaited. A later `expect` still finds
 /// them.
 #[derive(Drop)]
-pub(crate) struct Unseen {
+pub(crate) struct RecentOutput {
     alloc: Global,
     lines: Vec<Vec<u8>>,
     is_retained: bool,
 }
 
-impl Unseen {
+impl RecentOutput {
     ghost use Rattle.std.specs.Prelude.{[], false, true, OnOk};
-    ghost use Rattle.lapd_cli_live.specs.Unseen.{has_line, recent_lines, with_line};
+    ghost use Rattle.lapd_cli_live.specs.RecentOutput.{has_line, recent_lines, with_line};
 
     /// No lines. Printed lines are not kept yet.
-    pub(crate) fn new(alloc: Global) -> Unseen
+    pub(crate) fn new(alloc: Global) -> RecentOutput
         ensures lines { recent_lines result ≡ [] }
         ensures preserved { result.is_retained ≡ false }
     {
-        Unseen {
+        RecentOutput {
             alloc,
             lines: Vec::new(alloc),
             is_retained: false,

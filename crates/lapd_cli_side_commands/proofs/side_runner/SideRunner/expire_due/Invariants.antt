@@ -2,7 +2,7 @@ use Rattle.std.proofs.Common.{◌≡◌}
 use Rattle.lapd_sides.specs.Either.{side_of}
 use Rattle.lapd_cli_side_commands.specs.LineOutputs.{sent_of, primitives_text_of, traced_of}
 use Rattle.lapd_cli_side_commands.proofs.Serving.{ExpiresSome}
-use Rattle.lapd_cli_side_commands.proofs.side_runner.SideRunner.do_due.Given as goal
+use Rattle.lapd_cli_side_commands.proofs.side_runner.SideRunner.expire_due.Given as goal
 
 abbrev pub invariant-loop-tick : goal.invariant-loop-tick
 invariant-loop-tick g l = record {

@@ -1,5 +1,5 @@
 use Rattle.lapd_cli_live.proofs.Kept.{found_in}
-use Rattle.lapd_cli_live.proofs.unseen.Unseen.take.Goals as goal
+use Rattle.lapd_cli_live.proofs.recent_output.RecentOutput.take.Goals as goal
 
 pub returns-in-Some-clause-matched : goal.returns-in-Some-clause-matched
 returns-in-Some-clause-matched c = found_in c.args.words.now _ _ _ c.args.self.now.lines.items c.in-Some.is c.place_of.ensures.matched c.as_slice.ensures.value

@@ -6,7 +6,7 @@ use Rattle.lapd_cli_side_commands.specs.LineOutputs.{primitives_text_of, traced_
 use Rattle.lapd_cli_side_lines.specs.SideTexts.{frames_text, primitives_text}
 use Rattle.lapd_cli_side_commands.specs.Served.{devices}
 use Rattle.lapd_cli_side_commands.proofs.Serving.{all_expired, none_yet, on_both, some_more}
-use Rattle.lapd_cli_side_commands.proofs.side_runner.SideRunner.do_due.Goals as goal
+use Rattle.lapd_cli_side_commands.proofs.side_runner.SideRunner.expire_due.Goals as goal
 
 pub loop-tick-init : goal.loop-tick-init
 loop-tick-init g c = record {

@@ -1,7 +1,7 @@
 use Rattle.std.proofs.Common.{ℕ, Option, subst}
 use Rattle.lapd_cli_line.specs.IoEvents.{Adds, received}
 use Rattle.lapd_cli_live.proofs.Steps.{looked}
-use Rattle.lapd_cli_live.proofs.live_side.LiveSide.look.Goals as goal
+use Rattle.lapd_cli_live.proofs.live_side.LiveSide.receive_one.Goals as goal
 
 pub returns-in_ok-take-in-Some : goal.returns-in_ok-take-in-Some
 returns-in_ok-take-in-Some g c =

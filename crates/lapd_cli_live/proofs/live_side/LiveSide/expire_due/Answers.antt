@@ -1,5 +1,5 @@
 use Rattle.lapd_cli_live.proofs.Steps.{all_due, more_due, none_due}
-use Rattle.lapd_cli_live.proofs.live_side.LiveSide.do_due.Goals as goal
+use Rattle.lapd_cli_live.proofs.live_side.LiveSide.expire_due.Goals as goal
 
 pub loop-tick-init : goal.loop-tick-init
 loop-tick-init g c = none_due _ _

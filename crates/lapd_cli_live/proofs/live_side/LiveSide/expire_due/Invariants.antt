@@ -1,6 +1,6 @@
 use Rattle.lapd_cli_live.specs.Log.{state_of}
 use Rattle.lapd_cli_live.proofs.Steps.{SomeDue}
-use Rattle.lapd_cli_live.proofs.live_side.LiveSide.do_due.Given as goal
+use Rattle.lapd_cli_live.proofs.live_side.LiveSide.expire_due.Given as goal
 
 abbrev pub invariant-loop-tick : goal.invariant-loop-tick
 invariant-loop-tick g l =

@@ -4,15 +4,15 @@ use Rattle.std.specs.List.{list_any}
 use Rattle.std.specs.declared.alloc.Global.{Global}
 use Rattle.std.specs.declared.vec.Vec.{Vec}
 use Rattle.lapd_cli_live_text.specs.AwaitedLine.{begins_as}
-use Rattle.lapd_cli_live.specs.declared.unseen.Unseen.{Unseen}
+use Rattle.lapd_cli_live.specs.declared.recent_output.RecentOutput.{RecentOutput}
 
 -- the octets of some lines
 abbrev pub line_octets : List (Vec ℕ Global) → List (List ℕ)
 line_octets lines = map (λ line. line.items) lines
 
 -- the octets of the kept lines, in the order in which they were printed
-abbrev pub recent_lines : Unseen → List (List ℕ)
-recent_lines unseen = line_octets unseen.lines.items
+abbrev pub recent_lines : RecentOutput → List (List ℕ)
+recent_lines recent_output = line_octets recent_output.lines.items
 
 -- A line is printed. If lines are kept, it is kept after the others; if these are 1,000, they are
 -- forgotten first.
