@@ -1,6 +1,6 @@
 -- An event of the network assigns no TEI, or one: then it sends at most that assignment, and
 -- creates the links of that TEI.
-use Rattle.std.proofs.Common.{◌≡◌, ◌⊎◌, inl, inr, ℕ, ◌==◌, nat_lt, List, [], ◌∷◌, drop, set, Bool, true, false, if◌then◌else◌, Option, Some, None, Ok, Err, refl, sym, ap, subst, ◌∙◌, arith}
+use Rattle.std.proofs.Common.{◌≡◌, ◌⊎◌, inl, inr, ℕ, ◌==◌, nat_lt, List, [], ◌∷◌, drop, set, Bool, true, false, if◌then◌else◌, Option, Some, None, Ok, refl, sym, ap, subst, ◌∙◌, arith}
 use Rattle.std.specs.Prelude.{◌||◌}
 use Rattle.std.specs.List.{list_any, filter_map, cons_option}
 use Rattle.std.proofs.lemmas.Bool.Decides.{nat_tests}
@@ -30,11 +30,9 @@ use Rattle.lapd_tei.specs.Message.{group_tei, permits, frame_of_message}
 use Rattle.lapd_tei.specs.Out.{assigned, denied, check_request, remove, tei_given, tei_freed}
 use Rattle.lapd_table.specs.declared.link_id.LinkId.{LinkId}
 use Rattle.lapd_table.specs.LinkId.{id_eq}
-use Rattle.lapd_table.proofs.Ids.{same_id_eq}
 use Rattle.lapd_sides_links.specs.declared.config.Config.{Config}
-use Rattle.lapd_sides_links.specs.declared.side_fault.SideKind.TheVariants.{NoLink}
 use Rattle.lapd_sides_links.specs.Effects.{message_sent, outcome_of}
-use Rattle.lapd_sides_links.specs.Links.{is_served, Links, Linked, Reaction, where_there, in_links, link_acts, link_expires, with_tei, without_tei}
+use Rattle.lapd_sides_links.specs.Links.{is_served, Links, Reaction, in_links, link_acts, link_expires, with_tei, without_tei}
 use Rattle.lapd_sides.specs.Management.{links_with, links_without, removal_primitives, manages}
 use Rattle.lapd_sides.specs.SideState.{with_links, with_stopped}
 use Rattle.lapd_sides.specs.Network as network
@@ -48,7 +46,7 @@ use Rattle.lapd_sides_laws.proofs.Plain.{plain_no_assignment, plain_removals}
 use Rattle.lapd_sides_laws.proofs.Reactions.{AnyInput, AnyRequest, HoldsOfEvents, HoldsOfLinks, Law, each_event, each_request, reacts}
 use Rattle.lapd_sides_laws.proofs.Requests.{network_asked, sent_to_group}
 use Rattle.lapd_sides_laws.proofs.HeldTeis.{GivesFree, gives_free}
-use Rattle.lapd_sides_laws.proofs.LinkParts.{any_more, absent_acts, other_expires, spelled_is_for}
+use Rattle.lapd_sides_laws.proofs.LinkParts.{expiry_passes, any_more, absent_acts, spelled_is_for}
 use Rattle.lapd_sides_laws.proofs.Managed.{freed_is_reported}
 use Rattle.lapd_bus_laws.specs.Assignments.{Assignment, assignment_in}
 use Rattle.lapd_bus_laws.proofs.Messages.{management_id, others_assign_nothing, assignment_again, links_assign_nothing}
@@ -325,32 +323,11 @@ module _ (config : Config) (now : ℕ) (s : Network) (none : HasNoManagementLink
       (absent_acts side.Network management_id other s.served.links now input octets b none done)
       (op_acts side.Network other s.served.links now input octets b done)
 
-  refuses_expiry : (timer : Timer) → in_links management_id
-      (link_expires side.Network management_id now timer) s.served.links ≡ Err NoLink
-  unfolding in_links
-  refuses_expiry timer = ap (λ (o : Option Linked).
-      where_there management_id s.served.links o (link_expires side.Network management_id now
-      timer)) none
-
-  expiry_passes : (other : LinkId) (timer : Timer) (b : Reaction Links) (test : Bool)
-      → id_eq management_id other ≡ test
-      → in_links other (link_expires side.Network other now timer) s.served.links ≡ Ok b
-      → PassesBy side.Network management_id s.served.links b.after b.effects
-  expiry_passes other timer b false apart is = other_expires side.Network management_id other
-      s.served.links now timer b apart is
-  expiry_passes other timer b true same is =
-      let refused : in_links other (link_expires side.Network other now timer) s.served.links
-      ≡ Err NoLink =
-      subst (λ (k : LinkId).
-      in_links k (link_expires side.Network k now timer) s.served.links ≡ Err NoLink)
-      (same_id_eq management_id other same) (refuses_expiry timer) in
-      cc
-
   expired : (other : LinkId) (timer : Timer) (b : Reaction Links)
       → in_links other (link_expires side.Network other now timer) s.served.links ≡ Ok b
       → Outcome (with_links s b)
   expired other timer b done = by_link b
-      (expiry_passes other timer b (id_eq management_id other) refl done)
+      (expiry_passes side.Network management_id other s.served.links now timer b none done)
       (op_expires side.Network other s.served.links now timer b done)
 
   -- ---- No link and no assigner acts.

@@ -56,7 +56,8 @@ shown_shapes = (codes "stats", []) ∷ (codes "impair", Loss ∷ Delay ∷ []) �
 abbrev pub live_net_shapes : List Shape
 live_net_shapes = waiting_shapes ++ link_shapes (Sapi ∷ Tei ∷ [])
     ++ (codes "busy", Sapi ∷ Tei ∷ OnOff ∷ []) ∷ (codes "check", Tei ∷ [])
-    ∷ (codes "remove", Tei ∷ []) ∷ (codes "state", OptionalSapi ∷ Tei ∷ []) ∷ shown_shapes
+    ∷ (codes "remove", Tei ∷ []) ∷ (codes "check-all", []) ∷ (codes "remove-all", [])
+    ∷ (codes "state", OptionalSapi ∷ Tei ∷ []) ∷ shown_shapes
 
 -- the lines of `user` with the real clock, which name no TEI: its links have the terminal's own
 abbrev pub live_user_shapes : List Shape
@@ -79,7 +80,8 @@ shapes_of Decode = (codes "user", Hex ∷ []) ∷ (codes "net", Hex ∷ []) ∷ 
 shapes_of LiveNet = live_net_shapes
 shapes_of LiveUser = live_user_shapes
 shapes_of Loop = loop_shapes
-shapes_of Net = side_shapes ++ (codes "check", Tei ∷ []) ∷ []
+shapes_of Net = side_shapes ++
+    (codes "check", Tei ∷ []) ∷ (codes "check-all", []) ∷ (codes "remove-all", []) ∷ []
 shapes_of Pair = loop_shapes ++ (codes "settle", []) ∷ (codes "recover", []) ∷ []
 shapes_of User = side_shapes ++ (codes "ask", []) ∷ []
 

@@ -103,6 +103,8 @@ const NET: &[Form] = &[
     line!("give" Sapi Tei Hex),
     line!("unit" Sapi Tei Hex),
     line!("check" Tei),
+    line!("check-all"),
+    line!("remove-all"),
 ];
 
 const USER: &[Form] = &[
@@ -127,6 +129,8 @@ const LIVE_NET: &[Form] = &[
     line!("busy" Sapi Tei OnOff),
     line!("check" Tei),
     line!("remove" Tei),
+    line!("check-all"),
+    line!("remove-all"),
     line!("state" OptionalSapi Tei),
     line!("stats"),
     line!("impair" Loss Delay),

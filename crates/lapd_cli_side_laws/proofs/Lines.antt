@@ -1,5 +1,5 @@
 -- A line of `net` or `user` is a sequence of side events.
-use Rattle.std.proofs.Common.{◌≡◌, ℕ, ◌+◌, List, [], ◌∷◌, ◌++◌, drop, Option, Result, Ok, Err, inl, inr, refl, sym, ap, subst, ◌∙◌, append_assoc}
+use Rattle.std.proofs.Common.{◌≡◌, ℕ, ◌+◌, List, [], ◌∷◌, ◌++◌, drop, Option, Result, Ok, inl, inr, refl, sym, ap, subst, ◌∙◌, append_assoc}
 use Rattle.std.specs.Prelude.{⊤}
 use Rattle.std.specs.List.{AllByRecursion}
 use Rattle.std.specs.Io.KnownBytes.{Appends, Consumes}
@@ -17,13 +17,15 @@ use Rattle.lapd_sides.specs.declared.request.Request.{Request}
 use Rattle.lapd_sides.specs.declared.either_side.EitherSide.{EitherSide}
 use Rattle.lapd_sides.specs.declared.either_side.EitherSide.TheVariants as either
 use Rattle.lapd_sides.specs.Either.{Takes, Answers, Expires, StaysIdle}
-use Rattle.lapd_sides.specs.Network.{Network}
+use Rattle.lapd_sides.specs.Network.{Network, network_rules}
+use Rattle.lapd_sides.specs.ShowsNetwork.{ShowNetwork}
 use Rattle.lapd_sides.specs.Requests.{message_of}
-use Rattle.lapd_sides.specs.User.{User}
+use Rattle.lapd_sides.specs.ShowsUser.{ShowUser}
+use Rattle.lapd_sides.specs.User.{User, user_rules}
 use Rattle.lapd_sides_laws.specs.Calls.{Puts}
 use Rattle.lapd_sides_laws.specs.Interface.{Configs, Interface, network_behaviour, user_behaviour, by_network, by_user, with_network, with_user, run}
 use Rattle.lapd_sides_laws.specs.SideView.{Behaviour, SideView, SideEvent, Take, Expire, Ask, does}
-use Rattle.lapd_sides_laws.proofs.Called.{net_takes, net_ticks, net_requests, usr_takes, usr_ticks, usr_requests}
+use Rattle.lapd_sides_laws.proofs.Called.{call_takes, call_ticks, call_requests}
 use Rattle.lapd_cli_side_lines.specs.Calls.{ExpireInOrder, frames_given}
 use Rattle.lapd_cli_side_commands.specs.Served.{AtWork, Asks, FindsNone, Ticks, LineDoes, LinesDo, TakesNext}
 use Rattle.lapd_cli_side_lines.specs.LineRequests.{LineRequest, Read, Tick, Establish, Release, Give, Unit, Busy, AskTei, Check, Remove, line_request_of}
@@ -51,7 +53,8 @@ network_takes : (config : Config) (octets : List ℕ) (now : ℕ) (old new : Eit
     → (v : SideView Network) (rest : List (List ℕ)) → ShowsNetwork config old v.now → v.incoming ≡ octets ∷ rest
     → Did (network_behaviour config) (ShowsNetwork config new) acts (Take now) v
 network_takes config octets now (either.Network old) (either.Network new) acts h v rest shown are =
-    let d = net_takes old new acts (Ok tt) octets rest now h config v shown are in record { is_so = d.shown; puts = d.puts }
+    let d = call_takes ShowNetwork network_rules old new acts (Ok tt) octets rest now h config v shown
+    are in record { is_so = d.shown; puts = d.puts }
 network_takes config octets now (either.User old) new acts h v rest shown are = absurd shown
 network_takes config octets now (either.Network old) (either.User new) acts h v rest shown are = absurd h
 
@@ -59,7 +62,8 @@ network_expires : (config : Config) (now : ℕ) (old new : EitherSide) (acts : E
     → (v : SideView Network) → ShowsNetwork config old v.now
     → (e : RunningTimer) × Did (network_behaviour config) (ShowsNetwork config new) acts (Expire e.timer e.of now) v
 network_expires config now (either.Network old) (either.Network new) acts h v shown =
-    let d = net_ticks old new acts now h config v shown in (d.0, record { is_so = d.2.shown; puts = d.2.puts })
+    let d = call_ticks ShowNetwork network_rules old new acts now h config v shown in
+    (d.0, record { is_so = d.2.shown; puts = d.2.puts })
 network_expires config now (either.User old) new acts h v shown = absurd shown
 network_expires config now (either.Network old) (either.User new) acts h v shown = absurd h
 
@@ -70,14 +74,11 @@ network_stays_idle config now (either.Network old) (either.User new) h v shown =
 
 network_asks : (config : Config) (request : Request) (now : ℕ) (result : Result ⊤ SideFault) (old new : EitherSide) (acts : Effects) → Answers request now result old new acts
     → (v : SideView Network) → ShowsNetwork config old v.now → Did (network_behaviour config) (ShowsNetwork config new) acts (Ask request now) v
-network_asks config request now (Ok done) (either.Network old) (either.Network new) acts h v shown =
-    let d = net_requests old new acts (Ok done) (message_of request) request now h config v shown in record { is_so = d.shown; puts = d.puts }
-network_asks config request now (Err fault) (either.Network old) (either.Network new) acts h v shown =
-    let d = net_requests old new acts (Err fault) (message_of request) request now h config v shown in record { is_so = d.shown; puts = d.puts }
-network_asks config request now (Ok done) (either.User old) new acts h v shown = absurd shown
-network_asks config request now (Err fault) (either.User old) new acts h v shown = absurd shown
-network_asks config request now (Ok done) (either.Network old) (either.User new) acts h v shown = absurd h
-network_asks config request now (Err fault) (either.Network old) (either.User new) acts h v shown = absurd h
+network_asks config request now result (either.Network old) (either.Network new) acts h v shown =
+    let d = call_requests ShowNetwork network_rules old new acts result (message_of request) request now h
+    config v shown in record { is_so = d.shown; puts = d.puts }
+network_asks config request now result (either.User old) new acts h v shown = absurd shown
+network_asks config request now result (either.Network old) (either.User new) acts h v shown = absurd h
 
 pub network_has : (config : Config) → HasEvents (network_behaviour config) (ShowsNetwork config)
 network_has config = record {
@@ -91,7 +92,8 @@ user_takes : (config : Config) (octets : List ℕ) (now : ℕ) (old new : Either
     → (v : SideView User) (rest : List (List ℕ)) → ShowsUser config old v.now → v.incoming ≡ octets ∷ rest
     → Did (user_behaviour config) (ShowsUser config new) acts (Take now) v
 user_takes config octets now (either.User old) (either.User new) acts h v rest shown are =
-    let d = usr_takes old new acts (Ok tt) octets rest now h config v shown are in record { is_so = d.shown; puts = d.puts }
+    let d = call_takes ShowUser user_rules old new acts (Ok tt) octets rest now h config v shown
+    are in record { is_so = d.shown; puts = d.puts }
 user_takes config octets now (either.Network old) new acts h v rest shown are = absurd shown
 user_takes config octets now (either.User old) (either.Network new) acts h v rest shown are = absurd h
 
@@ -99,7 +101,8 @@ user_expires : (config : Config) (now : ℕ) (old new : EitherSide) (acts : Effe
     → (v : SideView User) → ShowsUser config old v.now
     → (e : RunningTimer) × Did (user_behaviour config) (ShowsUser config new) acts (Expire e.timer e.of now) v
 user_expires config now (either.User old) (either.User new) acts h v shown =
-    let d = usr_ticks old new acts now h config v shown in (d.0, record { is_so = d.2.shown; puts = d.2.puts })
+    let d = call_ticks ShowUser user_rules old new acts now h config v shown in
+    (d.0, record { is_so = d.2.shown; puts = d.2.puts })
 user_expires config now (either.Network old) new acts h v shown = absurd shown
 user_expires config now (either.User old) (either.Network new) acts h v shown = absurd h
 
@@ -110,14 +113,11 @@ user_stays_idle config now (either.User old) (either.Network new) h v shown = ab
 
 user_asks : (config : Config) (request : Request) (now : ℕ) (result : Result ⊤ SideFault) (old new : EitherSide) (acts : Effects) → Answers request now result old new acts
     → (v : SideView User) → ShowsUser config old v.now → Did (user_behaviour config) (ShowsUser config new) acts (Ask request now) v
-user_asks config request now (Ok done) (either.User old) (either.User new) acts h v shown =
-    let d = usr_requests old new acts (Ok done) (message_of request) request now h config v shown in record { is_so = d.shown; puts = d.puts }
-user_asks config request now (Err fault) (either.User old) (either.User new) acts h v shown =
-    let d = usr_requests old new acts (Err fault) (message_of request) request now h config v shown in record { is_so = d.shown; puts = d.puts }
-user_asks config request now (Ok done) (either.Network old) new acts h v shown = absurd shown
-user_asks config request now (Err fault) (either.Network old) new acts h v shown = absurd shown
-user_asks config request now (Ok done) (either.User old) (either.Network new) acts h v shown = absurd h
-user_asks config request now (Err fault) (either.User old) (either.Network new) acts h v shown = absurd h
+user_asks config request now result (either.User old) (either.User new) acts h v shown =
+    let d = call_requests ShowUser user_rules old new acts result (message_of request) request now h
+    config v shown in record { is_so = d.shown; puts = d.puts }
+user_asks config request now result (either.Network old) new acts h v shown = absurd shown
+user_asks config request now result (either.User old) (either.Network new) acts h v shown = absurd h
 
 pub user_has : (config : Config) → HasEvents (user_behaviour config) (ShowsUser config)
 user_has config = record {

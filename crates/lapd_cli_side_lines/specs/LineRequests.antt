@@ -17,7 +17,7 @@ use Rattle.lapd_cli_side_lines.specs.declared.side_lines.SideLine.TheVariants as
 
 -- The request of a line: read one frame; advance the clock by some milliseconds; establish or
 -- release a link; send a message or unit data on a link; enter or leave the own receiver busy
--- condition of a link; assign a TEI to this terminal; check or remove a TEI.
+-- condition of a link; assign a TEI to this terminal; check or remove a TEI, or all.
 pub data LineRequest : Type 0 where
   Read : LineRequest
   Tick : (ms : ℕ) → LineRequest
@@ -29,6 +29,8 @@ pub data LineRequest : Type 0 where
   AskTei : LineRequest
   Check : (tei : ℕ) → LineRequest
   Remove : (tei : ℕ) → LineRequest
+  CheckAll : LineRequest
+  RemoveAll : LineRequest
 
 -- ---- The requests of a side, with either clock. Which lines there are, and the words that each
 -- has, is in the table of forms.
@@ -55,8 +57,10 @@ abbrev pub side_request : ℕ → List ℕ → LineValues → Option LineRequest
 side_request own word v =
     if bytes_eq word (codes "ask") then Some AskTei else (
     if bytes_eq word (codes "check") then option_map Check v.tei else (
-    if bytes_eq word (codes "remove") then option_map Remove v.tei
-    else option_and_then (link_request word v) (link_of own v)))
+    if bytes_eq word (codes "remove") then option_map Remove v.tei else (
+    if bytes_eq word (codes "check-all") then Some CheckAll else (
+    if bytes_eq word (codes "remove-all") then Some RemoveAll
+    else option_and_then (link_request word v) (link_of own v)))))
 
 -- ---- The lines of a script.
 
@@ -94,6 +98,8 @@ line_request_of (request.Busy id on) = Busy id on
 line_request_of request.AskTei = AskTei
 line_request_of (request.Check tei) = Check tei
 line_request_of (request.Remove tei) = Remove tei
+line_request_of request.CheckAll = CheckAll
+line_request_of request.RemoveAll = RemoveAll
 
 abbrev pub request_of : SideLine → LineRequest
 request_of line.Read = Read

@@ -78,6 +78,10 @@ pub fn side_request(own: Tei, word: &[u8], values: Values<'_>) -> Result<Request
         Ok(Request::Check(tei_of(&values)?))
     } else if word == b"remove".as_slice() {
         Ok(Request::Remove(tei_of(&values)?))
+    } else if word == b"check-all".as_slice() {
+        Ok(Request::CheckAll)
+    } else if word == b"remove-all".as_slice() {
+        Ok(Request::RemoveAll)
     } else {
         match link_of(own, &values) {
             Some(id) => link_request(word, values, id),

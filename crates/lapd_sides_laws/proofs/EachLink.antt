@@ -23,14 +23,13 @@ use Rattle.lapd_sides_links.specs.declared.config.Config.{Config}
 use Rattle.lapd_sides_links.specs.declared.primitive.Primitive.{Primitive}
 use Rattle.lapd_sides_links.specs.declared.primitive.What.{What}
 use Rattle.lapd_sides_links.specs.declared.side_fault.SideKind.{SideKind}
-use Rattle.lapd_sides_links.specs.declared.side_fault.SideKind.TheVariants.{NoLink}
 use Rattle.lapd_sides_links.specs.Effects.{Effects, outcome_of, what_of, timed, stopped}
-use Rattle.lapd_sides_links.specs.Links.{Links, Linked, Reaction, Served, of_sapi, is_served, parameters_for, link_acts, link_expires, where_there, in_links, new_linked, or_new, is_link_of, with_tei, without_tei, release_at_removal, primitives_of, primitives_at_removal, primitive_of_tei}
+use Rattle.lapd_sides_links.specs.Links.{Links, Linked, Reaction, Served, of_sapi, is_served, parameters_for, link_acts, link_expires, in_links, new_linked, or_new, is_link_of, with_tei, without_tei, release_at_removal, primitives_of, primitives_at_removal, primitive_of_tei}
 use Rattle.lapd_sides.specs.Management.{links_with, links_without, removal_primitives, manages}
 use Rattle.lapd_sides_laws.specs.EndAnswers.{is_release}
 use Rattle.lapd_sides_laws.specs.Owed.{PassesBy, IsStep}
 use Rattle.lapd_sides_laws.specs.Primitives.{what_for, link_primitives}
-use Rattle.lapd_sides_laws.proofs.LinkParts.{any_more, any_behind, absent_acts, other_acts, other_expires, own_granted, own_reaction, own_is_step, own_expires}
+use Rattle.lapd_sides_laws.proofs.LinkParts.{absent_expires, any_more, any_behind, absent_acts, other_acts, other_expires, own_granted, own_reaction, own_is_step, own_expires}
 use Rattle.lapd_sides_laws.proofs.Reactions.{IsNoExpiry}
 
 -- call control and packet communication have links
@@ -256,16 +255,10 @@ module _ (id : LinkId) (may : Bool) (O : Option Linked → Type 0) (p : What →
     unfolding step
     steps_by l = (_, refl)
 
-    absent_expires : links id ≡ None → (a : Reaction Links) → Expired id ≡ Ok a → ⊥
-    unfolding in_links
-    absent_expires none a done =
-        let err : Expired id ≡ Err NoLink =
-        ap (λ (o : Option Linked). where_there id links o (link_expires side id now timer)) none in
-        cc
-
     expired_own : (l : Option Linked) (a : Reaction Links) → id_eq id other ≡ true → links id ≡ l
         → O (links id) → Expired id ≡ Ok a → GoesTo a.after a.effects.primitives
-    expired_own None a same was o done = absurd (absent_expires was a done)
+    expired_own None a same was o done =
+        absurd (absent_expires side id links now timer a was done)
     expired_own (Some l) a same was o done =
         let s = steps_by l in
         expired_there l s.0 a same was s.1 o done

@@ -262,6 +262,28 @@ pub absent_acts : (side : Side) (id other : LinkId) (links : Links) (now : ℕ) 
     → in_links other (link_acts side other now input octets) links ≡ Ok a → PassesBy side id links a.after a.effects
 absent_acts side id other links now input octets a none is = absent_by side id other links now input octets a (id_eq id other) none refl is
 
+-- a link that does not exist expires no timer, and whichever timer expires leaves it unchanged
+pub absent_expires : (side : Side) (id : LinkId) (links : Links) (now : ℕ) (timer : Timer)
+    (a : Reaction Links) → links id ≡ None
+    → in_links id (link_expires side id now timer) links ≡ Ok a → ⊥
+unfolding in_links
+absent_expires side id links now timer a none is =
+    let err : in_links id (link_expires side id now timer) links ≡ Err kind.NoLink =
+    ap (λ (o : Option Linked). where_there id links o (link_expires side id now timer)) none in cc
+
+pub expiry_passes : (side : Side) (id other : LinkId) (links : Links) (now : ℕ) (timer : Timer)
+    (a : Reaction Links) → links id ≡ None
+    → in_links other (link_expires side other now timer) links ≡ Ok a
+    → PassesBy side id links a.after a.effects
+expiry_passes side id other links now timer a none is = by_test (id_eq id other) refl
+  where
+    by_test : (test : Bool) → id_eq id other ≡ test → PassesBy side id links a.after a.effects
+    by_test false apart = other_expires side id other links now timer a apart is
+    by_test true same =
+        absurd (absent_expires side id links now timer a none (subst (λ (k : LinkId).
+        in_links k (link_expires side k now timer) links ≡ Ok a)
+        (sym (same_id_eq id other same)) is))
+
 -- ---- Primitives for a link that is removed.
 
 or_more : (a b c : Bool) → (b ≡ true → c ≡ true) → (a || b) ≡ true → (a || c) ≡ true

@@ -21,6 +21,7 @@ use Rattle.lapd_sides_laws.proofs.Serves.{Asks, ServesMeant, Spares, SparesLink,
 use Rattle.lapd_sides.specs.AllTeis.{check_of_all, removal_of_all}
 use Rattle.lapd_tei.specs.declared.out.TeiOut.{TeiOut}
 use Rattle.lapd_sides_links.specs.Effects.{message_sent}
+use Rattle.lapd_sides_laws.specs.Addressed.{is_for}
 
 pub network_meant : (config : Config) → ServesMeant network_rules config
 network_meant config = record {

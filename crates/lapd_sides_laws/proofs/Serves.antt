@@ -45,9 +45,9 @@ use Rattle.lapd_sides_laws.proofs.Asked.{IsMoveRequest, establish_request, relea
 use Rattle.lapd_sides_laws.proofs.LinkParts.{absent_refuses, absent_acts, other_acts, other_expires, own_is_step, own_acts, own_expires, passes_by_nothing}
 use Rattle.lapd_sides_laws.proofs.Timed.{new_is_timed}
 use Rattle.lapd_sides_laws.proofs.Managed.{and_not, not_of_group}
-use Rattle.lapd_sides_laws.proofs.Reactions.{AnyInput, HoldsOfLinks, HoldsOfMessages, Inputs, Law, PermitsFault, PermitsFrame, PermitsRequest, any_frame, takes_so}
+use Rattle.lapd_sides_laws.proofs.Reactions.{AnyInput, HoldsOfLinks, HoldsOfMessages, Inputs, Law, PermitsFault, PermitsFrame, PermitsRequest, takes_so}
 
--- What the laws of a link need of the rules: a frame that is not to the group TEI is for its link,
+-- The laws of a link need this of the rules: a frame that is not to the group TEI is for its link,
 -- and a message is for the link that is meant.
 pub record ServesMeant {M : Type 0} (rules : Rules M) (config : Config) : Type 0 where
   pub spares : (frame : Fields) → is_unit_to_group frame ≡ false
@@ -122,10 +122,10 @@ module _ {M : Type 0} (rules : Rules M) (config : Config) (id : LinkId) (low : i
       of_fault kind (Some address) apart = apart
 
   -- a link that does not exist stays so, whichever link takes an input
-  abbrev IsWithout : ℕ → Law M
+  abbrev pub IsWithout : ℕ → Law M
   IsWithout now s a = s.served.links id ≡ None → Spares now s a
 
-  without : (now : ℕ) → HoldsOfLinks rules now (IsWithout now) AnyInput
+  pub without : (now : ℕ) → HoldsOfLinks rules now (IsWithout now) AnyInput
   without now = record {
     still = λ s none once. inl (nothing s);
     counts = λ s none once. inl (nothing s);
@@ -141,13 +141,6 @@ module _ {M : Type 0} (rules : Rules M) (config : Config) (id : LinkId) (low : i
     takes_other octets now s apart =
         takes_so (others now) config (hears now) octets s
         (is_other (frame_at (other_side rules.side) octets) apart)
-
-    pub takes_without : (octets : List ℕ) (now : ℕ) (s : SideState M)
-        → IsWithout now s (takes rules config octets now s)
-    takes_without octets now s =
-        takes_so (without now) config (λ m s none. hears now m s) octets s
-        (any_frame AnyInput (λ id control role info. tt) (λ id kind. tt)
-        (frame_at (other_side rules.side) octets))
 
   -- ---- The link itself.
 

@@ -26,15 +26,16 @@ use Rattle.lapd_sides_links.specs.Effects.{outcome_of}
 use Rattle.lapd_sides_links.specs.Links.{Links, Linked, Reaction, of_sapi, is_served, in_links, link_acts, with_link}
 use Rattle.lapd_sides.specs.Management.{is_unit_to_group, manages}
 use Rattle.lapd_sides.specs.Meant.{gives_to_own_link}
-use Rattle.lapd_sides.specs.SideState.{among_links, link_of, or_unmoved, takes, unmoved, with_stopped}
+use Rattle.lapd_sides.specs.SideState.{among_links, link_of, or_unmoved, unmoved, with_stopped}
 use Rattle.lapd_sides.specs.User.{User, nothing_pending, user_rules, with_kept, establishes, establishes_pending, primitive_of_sapi, gives_up_pending, own_link, pending_after, terminal_acts, user_requested, with_tei_or}
 use Rattle.lapd_sides_laws.specs.Owed.{PassesBy, ServesLink}
 use Rattle.lapd_sides_laws.specs.Interface.{fresh_link, user_behaviour}
 use Rattle.lapd_sides_laws.specs.Primitives.{what_for, link_primitives}
 use Rattle.lapd_sides_laws.specs.Premises.{IsGivenOnce, is_assignment}
-use Rattle.lapd_sides_laws.proofs.LinkParts.{now_there, absent_acts, own_granted, pass_then_step, step_then_pass, removal_then_pass, other_acts, passes_by_both}
+use Rattle.lapd_sides_laws.proofs.LinkParts.{expiry_passes, now_there, absent_acts, own_granted, pass_then_step, step_then_pass, removal_then_pass, other_acts, passes_by_both}
+use Rattle.lapd_sides_laws.specs.SideView.{SideEvent, SideView, reaction}
 use Rattle.lapd_sides_laws.proofs.Managed.{managing, outcomes_spare, and_not, neither, any_first, other_tei}
-use Rattle.lapd_sides_laws.proofs.Reactions.{AnyInput, AnyRequest, HoldsOfLinks}
+use Rattle.lapd_sides_laws.proofs.Reactions.{AnyInput, AnyRequest, HoldsOfEvents, HoldsOfLinks, each_event, each_request, moment_or, reacts}
 use Rattle.lapd_sides_laws.proofs.Requests.{HoldsInTurn, by_events, forgotten_by, pending_so, step_at, stepped_by, user_asked}
 use Rattle.lapd_sides_laws.proofs.Serves as its
 use Rattle.lapd_sides_laws.proofs.Serves.{ServesMeant, SparesLink, serves}
@@ -319,7 +320,36 @@ module _ (config : Config) (id : LinkId) (low : id.tei < 127) (removed : Bool) w
   pub of_user : ServesLink (user_behaviour config) side.User id removed
   of_user = serves user_rules config id low removed spared
 
-  -- any octets leave a link that does not exist unmoved, unless its TEI is obtained
-  pub takes_without : (octets : List ℕ) (now : ℕ) (s : User) → s.served.links id ≡ None
-      → Spares now s (takes user_rules config octets now s)
-  takes_without = its.takes_without user_rules config id low removed spared.hears
+  -- ---- Any event leaves a link that does not exist unmoved, unless its TEI is obtained.
+
+  abbrev Without : ℕ → User → Reaction User → Type 0
+  Without = its.IsWithout user_rules config id low removed
+
+  acting_without : (now : ℕ) (e : ℕ → TerminalEvent) (s : User)
+      → Without now s (terminal_acts config now e s)
+  acting_without now e s none = acting now e s
+
+  without_law : (now : ℕ) → HoldsOfEvents user_rules config now (Without now) AnyInput AnyRequest
+  without_law now = record {
+    links = its.without user_rules config id low removed now;
+    expires = λ other timer s b done none once. inl (expiry_passes side.User id other
+        s.served.links now timer b none done);
+    by_rules = record {
+      hears = λ m. acting_without now (event.Heard m);
+      times_out = λ timer s may. acting_without now event.T202 (with_stopped timer s);
+      requested = λ asked s any.
+          user_asked (its.without user_rules config id low removed now) config
+          (by_events config now (Without now) AnyRequest (acting_without now event.Ask)
+          (acting_without now event.Want) (acting_without now (λ ri. event.Leave))
+          (λ pending s a h. h) (λ at s none once. inl (record {
+            links = refl;
+            frames = refl;
+            delivered = of_group true at what.ReleaseConfirm;
+          }))) asked s any (each_request user_rules s.management asked);
+    };
+  }
+
+  pub reacts_without : (last : ℕ) (e : SideEvent) (v : SideView User)
+      → Without (moment_or last e) v.now (reaction (user_behaviour config) e v)
+  reacts_without last e v =
+      reacts {R = Without} without_law last e v (each_event user_rules e v)

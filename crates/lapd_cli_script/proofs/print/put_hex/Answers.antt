@@ -13,14 +13,20 @@ loop-rest-preserved g c =
     let front = c.split_at.result.0.now in
     let left = c.split_at.result.1.now in
     let parts : encode_lower front ++ encode_lower left ≡ encode_lower rest =
-    ap (λ x. encode_lower x ++ encode_lower left) c.split_at.ensures.front ∙ ap (λ x. encode_lower (take c.min.result rest) ++ encode_lower x) c.split_at.ensures.back ∙ encode_lower-split c.min.result rest in (
+    ap (λ x. encode_lower x ++ encode_lower left) c.split_at.ensures.front
+    ∙ ap (λ x. encode_lower (take c.min.result rest) ++ encode_lower x) c.split_at.ensures.back
+    ∙ encode_lower-split c.min.result rest in (
       w.0 ++ encode_lower front,
-      Appends-trans (g.W.Write.contents c.args.out.now) (g.W.Write.contents c.loop-rest.out) (g.W.Write.contents c.put_hex_chunk.new.out) w.0 (encode_lower front) w.1 c.in_ok-put_hex_chunk.ensures,
+      Appends-trans (g.W.Write.contents c.args.out.now) (g.W.Write.contents c.loop-rest.out)
+          (g.W.Write.contents c.put_hex_chunk.new.out) w.0 (encode_lower front) w.1
+          c.in_ok-put_hex_chunk.ensures,
       append_assoc w.0 (encode_lower front) (encode_lower left) ∙ ap (λ x. w.0 ++ x) parts ∙ w.2,
     )
 
 pub returns : goal.returns
 returns g c =
     let w = c.loop-rest.invariant in
-    let done : w.0 ≡ encode_lower c.args.octets.now = sym (encode_lower-done w.0 c.loop-rest.rest.now (grind (arith, nat_tests))) ∙ w.2 in
-    subst (Appends (g.W.Write.contents c.args.out.now) (g.W.Write.contents c.loop-rest.out)) done w.1
+    let done : w.0 ≡ encode_lower c.args.octets.now =
+    sym (encode_lower-done w.0 c.loop-rest.rest.now (grind (arith, nat_tests))) ∙ w.2 in
+    subst (Appends (g.W.Write.contents c.args.out.now) (g.W.Write.contents c.loop-rest.out)) done
+    w.1
