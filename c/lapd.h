@@ -253,10 +253,17 @@ uint32_t lapd_side_busy(lapd_side *side, uint8_t sapi, uint8_t tei, uint8_t on, 
 /* Requests a TEI if the user side has none. A network side ignores it. */
 uint32_t lapd_side_ask_tei(lapd_side *side, uint64_t now);
 
-/* Checks whether terminals have this TEI, 0 to 126. A user side ignores it. LAPD_OUT_OF_RANGE: tei
- * is above 126. LAPD_CHECK_RUNS: another check is in progress; check again after its outcome,
- * LAPD_TEI_FREE, LAPD_TEI_IN_USE or LAPD_TEI_DOUBLED. */
+/* Checks whether terminals have this TEI, 0 to 126. Check only TEIs that are held: a check of a TEI
+ * that no terminal has may end after the TEI was assigned, and then frees it under its terminal. A
+ * user side ignores it. LAPD_OUT_OF_RANGE: tei is above 126. LAPD_CHECK_RUNS: another check is in
+ * progress; check again after its outcome, LAPD_TEI_FREE, LAPD_TEI_IN_USE or LAPD_TEI_DOUBLED. */
 uint32_t lapd_side_check_tei(lapd_side *side, uint8_t tei, uint64_t now);
+
+/* Checks all TEIs: sends one check request to all terminals (Q.921 5.3.3), and each that has a TEI
+ * answers with it. No check begins, and nothing is reported: the answers are frames that you pass
+ * in. A TEI that is checked before they have arrived is counted too often, so wait for T201 before
+ * lapd_side_check_tei. A user side ignores it. LAPD_CHECK_RUNS: a check is in progress. */
+uint32_t lapd_side_check_all(lapd_side *side, uint64_t now);
 
 /* Removes this TEI, 0 to 126 (MDL-REMOVE request, Q.921 5.3.4), and its links. A network side sends
  * Identity remove twice and reports LAPD_TEI_FREE, whether it has assigned the TEI or not; a check
@@ -266,6 +273,12 @@ uint32_t lapd_side_check_tei(lapd_side *side, uint8_t tei, uint64_t now);
  * sends nothing. LAPD_NO_LINK: the TEI is not that of this user side. LAPD_OUT_OF_RANGE: tei is
  * above 126. */
 uint32_t lapd_side_remove_tei(lapd_side *side, uint8_t tei, uint64_t now);
+
+/* Removes all TEIs from the terminals of a network side that holds none, as after a restart without
+ * its list: sends Identity remove to all terminals twice (Q.921 5.3.4), and reports nothing. A
+ * network side that holds a TEI ignores it: first remove each TEI that it holds. A user side
+ * ignores it. */
+uint32_t lapd_side_remove_all(lapd_side *side, uint64_t now);
 
 /* Sets T200 to T203 in milliseconds, each 1 to 3600000, for timers that are started from then on,
  * also those of links that are added later. A running timer keeps its deadline. Never returns

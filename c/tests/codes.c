@@ -20,7 +20,9 @@ static void all_return(lapd_side *side, uint32_t code)
 	WANT_CODE(lapd_side_busy(side, 0, 64, 1, 0), code);
 	WANT_CODE(lapd_side_ask_tei(side, 0), code);
 	WANT_CODE(lapd_side_check_tei(side, 64, 0), code);
+	WANT_CODE(lapd_side_check_all(side, 0), code);
 	WANT_CODE(lapd_side_remove_tei(side, 64, 0), code);
+	WANT_CODE(lapd_side_remove_all(side, 0), code);
 	WANT_CODE(lapd_side_tick(side, 0, &expired), code);
 	WANT(expired == 0);
 }
@@ -309,6 +311,7 @@ static void a_check(lapd_side *side)
 	DONE(lapd_side_check_tei(side, 64, 0));
 	WANT_CODE(lapd_side_check_tei(side, 64, 500), LAPD_CHECK_RUNS);
 	WANT_CODE(lapd_side_check_tei(side, 65, 500), LAPD_CHECK_RUNS);
+	WANT_CODE(lapd_side_check_all(side, 500), LAPD_CHECK_RUNS);
 	for (round = 1; round <= 2; round++) {
 		DONE(lapd_side_frame(side, buffer, sizeof buffer, &length));
 		WANT(length == 8 && buffer[6] == 4 && buffer[7] == (64 << 1 | 1));
@@ -324,6 +327,7 @@ static void a_check(lapd_side *side)
 	DONE(lapd_side_user(side, &basic, 64));
 	DONE(lapd_side_check_tei(side, 64, 0));
 	DONE(lapd_side_check_tei(side, 64, 0));
+	DONE(lapd_side_check_all(side, 0));
 }
 
 /* A running timer keeps its deadline, and timers that are started from then on run as long as was

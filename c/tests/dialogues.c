@@ -190,6 +190,10 @@ static bool called(const char *line)
 		code = lapd_side_check_tei(&side, (uint8_t)atoi(b), now);
 	} else if (strcmp(name, "remove-tei") == 0) {
 		code = lapd_side_remove_tei(&side, (uint8_t)atoi(b), now);
+	} else if (strcmp(name, "check-all") == 0) {
+		code = lapd_side_check_all(&side, now);
+	} else if (strcmp(name, "remove-all") == 0) {
+		code = lapd_side_remove_all(&side, now);
 	} else if (strcmp(name, "count") == 0) {
 		code = lapd_side_count(&side);
 	} else if (strcmp(name, "counters") == 0) {

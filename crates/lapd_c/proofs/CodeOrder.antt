@@ -6,11 +6,12 @@ use Rattle.lapd_table.specs.declared.link_id.LinkId.{LinkId}
 use Rattle.lapd_sides_links.specs.declared.side_fault.SideFault.{SideFault}
 use Rattle.lapd_sides_links.specs.declared.side_fault.SideKind.{SideKind}
 use Rattle.lapd_sides_links.specs.declared.side_fault.SideKind.TheVariants.{NoLink, Memory, Link}
+use Rattle.lapd_sides.specs.declared.request.Request.{Request}
 use Rattle.lapd_sides.specs.declared.request.Request.TheVariants as request
 use Rattle.lapd_sides.specs.Either.{Answers}
 use Rattle.lapd_sides_links.specs.Messages.{Message}
 use Rattle.lapd_c.specs.declared.held_side.HeldSide.{HeldSide}
-use Rattle.lapd_c.specs.ThroughHandle.{AsksSide, AsksCheck, AsksTei, AsksLink, AsksLinkWith, Through}
+use Rattle.lapd_c.specs.ThroughHandle.{AsksSide, AsksCheck, AsksTei, AsksLink, AsksLinkWith, ChecksSide, Through}
 use Rattle.lapd_c.specs.Calls.{Asks, Call, Checks, ChecksUnless, Ticks, is_full}
 use Rattle.lapd_c.specs.CodeOrder.{ReturnsInOrder}
 use Rattle.lapd_c.specs.Codes.{code_of, code_of_kind, memory, no_side, out_of_range, pending}
@@ -58,12 +59,12 @@ asked call octets old new code h = by_room (is_full old) refl
       | inr called ↦ reached old code e (subst IsOther (sym called.coded) (result_is_other called.result))
     ]
 
-checked : (tei now : ℕ) (old new : HeldSide) (code : ℕ) → Checks tei now old new code → ReturnsInOrder true (Some old) code
-checked tei now old new code h = by_room (is_full old) refl
+checked : (request : Request) (now : ℕ) (old new : HeldSide) (code : ℕ) → Checks request now old new code → ReturnsInOrder true (Some old) code
+checked request now old new code h = by_room (is_full old) refl
   where
-    by_check : (check : Option ℕ) → is_full old ≡ false → ChecksUnless check tei now old new code → ReturnsInOrder true (Some old) code
-    by_check None e begins = asked (Answers (request.Check tei) now) [] old new code begins
-    by_check (Some other) e runs = reached old code e (subst IsOther (sym runs.0) (refl, refl, refl))
+    by_check : (check : Option ℕ) → is_full old ≡ false → ChecksUnless check request now old new code → ReturnsInOrder true (Some old) code
+    by_check None e begins = asked (Answers request now) [] old new code begins
+    by_check (Some tei) e runs = reached old code e (subst IsOther (sym runs.0) (refl, refl, refl))
 
     by_room : (full : Bool) → is_full old ≡ full → ReturnsInOrder true (Some old) code
     by_room true e = refused old code e (h.refused e).0
@@ -89,12 +90,16 @@ pub of_link : (call : LinkId → Call) (code : ℕ) (old new : Held) (id : Optio
 of_link call code old new None h = out old code h.0
 of_link call code old new (Some id) h = of_side (call id) [] code old new h
 
+pub of_check_all : (request : Request) (now code : ℕ) (old new : Held)
+    → ChecksSide request now code old new → ReturnsInOrder true old code
+of_check_all request now code (Some old) (Some new) h = checked request now old new code h
+of_check_all request now code (Some old) None h = absurd h
+of_check_all request now code None (Some new) h = absurd h
+of_check_all request now code None None h = without code h
+
 pub of_check : (now code : ℕ) (old new : Held) (tei : Option ℕ) → AsksCheck now code old new tei → ReturnsInOrder (is_some tei) old code
 of_check now code old new None h = out old code h.0
-of_check now code (Some old) (Some new) (Some tei) h = checked tei now old new code h
-of_check now code (Some old) None (Some tei) h = absurd h
-of_check now code None (Some new) (Some tei) h = absurd h
-of_check now code None None (Some tei) h = without code h
+of_check now code old new (Some tei) h = of_check_all (request.Check tei) now code old new h
 
 pub of_tei : (call : ℕ → Call) (code : ℕ) (old new : Held) (tei : Option ℕ) → AsksTei call code old new tei → ReturnsInOrder (is_some tei) old code
 of_tei call code old new None h = out old code h.0

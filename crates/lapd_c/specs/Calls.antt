@@ -15,7 +15,7 @@ use Rattle.lapd_sides.specs.declared.either_side.EitherSide.{EitherSide}
 use Rattle.lapd_sides.specs.declared.queued_side.QueuedSide.{QueuedSide}
 use Rattle.lapd_sides.specs.Queued as queued
 use Rattle.lapd_sides.specs.Queued.{Queues, gives_nothing, without_first_frame, without_first_primitive}
-use Rattle.lapd_sides.specs.declared.request.Request.TheVariants as request
+use Rattle.lapd_sides.specs.declared.request.Request.{Request}
 use Rattle.lapd_sides.specs.Either.{side_of, Answers, Expires, StaysIdle, SetsDurations, HasNextDeadline, HasDiscarded, HasTable}
 use Rattle.lapd_tei.specs.declared.phase.Phase.{Phase}
 use Rattle.lapd_c.specs.declared.flat_primitive.FlatPrimitive.{FlatPrimitive}
@@ -87,20 +87,21 @@ pub record Asks (call : Call) (octets : List ℕ) (old new : HeldSide) (code : �
   pub called : is_full old ≡ false
       → HasNoMemory old new code ⊎ HasCalled call octets old new code
 
--- a check of this TEI begins, unless another check is in progress: then nothing changes
-abbrev pub ChecksUnless : Option ℕ → ℕ → ℕ → HeldSide → HeldSide → ℕ → Type 0
-ChecksUnless None tei now old new code = Asks (Answers (request.Check tei) now) [] old new code
-ChecksUnless (Some other) tei now old new code = (code ≡ check_runs) × (new ≡ old)
+-- a request of a check is executed, unless a check is in progress: then nothing changes
+abbrev pub ChecksUnless : Option ℕ → Request → ℕ → HeldSide → HeldSide → ℕ → Type 0
+ChecksUnless None asked now old new code = Asks (Answers asked now) [] old new code
+ChecksUnless (Some tei) asked now old new code = (code ≡ check_runs) × (new ≡ old)
 
-pub record HasRoomToCheck (tei now : ℕ) (old new : HeldSide) (code : ℕ) : Type 0 where
-  pub check : Option ℕ
-  pub has_check : HasCheck old.queued.side check
-  pub begins : ChecksUnless check tei now old new code
+pub record HasRoomToCheck (asked : Request) (now : ℕ) (old new : HeldSide) (code : ℕ) : Type 0
+  where
+    pub check : Option ℕ
+    pub has_check : HasCheck old.queued.side check
+    pub begins : ChecksUnless check asked now old new code
 
 -- if too many results wait, the check is refused, and nothing changes
-pub record Checks (tei now : ℕ) (old new : HeldSide) (code : ℕ) : Type 0 where
+pub record Checks (asked : Request) (now : ℕ) (old new : HeldSide) (code : ℕ) : Type 0 where
   pub refused : is_full old ≡ true → (code ≡ pending) × (new ≡ old)
-  pub called : is_full old ≡ false → HasRoomToCheck tei now old new code
+  pub called : is_full old ≡ false → HasRoomToCheck asked now old new code
 
 -- the first due timer has expired, or none is due and there are no results
 pub record HasTicked (now expired : ℕ) (old new : HeldSide) (code : ℕ) : Type 0 where

@@ -4,6 +4,8 @@ use Rattle.lapd_timers.specs.Durations.{Lengths}
 use Rattle.lapd_table.specs.declared.link_id.LinkId.{LinkId}
 use Rattle.lapd_sides_links.specs.declared.config.Config.{Config}
 use Rattle.lapd_sides.specs.declared.either_side.EitherSide.{EitherSide}
+use Rattle.lapd_sides.specs.declared.request.Request.{Request}
+use Rattle.lapd_sides.specs.declared.request.Request.TheVariants as request
 use Rattle.lapd_sides_links.specs.Messages.{Message, WithMessage}
 use Rattle.lapd_c.specs.declared.held_side.HeldSide.{HeldSide}
 use Rattle.lapd_c.specs.declared.link_counters.LinkCounters.{LinkCounters}
@@ -50,11 +52,15 @@ ReturnsCountersThrough delivered code old new (Some id) =
     Through (λ o n. ReturnsCounters id delivered o n code)
     ((code ≡ no_side) × (delivered ≡ no_counters)) old new
 
+-- a request of a check
+abbrev pub ChecksSide : Request → ℕ → ℕ → Held → Held → Type 0
+ChecksSide asked now code old new =
+    Through (λ o n. Checks asked now o n code) (code ≡ no_side) old new
+
 -- a check of a TEI; if it is not valid, it is refused, and nothing changes
 abbrev pub AsksCheck : ℕ → ℕ → Held → Held → Option ℕ → Type 0
 AsksCheck now code old new None = (code ≡ out_of_range) × (new ≡ old)
-AsksCheck now code old new (Some tei) =
-    Through (λ o n. Checks tei now o n code) (code ≡ no_side) old new
+AsksCheck now code old new (Some tei) = ChecksSide (request.Check tei) now code old new
 
 -- a call for a TEI; if it is not valid, the call is refused, and nothing changes
 abbrev pub AsksTei : (ℕ → Call) → ℕ → Held → Held → Option ℕ → Type 0

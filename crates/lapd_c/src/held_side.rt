@@ -134,16 +134,16 @@ impl HeldSide {
         }
     }
 
-    /// Checks a TEI at the time `now`, unless another check is in progress.
-    pub(crate) fn check(&mut self, tei: Tei, now: u64) -> u32
-        ensures { Checks tei now self.old self.new result }
+    /// Executes a request of a check at the time `now`, unless a check is in progress.
+    pub(crate) fn check(&mut self, request: Request, now: u64) -> u32
+        ensures { Checks request now self.old self.new result }
     {
         if self.is_full() {
             return PENDING;
         }
         match self.checked() {
             Some(_) => CHECK_RUNS,
-            None => self.request(Request::Check(tei), now),
+            None => self.request(request, now),
         }
     }
 

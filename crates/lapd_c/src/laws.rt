@@ -5,7 +5,7 @@ ghost use Rattle.lapd_table.specs.declared.link_id.LinkId.{LinkId};
 ghost use Rattle.lapd_sides.specs.declared.request.Request.{Request};
 ghost use Rattle.lapd_sides.specs.Either.{side_of, Takes, Answers, Gives};
 ghost use Rattle.lapd_sides_links.specs.Messages.{Message};
-ghost use Rattle.lapd_c.specs.ThroughHandle.{AsksSide, AsksCheck, AsksTei, AsksLink, AsksLinkWith, Through};
+ghost use Rattle.lapd_c.specs.ThroughHandle.{AsksSide, AsksCheck, AsksTei, AsksLink, AsksLinkWith, ChecksSide, Through};
 ghost use Rattle.lapd_timers.specs.Durations.{Lengths};
 ghost use Rattle.lapd_c.specs.declared.held_side.HeldSide.{HeldSide};
 ghost use Rattle.lapd_c.specs.declared.link_counters.LinkCounters.{LinkCounters};
@@ -32,6 +32,8 @@ pub fn codes_are_in_order()
         → ReturnsInOrder (is_some id) old code }
     ensures check { (now code : ℕ) (old new : Held) (tei : Option ℕ)
         → AsksCheck now code old new tei → ReturnsInOrder (is_some tei) old code }
+    ensures check_all { (request : Request) (now code : ℕ) (old new : Held)
+        → ChecksSide request now code old new → ReturnsInOrder true old code }
     ensures tei { (request : ℕ → Request) (now code : ℕ) (old new : Held) (tei : Option ℕ)
         → AsksTei (λ tei. Answers (request tei) now) code old new tei
         → ReturnsInOrder (is_some tei) old code }

@@ -11,8 +11,8 @@
 
 ghost use Rattle.std.specs.Prelude.{◌≡◌, ◌==◌, [], Some, None, not};
 ghost use Rattle.lapd_sides.specs.Either.{Takes, Answers, Gives};
-ghost use Rattle.lapd_c.specs.ThroughHandle.{AsksSide, AsksCheck, AsksTei, AsksLink, AsksLinkWith, Makes, ReturnsCountersThrough, ReturnsStateOf, SetsTimers, Through};
-ghost use Rattle.lapd_c.specs.Calls.{or_never, BeginsCounting, Checks, HasSetTimers, Ticks, ReturnsDeadline, ReturnsDiscarded, ReturnsTerminal, FetchesFrame, FetchesNext, FetchesPrimitive, ReturnsText, ReturnsTextOrNothing};
+ghost use Rattle.lapd_c.specs.ThroughHandle.{AsksSide, AsksCheck, AsksTei, AsksLink, AsksLinkWith, ChecksSide, Makes, ReturnsCountersThrough, ReturnsStateOf, SetsTimers, Through};
+ghost use Rattle.lapd_c.specs.Calls.{or_never, BeginsCounting, HasSetTimers, Ticks, ReturnsDeadline, ReturnsDiscarded, ReturnsTerminal, FetchesFrame, FetchesNext, FetchesPrimitive, ReturnsText, ReturnsTextOrNothing};
 ghost use Rattle.lapd_timers.specs.Durations.{lengths_of};
 ghost use Rattle.lapd_trace.specs.Trace.{trace_line};
 ghost use Rattle.lapd_c.specs.FlatPrimitives.{link_of, nothing, sender};
@@ -240,20 +240,27 @@ pub extern "C" fn lapd_side_check_tei(handle: &mut Handle, tei: u8, now: u64) ->
     ensures { AsksCheck now result handle.old.held handle.new.held (own_tei tei) }
 {
     match own_tei(tei) {
-        Some(tei) => check(handle, tei, now),
+        Some(tei) => check(handle, Request::Check(tei), now),
         None => OUT_OF_RANGE,
     }
 }
 
-/// Checks a TEI.
-fn check(handle: &mut Handle, tei: Tei, now: u64) -> u32
-    ensures { Through (λ old new. Checks tei now old new result) (result ≡ 1)
-        handle.old.held handle.new.held }
+/// Checks all TEIs by one message, unless a check is in progress. A user side ignores it.
+#[unsafe(no_mangle)]
+pub extern "C" fn lapd_side_check_all(handle: &mut Handle, now: u64) -> u32
+    ensures { ChecksSide Request.CheckAll now result handle.old.held handle.new.held }
+{
+    check(handle, Request::CheckAll, now)
+}
+
+/// Executes a request of a check.
+fn check(handle: &mut Handle, request: Request, now: u64) -> u32
+    ensures { ChecksSide request now result handle.old.held handle.new.held }
 {
     let Some(side) = handle.side() else {
         return NO_SIDE;
     };
-    side.check(tei, now)
+    side.check(request, now)
 }
 
 /// Removes a TEI, 0 to 126 (MDL-REMOVE request, Q.921 5.3.4). A network side sends Identity remove
@@ -267,6 +274,15 @@ pub extern "C" fn lapd_side_remove_tei(handle: &mut Handle, tei: u8, now: u64) -
         Some(tei) => ask(handle, Request::Remove(tei), now),
         None => OUT_OF_RANGE,
     }
+}
+
+/// Removes all TEIs from the terminals of a network side that holds none (Q.921 5.3.4). A network
+/// side that holds a TEI and a user side ignore it.
+#[unsafe(no_mangle)]
+pub extern "C" fn lapd_side_remove_all(handle: &mut Handle, now: u64) -> u32
+    ensures { AsksSide (Answers Request.RemoveAll now) [] result handle.old.held handle.new.held }
+{
+    ask(handle, Request::RemoveAll, now)
 }
 
 /// Sets T200 to T203, each 1 to 3,600,000 ms, for timers that are started from then on, also those

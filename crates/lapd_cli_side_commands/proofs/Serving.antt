@@ -22,7 +22,7 @@ use Rattle.lapd_cli_side_lines.specs.SideTexts.{acts_text, frame_text_line, fram
 use Rattle.lapd_cli_side_lines.specs.Calls.{frames_given, primitives_given}
 use Rattle.lapd_cli_side_commands.specs.Served.{AtWork, Asks, Devices, ExpiresAll, HasReached, LineDoes, LinesDo, Progress, after_line, side_step, request_list}
 use Rattle.lapd_cli_side_commands.specs.Clocks.{Clocked, clock_step, clocked, moment_after}
-use Rattle.lapd_cli_side_lines.specs.LineRequests.{LineRequest, Read, Tick, Establish, Release, Give, Unit, Busy, AskTei, Check, Remove, request_of, request_of_line, line_request_of}
+use Rattle.lapd_cli_side_lines.specs.LineRequests.{LineRequest, Read, Tick, Establish, Release, Give, Unit, Busy, AskTei, Check, Remove, CheckAll, RemoveAll, request_of, request_of_line, line_request_of}
 use Rattle.lapd_cli_side_lines.proofs.Calls.{AreExpired, one_more, then_none}
 
 -- ---- Frames.
@@ -160,6 +160,8 @@ asks_line (request.Busy id on) a b asks = asks
 asks_line request.AskTei a b asks = asks
 asks_line (request.Check tei) a b asks = asks
 asks_line (request.Remove tei) a b asks = asks
+asks_line request.CheckAll a b asks = asks
+asks_line request.RemoveAll a b asks = asks
 
 -- ---- Lines.
 
@@ -180,6 +182,8 @@ style_preserved (Busy id on) a b h = h.puts.style
 style_preserved AskTei a b h = h.puts.style
 style_preserved (Check tei) a b h = h.puts.style
 style_preserved (Remove tei) a b h = h.puts.style
+style_preserved CheckAll a b h = h.puts.style
+style_preserved RemoveAll a b h = h.puts.style
 
 pub styles_preserved : (line_requests : List LineRequest) (a b : AtWork) → LinesDo line_requests a b → b.around.style ≡ a.around.style
 styles_preserved [] a b same = ap (λ (at : AtWork). at.around.style) same

@@ -28,7 +28,7 @@ use Rattle.lapd_sides_laws.specs.SideView.{Behaviour, SideView, SideEvent, Take,
 use Rattle.lapd_sides_laws.proofs.Called.{call_takes, call_ticks, call_requests}
 use Rattle.lapd_cli_side_lines.specs.Calls.{ExpireInOrder, frames_given}
 use Rattle.lapd_cli_side_commands.specs.Served.{AtWork, Asks, FindsNone, Ticks, LineDoes, LinesDo, TakesNext}
-use Rattle.lapd_cli_side_lines.specs.LineRequests.{LineRequest, Read, Tick, Establish, Release, Give, Unit, Busy, AskTei, Check, Remove, line_request_of}
+use Rattle.lapd_cli_side_lines.specs.LineRequests.{LineRequest, Read, Tick, Establish, Release, Give, Unit, Busy, AskTei, Check, Remove, CheckAll, RemoveAll, line_request_of}
 use Rattle.lapd_cli_side_laws.specs.SideEvents.{AreFor, AreForAll, ArePartedFor, IsByEvents, IsExpiryAt, LeadTo, ShowsNetwork, ShowsUser, does_all, moment_behind, moves_of}
 
 -- ---- A call of a side of either kind is a side event.
@@ -231,6 +231,8 @@ line w Shows has (Busy id on) a b h = asks_one w Shows has (Busy id on) a b h
 line w Shows has AskTei a b h = asks_one w Shows has AskTei a b h
 line w Shows has (Check tei) a b h = asks_one w Shows has (Check tei) a b h
 line w Shows has (Remove tei) a b h = asks_one w Shows has (Remove tei) a b h
+line w Shows has CheckAll a b h = asks_one w Shows has CheckAll a b h
+line w Shows has RemoveAll a b h = asks_one w Shows has RemoveAll a b h
 
 -- ---- All lines.
 
@@ -246,6 +248,8 @@ moment_is (Busy id on) a b h = h.clock
 moment_is AskTei a b h = h.clock
 moment_is (Check tei) a b h = h.clock
 moment_is (Remove tei) a b h = h.clock
+moment_is CheckAll a b h = h.clock
+moment_is RemoveAll a b h = h.clock
 
 pub text_of_both : (xs ys : List (List ℕ)) → socket_text (xs ++ ys) ≡ socket_text xs ++ socket_text ys
 text_of_both [] ys = refl

@@ -23,7 +23,7 @@ use Rattle.lapd_sides_laws.specs.Interface.{network_behaviour, user_behaviour}
 use Rattle.lapd_sides_laws.specs.SideView.{Behaviour, SideView, SideEvent, Take, Expire, Ask, if_granted, or_unmoved, does}
 use Rattle.lapd_cli_side_lines.specs.declared.line_style.LineStyle.{LineStyle}
 use Rattle.lapd_cli_side_lines.specs.Calls.{ExpireInOrder, frames_given, primitives_given}
-use Rattle.lapd_cli_side_lines.specs.LineRequests.{LineRequest, Read, Tick, Establish, Release, Give, Unit, Busy, AskTei, Check, Remove, line_request_of}
+use Rattle.lapd_cli_side_lines.specs.LineRequests.{LineRequest, Read, Tick, Establish, Release, Give, Unit, Busy, AskTei, Check, Remove, CheckAll, RemoveAll, line_request_of}
 use Rattle.lapd_cli_side_lines.specs.SideTexts.{acts_text, answer_text, frame_text_line, frames_text, primitive_line, primitives_text, refusal_line}
 use Rattle.lapd_cli_side_commands.specs.Served.{AtWork, Asks, FindsNone, Ticks, LineDoes, TakesNext}
 use Rattle.lapd_cli_side_laws.specs.SideEvents.{AreFor, ShowsNetwork, ShowsUser, does_all}
@@ -126,6 +126,8 @@ answer_gives w side (request.Busy id on) now result acts v as_ = refl
 answer_gives w side request.AskTei now result acts v as_ = refl
 answer_gives w side (request.Check tei) now result acts v as_ = refl
 answer_gives w side (request.Remove tei) now result acts v as_ = refl
+answer_gives w side request.CheckAll now result acts v as_ = refl
+answer_gives w side request.RemoveAll now result acts v as_ = refl
 
 asked_prints : {S : Type 0} (w : Behaviour S) (Shows : EitherSide → S → Type 0) → HasEvents w Shows → HasAnswers w Shows → (line_request : LineRequest) (a b : AtWork) → Asks line_request a b
     → IsPrinted w Shows (IsOneRequest line_request a.now) line_request a b
@@ -227,6 +229,8 @@ line_prints w Shows has answers (Busy id on) a b h = asked_prints w Shows has an
 line_prints w Shows has answers AskTei a b h = asked_prints w Shows has answers AskTei a b h
 line_prints w Shows has answers (Check tei) a b h = asked_prints w Shows has answers (Check tei) a b h
 line_prints w Shows has answers (Remove tei) a b h = asked_prints w Shows has answers (Remove tei) a b h
+line_prints w Shows has answers CheckAll a b h = asked_prints w Shows has answers CheckAll a b h
+line_prints w Shows has answers RemoveAll a b h = asked_prints w Shows has answers RemoveAll a b h
 
 pub network_prints : (config : Config) (line_request : LineRequest) (a b : AtWork) → LineDoes line_request a b → IsPrinted (network_behaviour config) (ShowsNetwork config) (AreFor line_request a.now) line_request a b
 network_prints config = line_prints (network_behaviour config) (ShowsNetwork config) (network_has config) (network_answers config)

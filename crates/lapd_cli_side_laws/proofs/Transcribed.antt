@@ -18,7 +18,7 @@ use Rattle.lapd_sides_laws.specs.Interface.{Configs, Interface, user_behaviour, 
 use Rattle.lapd_sides_laws.specs.SideView.{SideView, SideEvent, does}
 use Rattle.lapd_cli_side_commands.specs.Served.{AtWork}
 use Rattle.lapd_cli_side_lines.specs.declared.line_style.LineStyle.{LineStyle}
-use Rattle.lapd_cli_side_lines.specs.LineRequests.{LineRequest, Read, Tick, Establish, Release, Give, Unit, Busy, AskTei, Check, Remove}
+use Rattle.lapd_cli_side_lines.specs.LineRequests.{LineRequest, Read, Tick, Establish, Release, Give, Unit, Busy, AskTei, Check, Remove, CheckAll, RemoveAll}
 use Rattle.lapd_cli_side_laws.specs.SideEvents.{does_all, moves_of}
 use Rattle.lapd_cli_side_laws.specs.Joined.{AreAt, AreRun, ProgramLine, Programs, ProgramsDo, requests_of_side}
 use Rattle.lapd_cli_side_laws.specs.Transcripts.{ExecutedLine, PrintedLine, is_refused, lines_text, named_link, own_link, own_tei, primitives_in, primitives_of, submitted_after, submitted_in, transcript_text, with_own_tei}
@@ -57,6 +57,8 @@ same_submitted f g (Busy id on) refused same = refl
 same_submitted f g AskTei refused same = refl
 same_submitted f g (Check tei) refused same = refl
 same_submitted f g (Remove tei) refused same = refl
+same_submitted f g CheckAll refused same = refl
+same_submitted f g RemoveAll refused same = refl
 
 user_submits : (fixed : Option ℕ) (i : Interface) (line_request : LineRequest) (refused : Bool) → KnowsTei fixed (by_user i)
     → submitted_in (interface.own_link i.user.management.terminal) line_request refused ≡ submitted_in (own_link fixed i.delivered_to_user) line_request refused

@@ -135,6 +135,8 @@ same_establish id (request.Busy other on) is = cc
 same_establish id request.AskTei is = cc
 same_establish id (request.Check tei) is = cc
 same_establish id (request.Remove tei) is = cc
+same_establish id request.CheckAll is = cc
+same_establish id request.RemoveAll is = cc
 
 same_link : (one other : LinkId) (xs ys : List ℕ) → Give one xs ≡ Give other ys → one ≡ other
 same_link one other xs ys is = cc
@@ -160,6 +162,8 @@ giving id octets (request.Busy other on) is = let no : ⊥ = cc in absurd no
 giving id octets request.AskTei is = let no : ⊥ = cc in absurd no
 giving id octets (request.Check tei) is = let no : ⊥ = cc in absurd no
 giving id octets (request.Remove tei) is = let no : ⊥ = cc in absurd no
+giving id octets request.CheckAll is = let no : ⊥ = cc in absurd no
+giving id octets request.RemoveAll is = let no : ⊥ = cc in absurd no
 
 -- ---- The views of both sides after each line.
 

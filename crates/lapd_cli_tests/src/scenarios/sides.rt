@@ -168,6 +168,24 @@ tick 1000
     tei free 64
 
 lapd net --listen a:1
+# all TEIs are checked and removed, as long as none is held
+check-all
+>0008feff030f000004ff
+    N>U SAPI 63 TEI 127 C UI P=0 info=0f000004ff
+remove-all
+>0008feff030f000006ff
+    N>U SAPI 63 TEI 127 C UI P=0 info=0f000006ff
+>0008feff030f000006ff
+    N>U SAPI 63 TEI 127 C UI P=0 info=0f000006ff
+read
+<0008<fcff030f123401ff
+    U>N SAPI 63 TEI 127 C UI P=0 info=0f123401ff
+>0008feff030f12340281
+    N>U SAPI 63 TEI 127 C UI P=0 info=0f12340281
+    tei given 64
+remove-all
+
+lapd net --listen a:1
 # one terminal answers for a TEI, then two
 check 64
 >0008feff030f00000481
