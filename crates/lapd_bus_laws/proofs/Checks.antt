@@ -12,11 +12,11 @@ use Rattle.lapd_table.specs.declared.link_id.LinkId.{LinkId}
 use Rattle.lapd_sides_links.specs.declared.primitive.Primitive.{Primitive}
 use Rattle.lapd_sides_links.specs.declared.primitive.Primitive.TheVariants.{Of, Management}
 use Rattle.lapd_sides.specs.User.{User, has_tei}
-use Rattle.lapd_sides_laws.specs.Addressed.{is_for, is_poll_for, is_final_for}
-use Rattle.lapd_sides_laws.specs.Interface.{Configs, user_behaviour, network_behaviour}
-use Rattle.lapd_sides_laws.specs.Premises.{is_assignment, IsTimely}
-use Rattle.lapd_sides_laws.specs.SideView.{SideView, SideEvent, Take, Lose, Expire, Ask, Overhear, reaction, does}
-use Rattle.lapd_sides_laws.proofs.Managed.{neither}
+use Rattle.lapd_interface_laws.specs.Addressed.{is_for, is_poll_for, is_final_for}
+use Rattle.lapd_interface_laws.specs.Interface.{Configs, user_behaviour, network_behaviour}
+use Rattle.lapd_interface_laws.specs.Premises.{is_assignment, IsTimely}
+use Rattle.lapd_interface_laws.specs.SideView.{SideView, SideEvent, Take, Lose, Expire, Ask, Overhear, reaction, does}
+use Rattle.lapd_interface_laws.proofs.Managed.{neither}
 use Rattle.lapd_bus_laws.specs.Assignments.{holds, awaited, awaits, is_answered, claims, is_taken, IsSingle}
 use Rattle.lapd_bus_laws.specs.Bus.{Bus, BusEvent, OfTerminal, OfNetwork, Join, Restart, NewTerminal, connected, new_bus, OverhearsNothing, on_line_of, bus_step}
 use Rattle.lapd_bus_laws.specs.Holdings.{AssignsFree, IsOwnReference, RequestsByItsOwn, RequestsUnanswered, JoinsWithFree, IsOfBus, KeepsTeisApart, Assigns, IsOnlyClaimant, IsClear, LeavesAlone, KeepsHolding}

@@ -12,9 +12,9 @@ use Rattle.lapd_tei.specs.Terminal.{tei_of}
 use Rattle.lapd_sides_links.specs.Links.{Reaction}
 use Rattle.lapd_sides.specs.Network.{Network}
 use Rattle.lapd_sides.specs.User.{User, has_tei}
-use Rattle.lapd_sides_laws.specs.Interface.{Configs, user_behaviour}
-use Rattle.lapd_sides_laws.specs.Premises.{is_assignment}
-use Rattle.lapd_sides_laws.specs.SideView.{SideView, SideEvent, Take, Lose, Expire, Ask, Overhear, reaction, left, does}
+use Rattle.lapd_interface_laws.specs.Interface.{Configs, user_behaviour}
+use Rattle.lapd_interface_laws.specs.Premises.{is_assignment}
+use Rattle.lapd_interface_laws.specs.SideView.{SideView, SideEvent, Take, Lose, Expire, Ask, Overhear, reaction, left, does}
 use Rattle.lapd_bus_laws.specs.Assignments.{Assignment, assignment_in, assignments, holds, is_of_tei, is_sent, awaited, awaits, has_reference, is_answered, is_offer, claims, is_taken}
 use Rattle.lapd_bus_laws.specs.Bus.{OverhearsNothing, reached_by}
 use Rattle.lapd_bus_laws.proofs.Assigns.{AssignsOne}

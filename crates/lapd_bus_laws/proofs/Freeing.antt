@@ -8,8 +8,8 @@ use Rattle.lapd_tei.specs.Terminal.{tei_of, new_terminal}
 use Rattle.lapd_sides_links.specs.Links.{Reaction}
 use Rattle.lapd_sides.specs.Network.{Network}
 use Rattle.lapd_sides.specs.User.{User, new_user, has_tei}
-use Rattle.lapd_sides_laws.specs.Interface.{Configs, user_behaviour, network_behaviour}
-use Rattle.lapd_sides_laws.specs.SideView.{SideView, SideEvent, reaction, left, does}
+use Rattle.lapd_interface_laws.specs.Interface.{Configs, user_behaviour, network_behaviour}
+use Rattle.lapd_interface_laws.specs.SideView.{SideView, SideEvent, reaction, left, does}
 use Rattle.lapd_bus_laws.specs.Assignments.{Assignment, assignment_in, assignments, holds, is_of_tei, is_sent, is_taken}
 use Rattle.lapd_bus_laws.specs.Bus.{Bus, BusEvent, OfTerminal, OfNetwork, Join, Restart, NewTerminal, new_bus, OverhearsNothing, reached_by, left_of, on_line_of, terminal_does, network_does, terminal_joins, bus_step}
 use Rattle.lapd_bus_laws.specs.Freeing.{IsInUse, KnowsTeisInUse, FreesUnused, JoinsKnown, LosesNone}

@@ -19,8 +19,8 @@ use Rattle.lapd_table.specs.declared.link_id.LinkId.{LinkId}
 use Rattle.lapd_table.specs.LinkId.{id_eq, id_of_address}
 use Rattle.lapd_table.specs.Octets.{event_by}
 use Rattle.lapd_sides.specs.Management.{is_management, is_ui}
-use Rattle.lapd_sides_laws.specs.Addressed.{is_named, is_for, those_for}
-use Rattle.lapd_sides_laws.proofs.Managed.{and_not}
+use Rattle.lapd_interface_laws.specs.Addressed.{is_named, is_for, those_for}
+use Rattle.lapd_interface_laws.proofs.Managed.{and_not}
 use Rattle.lapd_bus_laws.specs.Assignments.{Assignment, assignment_by, assignment_of, assignment_in_frame, assignment_in}
 use Rattle.lapd_bus_laws.proofs.Lists.{none_first}
 

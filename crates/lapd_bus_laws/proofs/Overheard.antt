@@ -2,8 +2,8 @@
 use Rattle.std.proofs.Common.{ℕ, List, [], ◌∷◌, refl}
 use Rattle.std.proofs.lemmas.List.{append-nil}
 use Rattle.lapd_sides.specs.User.{User}
-use Rattle.lapd_sides_laws.specs.SideView.{SideView, SideEvent, Take, Lose, Expire, Ask, Overhear, does}
-use Rattle.lapd_sides_laws.specs.Interface.{Configs}
+use Rattle.lapd_interface_laws.specs.SideView.{SideView, SideEvent, Take, Lose, Expire, Ask, Overhear, does}
+use Rattle.lapd_interface_laws.specs.Interface.{Configs}
 use Rattle.lapd_bus_laws.specs.Bus.{Bus, IsOverheard}
 
 overheard_take : (c : Configs) (now : ℕ) (t other : SideView User) (b : Bus) (line : List (List ℕ))

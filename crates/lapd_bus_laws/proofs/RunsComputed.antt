@@ -19,10 +19,10 @@ use Rattle.lapd_sides.specs.Management.{manages}
 use Rattle.lapd_sides.specs.SideState.{link_of, expires, takes}
 use Rattle.lapd_sides.specs.Network.{assigner_acts, network_requested}
 use Rattle.lapd_sides.specs.User.{User, terminal_acts, user_requested}
-use Rattle.lapd_sides_laws.specs.Primitives.{link_primitives}
-use Rattle.lapd_sides_laws.specs.Schedule.{configs, call, IsMessage}
-use Rattle.lapd_sides_laws.specs.SideView.{SideView, does}
-use Rattle.lapd_sides_laws.proofs.Computed.{Fits, holding, with_octets, with_both}
+use Rattle.lapd_interface_laws.specs.Primitives.{link_primitives}
+use Rattle.lapd_interface_laws.specs.Schedule.{configs, call, IsMessage}
+use Rattle.lapd_interface_laws.specs.SideView.{SideView, does}
+use Rattle.lapd_interface_laws.proofs.Computed.{Fits, holding, with_octets, with_both}
 use Rattle.lapd_bus_laws.specs.Assignments.{holds, IsSingle}
 use Rattle.lapd_bus_laws.specs.Bus.{bus_step, from_now, after_events}
 use Rattle.lapd_bus_laws.specs.Holdings.{AssignsFree, RequestsByItsOwn, JoinsWithFree, IsOfBus, KeepsTeisApart, IsReached, Assigns, IsOnlyClaimant, IsClear, KeepsHolding}

@@ -6,8 +6,8 @@ use Rattle.lapd_sides.specs.ShowsUser.{UserSide}
 use Rattle.lapd_sides.specs.ShowsNetwork.{ShowNetwork}
 use Rattle.lapd_sides.specs.ShowsUser.{ShowUser}
 use Rattle.lapd_sides.specs.User.{User}
-use Rattle.lapd_sides_laws.specs.Interface.{Configs}
-use Rattle.lapd_sides_laws.specs.SideView.{SideView}
+use Rattle.lapd_interface_laws.specs.Interface.{Configs}
+use Rattle.lapd_interface_laws.specs.SideView.{SideView}
 use Rattle.lapd_bus_laws.specs.Bus.{Bus, BusEvent, bus_step}
 
 -- The code of the terminal at this index represents it after the event. The frames of the call are

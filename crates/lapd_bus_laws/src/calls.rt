@@ -5,16 +5,16 @@ ghost use Rattle.lapd_sides_links.specs.Effects.{Effects};
 ghost use Rattle.lapd_sides.specs.ShowsNetwork.{NetSide};
 ghost use Rattle.lapd_sides.specs.ShowsUser.{UserSide};
 ghost use Rattle.lapd_sides.specs.User.{User};
-ghost use Rattle.lapd_sides_laws.specs.Calls.{NetworkDoes, UserDoes};
-ghost use Rattle.lapd_sides_laws.specs.Interface.{Configs};
-ghost use Rattle.lapd_sides_laws.specs.SideView.{SideView, SideEvent};
+ghost use Rattle.lapd_interface_laws.specs.Calls.{NetworkDoes, UserDoes};
+ghost use Rattle.lapd_interface_laws.specs.Interface.{Configs};
+ghost use Rattle.lapd_interface_laws.specs.SideView.{SideView, SideEvent};
 ghost use Rattle.lapd_bus_laws.specs.Bus.{Bus, OfTerminal, OfNetwork, on_line_of};
 ghost use Rattle.lapd_bus_laws.specs.Calls.{IsOfTerminal, IsOfNetwork};
 
 /// A call of one of n + 1 sides in code is an event of the bus: of a terminal, or of the network
 /// with the line of a terminal.
 ///
-/// `calls_are_events` of `lapd_sides_laws` says which event of its side each call is, by the
+/// `calls_are_events` of `lapd_interface_laws` says which event of its side each call is, by the
 /// contract of the call. Let the code represent any side of a bus before the call. After it the
 /// code represents this side on the bus that the event leads to. If the program sends the frames of
 /// a call of the network side to all terminals, and those of a terminal to the network, they are in

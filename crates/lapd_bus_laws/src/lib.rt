@@ -1,6 +1,6 @@
 //! A bus of sides, after ITU-T Q.921 (09/97): one network side and any number of terminals.
 //!
-//! The laws of two sides (`lapd_sides_laws`) are applied here to a passive bus: a [`NetSide`] and a
+//! The laws of two sides (`lapd_interface_laws`) are applied here to a passive bus: a [`NetSide`] and a
 //! [`UserSide`] for each terminal. Nothing here runs. The definitions, in the order of specs/:
 //!
 //! - `Bus`: the network side, and the terminals with their lines. Each frame of the network goes to

@@ -19,13 +19,13 @@ use Rattle.lapd_sides_links.specs.Effects.{outcome_of}
 use Rattle.lapd_sides.specs.Management.{links_with, removal_primitives, manages}
 use Rattle.lapd_sides.specs.SideState.{with_stopped}
 use Rattle.lapd_sides.specs.User.{TerminalState, User, next_reference, pending_after, terminal_acts, user_rules}
-use Rattle.lapd_sides_laws.specs.Interface.{user_behaviour}
-use Rattle.lapd_sides_laws.specs.SideView.{SideEvent, SideView, reaction, does}
+use Rattle.lapd_interface_laws.specs.Interface.{user_behaviour}
+use Rattle.lapd_interface_laws.specs.SideView.{SideEvent, SideView, reaction, does}
 use Rattle.lapd_cli_side_laws.specs.Transcripts.{own_tei, tei_after}
-use Rattle.lapd_sides_laws.proofs.LinkOps.{ArePlain, op_acts, op_expires}
-use Rattle.lapd_sides_laws.proofs.Plain.{pending_aside, plain_removals}
-use Rattle.lapd_sides_laws.proofs.Reactions.{AnyInput, AnyRequest, HoldsOfEvents, HoldsOfLinks, Law, each_event, each_request, reacts}
-use Rattle.lapd_sides_laws.proofs.Requests.{by_events, step_at, stepped_by, user_asked}
+use Rattle.lapd_interface_laws.proofs.LinkOps.{ArePlain, op_acts, op_expires}
+use Rattle.lapd_interface_laws.proofs.Plain.{pending_aside, plain_removals}
+use Rattle.lapd_interface_laws.proofs.Reactions.{AnyInput, AnyRequest, HoldsOfEvents, HoldsOfLinks, Law, each_event, each_request, reacts}
+use Rattle.lapd_interface_laws.proofs.Requests.{by_events, step_at, stepped_by, user_asked}
 
 -- ---- Primitives that change no TEI.
 

@@ -6,12 +6,12 @@ use Rattle.lapd_sides_links.specs.declared.primitive.Primitive.{Primitive}
 use Rattle.lapd_sides_links.specs.Links.{parameters_for}
 use Rattle.lapd_sides.specs.Network.{new_network}
 use Rattle.lapd_sides.specs.User.{new_user, seeded}
-use Rattle.lapd_sides_laws.specs.Establishments.{IsReceivedUnskipped}
-use Rattle.lapd_sides_laws.specs.Interface.{Configs, Interface, Move, new_interface, run}
-use Rattle.lapd_sides_laws.specs.Premises.{SatisfyPremisesAsMade}
-use Rattle.lapd_sides_laws.specs.Primitives.{AreExpectedOfLink, given_to, known_of, link_primitives}
-use Rattle.lapd_sides_laws.specs.Projects.{IsRight}
-use Rattle.lapd_sides_laws.proofs.AsMade.{made_link_safe}
+use Rattle.lapd_interface_laws.specs.Establishments.{IsReceivedUnskipped}
+use Rattle.lapd_interface_laws.specs.Interface.{Configs, Interface, Move, new_interface, run}
+use Rattle.lapd_interface_laws.specs.Premises.{SatisfyPremisesAsMade}
+use Rattle.lapd_interface_laws.specs.Primitives.{AreExpectedOfLink, given_to, known_of, link_primitives}
+use Rattle.lapd_interface_laws.specs.Projects.{IsRight}
+use Rattle.lapd_interface_laws.proofs.AsMade.{made_link_safe}
 use Rattle.lapd_cli_side_commands.specs.Served.{Devices}
 use Rattle.lapd_cli_side_lines.specs.LineRequests.{LineRequest}
 use Rattle.lapd_cli_side_laws.specs.Joined.{AreAt, AreRunSafely, ProgramLine, Programs, ProgramsDo}

@@ -5,8 +5,8 @@ use Rattle.std.specs.Prelude.{◌≡◌, ℕ, List, [], ◌∷◌, Some}
 use Rattle.lapd_frame.specs.declared.Side.{Side}
 use Rattle.lapd_port.specs.SocketText.{socket_text}
 use Rattle.lapd_sides.specs.declared.either_side.EitherSide.TheVariants as either
-use Rattle.lapd_sides_laws.specs.Primitives.{AreExpectedOfLink, link_primitives}
-use Rattle.lapd_sides_laws.specs.Schedule.{call, configs}
+use Rattle.lapd_interface_laws.specs.Primitives.{AreExpectedOfLink, link_primitives}
+use Rattle.lapd_interface_laws.specs.Schedule.{call, configs}
 use Rattle.lapd_cli_side_commands.specs.Served.{Devices, NetHasServed, UserHasServed}
 use Rattle.lapd_cli_side_lines.specs.LineRequests.{LineRequest, Read, Establish}
 use Rattle.lapd_cli_side_laws.specs.JoinedRuns.{AreJoined, AreServedInOrder}

@@ -9,10 +9,10 @@ ghost use Rattle.lapd_sides_links.specs.declared.config.Config.{Config};
 ghost use Rattle.lapd_sides_links.specs.Links.{parameters_for};
 ghost use Rattle.lapd_sides.specs.Network.{new_network};
 ghost use Rattle.lapd_sides.specs.User.{new_user};
-ghost use Rattle.lapd_sides_laws.specs.Interface.{Configs, Interface, by_network, by_user, network_behaviour, new_interface, run, user_behaviour, with_network, with_user};
-ghost use Rattle.lapd_sides_laws.specs.Premises.{SatisfyPremisesAsMade};
-ghost use Rattle.lapd_sides_laws.specs.Schedule.{configs};
-ghost use Rattle.lapd_sides_laws.specs.SideView.{SideEvent};
+ghost use Rattle.lapd_interface_laws.specs.Interface.{Configs, Interface, by_network, by_user, network_behaviour, new_interface, run, user_behaviour, with_network, with_user};
+ghost use Rattle.lapd_interface_laws.specs.Premises.{SatisfyPremisesAsMade};
+ghost use Rattle.lapd_interface_laws.specs.Schedule.{configs};
+ghost use Rattle.lapd_interface_laws.specs.SideView.{SideEvent};
 ghost use Rattle.lapd_sides.specs.declared.either_side.EitherSide.TheVariants as either;
 ghost use Rattle.lapd_cli_side_commands.specs.Served.{AtWork, Devices, LineDoes, LinesDo, NetHasServed, UserHasServed};
 ghost use Rattle.lapd_cli_side_lines.specs.LineRequests.{LineRequest};
@@ -122,7 +122,7 @@ pub fn joined_runs_are_printed()
 /// is skipped; the establishments are those of the interface, since they are not printed. Each
 /// message that the counts of its `acknowledged` lines report was received. No error but F, G, H
 /// and I is printed. And the link is safe in the interface, as `each_link_is_safe` of
-/// `lapd_sides_laws` says.
+/// `lapd_interface_laws` says.
 pub fn joined_runs_are_right()
     ensures { (c : Configs) (fixed : Option ℕ) (known : List ℕ) (lines : List ProgramLine)
         (network_lines user_lines : List LineRequest)

@@ -1,7 +1,7 @@
 //! Proofs that `net` and `user` perform events of a side, that both together perform moves of an
 //! interface, and that what they print of it is right.
 //!
-//! An interface (`lapd_sides_laws`) has two sides and the octets between them, and each of its
+//! An interface (`lapd_interface_laws`) has two sides and the octets between them, and each of its
 //! links is safe. The commands `net` and `user` (`lapd_cli_side_commands`) read and write a port.
 //! This crate connects the commands to the interface; it has no code that runs. It speaks only of
 //! scripts that end well, over a source and a sink whose octets are known, as those of a socket are
