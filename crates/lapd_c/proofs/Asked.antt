@@ -55,7 +55,8 @@ last_when_ready (Some counts) all old ready acts given is h last = elim last [
 -- ---- Counters.
 
 -- a side that counts counts the results of the call
-when_counting : (counts : Option (List LinkCount)) (count : Effects → List LinkCount → List LinkCount)
+when_counting : (counts : Option (List LinkCount))
+    (count : Effects → List LinkCount → List LinkCount)
     (acts given : Effects) (after : Option (List LinkCount))
     → ((all : List LinkCount) → counts ≡ Some all → acts ≡ given)
     → after ≡ option_map (count acts) counts → after ≡ option_map (count given) counts
@@ -101,7 +102,8 @@ counted_in_turn octets old mid q between after rest is_ready received h kind =
     ∙ ap (λ (m : HeldSide). option_map (call_counted (side_of q.side) octets q.acts) m.counts) rest
 
 -- an allocation failed before it, so the side does not count
-lacked : (old : HeldSide) (octets : List ℕ) (counts : Option (List LinkCount)) (ready q : QueuedSide)
+lacked : (old : HeldSide) (octets : List ℕ) (counts : Option (List LinkCount))
+    (ready q : QueuedSide)
     (after : Option (List LinkCount)) → old.counts ≡ counts → IsReadyIf counts old.queued ready
     → LacksRoom ready q → IsCounted old octets q after
     → (next old q after ≡ old) × (gives_nothing old.queued.acts ≡ false)

@@ -26,23 +26,30 @@ use Rattle.lapd_cli_live_text.proofs.Tallies.{Fits, few, more, tally, tally_at, 
 
 abbrev traffic_after : Side → List (List ℕ) → Traffic → Traffic
 traffic_after from [] traffic = traffic
-traffic_after from (octets ∷ frames) traffic = traffic_after from frames (counted (kind_of (frame_at from octets)) (length octets) traffic)
+traffic_after from (octets ∷ frames) traffic =
+    traffic_after from frames (counted (kind_of (frame_at from octets)) (length octets) traffic)
 
 -- the index of the count of octets
 abbrev octets_place : Side → List ℕ → ℕ
 octets_place from octets = kind_place (kind_of (frame_at from octets))
 
-frames_tallied : (from : Side) (frames : List (List ℕ)) (traffic : Traffic) → (traffic_after from frames traffic).frames ≡ tally (octets_place from) frames traffic.frames
+frames_tallied : (from : Side) (frames : List (List ℕ)) (traffic : Traffic)
+    → (traffic_after from frames traffic).frames ≡ tally (octets_place from) frames traffic.frames
 frames_tallied from [] traffic = refl
-frames_tallied from (octets ∷ frames) traffic = frames_tallied from frames (counted (kind_of (frame_at from octets)) (length octets) traffic)
+frames_tallied from (octets ∷ frames) traffic =
+    frames_tallied from frames (counted (kind_of (frame_at from octets)) (length octets) traffic)
 
 octets_summed : (from : Side) (frames : List (List ℕ)) (traffic : Traffic) → Fits traffic.octets
-    → (traffic_after from frames traffic).octets ≡ up_to_most (traffic.octets + sum_by (λ octets. length octets) frames)
+    → (traffic_after from frames traffic).octets
+    ≡ up_to_most (traffic.octets + sum_by (λ octets. length octets) frames)
 octets_summed from [] traffic fits = few traffic.octets fits
 octets_summed from (octets ∷ frames) traffic fits =
-    octets_summed from frames (counted (kind_of (frame_at from octets)) (length octets) traffic) (omega arith)
-    ∙ more (up_to_most (traffic.octets + length octets)) (length octets) (sum_by (λ octets. length octets) frames) traffic.octets refl
-    ∙ ap (λ n. up_to_most (traffic.octets + n)) (sym (sum_by-cons (λ (octets : List ℕ). length octets) octets frames))
+    octets_summed from frames (counted (kind_of (frame_at from octets)) (length octets) traffic)
+    (omega arith)
+    ∙ more (up_to_most (traffic.octets + length octets)) (length octets)
+    (sum_by (λ octets. length octets) frames) traffic.octets refl
+    ∙ ap (λ n. up_to_most (traffic.octets + n))
+    (sym (sum_by-cons (λ (octets : List ℕ). length octets) octets frames))
 
 kind_within : (kind : FrameKind) → kind_place kind < 12
 kind_within I = omega arith
@@ -72,16 +79,25 @@ from_zero none n h = omega arith
 zero_fits : (n k : ℕ) → Fits (get_or (zeros n) k 0)
 zero_fits n k = let none = zero_at n k in omega (arith, none)
 
-counts_frames : (from : Side) (frames : List (List ℕ)) → CountsFrames from frames (traffic_after from frames no_traffic)
+counts_frames : (from : Side) (frames : List (List ℕ))
+    → CountsFrames from frames (traffic_after from frames no_traffic)
 unfolding no_traffic
 counts_frames from frames = record {
-  kinds = λ kind. ap (λ counts. get_or counts (kind_place kind) 0) (frames_tallied from frames no_traffic)
-      ∙ tally_at (octets_place from) frames (zeros 12) (kind_place kind) (λ octets. kind_within (kind_of (frame_at from octets))) (zero_fits 12 (kind_place kind))
-      ∙ from_zero (get_or (zeros 12) (kind_place kind) 0) (count_by (λ octets. octets_place from octets == kind_place kind) frames) (zero_at 12 (kind_place kind));
+  kinds =
+      λ kind. ap (λ counts. get_or counts (kind_place kind) 0)
+      (frames_tallied from frames no_traffic)
+      ∙ tally_at (octets_place from) frames (zeros 12) (kind_place kind)
+      (λ octets. kind_within (kind_of (frame_at from octets))) (zero_fits 12 (kind_place kind))
+      ∙ from_zero (get_or (zeros 12) (kind_place kind) 0)
+      (count_by (λ octets. octets_place from octets == kind_place kind) frames)
+      (zero_at 12 (kind_place kind));
   all = ap (λ counts. up_to_most (sum counts)) (frames_tallied from frames no_traffic)
-      ∙ tally_sum (octets_place from) frames (zeros 12) (λ octets. kind_within (kind_of (frame_at from octets))) (zero_fits 12)
+      ∙ tally_sum (octets_place from) frames (zeros 12)
+      (λ octets. kind_within (kind_of (frame_at from octets))) (zero_fits 12)
       ∙ from_zero 0 (length frames) refl;
-  octets = octets_summed from frames no_traffic (omega arith) ∙ from_zero 0 (sum_by (λ octets. length octets) frames) refl;
+  octets =
+      octets_summed from frames no_traffic (omega arith)
+      ∙ from_zero 0 (sum_by (λ octets. length octets) frames) refl;
 }
 
 -- ---- The counts after a step.
@@ -91,51 +107,72 @@ record PreservesCounts (old new : Stats) : Type 0 where
   received : new.received ≡ old.received
   reports : new.reports ≡ old.reports
 
-preserves_either : (test : Bool) (old first second : Stats) → PreservesCounts old first → PreservesCounts old second → PreservesCounts old (if test then first else second)
+preserves_either : (test : Bool) (old first second : Stats) → PreservesCounts old first
+    → PreservesCounts old second → PreservesCounts old (if test then first else second)
 preserves_either true old first second f g = f
 preserves_either false old first second f g = g
 
-preserves_numbered : (place ns : ℕ) (stats : Stats) → PreservesCounts stats (numbered place ns stats)
-preserves_numbered place ns stats = preserves_either _ stats _ _ (record { sent = refl; received = refl; reports = refl }) (record { sent = refl; received = refl; reports = refl })
+preserves_numbered : (place ns : ℕ) (stats : Stats)
+    → PreservesCounts stats (numbered place ns stats)
+preserves_numbered place ns stats =
+    preserves_either _ stats _ _ (record { sent = refl; received = refl; reports = refl })
+    (record { sent = refl; received = refl; reports = refl })
 
-preserves_sent_control : (c : Control) (place : ℕ) (stats : Stats) → PreservesCounts stats (after_sent_control c place stats)
+preserves_sent_control : (c : Control) (place : ℕ) (stats : Stats)
+    → PreservesCounts stats (after_sent_control c place stats)
 preserves_sent_control (control.I ns nr p) place stats = preserves_numbered place ns stats
-preserves_sent_control (control.Sabme p) place stats = record { sent = refl; received = refl; reports = refl }
-preserves_sent_control (control.Ua f) place stats = record { sent = refl; received = refl; reports = refl }
+preserves_sent_control (control.Sabme p) place stats =
+    record { sent = refl; received = refl; reports = refl }
+preserves_sent_control (control.Ua f) place stats =
+    record { sent = refl; received = refl; reports = refl }
 preserves_sent_control other place stats = record { sent = refl; received = refl; reports = refl }
 
-preserves_sent : (frame : Result Fields FrameFault) (stats : Stats) → PreservesCounts stats (after_sent frame stats)
-preserves_sent (Ok frame) stats = preserves_sent_control frame.control (link_place frame.address) stats
+preserves_sent : (frame : Result Fields FrameFault) (stats : Stats)
+    → PreservesCounts stats (after_sent frame stats)
+preserves_sent (Ok frame) stats =
+    preserves_sent_control frame.control (link_place frame.address) stats
 preserves_sent (Err fault) stats = record { sent = refl; received = refl; reports = refl }
 
 -- ---- The three parts of the counts over a history.
 
-sent_after : (own : Side) (events : List StatsEvent) (stats : Stats) → (stats_after own events stats).sent ≡ traffic_after own (sent_in events) stats.sent
+sent_after : (own : Side) (events : List StatsEvent) (stats : Stats)
+    → (stats_after own events stats).sent ≡ traffic_after own (sent_in events) stats.sent
 unfolding sent_counted received_counted primitive_counted
 sent_after own [] stats = refl
 sent_after own (Sent octets ∷ events) stats = sent_after own events (sent_counted stats own octets)
     ∙ ap (traffic_after own (sent_in events)) (preserves_sent (frame_at own octets) _).sent
-sent_after own (Received octets ∷ events) stats = sent_after own events (received_counted stats (other_side own) octets)
-sent_after own (Delivered (Of id (what.Report letter)) ∷ events) stats = sent_after own events (primitive_counted stats (Of id (what.Report letter)))
+sent_after own (Received octets ∷ events) stats =
+    sent_after own events (received_counted stats (other_side own) octets)
+sent_after own (Delivered (Of id (what.Report letter)) ∷ events) stats =
+    sent_after own events (primitive_counted stats (Of id (what.Report letter)))
 sent_after own (Delivered primitive ∷ events) stats = sent_after own events stats
 
 received_after : (own : Side) (events : List StatsEvent) (stats : Stats)
-    → (stats_after own events stats).received ≡ traffic_after (other_side own) (received_in events) stats.received
+    → (stats_after own events stats).received
+    ≡ traffic_after (other_side own) (received_in events) stats.received
 unfolding sent_counted received_counted primitive_counted
 received_after own [] stats = refl
-received_after own (Sent octets ∷ events) stats = received_after own events (sent_counted stats own octets)
-    ∙ ap (traffic_after (other_side own) (received_in events)) (preserves_sent (frame_at own octets) _).received
-received_after own (Received octets ∷ events) stats = received_after own events (received_counted stats (other_side own) octets)
-received_after own (Delivered (Of id (what.Report letter)) ∷ events) stats = received_after own events (primitive_counted stats (Of id (what.Report letter)))
+received_after own (Sent octets ∷ events) stats =
+    received_after own events (sent_counted stats own octets)
+    ∙ ap (traffic_after (other_side own) (received_in events))
+    (preserves_sent (frame_at own octets) _).received
+received_after own (Received octets ∷ events) stats =
+    received_after own events (received_counted stats (other_side own) octets)
+received_after own (Delivered (Of id (what.Report letter)) ∷ events) stats =
+    received_after own events (primitive_counted stats (Of id (what.Report letter)))
 received_after own (Delivered primitive ∷ events) stats = received_after own events stats
 
-reports_after : (own : Side) (events : List StatsEvent) (stats : Stats) → (stats_after own events stats).reports ≡ tally letter_place (reports_in events) stats.reports
+reports_after : (own : Side) (events : List StatsEvent) (stats : Stats)
+    → (stats_after own events stats).reports ≡ tally letter_place (reports_in events) stats.reports
 unfolding sent_counted received_counted primitive_counted
 reports_after own [] stats = refl
-reports_after own (Sent octets ∷ events) stats = reports_after own events (sent_counted stats own octets)
+reports_after own (Sent octets ∷ events) stats =
+    reports_after own events (sent_counted stats own octets)
     ∙ ap (tally letter_place (reports_in events)) (preserves_sent (frame_at own octets) _).reports
-reports_after own (Received octets ∷ events) stats = reports_after own events (received_counted stats (other_side own) octets)
-reports_after own (Delivered (Of id (what.Report letter)) ∷ events) stats = reports_after own events (primitive_counted stats (Of id (what.Report letter)))
+reports_after own (Received octets ∷ events) stats =
+    reports_after own events (received_counted stats (other_side own) octets)
+reports_after own (Delivered (Of id (what.Report letter)) ∷ events) stats =
+    reports_after own events (primitive_counted stats (Of id (what.Report letter)))
 reports_after own (Delivered primitive ∷ events) stats = reports_after own events stats
 
 letter_within : (l : Letter) → letter_place l < 15
@@ -155,12 +192,23 @@ letter_within letter.M = omega arith
 letter_within letter.N = omega arith
 letter_within letter.O = omega arith
 
-pub each_counted : (own : Side) (events : List StatsEvent) → CountsEvents own events (stats_after own events nothing_counted)
+pub each_counted : (own : Side) (events : List StatsEvent)
+    → CountsEvents own events (stats_after own events nothing_counted)
 unfolding nothing_counted
 each_counted own events = record {
-  sent = subst (CountsFrames own (sent_in events)) (sym (sent_after own events nothing_counted)) (counts_frames own (sent_in events));
-  received = subst (CountsFrames (other_side own) (received_in events)) (sym (received_after own events nothing_counted)) (counts_frames (other_side own) (received_in events));
-  reports = λ letter. ap (λ counts. get_or counts (letter_place letter) 0) (reports_after own events nothing_counted)
-      ∙ tally_at letter_place (reports_in events) (zeros 15) (letter_place letter) letter_within (zero_fits 15 (letter_place letter))
-      ∙ from_zero (get_or (zeros 15) (letter_place letter) 0) (count_by (λ other. letter_place other == letter_place letter) (reports_in events)) (zero_at 15 (letter_place letter));
+  sent =
+      subst (CountsFrames own (sent_in events)) (sym (sent_after own events nothing_counted))
+      (counts_frames own (sent_in events));
+  received =
+      subst (CountsFrames (other_side own) (received_in events))
+      (sym (received_after own events nothing_counted))
+      (counts_frames (other_side own) (received_in events));
+  reports =
+      λ letter. ap (λ counts. get_or counts (letter_place letter) 0)
+      (reports_after own events nothing_counted)
+      ∙ tally_at letter_place (reports_in events) (zeros 15) (letter_place letter) letter_within
+      (zero_fits 15 (letter_place letter))
+      ∙ from_zero (get_or (zeros 15) (letter_place letter) 0)
+      (count_by (λ other. letter_place other == letter_place letter) (reports_in events))
+      (zero_at 15 (letter_place letter));
 }

@@ -16,6 +16,10 @@ net_forms own = search rules
 user_forms : (own : ℕ) → AllHaveRequests (live_request own) (shapes_of LiveUser)
 user_forms own = search rules
 
-pub each_form : (side : Side) (own : ℕ) (line : List ℕ) → is_some (live_request_of_line side own line) ≡ is_some (parsed_line (live_script_of side) line)
-each_form Network own line = requests_exist (live_request own) LiveNet (net_forms own) (words_of line)
-each_form User own line = requests_exist (live_request own) LiveUser (user_forms own) (words_of line)
+pub each_form : (side : Side) (own : ℕ) (line : List ℕ)
+    → is_some (live_request_of_line side own line)
+    ≡ is_some (parsed_line (live_script_of side) line)
+each_form Network own line =
+    requests_exist (live_request own) LiveNet (net_forms own) (words_of line)
+each_form User own line =
+    requests_exist (live_request own) LiveUser (user_forms own) (words_of line)

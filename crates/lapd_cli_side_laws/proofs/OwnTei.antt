@@ -29,7 +29,8 @@ use Rattle.lapd_interface_laws.proofs.Requests.{by_events, step_at, stepped_by, 
 
 -- ---- Primitives that change no TEI.
 
-pub own_of_both : (own : Option ℕ) (xs ys : List Primitive) → own_tei own (xs ++ ys) ≡ own_tei (own_tei own xs) ys
+pub own_of_both : (own : Option ℕ) (xs ys : List Primitive)
+    → own_tei own (xs ++ ys) ≡ own_tei (own_tei own xs) ys
 own_of_both own [] ys = refl
 own_of_both own (primitive ∷ xs) ys = own_of_both (tei_after own primitive) xs ys
 
@@ -44,20 +45,28 @@ plain_is_silent own (Management output ∷ primitives) plain = cc
 abbrev TellsTei : Phase → TerminalStep → Type 0
 TellsTei phase done = tei_of done.now ≡ own_tei (tei_of phase) (filter_map outcome_of done.outs)
 
-either_tells : (phase : Phase) (test : Bool) (x y : TerminalStep) → TellsTei phase x → TellsTei phase y → TellsTei phase (if test then x else y)
+either_tells : (phase : Phase) (test : Bool) (x y : TerminalStep) → TellsTei phase x
+    → TellsTei phase y → TellsTei phase (if test then x else y)
 either_tells phase true x y hx hy = hx
 either_tells phase false x y hx hy = hy
 
-again : (purpose : Purpose) (count ri new : ℕ) → TellsTei (Awaiting purpose count ri) (asks_again purpose count ri new)
-again purpose count ri new = either_tells (Awaiting purpose count ri) (nat_lt count n202) _ _ refl refl
+again : (purpose : Purpose) (count ri new : ℕ)
+    → TellsTei (Awaiting purpose count ri) (asks_again purpose count ri new)
+again purpose count ri new =
+    either_tells (Awaiting purpose count ri) (nat_lt count n202) _ _ refl refl
 
-awaiting : (purpose : Purpose) (count ri : ℕ) (k : TeiKind) (its ai : ℕ) → TellsTei (Awaiting purpose count ri) (awaiting_receives purpose count ri k its ai)
-awaiting purpose count ri kind.Assigned its ai = either_tells (Awaiting purpose count ri) ((its == ri) && is_automatic ai) _ _ refl refl
+awaiting : (purpose : Purpose) (count ri : ℕ) (k : TeiKind) (its ai : ℕ)
+    → TellsTei (Awaiting purpose count ri) (awaiting_receives purpose count ri k its ai)
+awaiting purpose count ri kind.Assigned its ai =
+    either_tells (Awaiting purpose count ri) ((its == ri) && is_automatic ai) _ _ refl refl
 awaiting purpose count ri other its ai = refl
 
-assigned : (by : Option ℕ) (tei : ℕ) (k : TeiKind) (its ai new : ℕ) → TellsTei (Assigned by tei) (assigned_receives by tei k its ai new)
-assigned by tei kind.Assigned its ai new = either_tells (Assigned by tei) ((ai == tei) && not (is_got_by by its)) _ _ refl refl
-assigned by tei kind.CheckRequest its ai new = either_tells (Assigned by tei) (names ai tei) _ _ refl refl
+assigned : (by : Option ℕ) (tei : ℕ) (k : TeiKind) (its ai new : ℕ)
+    → TellsTei (Assigned by tei) (assigned_receives by tei k its ai new)
+assigned by tei kind.Assigned its ai new =
+    either_tells (Assigned by tei) ((ai == tei) && not (is_got_by by its)) _ _ refl refl
+assigned by tei kind.CheckRequest its ai new =
+    either_tells (Assigned by tei) (names ai tei) _ _ refl refl
 assigned by tei kind.Remove its ai new = either_tells (Assigned by tei) (names ai tei) _ _ refl refl
 assigned by tei other its ai new = refl
 
@@ -65,7 +74,8 @@ terminal_tells : (phase : Phase) (e : TerminalEvent) → TellsTei phase (termina
 terminal_tells Unassigned (event.Ask ri) = refl
 terminal_tells Unassigned (event.Want ri) = refl
 terminal_tells (Awaiting purpose count ri) (event.Want new) = refl
-terminal_tells (Awaiting purpose count ri) (event.Heard m new) = awaiting purpose count ri m.kind m.ri m.ai
+terminal_tells (Awaiting purpose count ri) (event.Heard m new) =
+    awaiting purpose count ri m.kind m.ri m.ai
 terminal_tells (Awaiting purpose count ri) (event.T202 new) = again purpose count ri new
 terminal_tells (Assigned by tei) (event.Heard m new) = assigned by tei m.kind m.ri m.ai new
 terminal_tells (Awaiting purpose count ri) event.Leave = refl
@@ -134,8 +144,11 @@ module _ (config : Config) where
 abbrev pub KnowsTei : Option ℕ → SideView User → Type 0
 KnowsTei fixed v = tei_of v.now.management.terminal ≡ own_tei fixed v.delivered
 
-pub event_tells : (config : Config) (fixed : Option ℕ) (v : SideView User) (side_event : SideEvent) → KnowsTei fixed v → KnowsTei fixed (does (user_behaviour config) side_event v)
+pub event_tells : (config : Config) (fixed : Option ℕ) (v : SideView User) (side_event : SideEvent)
+    → KnowsTei fixed v → KnowsTei fixed (does (user_behaviour config) side_event v)
 unfolding does
 event_tells config fixed v side_event known =
     let a = reaction (user_behaviour config) side_event v in
-    reaction_tells config v side_event ∙ ap (λ (own : Option ℕ). own_tei own a.effects.primitives) known ∙ sym (own_of_both fixed v.delivered a.effects.primitives)
+    reaction_tells config v side_event
+    ∙ ap (λ (own : Option ℕ). own_tei own a.effects.primitives) known
+    ∙ sym (own_of_both fixed v.delivered a.effects.primitives)

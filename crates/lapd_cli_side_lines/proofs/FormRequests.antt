@@ -16,6 +16,7 @@ net_forms = search rules
 user_forms : AllHaveRequests script_request (shapes_of script.User)
 user_forms = search rules
 
-pub each_form : (side : Side) (line : List ℕ) → is_some (request_of_line side line) ≡ is_some (parsed_line (script_of side) line)
+pub each_form : (side : Side) (line : List ℕ)
+    → is_some (request_of_line side line) ≡ is_some (parsed_line (script_of side) line)
 each_form Network line = requests_exist script_request script.Net net_forms (words_of line)
 each_form User line = requests_exist script_request script.User user_forms (words_of line)

@@ -210,7 +210,8 @@ module _ (config : Config) (fixed : Option ℕ) (random : Lcg) (before : List Si
       with_own_tei UserBefore.management.terminal (request_of Withdrawal)
       (wants config now id.sapi UserBefore) own
   of_own_link Clearing =
-      with_own_tei UserBefore.management.terminal (request_of Clearing) (forgets id.sapi UserBefore) own
+      with_own_tei UserBefore.management.terminal (request_of Clearing) (forgets id.sapi UserBefore)
+      own
 
   pub user_counts : most_expiries asked (parameters_for config id.sapi).n200
       ≤ expiries_of id after

@@ -98,7 +98,10 @@ module _ (config : Config) (id : LinkId) (asked : Asked) (clock : Bool) (latenes
   Limit202 = now + n202 * (config.durations.t202 + lateness)
 
   abbrev Wanting : User
-  Wanting = record s { management = record s.management { pending = with_pending id.sapi true s.management.pending } }
+  Wanting = record s {
+    management = record s.management
+        { pending = with_pending id.sapi true s.management.pending };
+  }
 
   abbrev Wanted : Reaction User
   Wanted = terminal_acts config now event.Want Wanting
@@ -201,7 +204,8 @@ module _ (config : Config) (id : LinkId) (asked : Asked) (clock : Bool) (latenes
       without s.management.terminal (request_of Establishment) (wants config now id.sapi s) none
   requested_as Withdrawal =
       without s.management.terminal (request_of Withdrawal) (wants config now id.sapi s) none
-  requested_as Clearing = without s.management.terminal (request_of Clearing) (forgets id.sapi s) none
+  requested_as Clearing =
+      without s.management.terminal (request_of Clearing) (forgets id.sapi s) none
 
   establishes_wanted : (asked : Asked) (a : Reaction User) → Establishes asked
       → user_requested config (asks asked id) now s ≡ Ok a
@@ -215,7 +219,10 @@ module _ (config : Config) (id : LinkId) (asked : Asked) (clock : Bool) (latenes
 
   forgets_by : (test : Bool) (a : Reaction User)
       → (if test then Ok (record {
-        after = record s { management = record s.management { pending = with_pending id.sapi false s.management.pending } };
+        after = record s {
+          management = record s.management
+              { pending = with_pending id.sapi false s.management.pending };
+        };
         effects = record no_effects {
           primitives = primitive_of_group id.sapi what.ReleaseConfirm;
         };
@@ -223,7 +230,10 @@ module _ (config : Config) (id : LinkId) (asked : Asked) (clock : Bool) (latenes
       → HasAnswerFor Clearing id.sapi a.effects.primitives
   forgets_by true a done =
       let same : (record {
-        after = record s { management = record s.management { pending = with_pending id.sapi false s.management.pending } };
+        after = record s {
+          management = record s.management
+              { pending = with_pending id.sapi false s.management.pending };
+        };
         effects = record no_effects {
           primitives = primitive_of_group id.sapi what.ReleaseConfirm;
         };
@@ -354,7 +364,8 @@ module _ (config : Config) (id : LinkId) (asked : Asked) (clock : Bool) (latenes
             (λ event x. clock ≡ true → IsPunctual lateness (user_behaviour config) event x) second
             (after_request (user_behaviour config) a first)
             → n202 ≤ t202_expiries first
-            → ((own : ℕ) → tei_of (after_request (user_behaviour config) a first).now.management.terminal
+            → ((own : ℕ)
+            → tei_of (after_request (user_behaviour config) a first).now.management.terminal
             ≡ Some own → most_expiries asked (parameters_for config id.sapi).n200
             ≤ expiries_of (of_sapi id.sapi own) second)
             → IsAnsweredFor asked id.sapi (user_behaviour config) a (first ++ second)
@@ -384,13 +395,15 @@ pub user_without_tei_in_time : (config : Config) (fixed : Option ℕ) (random : 
     + most_periods asked (parameters_for config id.sapi).n200 * (config.durations.t200 + lateness)
     < moment
     → IsAnsweredFor asked id.sapi (user_behaviour config) a after
-user_without_tei_in_time config fixed random before after Establishment id lateness now moment a by none
+user_without_tei_in_time config fixed random before after Establishment id lateness now moment a by
+    none
     done
     keeps in_time late =
     timely config id Establishment true lateness now (user_after config fixed random before)
     (user_has_usual config true now id fixed random before (λ ticks. by)) none a done tt after
     moment refl keeps in_time late
-user_without_tei_in_time config fixed random before after Withdrawal id lateness now moment a by none
+user_without_tei_in_time config fixed random before after Withdrawal id lateness now moment a by
+    none
     done
     keeps
     in_time late =
@@ -411,7 +424,9 @@ pub user_without_tei : (config : Config) (fixed : Option ℕ) (random : Lcg)
     (a : Reaction User) → tei_of (user_after config fixed random before).management.terminal ≡ None
     → user_requested config (asks asked id) now (user_after config fixed random before) ≡ Ok a
     → KeepsRequest asked side.User id (first ++ second) → n202 ≤ t202_expiries first
-    → ((own : ℕ) → tei_of (after_request (user_behaviour config) a first).now.management.terminal ≡ Some own
+    → ((own : ℕ)
+    → tei_of (after_request (user_behaviour config) a first).now.management.terminal
+    ≡ Some own
     → most_expiries asked (parameters_for config id.sapi).n200
     ≤ expiries_of (of_sapi id.sapi own) second)
     → IsAnsweredFor asked id.sapi (user_behaviour config) a (first ++ second)

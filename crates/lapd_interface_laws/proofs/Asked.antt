@@ -27,35 +27,47 @@ pub record IsMoveRequest (side : Side) (input : Input) (octets : List ℕ) : Typ
 
 pub establish_request : (side : Side) → IsMoveRequest side input.Establish []
 unfolding acts
-establish_request side = record { event = world.Establish; is_event = λ v. refl; no_expiry = λ timer e. cc }
+establish_request side =
+    record { event = world.Establish; is_event = λ v. refl; no_expiry = λ timer e. cc }
 
 pub release_request : (side : Side) → IsMoveRequest side input.Release []
 unfolding acts
-release_request side = record { event = world.Release; is_event = λ v. refl; no_expiry = λ timer e. cc }
+release_request side =
+    record { event = world.Release; is_event = λ v. refl; no_expiry = λ timer e. cc }
 
 pub busy_request : (side : Side) → IsMoveRequest side input.BusyOn []
 unfolding acts
-busy_request side = record { event = world.Busy true; is_event = λ v. refl; no_expiry = λ timer e. cc }
+busy_request side =
+    record { event = world.Busy true; is_event = λ v. refl; no_expiry = λ timer e. cc }
 
 pub free_request : (side : Side) → IsMoveRequest side input.BusyOff []
 unfolding acts
-free_request side = record { event = world.Busy false; is_event = λ v. refl; no_expiry = λ timer e. cc }
+free_request side =
+    record { event = world.Busy false; is_event = λ v. refl; no_expiry = λ timer e. cc }
 
 pub give_request : (side : Side) (message : List ℕ) → IsMoveRequest side (input.Give message) []
 unfolding acts
-give_request side message = record { event = world.Give message; is_event = λ v. refl; no_expiry = λ timer e. cc }
+give_request side message =
+    record { event = world.Give message; is_event = λ v. refl; no_expiry = λ timer e. cc }
 
-pub unit_request : (side : Side) (octets : List ℕ) → IsMoveRequest side (input.UnitData (length octets)) octets
+pub unit_request : (side : Side) (octets : List ℕ)
+    → IsMoveRequest side (input.UnitData (length octets)) octets
 unfolding acts
-unit_request side octets = record { event = world.UnitData octets; is_event = λ v. refl; no_expiry = λ timer e. cc }
+unit_request side octets =
+    record { event = world.UnitData octets; is_event = λ v. refl; no_expiry = λ timer e. cc }
 
 -- ---- A request that is accepted among links.
 
-module _ (side : Side) (id : LinkId) (fresh : Linked) (removed : Bool) (links : Links) (now : ℕ) (other : LinkId) (input : Input) (octets : List ℕ) (a : Reaction Links) (given : List (LinkId × List ℕ)) (line_request : IsMoveRequest side input octets) where
+module _ (side : Side) (id : LinkId) (fresh : Linked) (removed : Bool) (links : Links) (now : ℕ)
+    (other : LinkId) (input : Input) (octets : List ℕ) (a : Reaction Links)
+    (given : List (LinkId × List ℕ)) (line_request : IsMoveRequest side input octets) where
   abbrev Granted : Type 0
-  Granted = IsNoRequest side id now fresh removed links a.after a.effects given ⊎ IsRequest side id now links a.after a.effects given
+  Granted =
+      IsNoRequest side id now fresh removed links a.after a.effects given
+      ⊎ IsRequest side id now links a.after a.effects given
 
-  own_by : (o : Option Linked) → links id ≡ o → given_to id given ≡ messages_of input → in_links id (link_acts side id now input octets) links ≡ Ok a → Granted
+  own_by : (o : Option Linked) → links id ≡ o → given_to id given ≡ messages_of input
+      → in_links id (link_acts side id now input octets) links ≡ Ok a → Granted
   own_by (Some l) was given_is own = inr (record {
     event = line_request.event;
     input = input;
@@ -65,15 +77,25 @@ module _ (side : Side) (id : LinkId) (fresh : Linked) (removed : Bool) (links : 
     is_step = (own_granted side id links now input octets l a was own).is_step;
     given_is = given_is;
   })
-  own_by None was given_is own = let refused = absent_refuses side id links now input octets was in cc
+  own_by None was given_is own =
+      let refused = absent_refuses side id links now input octets was in cc
 
-  by_test : (test : Bool) → id_eq id other ≡ test → given_to id given ≡ (if test then messages_of input else []) → in_links other (link_acts side other now input octets) links ≡ Ok a → Granted
+  by_test : (test : Bool) → id_eq id other ≡ test
+      → given_to id given ≡ (if test then messages_of input else [])
+      → in_links other (link_acts side other now input octets) links ≡ Ok a → Granted
   by_test true is given_is granted =
       let same : id ≡ other = same_id_eq id other is in
-      own_by (links id) refl given_is (subst (λ (k : LinkId). in_links k (link_acts side k now input octets) links ≡ Ok a) (sym same) granted)
-  by_test false is given_is granted = inl (record { proceeds = inl (other_acts side id other links now input octets a is granted); none_given = given_is })
+      own_by (links id) refl given_is (subst
+      (λ (k : LinkId). in_links k (link_acts side k now input octets) links ≡ Ok a)
+      (sym same) granted)
+  by_test false is given_is granted =
+      inl (record {
+        proceeds = inl (other_acts side id other links now input octets a is granted);
+        none_given = given_is;
+      })
 
-  pub granted_part : given_to id given ≡ (if id_eq id other then messages_of input else []) → in_links other (link_acts side other now input octets) links ≡ Ok a → Granted
+  pub granted_part : given_to id given ≡ (if id_eq id other then messages_of input else [])
+      → in_links other (link_acts side other now input octets) links ≡ Ok a → Granted
   granted_part given_is granted = by_test (id_eq id other) refl given_is granted
 
 -- no message is accepted
@@ -82,9 +104,11 @@ none_given true xs h = sym h
 none_given false xs h = refl
 
 -- one message is accepted for the link that the request names
-pub one_given : (id other : LinkId) (message : List ℕ) → given_to id ((other, message) ∷ []) ≡ (if id_eq id other then message ∷ [] else [])
+pub one_given : (id other : LinkId) (message : List ℕ)
+    → given_to id ((other, message) ∷ []) ≡ (if id_eq id other then message ∷ [] else [])
 one_given id other message = one (id_eq id other) message
   where
-    one : (test : Bool) (message : List ℕ) → cons_option (if test then Some message else None) [] ≡ (if test then message ∷ [] else [])
+    one : (test : Bool) (message : List ℕ)
+        → cons_option (if test then Some message else None) [] ≡ (if test then message ∷ [] else [])
     one true message = refl
     one false message = refl

@@ -24,26 +24,40 @@ use Rattle.lapd_interface_laws.specs.SideView.{Behaviour, SideView, SideEvent, T
 same_timers : (a b : Timers) → Some a ≡ Some b → a ≡ b
 same_timers a b h = cc
 
-deadline_so : (timer : Timer) (its t : Timers) (deadline : ℕ) → its ≡ t → deadline_of timer t ≡ Some deadline → is_some (deadline_of timer its) ≡ true
-deadline_so timer its t deadline same until = ap (λ (x : Timers). is_some (deadline_of timer x)) same ∙ ap is_some until
+deadline_so : (timer : Timer) (its t : Timers) (deadline : ℕ) → its ≡ t
+    → deadline_of timer t ≡ Some deadline → is_some (deadline_of timer its) ≡ true
+deadline_so timer its t deadline same until =
+    ap (λ (x : Timers). is_some (deadline_of timer x)) same ∙ ap is_some until
 
-its_runs : (timer : Timer) (l : Option Linked) (t : Timers) (deadline : ℕ) → option_map (λ (x : Linked). x.timers) l ≡ Some t → deadline_of timer t ≡ Some deadline → runs_on timer l ≡ true
+its_runs : (timer : Timer) (l : Option Linked) (t : Timers) (deadline : ℕ)
+    → option_map (λ (x : Linked). x.timers) l ≡ Some t → deadline_of timer t ≡ Some deadline
+    → runs_on timer l ≡ true
 its_runs timer None t deadline there until = cc
-its_runs timer (Some l) t deadline there until = deadline_so timer l.timers t deadline (same_timers l.timers t there) until
+its_runs timer (Some l) t deadline there until =
+    deadline_so timer l.timers t deadline (same_timers l.timers t there) until
 
-runs_by : (timer : Timer) (of : Option LinkId) (s : Served) (t : Timers) (deadline : ℕ) → of_served s of ≡ Some t → IsTimerOf of timer → deadline_of timer t ≡ Some deadline → may_expire timer of s ≡ true
-runs_by timer None s t deadline there own until = deadline_so timer s.timers t deadline (same_timers s.timers t there) until
-runs_by T200 (Some id) s t deadline there own until = its_runs T200 (s.links id) t deadline there until
-runs_by T203 (Some id) s t deadline there own until = its_runs T203 (s.links id) t deadline there until
+runs_by : (timer : Timer) (of : Option LinkId) (s : Served) (t : Timers) (deadline : ℕ)
+    → of_served s of ≡ Some t → IsTimerOf of timer → deadline_of timer t ≡ Some deadline
+    → may_expire timer of s ≡ true
+runs_by timer None s t deadline there own until =
+    deadline_so timer s.timers t deadline (same_timers s.timers t there) until
+runs_by T200 (Some id) s t deadline there own until =
+    its_runs T200 (s.links id) t deadline there until
+runs_by T203 (Some id) s t deadline there own until =
+    its_runs T203 (s.links id) t deadline there until
 runs_by T201 (Some id) s t deadline there own until = absurd own
 runs_by T202 (Some id) s t deadline there own until = absurd own
 
-due_may_expire : (now : ℕ) (s : Served) (e : RunningTimer) → IsDue now s (Some e) → may_expire e.timer e.of s ≡ true
-due_may_expire now s e due = let r : Runs (of_served s) e = due.0.runs in runs_by e.timer e.of s r.its e.deadline r.there r.own r.until
+due_may_expire : (now : ℕ) (s : Served) (e : RunningTimer) → IsDue now s (Some e)
+    → may_expire e.timer e.of s ≡ true
+due_may_expire now s e due =
+    let r : Runs (of_served s) e = due.0.runs in
+    runs_by e.timer e.of s r.its e.deadline r.there r.own r.until
 
 -- ---- The frames and primitives that an event adds.
 
-puts_so : (S : Type 0) (w : Behaviour S) (acts : Effects) (event : SideEvent) (v : SideView S) → acts ≡ (reaction w event v).effects → Puts w acts event v
+puts_so : (S : Type 0) (w : Behaviour S) (acts : Effects) (event : SideEvent) (v : SideView S)
+    → acts ≡ (reaction w event v).effects → Puts w acts event v
 unfolding does
 puts_so S w acts event v is = record {
   sent = ap (λ (e : Effects). v.outgoing ++ e.frames) (sym is);
@@ -51,14 +65,19 @@ puts_so S w acts event v is = record {
 }
 
 -- the effect of an expiry if the timer may expire
-expiry_is : (S : Type 0) (w : Behaviour S) (e : RunningTimer) (now : ℕ) (v : SideView S) → may_expire e.timer e.of (w.served v.now) ≡ true → reaction w (Expire e.timer e.of now) v ≡ w.expires now e.timer e.of v.now
-expiry_is S w e now v may = ap (λ (b : Bool). if b then w.expires now e.timer e.of v.now else unmoved v.now) may
+expiry_is : (S : Type 0) (w : Behaviour S) (e : RunningTimer) (now : ℕ) (v : SideView S)
+    → may_expire e.timer e.of (w.served v.now) ≡ true
+    → reaction w (Expire e.timer e.of now) v ≡ w.expires now e.timer e.of v.now
+expiry_is S w e now v may =
+    ap (λ (b : Bool). if b then w.expires now e.timer e.of v.now else unmoved v.now) may
 
 -- ---- The effect of a call.
 
 -- the side after the call is the one after the event, with the same frames and primitives
-done : {C S : Type 0} (Show : C → Config → S → Type 0) (w : Config → Behaviour S) (code : C) (config : Config) (acts : Effects) (event : SideEvent) (v : SideView S) (a : Reaction S)
-    → reaction (w config) event v ≡ a → HasDone Show code config acts a → SideDoes Show w code config acts event v
+done : {C S : Type 0} (Show : C → Config → S → Type 0) (w : Config → Behaviour S) (code : C)
+    (config : Config) (acts : Effects) (event : SideEvent) (v : SideView S) (a : Reaction S)
+    → reaction (w config) event v ≡ a → HasDone Show code config acts a
+    → SideDoes Show w code config acts event v
 unfolding does
 done {S = S} Show w code config acts event v a is h = record {
   shown = subst (λ (x : Reaction S). Show code config x.after) (sym is) h.shown;

@@ -45,17 +45,23 @@ CarriesNumbersOf id input octets = CarriesNumbers Tagged input
 
 -- ---- Lists of octets.
 
-all_carry_tags : (from : Side) (line : List (List ℕ)) → All AreOctets line → All (CarriesTags from) line
+all_carry_tags : (from : Side) (line : List (List ℕ)) → All AreOctets line
+    → All (CarriesTags from) line
 all_carry_tags from [] h = All-nil (CarriesTags from)
-all_carry_tags from (octets ∷ line) h = All-cons (CarriesTags from) octets line (octets_carry_tags from octets (All-head AreOctets octets line h)) (all_carry_tags from line (All-tail AreOctets octets line h))
+all_carry_tags from (octets ∷ line) h =
+    All-cons (CarriesTags from) octets line
+    (octets_carry_tags from octets (All-head AreOctets octets line h))
+    (all_carry_tags from line (All-tail AreOctets octets line h))
 
 all_but_one : {X : Type 0} (P : X → Type 0) (xs : List X) (at : ℕ) → All P xs → All P (remove xs at)
 all_but_one P [] zero h = h
 all_but_one P [] (suc at) h = h
 all_but_one P (x ∷ xs) zero h = All-tail P x xs h
-all_but_one P (x ∷ xs) (suc at) h = All-cons P x (remove xs at) (All-head P x xs h) (all_but_one P xs at (All-tail P x xs h))
+all_but_one P (x ∷ xs) (suc at) h =
+    All-cons P x (remove xs at) (All-head P x xs h) (all_but_one P xs at (All-tail P x xs h))
 
-all_left : (P : List ℕ → Type 0) (event : SideEvent) (line : List (List ℕ)) → All P line → All P (left event line)
+all_left : (P : List ℕ → Type 0) (event : SideEvent) (line : List (List ℕ)) → All P line
+    → All P (left event line)
 all_left P (Take now) line h = All-drop P 1 line h
 all_left P (Lose at) line h = all_but_one P line at h
 all_left P (Expire timer of now) line h = h

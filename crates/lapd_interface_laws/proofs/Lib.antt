@@ -8,6 +8,7 @@ pub mod Frames
 pub mod Lines
 pub mod Sendings
 pub mod Recorded
+pub mod EventFacts
 pub mod SideEvents
 pub mod Unskipped
 pub mod Asked

@@ -36,16 +36,20 @@ plain_of_link : (id : LinkId) (ws : List What) → ArePlain (map (Of id) ws)
 plain_of_link id [] = refl
 plain_of_link id (w ∷ ws) = plain_of_link id ws
 
-pub none_of_both : {X : Type 0} (test : X → Bool) (xs ys : List X) → list_any test xs ≡ false → list_any test ys ≡ false → list_any test (xs ++ ys) ≡ false
+pub none_of_both : {X : Type 0} (test : X → Bool) (xs ys : List X) → list_any test xs ≡ false
+    → list_any test ys ≡ false → list_any test (xs ++ ys) ≡ false
 none_of_both test [] ys hx hy = hy
-none_of_both test (x ∷ xs) ys hx hy = by_first (test x) (list_any test xs) (list_any test (xs ++ ys)) hx (λ rest. none_of_both test xs ys rest hy)
+none_of_both test (x ∷ xs) ys hx hy =
+    by_first (test x) (list_any test xs) (list_any test (xs ++ ys)) hx
+    (λ rest. none_of_both test xs ys rest hy)
   where
     by_first : (a b c : Bool) → (a || b) ≡ false → (b ≡ false → c ≡ false) → (a || c) ≡ false
     by_first true b c h f = cc
     by_first false b c h f = f h
 
 module _ (side : Side) (other : LinkId) (links : Links) (now : ℕ) (octets : List ℕ) where
-  held_by : (k : LinkId) (x l : Linked) (test : Bool) → links other ≡ Some l → id_eq k other ≡ test → is_some (if test then Some x else links k) ≡ true → is_some (links k) ≡ true
+  held_by : (k : LinkId) (x l : Linked) (test : Bool) → links other ≡ Some l → id_eq k other ≡ test
+      → is_some (if test then Some x else links k) ≡ true → is_some (links k) ≡ true
   held_by k x l true there is h = ap is_some (ap links (same_id_eq k other is) ∙ there)
   held_by k x l false there is h = h
 
@@ -55,25 +59,40 @@ module _ (side : Side) (other : LinkId) (links : Links) (now : ℕ) (octets : Li
   same_op : (x y : Reaction Links) → Gives (Ok x) y → x ≡ y
   same_op x y h = cc
 
-  placed : (timers : Timers) (r : Result StepState LinkFault) (l : Linked) (a : Reaction Links) → links other ≡ Some l → in_place other links (acted side other now octets timers r) ≡ Ok a → IsLinkOp links a
+  placed : (timers : Timers) (r : Result StepState LinkFault) (l : Linked) (a : Reaction Links)
+      → links other ≡ Some l → in_place other links (acted side other now octets timers r) ≡ Ok a
+      → IsLinkOp links a
   placed timers (Err fault) l a there is = cc
   placed timers (Ok s) l a there is =
       let x : Linked = record { end = s.end; timers = timed now s.outs timers } in
-      subst (IsLinkOp links) (same_op (record { after = with_link other (Some x) links; effects = effects_of_link side other s.end octets s.outs }) a is)
+      subst (IsLinkOp links) (same_op (record {
+        after = with_link other (Some x) links;
+        effects = effects_of_link side other s.end octets s.outs;
+      }) a is)
       (record {
         adds_none = λ k h. held_by k x l (id_eq k other) there refl h;
         plain = plain_of_link other (filter_map (what_of octets) s.outs);
       })
 
-  op_there : (input : Input) (change : Timers → Timers) (o : Option Linked) (a : Reaction Links) → links other ≡ o
-      → where_there other links o (λ (m : Linked). acted side other now octets (change m.timers) (step Tagged input m.end)) ≡ Ok a → IsLinkOp links a
+  op_there : (input : Input) (change : Timers → Timers) (o : Option Linked) (a : Reaction Links)
+      → links other ≡ o
+      → where_there other links o
+      (λ (m : Linked). acted side other now octets (change m.timers) (step Tagged input m.end))
+      ≡ Ok a → IsLinkOp links a
   op_there input change None a there is = cc
-  op_there input change (Some l) a there is = placed (change l.timers) (step Tagged input l.end) l a there is
+  op_there input change (Some l) a there is =
+      placed (change l.timers) (step Tagged input l.end) l a there is
 
-pub op_acts : (side : Side) (other : LinkId) (links : Links) (now : ℕ) (input : Input) (octets : List ℕ) (a : Reaction Links) → in_links other (link_acts side other now input octets) links ≡ Ok a → IsLinkOp links a
+pub op_acts : (side : Side) (other : LinkId) (links : Links) (now : ℕ) (input : Input)
+    (octets : List ℕ) (a : Reaction Links)
+    → in_links other (link_acts side other now input octets) links ≡ Ok a → IsLinkOp links a
 unfolding in_links link_acts
-op_acts side other links now input octets a is = op_there side other links now octets input (λ (t : Timers). t) (links other) a refl is
+op_acts side other links now input octets a is =
+    op_there side other links now octets input (λ (t : Timers). t) (links other) a refl is
 
-pub op_expires : (side : Side) (other : LinkId) (links : Links) (now : ℕ) (timer : Timer) (a : Reaction Links) → in_links other (link_expires side other now timer) links ≡ Ok a → IsLinkOp links a
+pub op_expires : (side : Side) (other : LinkId) (links : Links) (now : ℕ) (timer : Timer)
+    (a : Reaction Links) → in_links other (link_expires side other now timer) links ≡ Ok a
+    → IsLinkOp links a
 unfolding in_links link_acts link_expires
-op_expires side other links now timer a is = op_there side other links now [] (Expiry timer) (stopped timer) (links other) a refl is
+op_expires side other links now timer a is =
+    op_there side other links now [] (Expiry timer) (stopped timer) (links other) a refl is

@@ -83,7 +83,8 @@ module _ (config : Config) where
       → HasTimerOfAssigner (reaction (network_behaviour config) event v).after
   network_timer = reaction_waits network_rules config Checks network_waits
 
-pub new_network_waits : (config : Config) (known : List ℕ) → HasTimerOfAssigner (new_network config known)
+pub new_network_waits : (config : Config) (known : List ℕ)
+    → HasTimerOfAssigner (new_network config known)
 new_network_waits config known T200 = refl
 new_network_waits config known T201 = refl
 new_network_waits config known T202 = refl
@@ -132,22 +133,31 @@ all_stopped_202 config T201 = refl
 all_stopped_202 config T202 = refl
 all_stopped_202 config T203 = refl
 
-pub new_user_waits : (config : Config) (fixed : Option ℕ) (random : Lcg) → HasTimerOfTerminal (new_user config fixed random)
+pub new_user_waits : (config : Config) (fixed : Option ℕ) (random : Lcg)
+    → HasTimerOfTerminal (new_user config fixed random)
 new_user_waits config None random = λ timer. all_stopped_202 config timer
 new_user_waits config (Some tei) random = λ timer. all_stopped_202 config timer
 
 -- ---- Every run of an interface.
 
 module _ (c : Configs) where
-  move_preserves : (who : Side) (side_event : SideEvent) (i : Interface) → HaveTimersOfManagement i → HaveTimersOfManagement (side_does c who side_event i)
+  move_preserves : (who : Side) (side_event : SideEvent) (i : Interface) → HaveTimersOfManagement i
+      → HaveTimersOfManagement (side_does c who side_event i)
   unfolding does
   move_preserves side.User side_event i h = (user_timer c.user side_event (by_user i) h.0, h.1)
   move_preserves side.Network side_event i h =
       (h.0, network_timer c.network side_event (by_network i) h.1)
 
-  run_preserves : (moves : List Move) (i : Interface) → HaveTimersOfManagement i → HaveTimersOfManagement (run c moves i)
+  run_preserves : (moves : List Move) (i : Interface) → HaveTimersOfManagement i
+      → HaveTimersOfManagement (run c moves i)
   run_preserves [] i h = h
-  run_preserves (move ∷ moves) i h = run_preserves moves (happens c move i) (move_preserves move.side move.event i h)
+  run_preserves (move ∷ moves) i h =
+      run_preserves moves (happens c move i) (move_preserves move.side move.event i h)
 
-  pub run_waits : (fixed : Option ℕ) (random : Lcg) (known : List ℕ) (moves : List Move) → HaveTimersOfManagement (run c moves (new_interface (new_user c.user fixed random) (new_network c.network known)))
-  run_waits fixed random known moves = run_preserves moves (new_interface (new_user c.user fixed random) (new_network c.network known)) (new_user_waits c.user fixed random, new_network_waits c.network known)
+  pub run_waits : (fixed : Option ℕ) (random : Lcg) (known : List ℕ) (moves : List Move)
+      → HaveTimersOfManagement
+      (run c moves (new_interface (new_user c.user fixed random) (new_network c.network known)))
+  run_waits fixed random known moves =
+      run_preserves moves
+      (new_interface (new_user c.user fixed random) (new_network c.network known))
+      (new_user_waits c.user fixed random, new_network_waits c.network known)

@@ -51,38 +51,51 @@ same_or u t rest same = by_test (u == t) refl
     by_test false is = let no : true ≡ false = grind (arith, nat_tests, same, is) in cc
 
 -- a TEI that is assigned or obtained is reported
-given_is_reported : (t : ℕ) (outs : List TeiOut) → tei_given outs ≡ Some t → list_any (is_assignment t) (filter_map outcome_of outs) ≡ true
+given_is_reported : (t : ℕ) (outs : List TeiOut) → tei_given outs ≡ Some t
+    → list_any (is_assignment t) (filter_map outcome_of outs) ≡ true
 given_is_reported t [] is = cc
 given_is_reported t (outcome.Given u ∷ outs) is = same_or u t _ (some_same u t is)
 given_is_reported t (outcome.Got u ∷ outs) is = same_or u t _ (some_same u t is)
 given_is_reported t (other ∷ outs) is = given_is_reported t outs is
 
-absent_in : (l : Option Linked) (links : Links) (id : LinkId) → links id ≡ l → (is_some (links id) ≡ true → ⊥) → l ≡ None
+absent_in : (l : Option Linked) (links : Links) (id : LinkId) → links id ≡ l
+    → (is_some (links id) ≡ true → ⊥) → l ≡ None
 absent_in None links id is none = refl
-absent_in (Some l) links id is none = absurd (none (subst (λ (o : Option Linked). is_some o ≡ true) (sym is) refl))
+absent_in (Some l) links id is none =
+    absurd (none (subst (λ (o : Option Linked). is_some o ≡ true) (sym is) refl))
 
-unlinked : (link : Option Link) (t : Option Timers) (l : Option Linked) → l ≡ None → IsLinked link t l → link ≡ None
+unlinked : (link : Option Link) (t : Option Timers) (l : Option Linked) → l ≡ None
+    → IsLinked link t l → link ≡ None
 unlinked None t l none h = refl
 unlinked (Some link) None None none h = absurd h
 unlinked (Some link) None (Some l) none h = absurd h
 unlinked (Some link) (Some t) None none h = absurd h
 unlinked (Some link) (Some t) (Some l) none h = absurd (cc)
 
-is_absent : (side : Side) (links : Links) (id : LinkId) → (is_some (links id) ≡ true → ⊥) → IsAbsent side links id
+is_absent : (side : Side) (links : Links) (id : LinkId) → (is_some (links id) ≡ true → ⊥)
+    → IsAbsent side links id
 is_absent side links id none =
     let l = absent_in (links id) links id refl none in
-    record { link = l; table = λ set shown. unlinked (link_at set.table id) (timers_at set.link_timers id) (links id) l (shown.each id) }
+    record {
+      link = l;
+      table =
+          λ set shown. unlinked (link_at set.table id) (timers_at set.link_timers id) (links id) l
+          (shown.each id);
+    }
 
 -- TEI management that holds or has the TEI of each link assigns or obtains none of them
-free_of_links : (side : Side) (links : Links) (outs : List TeiOut) (P Q : ℕ → Type 0) → LeavesOwn P Q outs → AreOf P links → HasNoLinks side links (tei_given outs)
+free_of_links : (side : Side) (links : Links) (outs : List TeiOut) (P Q : ℕ → Type 0)
+    → LeavesOwn P Q outs → AreOf P links → HasNoLinks side links (tei_given outs)
 free_of_links side links outs P Q leaves are id given = is_absent side links id (λ there.
-    let no : true ≡ false = sym (given_is_reported id.tei outs given) ∙ leaves.quiet id.tei (are id there) in
+    let no : true ≡ false =
+    sym (given_is_reported id.tei outs given) ∙ leaves.quiet id.tei (are id there) in
     absurd (cc))
 
 no_tei : (side : Side) (links : Links) → HasNoLinks side links None
 no_tei side links id given = absurd (cc)
 
-either : (side : Side) (links : Links) (test : Bool) (tei : Option ℕ) → HasNoLinks side links tei → HasNoLinks side links (if test then tei else None)
+either : (side : Side) (links : Links) (test : Bool) (tei : Option ℕ) → HasNoLinks side links tei
+    → HasNoLinks side links (if test then tei else None)
 either side links true tei h = h
 either side links false tei h = no_tei side links
 

@@ -24,7 +24,9 @@ AreOf P links = (k : LinkId) → is_some (links k) ≡ true → P k.tei
 
 -- no primitive reports that the TEI of an existing link is assigned or obtained
 abbrev pub IsQuietFor : Links → Effects → Type 0
-IsQuietFor links effects = (k : LinkId) → is_some (links k) ≡ true → list_any (is_assignment k.tei) effects.primitives ≡ false
+IsQuietFor links effects =
+    (k : LinkId) → is_some (links k) ≡ true
+    → list_any (is_assignment k.tei) effects.primitives ≡ false
 
 pub both_of : (a b : Bool) → (a && b) ≡ true → (a ≡ true) × (b ≡ true)
 both_of true true h = (refl, refl)
@@ -38,7 +40,8 @@ pub record LeavesOwn (P Q : ℕ → Type 0) (outs : List TeiOut) : Type 0 where
   pub stays : (n : ℕ) → P n → (freed_here n (tei_freed outs) ≡ true) ⊎ Q n
   pub quiet : (n : ℕ) → P n → list_any (is_assignment n) (filter_map outcome_of outs) ≡ false
 
-module _ (side : Side) (config : Config) (now : ℕ) (outs : List TeiOut) (s : Served) (P Q : ℕ → Type 0) (own : LeavesOwn P Q outs) (are : AreOf P s.links) where
+module _ (side : Side) (config : Config) (now : ℕ) (outs : List TeiOut) (s : Served)
+    (P Q : ℕ → Type 0) (own : LeavesOwn P Q outs) (are : AreOf P s.links) where
   -- a TEI that stays
   stays_own : (k : LinkId) → freed_here k.tei (tei_freed outs) ≡ false → P k.tei → Q k.tei
   stays_own k preserved p = elim (own.stays k.tei p) [
@@ -46,27 +49,40 @@ module _ (side : Side) (config : Config) (now : ℕ) (outs : List TeiOut) (s : S
     | inr q ↦ q
   ]
 
-  with_by : (k : LinkId) (t : ℕ) (test : Bool) → tei_given outs ≡ Some t → is_link_of config t k ≡ test → freed_here k.tei (tei_freed outs) ≡ false
-      → is_some (if test then or_new (fresh_link config k) (s.links k) else s.links k) ≡ true → Q k.tei
+  with_by : (k : LinkId) (t : ℕ) (test : Bool) → tei_given outs ≡ Some t
+      → is_link_of config t k ≡ test → freed_here k.tei (tei_freed outs) ≡ false
+      → is_some (if test then or_new (fresh_link config k) (s.links k) else s.links k) ≡ true
+      → Q k.tei
   with_by k t true given is preserved there =
-      let same : t ≡ k.tei = (let tested = (both_of (is_served config k.sapi) (k.tei == t) is).1 in grind (arith, nat_tests, tested)) in
+      let same : t ≡ k.tei =
+      (let tested = (both_of (is_served config k.sapi) (k.tei == t) is).1 in
+      grind (arith, nat_tests, tested)) in
       subst Q same (own.given t given)
   with_by k t false given is preserved there = stays_own k preserved (are k there)
 
-  given_by : (k : LinkId) (g : Option ℕ) → tei_given outs ≡ g → freed_here k.tei (tei_freed outs) ≡ false → is_some (links_with config g s.links k) ≡ true → Q k.tei
+  given_by : (k : LinkId) (g : Option ℕ) → tei_given outs ≡ g
+      → freed_here k.tei (tei_freed outs) ≡ false → is_some (links_with config g s.links k) ≡ true
+      → Q k.tei
   unfolding with_tei
   given_by k None given preserved there = stays_own k preserved (are k there)
-  given_by k (Some t) given preserved there = with_by k t (is_link_of config t k) given refl preserved there
+  given_by k (Some t) given preserved there =
+      with_by k t (is_link_of config t k) given refl preserved there
 
-  by_freed : (k : LinkId) (freed : Bool) → freed_here k.tei (tei_freed outs) ≡ freed → is_some (links_without (tei_freed outs) (links_with config (tei_given outs) s.links) k) ≡ true → Q k.tei
+  by_freed : (k : LinkId) (freed : Bool) → freed_here k.tei (tei_freed outs) ≡ freed
+      → is_some (links_without (tei_freed outs) (links_with config (tei_given outs) s.links) k)
+      ≡ true → Q k.tei
   by_freed k true is there =
-      let none : is_some (links_without (tei_freed outs) (links_with config (tei_given outs) s.links) k) ≡ false =
-      ap (λ (o : Option Linked). is_some o) (without_this k (tei_freed outs) (links_with config (tei_given outs) s.links) is) in
+      let none : is_some
+      (links_without (tei_freed outs) (links_with config (tei_given outs) s.links) k) ≡ false =
+      ap (λ (o : Option Linked). is_some o)
+      (without_this k (tei_freed outs) (links_with config (tei_given outs) s.links) is) in
       let no : true ≡ false = sym there ∙ none in
       cc
   by_freed k false is there =
       given_by k (tei_given outs) refl is
-      (sym (ap (λ (o : Option Linked). is_some o) (without_other k (tei_freed outs) (links_with config (tei_given outs) s.links) (freed_is_other k.tei (tei_freed outs) is))) ∙ there)
+      (sym (ap (λ (o : Option Linked). is_some o)
+      (without_other k (tei_freed outs) (links_with config (tei_given outs) s.links)
+      (freed_is_other k.tei (tei_freed outs) is))) ∙ there)
 
   pub managed_are : AreOf Q (manages side config now outs s).after.links
   unfolding manages
@@ -74,7 +90,9 @@ module _ (side : Side) (config : Config) (now : ℕ) (outs : List TeiOut) (s : S
 
   pub managed_is_quiet : IsQuietFor s.links (manages side config now outs s).effects
   unfolding manages
-  managed_is_quiet k there = none_of_both (is_assignment k.tei) (filter_map outcome_of outs) (removal_primitives (tei_freed outs) (links_with config (tei_given outs) s.links))
+  managed_is_quiet k there =
+      none_of_both (is_assignment k.tei) (filter_map outcome_of outs)
+      (removal_primitives (tei_freed outs) (links_with config (tei_given outs) s.links))
       (own.quiet k.tei (are k there)) (plain_no_assignment k.tei
       (removal_primitives (tei_freed outs) (links_with config (tei_given outs) s.links))
       (plain_removals (tei_freed outs) (links_with config (tei_given outs) s.links)))

@@ -121,7 +121,8 @@ module _ (config : Config) (id : LinkId) (asked : Asked) (clock : Bool) (latenes
   unfolding terminal_acts
   hears m s h =
       subst (λ phase. Next (assigned config now
-      (terminal_step phase (event.Heard m (next_reference s.management.random))) s)) (sym h.waits.phase)
+      (terminal_step phase (event.Heard m (next_reference s.management.random)))
+      s)) (sym h.waits.phase)
       (message_goes m.kind m.ri m.ai s h)
 
   asks : (s : User) → Ready s → Next (terminal_acts config now event.Ask s)
@@ -133,11 +134,18 @@ module _ (config : Config) (id : LinkId) (asked : Asked) (clock : Bool) (latenes
 
   wanting : (other : Sapi) (s : User) → Ready s
       → Next (terminal_acts config now event.Want
-      (record s { management = record s.management { pending = with_pending other true s.management.pending } }))
+      (record s {
+        management = record s.management
+            { pending = with_pending other true s.management.pending };
+      }))
   unfolding terminal_acts
   wanting other s h =
       let w = h.waits in
-      let more : User = record s { management = record s.management { pending = with_pending other true s.management.pending } } in
+      let more : User =
+      record s {
+        management = record s.management
+            { pending = with_pending other true s.management.pending };
+      } in
       subst (λ phase. Next (assigned config now
       (terminal_step phase (event.Want (next_reference s.management.random))) more)) (sym w.phase)
       (awaits config id asked clock lateness limit m now reason.Establishment more (record {
@@ -208,7 +216,10 @@ module _ (config : Config) (id : LinkId) (asked : Asked) (clock : Bool) (latenes
       → (sapi_value id.sapi == sapi_value other) ≡ test
       → (may_release asked ≡ false → test ≡ false) → Ready s
       → Next (record {
-        after = record s { management = record s.management { pending = with_pending other false s.management.pending } };
+        after = record s {
+          management = record s.management
+              { pending = with_pending other false s.management.pending };
+        };
         effects = record no_effects {
           primitives = primitive_of_group other what.ReleaseConfirm;
         };

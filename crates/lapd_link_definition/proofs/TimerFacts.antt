@@ -58,7 +58,8 @@ pub are_timers : {X Y : Type 0} (q : State) (t u : Bool) → (X → Y) → AreTi
 are_timers MultipleFrameEstablished t u follows a = (a.0, λ off. follows (a.1 off))
 are_timers state t u follows a = a
 
-pub as_known : (X : Type 0) (q state : State) (t u t200 t203 : Bool) → state ≡ q → t200 ≡ t → t203 ≡ u
+pub as_known : (X : Type 0) (q state : State) (t u t200 t203 : Bool) → state ≡ q → t200 ≡ t
+    → t203 ≡ u
     → AreTimersOf q t u X → AreTimersOf state t200 t203 X
 as_known X q state t u t200 t203 one two three h =
     let F : State → Type 0 = λ x. AreTimersOf x t200 t203 X in

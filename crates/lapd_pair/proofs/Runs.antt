@@ -175,7 +175,8 @@ all_done before now moves at refused end done w s =
     let count = done.counted w s in
     let left : refusals (drop at moves) (run Tagged (take at moves) w) ≡ 0 =
     ap (λ (ms : List Move). refusals ms (run Tagged (take at moves) w)) none in (
-      subst (λ (ms : List Move). PairRepresents now (run Tagged ms w)) all (done.representation w s),
+      subst (λ (ms : List Move). PairRepresents now (run Tagged ms w)) all
+          (done.representation w s),
       omega (arith, count, left),
     )
 

@@ -96,7 +96,8 @@ preserves_acknowledging x y out nr ks m =
                   asked_less y.state y.sends.base x.takes.received (part_first (Status nr) ks)
                   (part_whole h.frames) i.asked;
               rejected =
-                  rejected_map y.state y.sends.vs y.sends.base x.takes.received (Some now) (Some was)
+                  rejected_map y.state y.sends.vs y.sends.base x.takes.received (Some now)
+                  (Some was)
                   (rejections h.frames) (λ r. awaiting_acknowledging x nr ks r) i.rejected;
             }) reached m.mine.reception;
         exchange =

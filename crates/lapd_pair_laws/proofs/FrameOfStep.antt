@@ -87,8 +87,10 @@ turned x y out now was t m = record {
           acks = i.acks;
           asked = asked_out y.state y.sends.base x.takes.received now was h.frames t i.asked;
           rejected =
-              rejected_map y.state y.sends.vs y.sends.base x.takes.received (Some (reception_now x now))
-              (Some (reception_now x was)) (rejections h.frames) (λ nr. awaiting_turned x now was nr t)
+              rejected_map y.state y.sends.vs y.sends.base x.takes.received
+              (Some (reception_now x now))
+              (Some (reception_now x was)) (rejections h.frames)
+              (λ nr. awaiting_turned x now was nr t)
               i.rejected;
         }) m.mine.reception;
     exchange = record {

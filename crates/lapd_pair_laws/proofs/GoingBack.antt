@@ -104,7 +104,8 @@ preserves_backing x y out back nr at names none order m =
                 order = o;
                 step = i.stream.step;
                 between =
-                    λ opened. ((i.stream.between opened).0, reached h.vr (i.stream.step (inl opened)));
+                    λ opened.
+                    ((i.stream.between opened).0, reached h.vr (i.stream.step (inl opened)));
               };
               acks = i.acks;
               asked = i.asked;

@@ -148,7 +148,9 @@ preserves_taking x y out m nr ks is w =
                 known =
                     each_map (λ n. IsGot y.sends.base n x.takes.received)
                     (λ n. IsGot y.sends.base n after) (numbers h.frames)
-                    (λ n got p below. place_stays (y.sends.base + p) x.takes.received r (got p below))
+                    (λ n
+                    got p below. place_stays (y.sends.base + p) x.takes.received r
+                    (got p below))
                     i.0.acks.known;
                 top =
                     λ opened. (
@@ -161,7 +163,8 @@ preserves_taking x y out m nr ks is w =
                   with_message_asked y.state y.sends.base x.takes.received after m nr ks h.frames
                   i.0.asked i.1.asked;
               rejected =
-                  with_message_rejected y.state y.sends.vs y.sends.base x.takes.received after x m nr ks
+                  with_message_rejected y.state y.sends.vs y.sends.base x.takes.received after x m
+                  nr ks
                   h.frames (Some (reception_now z left)) (rejections h.frames) is i.0.asked
                   i.0.rejected;
             }) waits both;
@@ -180,7 +183,9 @@ preserves_taking x y out m nr ks is w =
               subst (λ ms. IsStream (is_7_or_8 y.state) y.sends after (x.takes.vr + 1) false ms)
               (sym (messages_left m.polled nr ks)) (record {
                 placed = stream.placed.1;
-                near = near_after x.takes.vr y.sends.vs y.sends.k (messages ks) less rest stream.near.1;
+                near =
+                    near_after x.takes.vr y.sends.vs y.sends.k (messages ks) less rest
+                    stream.near.1;
                 order = rest;
                 step = λ _. record {
                   below = omega (arith, high_, here);

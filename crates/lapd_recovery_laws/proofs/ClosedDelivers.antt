@@ -89,7 +89,8 @@ module _ (station peer : Station) (frame : Flight) (rest outgoing : List Flight)
           + weight_of k
       mild : rejections (kinds new) ≡ []
       its_load : load peer.end t.end ks + 0 ≤ load peer.end e (k ∷ ks)
-      lacks : peer.end.state ≡ MultipleFrameEstablished → missing peer.end t.end ≤ missing peer.end e
+      lacks : peer.end.state ≡ MultipleFrameEstablished
+          → missing peer.end t.end ≤ missing peer.end e
       hears : peer.end.state ≡ MultipleFrameEstablished
           → OnReception (Arrives peer.end.window.vs) (heard e (k ∷ ks))
           → OnReception (Arrives peer.end.window.vs) (heard t.end ks)
@@ -197,7 +198,8 @@ module _ (station peer : Station) (frame : Flight) (rest outgoing : List Flight)
           closed other a);
       fewer =
           let w : waiting t.end ≡ waiting e = ap (λ (x : End). waiting x) same in omega (arith, w);
-      free = λ o. never (is_7_or_8 t.end.state) o (ap (λ (x : End). is_7_or_8 x.state) same ∙ closed);
+      free =
+          λ o. never (is_7_or_8 t.end.state) o (ap (λ (x : End). is_7_or_8 x.state) same ∙ closed);
     })
 
     ignored : (k : Kind) → 1 ≤ weight_of k
@@ -290,11 +292,13 @@ module _ (station peer : Station) (frame : Flight) (rest outgoing : List Flight)
       empty : Arriving (kind frame) → IsEmpty (seen c s).sends
       unfolding begin
       empty b =
-          subst (λ st. IsConsistentSender st e.layer3_initiated e.release_pending (seen c s).sends) is
+          subst (λ st. IsConsistentSender st e.layer3_initiated e.release_pending (seen c s).sends)
+          is
           b.mine.preserved
 
       sabme_in_4 : Arriving Asks → Done Asks (tei_assigned (Heard (Sabme true) Command) s)
-      unfolding tei_assigned put clear_exception_conditions zero_state_variables start state_to begin
+      unfolding tei_assigned put clear_exception_conditions zero_state_variables start state_to
+          begin
           without_exceptions with_zero_counters story_after
       sabme_in_4 b =
           let t = tei_assigned (Heard (Sabme true) Command) s in
@@ -317,7 +321,8 @@ module _ (station peer : Station) (frame : Flight) (rest outgoing : List Flight)
                     in_7 = refl;
                     wanted = unsaid_rejections ks (no_numbers b);
                     hears =
-                        inr (reset_arrives peer.end.state peer.end.release_pending peer.end.window.vs
+                        inr (reset_arrives peer.end.state peer.end.release_pending
+                        peer.end.window.vs
                         peer.end.window.va peer.end.window.vr 0 peer.end.window.rejecting out []
                         (peer_closed b) (no_answer b) refl);
                   },
@@ -371,7 +376,9 @@ module _ (station peer : Station) (frame : Flight) (rest outgoing : List Flight)
       mild = mild;
       its_load =
           still_loaded k t.end (ap is_7_or_8 at ∙ shut) rejecting
-          (let none = extra_shut t.end ks (ap is_7_or_8 at ∙ shut) (λ in_5. other (sym at ∙ in_5)) in
+          (let none =
+          extra_shut t.end ks (ap is_7_or_8 at ∙ shut)
+          (λ in_5. other (sym at ∙ in_5)) in
           omega (arith, none));
       lacks = λ is. let lack = still_missing t.end (ap is_7_or_8 at ∙ shut) in omega (arith, lack);
       hears = λ is a. nothing t.end state at shut other;
@@ -424,7 +431,8 @@ module _ (station peer : Station) (frame : Flight) (rest outgoing : List Flight)
         (omega arith)
 
     refused : Done Refuses (s ▷ discard_i_queue ▷ stop T200 ▷ end_establishment)
-    unfolding end_establishment discard_i_queue stop put release_pending_to state_to begin story_after
+    unfolding end_establishment discard_i_queue stop put release_pending_to state_to begin
+        story_after
     refused =
         parts Refuses (s ▷ discard_i_queue ▷ stop T200 ▷ end_establishment) TeiAssigned [] refl refl
         (λ in_5. cc) (refused_line (nat_lt 0 (waiting e)) e.t200 e.release_pending (waiting e) _ _
@@ -517,7 +525,8 @@ module _ (station peer : Station) (frame : Flight) (rest outgoing : List Flight)
             → peer.end.window.vs ≤ waiting peer.end - unsent peer.end
         unfolding begin story_after
         peer_missing opened =
-            let h : IsReceivable c.peer (seen c s) (receives c.peer (line c s)) (next_reception ks) =
+            let h : IsReceivable c.peer (seen c s) (receives c.peer (line c s))
+            (next_reception ks) =
             behind_ua (IsReceivable c.peer (seen c s) (receives c.peer (line c s)))
             b.its.reception in
             let n : IsNumbering c.peer.sends =
@@ -602,7 +611,8 @@ module _ (station peer : Station) (frame : Flight) (rest outgoing : List Flight)
           where
             lacked : (x : End) (count : ℕ) (open_state : Bool) → x.window.vs ≡ count
                 → waiting x ≡ unsent x + count
-                → missing_in open_state x.window.vs peer.end.window.vr (waiting x) (unsent x) ≤ count
+                → missing_in open_state x.window.vs peer.end.window.vr (waiting x) (unsent x)
+                ≤ count
             lacked x count true vs all = omega (arith, vs)
             lacked x count false vs all = omega (arith, all)
 
@@ -728,7 +738,8 @@ module _ (station peer : Station) (frame : Flight) (rest outgoing : List Flight)
               queue = omega (arith, first, next, ordered);
             }
 
-        opens : Done Accepts (s ▷ confirm_or_indicate ▷ zero_state_variables ▷ stop T200 ▷ start T203
+        opens : Done Accepts
+            (s ▷ confirm_or_indicate ▷ zero_state_variables ▷ stop T200 ▷ start T203
             ▷ state_to MultipleFrameEstablished)
         unfolding confirm_or_indicate begin
         opens =
@@ -768,7 +779,8 @@ module _ (station peer : Station) (frame : Flight) (rest outgoing : List Flight)
         → Done (kind_of role control frame.info frame.place)
         (by_state Whole state (Heard control role) s)
     unfolding by_state
-    by_closed_state TeiAssigned control role is shut no_unit b = in_state_4 is control role no_unit b
+    by_closed_state TeiAssigned control role is shut no_unit b =
+        in_state_4 is control role no_unit b
     by_closed_state AwaitingEstablishment control role is shut no_unit b =
         in_state_5 is control role no_unit b
     by_closed_state AwaitingRelease control role is shut no_unit b =

@@ -644,7 +644,8 @@ module _ (N : ℕ) where
 
   -- both claims, on whole numbers
   pub record Kept (w : World) : Type 0 where
-    pub reached : (moves : List Move) → AreOwnOr203 Whole moves w → most_moves_from N w ≤ length moves
+    pub reached : (moves : List Move) → AreOwnOr203 Whole moves w
+        → most_moves_from N w ≤ length moves
         → AreInAgreement (run Whole moves w)
     pub kept : AreSettled w → (moves : List Move) → AreOwnOr203 Whole moves w
         → AreInAgreement (run Whole moves w)

@@ -271,7 +271,8 @@ module _ (station peer : Station) (frame : Flight) (rest outgoing : List Flight)
     unfolding begin story_after
     answer_unrefused k t r =
         unrefused t r.frames r.line
-        (let few = refused_few (kinds r.frames) in let none = r.no_answer in omega (arith, few, none))
+        (let few = refused_few (kinds r.frames) in
+        let none = r.no_answer in omega (arith, few, none))
 
     back_unrefused : (k : Kind) (t : StepState) → Backs c k ks s t → Unrefused (end_step Whole t)
     unfolding begin story_after
@@ -308,7 +309,8 @@ module _ (station peer : Station) (frame : Flight) (rest outgoing : List Flight)
       asks_one = let one = m.its.exchange.one in omega (arith, one)
 
       no_ua : tally answer_of out ≡ 0
-      no_ua = let one = asks_one in let most = most_is_one peer.end.state in omega (arith, one, most)
+      no_ua =
+          let one = asks_one in let most = most_is_one peer.end.state in omega (arith, one, most)
 
       peer_asks : 1 ≤ most_asks peer.end.state
       peer_asks = let one = asks_one in omega (arith, one)
@@ -334,7 +336,8 @@ module _ (station peer : Station) (frame : Flight) (rest outgoing : List Flight)
       closed : is_7_or_8 peer.end.state ≡ false
       closed = asks_closed peer.end.state peer_asks
 
-      pays : (u : End) (frames : List Flight) (queued count : ℕ) → u.state ≡ MultipleFrameEstablished
+      pays : (u : End) (frames : List Flight) (queued count : ℕ)
+          → u.state ≡ MultipleFrameEstablished
           → waiting u ≡ queued → unsent u + count ≡ queued → weigh (kinds frames) ≤ count
           → queued ≤ unsent e
           → OnReception (Arrives u.window.vs) (heard peer.end (out ++ Accepts ∷ kinds frames))
@@ -398,7 +401,8 @@ module _ (station peer : Station) (frame : Flight) (rest outgoing : List Flight)
           let q = queue in
           let whole : IsWhole 0 u.end.window.vs (messages fs) =
           subst (λ n. IsWhole n u.end.window.vs (messages fs)) r.vs cl.whole in
-          let arrives : OnReception (Arrives u.end.window.vs) (heard peer.end (out ++ Accepts ∷ fs)) =
+          let arrives : OnReception (Arrives u.end.window.vs)
+          (heard peer.end (out ++ Accepts ∷ fs)) =
           reset_arrives peer.end.state peer.end.release_pending peer.end.window.vs
           peer.end.window.va peer.end.window.vr u.end.window.vs peer.end.window.rejecting out
           fs closed no_ua whole in (
@@ -423,10 +427,12 @@ module _ (station peer : Station) (frame : Flight) (rest outgoing : List Flight)
           )
 
       abbrev reset : StepState → StepState
-      reset d = d ▷ stop T200 ▷ start T203 ▷ zero_state_variables ▷ state_to MultipleFrameEstablished
+      reset d =
+          d ▷ stop T200 ▷ start T203 ▷ zero_state_variables ▷ state_to MultipleFrameEstablished
 
       abbrev answered : StepState
-      answered = s ▷ put (Send Answer (Ua true)) ▷ clear_exception_conditions ▷ put (Report letter.F)
+      answered =
+          s ▷ put (Send Answer (Ua true)) ▷ clear_exception_conditions ▷ put (Report letter.F)
 
       resets : (test : Bool) → (answered.end.window.vs == answered.end.window.va) ≡ test
           → Resets (reset (discards_by test answered))
@@ -477,7 +483,8 @@ module _ (station peer : Station) (frame : Flight) (rest outgoing : List Flight)
                         λ n share. record {
                           a = 0;
                           share =
-                              inl (let none = extra_first peer.end out closed no_ua in omega (arith, none));
+                              inl (let none = extra_first peer.end out closed no_ua in
+                              omega (arith, none));
                           most = omega arith;
                         };
                     its_load = closed_falls t.end (omega arith);
@@ -631,10 +638,12 @@ module _ (station peer : Station) (frame : Flight) (rest outgoing : List Flight)
         → state_after state (Disc true) Command ≡ TeiAssigned
     unfolding row by_state multiple_frame_established timer_recovery
     by_disc_4 MultipleFrameEstablished o =
-        ap (λ (v : Unsending). v.state) (end_closes c (in_7_and_8 (Heard (Disc true) Command) s)).same
+        ap (λ (v : Unsending). v.state)
+        (end_closes c (in_7_and_8 (Heard (Disc true) Command) s)).same
         ∙ in_4_by_disc
     by_disc_4 TimerRecovery o =
-        ap (λ (v : Unsending). v.state) (end_closes c (in_7_and_8 (Heard (Disc true) Command) s)).same
+        ap (λ (v : Unsending). v.state)
+        (end_closes c (in_7_and_8 (Heard (Disc true) Command) s)).same
         ∙ in_4_by_disc
     by_disc_4 state o = cc
 

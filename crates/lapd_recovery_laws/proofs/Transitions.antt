@@ -356,7 +356,8 @@ module _ (N : ℕ) (some_retries : 1 ≤ N) (up : Bool) where
                       λ in_6. let never : is_7_or_8 x.end.state ≡ false =
                       ap is_7_or_8 in_6 in let open_state = s.open_state in cc;
                   network =
-                      λ in_5. absurd (let never : is_7_or_8 x.end.state ≡ false = ap is_7_or_8 in_5 in
+                      λ in_5. absurd
+                      (let never : is_7_or_8 x.end.state ≡ false = ap is_7_or_8 in_5 in
                       let open_state = s.open_state in cc);
                 })));
           }

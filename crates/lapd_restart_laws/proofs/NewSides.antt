@@ -32,14 +32,16 @@ none_left [] = refl
 none_left (message ∷ given) = none_left given
 
 -- an empty queue is the tail of any messages
-all_before : (given : List (List ℕ)) (queue : Waiting) → IsTail [] 0 0 queue → IsTail given (length given) (length given) queue
+all_before : (given : List (List ℕ)) (queue : Waiting) → IsTail [] 0 0 queue
+    → IsTail given (length given) (length given) queue
 all_before given queue h = record {
   messages = none_left given ∙ h.messages;
   within = omega arith;
   next_is = omega (arith, h.next_is);
 }
 
-counts_unseen : (link : Link) (before : End) (p : Parameters) → LinkRepresents link (new_end p) → LinkRepresents link (counting_on before (new_end p))
+counts_unseen : (link : Link) (before : End) (p : Parameters) → LinkRepresents link (new_end p)
+    → LinkRepresents link (counting_on before (new_end p))
 unfolding begin
 counts_unseen link before p h = record {
   parameters = h.parameters;
@@ -56,43 +58,64 @@ counts_unseen link before p h = record {
 }
 
 module _ (config : Config) (id : LinkId) where
-  by_parts : (link : Option Link) (t : Option Timers) (before : Linked) → IsLinked link t (Some (fresh_link config id)) → IsLinked link t (link_after (Some (fresh_link config id)) (Some before))
+  by_parts : (link : Option Link) (t : Option Timers) (before : Linked)
+      → IsLinked link t (Some (fresh_link config id))
+      → IsLinked link t (link_after (Some (fresh_link config id)) (Some before))
   by_parts None t before h = absurd h
   by_parts (Some link) None before h = absurd h
-  by_parts (Some link) (Some t) before h = (counts_unseen link before.end (parameters_for config id.sapi) h.0, h.1)
+  by_parts (Some link) (Some t) before h =
+      (counts_unseen link before.end (parameters_for config id.sapi) h.0, h.1)
 
-  by_before : (link : Option Link) (t : Option Timers) (before : Option Linked) → IsLinked link t (Some (fresh_link config id)) → IsLinked link t (link_after (Some (fresh_link config id)) before)
+  by_before : (link : Option Link) (t : Option Timers) (before : Option Linked)
+      → IsLinked link t (Some (fresh_link config id))
+      → IsLinked link t (link_after (Some (fresh_link config id)) before)
   by_before link t None h = h
   by_before link t (Some before) h = by_parts link t before h
 
-  one_linked : (link : Option Link) (t : Option Timers) (new before : Option Linked) → IsMade config id new → IsLinked link t new → IsLinked link t (link_after new before)
-  one_linked link t new before (missing is) h = subst (λ o. IsLinked link t (link_after o before)) (sym is) (subst (IsLinked link t) is h)
-  one_linked link t new before (made is) h = subst (λ o. IsLinked link t (link_after o before)) (sym is) (by_before link t before (subst (IsLinked link t) is h))
+  one_linked : (link : Option Link) (t : Option Timers) (new before : Option Linked)
+      → IsMade config id new → IsLinked link t new → IsLinked link t (link_after new before)
+  one_linked link t new before (missing is) h =
+      subst (λ o. IsLinked link t (link_after o before)) (sym is) (subst (IsLinked link t) is h)
+  one_linked link t new before (made is) h =
+      subst (λ o. IsLinked link t (link_after o before)) (sym is)
+      (by_before link t before (subst (IsLinked link t) is h))
 
 -- ---- All links, and the side.
 
-all_linked : (side : Side) (config : Config) (set : LinkSet) (new before : Links) → ((id : LinkId) → IsMade config id (new id)) → ShowLinks side set new → ShowLinks side set (λ id. link_after (new id) (before id))
+all_linked : (side : Side) (config : Config) (set : LinkSet) (new before : Links)
+    → ((id : LinkId) → IsMade config id (new id)) → ShowLinks side set new
+    → ShowLinks side set (λ id. link_after (new id) (before id))
 all_linked side config set new before are_made h = record {
   of_side = h.of_side;
-  each = λ id. one_linked config id (link_at set.table id) (timers_at set.link_timers id) (new id) (before id) (are_made id) (h.each id);
+  each =
+      λ id. one_linked config id (link_at set.table id) (timers_at set.link_timers id) (new id)
+      (before id) (are_made id) (h.each id);
 }
 
-pub new_network_restarts : (code : NetSide) (config : Config) (known : List ℕ) (before : Network) → ShowNetwork code config (new_network config known) → ShowNetwork code config (network_after config known before)
+pub new_network_restarts : (code : NetSide) (config : Config) (known : List ℕ) (before : Network)
+    → ShowNetwork code config (new_network config known)
+    → ShowNetwork code config (network_after config known before)
 new_network_restarts code config known before h = record {
   configured = h.configured;
   served = record {
-    links = all_linked _ config code.served.links (new_network config known).served.links before.served.links (made_by_network config known) h.served.links;
+    links =
+        all_linked _ config code.served.links (new_network config known).served.links
+        before.served.links (made_by_network config known) h.served.links;
     timers = h.served.timers;
   };
   management = h.management;
   discarded = h.discarded;
 }
 
-pub new_user_restarts : (code : UserSide) (config : Config) (fixed : Option ℕ) (random : Lcg) (before : User) → ShowUser code config (new_user config fixed random) → ShowUser code config (user_after config fixed random before)
+pub new_user_restarts : (code : UserSide) (config : Config) (fixed : Option ℕ) (random : Lcg)
+    (before : User) → ShowUser code config (new_user config fixed random)
+    → ShowUser code config (user_after config fixed random before)
 new_user_restarts code config fixed random before h = record {
   configured = h.configured;
   served = record {
-    links = all_linked _ config code.served.links (new_user config fixed random).served.links before.served.links (made_by_user config fixed random) h.served.links;
+    links =
+        all_linked _ config code.served.links (new_user config fixed random).served.links
+        before.served.links (made_by_user config fixed random) h.served.links;
     timers = h.served.timers;
   };
   management = h.management;

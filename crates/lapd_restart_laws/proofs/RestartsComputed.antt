@@ -35,23 +35,126 @@ use Rattle.lapd_restart_laws.specs.Restarts.{losses, run_across}
 
 pub record AcrossBoth (first answer second third : Vec ℕ Global) : Type 0 where
   pub premises : KeepPremises configs call (across_both first answer second third) at_first
-  pub to_user : link_primitives call (run_across configs (across_both first answer second third) at_first).delivered_to_user
-      ≡ what.Confirmed ∷ what.Dropped 1 ∷ what.Confirmed ∷ what.Acknowledged 1 ∷ what.Dropped 1 ∷ what.Confirmed ∷ []
-  pub to_network : link_primitives call (run_across configs (across_both first answer second third) at_first).delivered_to_network
-      ≡ what.Established ∷ what.Up (1 ∷ []) ∷ what.Report letter.F ∷ what.Dropped 1 ∷ what.Established ∷ what.Up (3 ∷ []) ∷ what.Established ∷ []
+  pub to_user : link_primitives call
+      (run_across configs (across_both first answer second third) at_first).delivered_to_user
+      ≡ what.Confirmed ∷ what.Dropped 1 ∷ what.Confirmed ∷ what.Acknowledged 1 ∷ what.Dropped 1
+      ∷ what.Confirmed ∷ []
+  pub to_network : link_primitives call
+      (run_across configs (across_both first answer second third) at_first).delivered_to_network
+      ≡ what.Established ∷ what.Up (1 ∷ []) ∷ what.Report letter.F ∷ what.Dropped 1
+      ∷ what.Established ∷ what.Up (3 ∷ []) ∷ what.Established ∷ []
 
-across_both_holds : (s t u v : Vec ℕ Global) (w : Fits s (1 ∷ [])) (x : Fits t (2 ∷ [])) (y : Fits u (3 ∷ [])) (z : Fits v (4 ∷ [])) → AcrossBoth (holding s (1 ∷ []) w) (holding t (2 ∷ []) x) (holding u (3 ∷ []) y) (holding v (4 ∷ []) z)
-unfolding link_acts link_expires in_links with_tei without_tei primitive_of_tei manages assigner_acts link_of takes expires network_requested begin put state_to rc_to increment_rc layer3_initiated_to release_pending_to start stop expired clear_exception_conditions zero_state_variables set_peer_busy set_own_busy enquiry_response transmit_enquiry queue_up discard_i_queue acknowledge invoke_retransmission i_frame_ns discard_unacknowledged transmit_i_frame ensure_t200 transmit_rr establish_data_link reestablish_data_link end_establishment tei_assigned confirm_or_indicate ua_final awaiting_establishment_t200 awaiting_establishment confirm_release awaiting_release_t200 awaiting_release acknowledge_with_timers nr_error_recovery i_frame_nr i_frame_nr_in_recovery poll_or_final poll rr_nr rej_nr rnr_nr rr_nr_in_recovery rnr_nr_in_recovery timer_recovery_t200 busy_on busy_off in_7_and_8 established_t200 multiple_frame_established timer_recovery by_state report_fault row send_all acknowledge_pending end_step step initial_variables without_exceptions with_zero_counters status_frame acknowledgement without_ack_pending poll_response is_accepted is_rejected after_i_frame i_frame_response is_valid_nr with_va acknowledged_count acknowledges_all with_vs may_send next_i_frame after_sending with_own_busy with_peer_busy after steps lies_within terminal_acts user_requested links_below does losses
+across_both_holds : (s t u v : Vec ℕ Global) (w : Fits s (1 ∷ [])) (x : Fits t (2 ∷ []))
+    (y : Fits u (3 ∷ [])) (z : Fits v (4 ∷ []))
+    → AcrossBoth (holding s (1 ∷ []) w) (holding t (2 ∷ []) x) (holding u (3 ∷ []) y)
+    (holding v (4 ∷ []) z)
+unfolding link_acts link_expires in_links with_tei without_tei primitive_of_tei manages
+    assigner_acts link_of takes expires network_requested begin put state_to rc_to increment_rc
+    layer3_initiated_to release_pending_to start stop expired clear_exception_conditions
+    zero_state_variables set_peer_busy set_own_busy enquiry_response transmit_enquiry queue_up
+    discard_i_queue acknowledge invoke_retransmission i_frame_ns discard_unacknowledged
+    transmit_i_frame ensure_t200 transmit_rr establish_data_link reestablish_data_link
+    end_establishment tei_assigned confirm_or_indicate ua_final awaiting_establishment_t200
+    awaiting_establishment confirm_release awaiting_release_t200 awaiting_release
+    acknowledge_with_timers nr_error_recovery i_frame_nr i_frame_nr_in_recovery poll_or_final poll
+    rr_nr rej_nr rnr_nr rr_nr_in_recovery rnr_nr_in_recovery timer_recovery_t200 busy_on busy_off
+    in_7_and_8 established_t200 multiple_frame_established timer_recovery by_state report_fault row
+    send_all acknowledge_pending end_step step initial_variables without_exceptions
+    with_zero_counters status_frame acknowledgement without_ack_pending poll_response is_accepted
+    is_rejected after_i_frame i_frame_response is_valid_nr with_va acknowledged_count
+    acknowledges_all with_vs may_send next_i_frame after_sending with_own_busy with_peer_busy after
+    steps lies_within terminal_acts user_requested links_below does losses
 across_both_holds s t u v w x y z = record {
-  premises = ((tt, λ there. refl), ((tt, λ there. refl), ((tt, λ there. refl), ((tt, λ there. refl), ((tt, λ there. refl), (record { returns = λ had has. refl; quiet = λ had has. (refl, refl) }, ((tt, λ there. refl), ((tt, λ there. refl), ((tt, λ there. refl), ((tt, λ there. refl), ((tt, λ there. refl), ((tt, λ there. refl), ((tt, λ there. refl), ((tt, λ there. refl), ((tt, λ there. refl), ((tt, λ there. refl), (record { returns = λ had has. refl; quiet = λ had has. (refl, refl) }, ((tt, λ there. refl), ((tt, λ there. refl), ((tt, λ there. refl), ((tt, λ there. refl), tt)))))))))))))))))))));
+  premises = (
+    (tt, λ there. refl),
+    (
+      (tt, λ there. refl),
+      (
+        (tt, λ there. refl),
+        (
+          (tt, λ there. refl),
+          (
+            (tt, λ there. refl),
+            (
+              record { returns = λ had has. refl; quiet = λ had has. (refl, refl) },
+              (
+                (tt, λ there. refl),
+                (
+                  (tt, λ there. refl),
+                  (
+                    (tt, λ there. refl),
+                    (
+                      (tt, λ there. refl),
+                      (
+                        (tt, λ there. refl),
+                        (
+                          (tt, λ there. refl),
+                          (
+                            (tt, λ there. refl),
+                            (
+                              (tt, λ there. refl),
+                              (
+                                (tt, λ there. refl),
+                                (
+                                  (tt, λ there. refl),
+                                  (
+                                    record {
+                                      returns =
+                                          λ had has. refl;
+                                      quiet =
+                                          λ had has.
+                                          (refl, refl);
+                                    },
+                                    (
+                                      (tt, λ there. refl),
+                                      (
+                                        (tt, λ there. refl),
+                                        (
+                                          (
+                                            tt,
+                                            λ there.
+                                                refl,
+                                          ),
+                                          (
+                                            (
+                                              tt,
+                                              λ
+                                                  there.
+                                                  refl,
+                                            ),
+                                            tt,
+                                          ),
+                                        ),
+                                      ),
+                                    ),
+                                  ),
+                                ),
+                              ),
+                            ),
+                          ),
+                        ),
+                      ),
+                    ),
+                  ),
+                ),
+              ),
+            ),
+          ),
+        ),
+      ),
+    ),
+  );
   to_user = refl;
   to_network = refl;
 }
 
-pub across_both_so : (first answer second third : Vec ℕ Global) → IsMessage 1 first → IsMessage 2 answer → IsMessage 3 second → IsMessage 4 third → AcrossBoth first answer second third
+pub across_both_so : (first answer second third : Vec ℕ Global) → IsMessage 1 first
+    → IsMessage 2 answer → IsMessage 3 second → IsMessage 4 third
+    → AcrossBoth first answer second third
 across_both_so first answer second third one two three four =
     with_both (λ s t. AcrossBoth s t second third) (1 ∷ []) (2 ∷ []) (λ s t w x.
-    with_both (λ u v. AcrossBoth (holding s (1 ∷ []) w) (holding t (2 ∷ []) x) u v) (3 ∷ []) (4 ∷ []) (λ u v y z. across_both_holds s t u v w x y z) second third three four)
+    with_both (λ u v. AcrossBoth (holding s (1 ∷ []) w) (holding t (2 ∷ []) x) u v) (3 ∷ [])
+    (4 ∷ []) (λ u v y z. across_both_holds s t u v w x y z) second third three four)
     first answer one two
 
 -- ---- A side restarts without a TEI.
@@ -62,15 +165,119 @@ never h = cc
 pub record TeiLost (message : Vec ℕ Global) : Type 0 where
   pub lost_premises : KeepPremises configs call (tei_lost message) unassigned
   pub next_premises : KeepPremises configs next_call (tei_lost message) unassigned
-  pub lost_to_user : link_primitives call (run_across configs (tei_lost message) unassigned).delivered_to_user ≡ what.Confirmed ∷ what.Acknowledged 1 ∷ []
-  pub next_to_user : link_primitives next_call (run_across configs (tei_lost message) unassigned).delivered_to_user ≡ what.Confirmed ∷ []
-  pub next_to_network : link_primitives next_call (run_across configs (tei_lost message) unassigned).delivered_to_network ≡ what.Established ∷ []
+  pub lost_to_user : link_primitives call
+      (run_across configs (tei_lost message) unassigned).delivered_to_user ≡ what.Confirmed
+      ∷ what.Acknowledged 1 ∷ []
+  pub next_to_user : link_primitives next_call
+      (run_across configs (tei_lost message) unassigned).delivered_to_user ≡ what.Confirmed ∷ []
+  pub next_to_network : link_primitives next_call
+      (run_across configs (tei_lost message) unassigned).delivered_to_network ≡ what.Established
+      ∷ []
 
 tei_lost_holds : (v : Vec ℕ Global) (x : Fits v (1 ∷ [])) → TeiLost (holding v (1 ∷ []) x)
-unfolding link_acts link_expires in_links with_tei without_tei primitive_of_tei manages assigner_acts link_of takes expires network_requested begin put state_to rc_to increment_rc layer3_initiated_to release_pending_to start stop expired clear_exception_conditions zero_state_variables set_peer_busy set_own_busy enquiry_response transmit_enquiry queue_up discard_i_queue acknowledge invoke_retransmission i_frame_ns discard_unacknowledged transmit_i_frame ensure_t200 transmit_rr establish_data_link reestablish_data_link end_establishment tei_assigned confirm_or_indicate ua_final awaiting_establishment_t200 awaiting_establishment confirm_release awaiting_release_t200 awaiting_release acknowledge_with_timers nr_error_recovery i_frame_nr i_frame_nr_in_recovery poll_or_final poll rr_nr rej_nr rnr_nr rr_nr_in_recovery rnr_nr_in_recovery timer_recovery_t200 busy_on busy_off in_7_and_8 established_t200 multiple_frame_established timer_recovery by_state report_fault row send_all acknowledge_pending end_step step initial_variables without_exceptions with_zero_counters status_frame acknowledgement without_ack_pending poll_response is_accepted is_rejected after_i_frame i_frame_response is_valid_nr with_va acknowledged_count acknowledges_all with_vs may_send next_i_frame after_sending with_own_busy with_peer_busy after steps lies_within terminal_acts user_requested links_below does losses
+unfolding link_acts link_expires in_links with_tei without_tei primitive_of_tei manages
+    assigner_acts link_of takes expires network_requested begin put state_to rc_to increment_rc
+    layer3_initiated_to release_pending_to start stop expired clear_exception_conditions
+    zero_state_variables set_peer_busy set_own_busy enquiry_response transmit_enquiry queue_up
+    discard_i_queue acknowledge invoke_retransmission i_frame_ns discard_unacknowledged
+    transmit_i_frame ensure_t200 transmit_rr establish_data_link reestablish_data_link
+    end_establishment tei_assigned confirm_or_indicate ua_final awaiting_establishment_t200
+    awaiting_establishment confirm_release awaiting_release_t200 awaiting_release
+    acknowledge_with_timers nr_error_recovery i_frame_nr i_frame_nr_in_recovery poll_or_final poll
+    rr_nr rej_nr rnr_nr rr_nr_in_recovery rnr_nr_in_recovery timer_recovery_t200 busy_on busy_off
+    in_7_and_8 established_t200 multiple_frame_established timer_recovery by_state report_fault row
+    send_all acknowledge_pending end_step step initial_variables without_exceptions
+    with_zero_counters status_frame acknowledgement without_ack_pending poll_response is_accepted
+    is_rejected after_i_frame i_frame_response is_valid_nr with_va acknowledged_count
+    acknowledges_all with_vs may_send next_i_frame after_sending with_own_busy with_peer_busy after
+    steps lies_within terminal_acts user_requested links_below does losses
 tei_lost_holds v x = record {
-  lost_premises = ((tt, λ there. refl), ((tt, λ there. absurd (never there)), ((tt, λ there. absurd (never there)), ((tt, λ there. refl), ((tt, λ there. refl), ((tt, λ there. refl), ((tt, λ there. refl), ((tt, λ there. refl), (record { returns = λ had has. refl; quiet = λ had has. absurd (never has) }, ((tt, λ there. refl), ((tt, λ there. refl), ((tt, λ there. refl), ((tt, λ there. refl), ((tt, λ there. refl), tt))))))))))))));
-  next_premises = ((tt, λ there. refl), ((tt, λ there. refl), ((tt, λ there. refl), ((tt, λ there. refl), ((tt, λ there. refl), ((tt, λ there. refl), ((tt, λ there. refl), ((tt, λ there. refl), (record { returns = λ had has. refl; quiet = λ had has. absurd (never had) }, ((tt, λ there. refl), ((tt, λ there. absurd (never there)), ((tt, λ there. absurd (never there)), ((tt, λ there. refl), ((tt, λ there. refl), tt))))))))))))));
+  lost_premises = (
+    (tt, λ there. refl),
+    (
+      (tt, λ there. absurd (never there)),
+      (
+        (tt, λ there. absurd (never there)),
+        (
+          (tt, λ there. refl),
+          (
+            (tt, λ there. refl),
+            (
+              (tt, λ there. refl),
+              (
+                (tt, λ there. refl),
+                (
+                  (tt, λ there. refl),
+                  (
+                    record {
+                      returns = λ had has. refl;
+                      quiet = λ had has. absurd (never has);
+                    },
+                    (
+                      (tt, λ there. refl),
+                      (
+                        (tt, λ there. refl),
+                        (
+                          (tt, λ there. refl),
+                          (
+                            (tt, λ there. refl),
+                            ((tt, λ there. refl), tt),
+                          ),
+                        ),
+                      ),
+                    ),
+                  ),
+                ),
+              ),
+            ),
+          ),
+        ),
+      ),
+    ),
+  );
+  next_premises = (
+    (tt, λ there. refl),
+    (
+      (tt, λ there. refl),
+      (
+        (tt, λ there. refl),
+        (
+          (tt, λ there. refl),
+          (
+            (tt, λ there. refl),
+            (
+              (tt, λ there. refl),
+              (
+                (tt, λ there. refl),
+                (
+                  (tt, λ there. refl),
+                  (
+                    record {
+                      returns = λ had has. refl;
+                      quiet = λ had has. absurd (never had);
+                    },
+                    (
+                      (tt, λ there. refl),
+                      (
+                        (tt, λ there. absurd (never there)),
+                        (
+                          (tt, λ there. absurd (never there)),
+                          (
+                            (tt, λ there. refl),
+                            ((tt, λ there. refl), tt),
+                          ),
+                        ),
+                      ),
+                    ),
+                  ),
+                ),
+              ),
+            ),
+          ),
+        ),
+      ),
+    ),
+  );
   lost_to_user = refl;
   next_to_user = refl;
   next_to_network = refl;
@@ -81,43 +288,170 @@ tei_lost_so = with_octets TeiLost (1 ∷ []) tei_lost_holds
 
 -- ---- A frame of an exchange is in transit.
 
-pub command_keeps : KeepInPart (BringsNoCallBack (run configs command_sent at_first) × HasNoAnswer (run configs command_sent at_first)) command_sent network_restarts command_answered
-unfolding link_acts link_expires in_links with_tei without_tei primitive_of_tei manages assigner_acts link_of takes expires network_requested begin put state_to rc_to increment_rc layer3_initiated_to release_pending_to start stop expired clear_exception_conditions zero_state_variables set_peer_busy set_own_busy enquiry_response transmit_enquiry queue_up discard_i_queue acknowledge invoke_retransmission i_frame_ns discard_unacknowledged transmit_i_frame ensure_t200 transmit_rr establish_data_link reestablish_data_link end_establishment tei_assigned confirm_or_indicate ua_final awaiting_establishment_t200 awaiting_establishment confirm_release awaiting_release_t200 awaiting_release acknowledge_with_timers nr_error_recovery i_frame_nr i_frame_nr_in_recovery poll_or_final poll rr_nr rej_nr rnr_nr rr_nr_in_recovery rnr_nr_in_recovery timer_recovery_t200 busy_on busy_off in_7_and_8 established_t200 multiple_frame_established timer_recovery by_state report_fault row send_all acknowledge_pending end_step step initial_variables without_exceptions with_zero_counters status_frame acknowledgement without_ack_pending poll_response is_accepted is_rejected after_i_frame i_frame_response is_valid_nr with_va acknowledged_count acknowledges_all with_vs may_send next_i_frame after_sending with_own_busy with_peer_busy after steps lies_within terminal_acts user_requested links_below does losses
-command_keeps = (((tt, λ there. refl), tt), ((λ had has. refl, refl), ((tt, λ there. refl), ((tt, λ there. refl), tt))))
+pub command_keeps : KeepInPart (BringsNoCallBack (run configs command_sent at_first)
+    × HasNoAnswer (run configs command_sent at_first)) command_sent network_restarts
+    command_answered
+unfolding link_acts link_expires in_links with_tei without_tei primitive_of_tei manages
+    assigner_acts link_of takes expires network_requested begin put state_to rc_to increment_rc
+    layer3_initiated_to release_pending_to start stop expired clear_exception_conditions
+    zero_state_variables set_peer_busy set_own_busy enquiry_response transmit_enquiry queue_up
+    discard_i_queue acknowledge invoke_retransmission i_frame_ns discard_unacknowledged
+    transmit_i_frame ensure_t200 transmit_rr establish_data_link reestablish_data_link
+    end_establishment tei_assigned confirm_or_indicate ua_final awaiting_establishment_t200
+    awaiting_establishment confirm_release awaiting_release_t200 awaiting_release
+    acknowledge_with_timers nr_error_recovery i_frame_nr i_frame_nr_in_recovery poll_or_final poll
+    rr_nr rej_nr rnr_nr rr_nr_in_recovery rnr_nr_in_recovery timer_recovery_t200 busy_on busy_off
+    in_7_and_8 established_t200 multiple_frame_established timer_recovery by_state report_fault row
+    send_all acknowledge_pending end_step step initial_variables without_exceptions
+    with_zero_counters status_frame acknowledgement without_ack_pending poll_response is_accepted
+    is_rejected after_i_frame i_frame_response is_valid_nr with_va acknowledged_count
+    acknowledges_all with_vs may_send next_i_frame after_sending with_own_busy with_peer_busy after
+    steps lies_within terminal_acts user_requested links_below does losses
+command_keeps = (
+  ((tt, λ there. refl), tt),
+  ((λ had has. refl, refl), ((tt, λ there. refl), ((tt, λ there. refl), tt))),
+)
 
-pub command_outlasts : AreExpectedOfLink (link_primitives call (run_across configs (with_restart command_sent network_restarts command_answered) at_first).delivered_to_network) → ⊥
-unfolding link_acts link_expires in_links with_tei without_tei primitive_of_tei manages assigner_acts link_of takes expires network_requested begin put state_to rc_to increment_rc layer3_initiated_to release_pending_to start stop expired clear_exception_conditions zero_state_variables set_peer_busy set_own_busy enquiry_response transmit_enquiry queue_up discard_i_queue acknowledge invoke_retransmission i_frame_ns discard_unacknowledged transmit_i_frame ensure_t200 transmit_rr establish_data_link reestablish_data_link end_establishment tei_assigned confirm_or_indicate ua_final awaiting_establishment_t200 awaiting_establishment confirm_release awaiting_release_t200 awaiting_release acknowledge_with_timers nr_error_recovery i_frame_nr i_frame_nr_in_recovery poll_or_final poll rr_nr rej_nr rnr_nr rr_nr_in_recovery rnr_nr_in_recovery timer_recovery_t200 busy_on busy_off in_7_and_8 established_t200 multiple_frame_established timer_recovery by_state report_fault row send_all acknowledge_pending end_step step initial_variables without_exceptions with_zero_counters status_frame acknowledgement without_ack_pending poll_response is_accepted is_rejected after_i_frame i_frame_response is_valid_nr with_va acknowledged_count acknowledges_all with_vs may_send next_i_frame after_sending with_own_busy with_peer_busy after steps lies_within terminal_acts user_requested links_below does losses
+pub command_outlasts : AreExpectedOfLink
+    (link_primitives call (run_across configs
+    (with_restart command_sent network_restarts command_answered)
+    at_first).delivered_to_network) → ⊥
+unfolding link_acts link_expires in_links with_tei without_tei primitive_of_tei manages
+    assigner_acts link_of takes expires network_requested begin put state_to rc_to increment_rc
+    layer3_initiated_to release_pending_to start stop expired clear_exception_conditions
+    zero_state_variables set_peer_busy set_own_busy enquiry_response transmit_enquiry queue_up
+    discard_i_queue acknowledge invoke_retransmission i_frame_ns discard_unacknowledged
+    transmit_i_frame ensure_t200 transmit_rr establish_data_link reestablish_data_link
+    end_establishment tei_assigned confirm_or_indicate ua_final awaiting_establishment_t200
+    awaiting_establishment confirm_release awaiting_release_t200 awaiting_release
+    acknowledge_with_timers nr_error_recovery i_frame_nr i_frame_nr_in_recovery poll_or_final poll
+    rr_nr rej_nr rnr_nr rr_nr_in_recovery rnr_nr_in_recovery timer_recovery_t200 busy_on busy_off
+    in_7_and_8 established_t200 multiple_frame_established timer_recovery by_state report_fault row
+    send_all acknowledge_pending end_step step initial_variables without_exceptions
+    with_zero_counters status_frame acknowledgement without_ack_pending poll_response is_accepted
+    is_rejected after_i_frame i_frame_response is_valid_nr with_va acknowledged_count
+    acknowledges_all with_vs may_send next_i_frame after_sending with_own_busy with_peer_busy after
+    steps lies_within terminal_acts user_requested links_below does losses
 command_outlasts h = h.0
 
-pub answer_keeps : KeepInPart (BringsNoCallBack (run configs answer_sent at_first) × HasNoCommand (run configs answer_sent at_first)) answer_sent network_restarts answer_taken
-unfolding link_acts link_expires in_links with_tei without_tei primitive_of_tei manages assigner_acts link_of takes expires network_requested begin put state_to rc_to increment_rc layer3_initiated_to release_pending_to start stop expired clear_exception_conditions zero_state_variables set_peer_busy set_own_busy enquiry_response transmit_enquiry queue_up discard_i_queue acknowledge invoke_retransmission i_frame_ns discard_unacknowledged transmit_i_frame ensure_t200 transmit_rr establish_data_link reestablish_data_link end_establishment tei_assigned confirm_or_indicate ua_final awaiting_establishment_t200 awaiting_establishment confirm_release awaiting_release_t200 awaiting_release acknowledge_with_timers nr_error_recovery i_frame_nr i_frame_nr_in_recovery poll_or_final poll rr_nr rej_nr rnr_nr rr_nr_in_recovery rnr_nr_in_recovery timer_recovery_t200 busy_on busy_off in_7_and_8 established_t200 multiple_frame_established timer_recovery by_state report_fault row send_all acknowledge_pending end_step step initial_variables without_exceptions with_zero_counters status_frame acknowledgement without_ack_pending poll_response is_accepted is_rejected after_i_frame i_frame_response is_valid_nr with_va acknowledged_count acknowledges_all with_vs may_send next_i_frame after_sending with_own_busy with_peer_busy after steps lies_within terminal_acts user_requested links_below does losses
-answer_keeps = (((tt, λ there. refl), ((tt, λ there. refl), tt)), ((λ had has. refl, refl), ((tt, λ there. refl), tt)))
+pub answer_keeps : KeepInPart (BringsNoCallBack (run configs answer_sent at_first)
+    × HasNoCommand (run configs answer_sent at_first)) answer_sent network_restarts answer_taken
+unfolding link_acts link_expires in_links with_tei without_tei primitive_of_tei manages
+    assigner_acts link_of takes expires network_requested begin put state_to rc_to increment_rc
+    layer3_initiated_to release_pending_to start stop expired clear_exception_conditions
+    zero_state_variables set_peer_busy set_own_busy enquiry_response transmit_enquiry queue_up
+    discard_i_queue acknowledge invoke_retransmission i_frame_ns discard_unacknowledged
+    transmit_i_frame ensure_t200 transmit_rr establish_data_link reestablish_data_link
+    end_establishment tei_assigned confirm_or_indicate ua_final awaiting_establishment_t200
+    awaiting_establishment confirm_release awaiting_release_t200 awaiting_release
+    acknowledge_with_timers nr_error_recovery i_frame_nr i_frame_nr_in_recovery poll_or_final poll
+    rr_nr rej_nr rnr_nr rr_nr_in_recovery rnr_nr_in_recovery timer_recovery_t200 busy_on busy_off
+    in_7_and_8 established_t200 multiple_frame_established timer_recovery by_state report_fault row
+    send_all acknowledge_pending end_step step initial_variables without_exceptions
+    with_zero_counters status_frame acknowledgement without_ack_pending poll_response is_accepted
+    is_rejected after_i_frame i_frame_response is_valid_nr with_va acknowledged_count
+    acknowledges_all with_vs may_send next_i_frame after_sending with_own_busy with_peer_busy after
+    steps lies_within terminal_acts user_requested links_below does losses
+answer_keeps = (
+  ((tt, λ there. refl), ((tt, λ there. refl), tt)),
+  ((λ had has. refl, refl), ((tt, λ there. refl), tt)),
+)
 
-pub answer_outlasts : AreExpectedOfLink (link_primitives call (run_across configs (with_restart answer_sent network_restarts answer_taken) at_first).delivered_to_network) → ⊥
-unfolding link_acts link_expires in_links with_tei without_tei primitive_of_tei manages assigner_acts link_of takes expires network_requested begin put state_to rc_to increment_rc layer3_initiated_to release_pending_to start stop expired clear_exception_conditions zero_state_variables set_peer_busy set_own_busy enquiry_response transmit_enquiry queue_up discard_i_queue acknowledge invoke_retransmission i_frame_ns discard_unacknowledged transmit_i_frame ensure_t200 transmit_rr establish_data_link reestablish_data_link end_establishment tei_assigned confirm_or_indicate ua_final awaiting_establishment_t200 awaiting_establishment confirm_release awaiting_release_t200 awaiting_release acknowledge_with_timers nr_error_recovery i_frame_nr i_frame_nr_in_recovery poll_or_final poll rr_nr rej_nr rnr_nr rr_nr_in_recovery rnr_nr_in_recovery timer_recovery_t200 busy_on busy_off in_7_and_8 established_t200 multiple_frame_established timer_recovery by_state report_fault row send_all acknowledge_pending end_step step initial_variables without_exceptions with_zero_counters status_frame acknowledgement without_ack_pending poll_response is_accepted is_rejected after_i_frame i_frame_response is_valid_nr with_va acknowledged_count acknowledges_all with_vs may_send next_i_frame after_sending with_own_busy with_peer_busy after steps lies_within terminal_acts user_requested links_below does losses
+pub answer_outlasts : AreExpectedOfLink (link_primitives call
+    (run_across configs (with_restart answer_sent network_restarts answer_taken)
+    at_first).delivered_to_network) → ⊥
+unfolding link_acts link_expires in_links with_tei without_tei primitive_of_tei manages
+    assigner_acts link_of takes expires network_requested begin put state_to rc_to increment_rc
+    layer3_initiated_to release_pending_to start stop expired clear_exception_conditions
+    zero_state_variables set_peer_busy set_own_busy enquiry_response transmit_enquiry queue_up
+    discard_i_queue acknowledge invoke_retransmission i_frame_ns discard_unacknowledged
+    transmit_i_frame ensure_t200 transmit_rr establish_data_link reestablish_data_link
+    end_establishment tei_assigned confirm_or_indicate ua_final awaiting_establishment_t200
+    awaiting_establishment confirm_release awaiting_release_t200 awaiting_release
+    acknowledge_with_timers nr_error_recovery i_frame_nr i_frame_nr_in_recovery poll_or_final poll
+    rr_nr rej_nr rnr_nr rr_nr_in_recovery rnr_nr_in_recovery timer_recovery_t200 busy_on busy_off
+    in_7_and_8 established_t200 multiple_frame_established timer_recovery by_state report_fault row
+    send_all acknowledge_pending end_step step initial_variables without_exceptions
+    with_zero_counters status_frame acknowledgement without_ack_pending poll_response is_accepted
+    is_rejected after_i_frame i_frame_response is_valid_nr with_va acknowledged_count
+    acknowledges_all with_vs may_send next_i_frame after_sending with_own_busy with_peer_busy after
+    steps lies_within terminal_acts user_requested links_below does losses
 answer_outlasts h = h.0
 
 -- ---- The link exists again.
 
 pub record ComesBack (first second : Vec ℕ Global) : Type 0 where
-  pub keeps : KeepInPart (IsQuietForUser (run configs (given_up first) at_first)) (given_up first) user_restarts (comes_back second)
-  pub given : given_to call (run_across configs (with_restart (given_up first) user_restarts (comes_back second)) at_first).given_to_user ≡ two_messages
-  pub acked : (known_of call (run_across configs (with_restart (given_up first) user_restarts (comes_back second)) at_first).delivered_to_user).acked ≡ 0 ∷ []
-  pub received : (known_of call (run_across configs (with_restart (given_up first) user_restarts (comes_back second)) at_first).delivered_to_network).received ≡ (2 ∷ []) ∷ []
+  pub keeps : KeepInPart (IsQuietForUser (run configs (given_up first) at_first)) (given_up first)
+      user_restarts (comes_back second)
+  pub given : given_to call (run_across configs
+      (with_restart (given_up first) user_restarts (comes_back second)) at_first).given_to_user
+      ≡ two_messages
+  pub acked : (known_of call (run_across configs
+      (with_restart (given_up first) user_restarts (comes_back second))
+      at_first).delivered_to_user).acked ≡ 0 ∷ []
+  pub received : (known_of call (run_across configs
+      (with_restart (given_up first) user_restarts (comes_back second))
+      at_first).delivered_to_network).received ≡ (2 ∷ []) ∷ []
 
-comes_back_holds : (v w : Vec ℕ Global) (x : Fits v (1 ∷ [])) (y : Fits w (2 ∷ [])) → ComesBack (holding v (1 ∷ []) x) (holding w (2 ∷ []) y)
-unfolding link_acts link_expires in_links with_tei without_tei primitive_of_tei manages assigner_acts link_of takes expires network_requested begin put state_to rc_to increment_rc layer3_initiated_to release_pending_to start stop expired clear_exception_conditions zero_state_variables set_peer_busy set_own_busy enquiry_response transmit_enquiry queue_up discard_i_queue acknowledge invoke_retransmission i_frame_ns discard_unacknowledged transmit_i_frame ensure_t200 transmit_rr establish_data_link reestablish_data_link end_establishment tei_assigned confirm_or_indicate ua_final awaiting_establishment_t200 awaiting_establishment confirm_release awaiting_release_t200 awaiting_release acknowledge_with_timers nr_error_recovery i_frame_nr i_frame_nr_in_recovery poll_or_final poll rr_nr rej_nr rnr_nr rr_nr_in_recovery rnr_nr_in_recovery timer_recovery_t200 busy_on busy_off in_7_and_8 established_t200 multiple_frame_established timer_recovery by_state report_fault row send_all acknowledge_pending end_step step initial_variables without_exceptions with_zero_counters status_frame acknowledgement without_ack_pending poll_response is_accepted is_rejected after_i_frame i_frame_response is_valid_nr with_va acknowledged_count acknowledges_all with_vs may_send next_i_frame after_sending with_own_busy with_peer_busy after steps lies_within terminal_acts user_requested links_below does losses
+comes_back_holds : (v w : Vec ℕ Global) (x : Fits v (1 ∷ [])) (y : Fits w (2 ∷ []))
+    → ComesBack (holding v (1 ∷ []) x) (holding w (2 ∷ []) y)
+unfolding link_acts link_expires in_links with_tei without_tei primitive_of_tei manages
+    assigner_acts link_of takes expires network_requested begin put state_to rc_to increment_rc
+    layer3_initiated_to release_pending_to start stop expired clear_exception_conditions
+    zero_state_variables set_peer_busy set_own_busy enquiry_response transmit_enquiry queue_up
+    discard_i_queue acknowledge invoke_retransmission i_frame_ns discard_unacknowledged
+    transmit_i_frame ensure_t200 transmit_rr establish_data_link reestablish_data_link
+    end_establishment tei_assigned confirm_or_indicate ua_final awaiting_establishment_t200
+    awaiting_establishment confirm_release awaiting_release_t200 awaiting_release
+    acknowledge_with_timers nr_error_recovery i_frame_nr i_frame_nr_in_recovery poll_or_final poll
+    rr_nr rej_nr rnr_nr rr_nr_in_recovery rnr_nr_in_recovery timer_recovery_t200 busy_on busy_off
+    in_7_and_8 established_t200 multiple_frame_established timer_recovery by_state report_fault row
+    send_all acknowledge_pending end_step step initial_variables without_exceptions
+    with_zero_counters status_frame acknowledgement without_ack_pending poll_response is_accepted
+    is_rejected after_i_frame i_frame_response is_valid_nr with_va acknowledged_count
+    acknowledges_all with_vs may_send next_i_frame after_sending with_own_busy with_peer_busy after
+    steps lies_within terminal_acts user_requested links_below does losses
 comes_back_holds v w x y = record {
-  keeps = (((tt, λ there. refl), ((tt, λ there. refl), ((tt, λ there. refl), ((tt, λ there. refl), ((tt, λ there. refl), ((tt, λ there. refl), tt)))))), ((refl, refl), ((tt, λ there. refl), ((tt, λ there. refl), ((tt, λ there. refl), ((tt, λ there. refl), ((tt, λ there. refl), ((tt, λ there. refl), tt))))))));
+  keeps = (
+    (
+      (tt, λ there. refl),
+      (
+        (tt, λ there. refl),
+        (
+          (tt, λ there. refl),
+          ((tt, λ there. refl), ((tt, λ there. refl), ((tt, λ there. refl), tt))),
+        ),
+      ),
+    ),
+    (
+      (refl, refl),
+      (
+        (tt, λ there. refl),
+        (
+          (tt, λ there. refl),
+          (
+            (tt, λ there. refl),
+            (
+              (tt, λ there. refl),
+              ((tt, λ there. refl), ((tt, λ there. refl), tt)),
+            ),
+          ),
+        ),
+      ),
+    ),
+  );
   given = refl;
   acked = refl;
   received = refl;
 }
 
-pub comes_back_so : (first second : Vec ℕ Global) → IsMessage 1 first → IsMessage 2 second → ComesBack first second
+pub comes_back_so : (first second : Vec ℕ Global) → IsMessage 1 first → IsMessage 2 second
+    → ComesBack first second
 comes_back_so = with_both ComesBack (1 ∷ []) (2 ∷ []) comes_back_holds
 
-pub comes_back_is_not_right : (first second : Vec ℕ Global) → IsMessage 1 first → IsMessage 2 second → IsReceivedByNetwork call (run_across configs (with_restart (given_up first) user_restarts (comes_back second)) at_first) → ⊥
+pub comes_back_is_not_right : (first second : Vec ℕ Global) → IsMessage 1 first → IsMessage 2 second
+    → IsReceivedByNetwork call (run_across configs
+    (with_restart (given_up first) user_restarts (comes_back second)) at_first) → ⊥
 comes_back_is_not_right first second one two right =
     let h = comes_back_so first second one two in
     second_for_first _ _ _ h.given h.acked h.received right

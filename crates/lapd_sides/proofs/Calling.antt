@@ -20,11 +20,16 @@ use Rattle.lapd_sides.specs.Shows.{Step}
 use Rattle.lapd_sides.specs.SideState.{SideState}
 
 -- an executed request has the same result
-pub granted_as : {C S : Type 0} {Show : C → Config → S → Type 0} (code : C) (config : Config) (acts : Effects) (a b : Result (Reaction S) SideKind) → b ≡ a → HasGranted Show code config acts a → HasGranted Show code config acts b
-granted_as {S = S} {Show = Show} code config acts a b same h = subst (λ (o : Result (Reaction S) SideKind). HasGranted Show code config acts o) (sym same) h
+pub granted_as : {C S : Type 0} {Show : C → Config → S → Type 0} (code : C) (config : Config)
+    (acts : Effects) (a b : Result (Reaction S) SideKind) → b ≡ a
+    → HasGranted Show code config acts a → HasGranted Show code config acts b
+granted_as {S = S} {Show = Show} code config acts a b same h =
+    subst (λ (o : Result (Reaction S) SideKind). HasGranted Show code config acts o) (sym same) h
 
 -- an allocation failed
-pub lacks : {C S E : Type 0} {Show : C → Config → S → Type 0} (result : Result (Unit {0}) E) (old after : C) (acts : Effects) (tei : S → Option ℕ) (step : Step S) → IsErr result → LacksMemory Show old after acts tei → Receives Show result old after acts tei step
+pub lacks : {C S E : Type 0} {Show : C → Config → S → Type 0} (result : Result (Unit {0}) E)
+    (old after : C) (acts : Effects) (tei : S → Option ℕ) (step : Step S) → IsErr result
+    → LacksMemory Show old after acts tei → Receives Show result old after acts tei step
 lacks (Ok u) old after acts tei step is h = absurd (cc)
 lacks (Err e) old after acts tei step is h = h
 
@@ -41,11 +46,19 @@ answers_for Show requested result old after acts now r q is h =
 
 -- ---- The due timer.
 
-pub due_so : (now : ℕ) (s : Served) (timers : Timers) (result e : Option RunningTimer) → timers ≡ s.timers → result ≡ e → IsDue now (record { links = s.links; timers = timers }) result → IsDue now s e
-due_so now s timers result e same is due = subst (λ (t : Timers). IsDue now (record { links = s.links; timers = t }) e) same (subst (IsDue now (record { links = s.links; timers = timers })) is due)
+pub due_so : (now : ℕ) (s : Served) (timers : Timers) (result e : Option RunningTimer)
+    → timers ≡ s.timers → result ≡ e
+    → IsDue now (record { links = s.links; timers = timers }) result → IsDue now s e
+due_so now s timers result e same is due =
+    subst (λ (t : Timers). IsDue now (record { links = s.links; timers = t }) e) same
+    (subst (IsDue now (record { links = s.links; timers = timers })) is due)
 
-pub next_so : (s : Served) (timers : Timers) (deadline : Option ℕ) → timers ≡ s.timers → IsNextDeadline (record { links = s.links; timers = timers }) deadline → IsNextDeadline s deadline
-next_so s timers deadline same next = subst (λ (t : Timers). IsNextDeadline (record { links = s.links; timers = t }) deadline) same next
+pub next_so : (s : Served) (timers : Timers) (deadline : Option ℕ) → timers ≡ s.timers
+    → IsNextDeadline (record { links = s.links; timers = timers }) deadline
+    → IsNextDeadline s deadline
+next_so s timers deadline same next =
+    subst (λ (t : Timers). IsNextDeadline (record { links = s.links; timers = t }) deadline) same
+    next
 
 pub expired_so : {C M : Type 0} {Show : C → Config → SideState M → Type 0}
     {expires : Expiry (SideState M)} (code : C) (config : Config) (acts : Effects) (now : ℕ)
@@ -55,7 +68,9 @@ pub expired_so : {C M : Type 0} {Show : C → Config → SideState M → Type 0}
 expired_so {Show = Show} {expires = expires} code config acts now s e of due is done = record {
   expiry = e;
   due = due;
-  done = subst (λ (o : Option LinkId). HasDone Show code config acts (expires config now e.timer o s)) (sym is) done;
+  done =
+      subst (λ (o : Option LinkId). HasDone Show code config acts (expires config now e.timer o s))
+      (sym is) done;
 }
 
 -- a general fact holds for a refusal
@@ -93,7 +108,8 @@ sends_so octets before after Does Also Why Because Same Stays at_once.Sent so wh
   items = h.items;
   asks = added_so before after (Does h.message) (Also h.message) (so h.message) h.asks;
 }
-sends_so octets before after Does Also Why Because Same Stays (at_once.Unsent message) so why stays h =
+sends_so octets before after Does Also Why Because Same Stays (at_once.Unsent message) so why stays
+    h =
     (h.0, why h.1, stays h.2)
 sends_so octets before after Does Also Why Because Same Stays at_once.NoMemory so why stays h =
     stays h

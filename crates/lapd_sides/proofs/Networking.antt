@@ -22,22 +22,42 @@ use Rattle.lapd_sides.specs.ShowsNetwork.{NetSide, ShowNetwork}
 
 -- ---- TEI management.
 
-pub assigned_so : (code : NetSide) (config : Config) (now : ℕ) (event : AssignerEvent) (s : Network) (outs : List TeiOut) (acts : Effects) → code.config ≡ config → code.served.discarded ≡ s.discarded
-    → outs ≡ (assigner_step s.management event).outs → code.management ≡ (assigner_step s.management event).now
-    → HaveServed side.Network code.served acts (manages side.Network config now outs s.served) → HasDone ShowNetwork code config acts (assigner_acts config now event s)
+pub assigned_so : (code : NetSide) (config : Config) (now : ℕ) (event : AssignerEvent) (s : Network)
+    (outs : List TeiOut) (acts : Effects) → code.config ≡ config
+    → code.served.discarded ≡ s.discarded
+    → outs ≡ (assigner_step s.management event).outs
+    → code.management ≡ (assigner_step s.management event).now
+    → HaveServed side.Network code.served acts (manages side.Network config now outs s.served)
+    → HasDone ShowNetwork code config acts (assigner_acts config now event s)
 unfolding assigner_acts
 assigned_so code config now event s outs acts configured counted same assigner done =
-    let served = subst (λ (o : List TeiOut). HaveServed side.Network code.served acts (manages side.Network config now o s.served)) same done in
-    record { shown = record { configured = configured; served = served.shown; management = assigner; discarded = counted }; given = served.given }
+    let served =
+    subst (λ (o : List TeiOut). HaveServed side.Network code.served acts
+    (manages side.Network config now o s.served)) same done in
+    record {
+      shown = record {
+        configured = configured;
+        served = served.shown;
+        management = assigner;
+        discarded = counted;
+      };
+      given = served.given;
+    }
 
 -- without an assigned TEI, the links are unchanged
-pub none_given : (code : LinksAndTimer) (config : Config) (outs : List TeiOut) (s : Served) → tei_given outs ≡ None → ShowServed side.Network code s → ShowServed side.Network code (record s { links = links_with config (tei_given outs) s.links })
-none_given code config outs s none shown = subst (λ (t : Option ℕ). ShowServed side.Network code (record s { links = links_with config t s.links })) (sym none) shown
+pub none_given : (code : LinksAndTimer) (config : Config) (outs : List TeiOut) (s : Served)
+    → tei_given outs ≡ None → ShowServed side.Network code s
+    → ShowServed side.Network code (record s { links = links_with config (tei_given outs) s.links })
+none_given code config outs s none shown =
+    subst (λ (t : Option ℕ). ShowServed side.Network code
+    (record s { links = links_with config t s.links })) (sym none) shown
 
 -- ---- Unit data.
 
 -- unit data that is not for all terminals is for a link
-pub not_to_group : (own config : Config) (now : ℕ) (id : LinkId) (octets : List ℕ) (s : Network) (test : Bool) → test ≡ (is_served own id.sapi && (id.tei == group_tei)) → test ≡ false → own ≡ config
+pub not_to_group : (own config : Config) (now : ℕ) (id : LinkId) (octets : List ℕ) (s : Network)
+    (test : Bool) → test ≡ (is_served own id.sapi && (id.tei == group_tei)) → test ≡ false
+    → own ≡ config
     → unit_requested config now id octets s
     ≡ link_of side.Network now id (UnitData (length octets)) octets s
 not_to_group own config now id octets s test is fails same =

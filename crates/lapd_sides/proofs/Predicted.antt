@@ -17,6 +17,8 @@ pub predicted_is_no_message : (p : PredictedFrame) → carries_message (predicte
 predicted_is_no_message p = rw (predicted_is_no_group_unit p) (and-false (is_management p.sapi))
 
 -- octets that are not read as a frame of such a kind make no predicted step
-pub not_read_as_predictable : (read : Result Fields FrameFault) (links : Links) → is_read_predictable read ≡ false → are_predicted read links ≡ false
-not_read_as_predictable (Ok frame) links h = not_predicted frame.control frame.address.role (links (id_of_address frame.address)) h
+pub not_read_as_predictable : (read : Result Fields FrameFault) (links : Links)
+    → is_read_predictable read ≡ false → are_predicted read links ≡ false
+not_read_as_predictable (Ok frame) links h =
+    not_predicted frame.control frame.address.role (links (id_of_address frame.address)) h
 not_read_as_predictable (Err fault) links h = refl

@@ -59,7 +59,8 @@ module _ {C M : Type 0} (represents : C → M → Type 0) (side : Side) where
   pub reserved : (code : ManagedSide C) (served : LinksAndTimer) (config : Config) (s : SideState M)
       (own : Served) → ShowSide represents side code config s
       → served.discarded ≡ code.served.discarded → ShowServed side served own
-      → ShowSide represents side (record code { served = served }) config (record s { served = own })
+      → ShowSide represents side (record code { served = served }) config
+      (record s { served = own })
   reserved code served config s own shown counted h = record {
     configured = shown.configured;
     served = h;
@@ -231,7 +232,8 @@ module _ {C M : Type 0} (represents : C → M → Type 0) (rules : Rules M) wher
     expiry = h.expiry;
     due = h.due;
     done = subst (λ (of : Option LinkId). HasDone (Shows represents rules)
-        (record code { served = served }) config acts (expires rules config now h.expiry.timer of s))
+        (record code { served = served }) config acts
+        (expires rules config now h.expiry.timer of s))
         (sym h.of) (expired_as represents rules.side code served config s acts
         (in_links h.id (link_expires rules.side h.id now h.expiry.timer) s.served.links) shown
         counted h.shown h.given h.timers);

@@ -259,7 +259,8 @@ entered_anew old new before after id found is tei own others places h =
           (runs_back new id at e tei represented x)) (own at represented)
       | inr other ↦ same_first (RunsAt old at) (RunsAt new at) (entry after at)
           (λ e x. runs_over_places old new at e x (places x.id (elsewhere old id at e x other)))
-          (λ e x. runs_over_places new old at e x (sym (places x.id (elsewhere new id at e x other))))
+          (λ e x. runs_over_places new old at e
+          x (sym (places x.id (elsewhere new id at e x other))))
           (subst (IsFirst (RunsAt old at)) (sym (others at other)) (h at))
     ]
 

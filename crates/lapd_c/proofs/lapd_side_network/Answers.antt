@@ -5,6 +5,14 @@ use Rattle.lapd_c.specs.Settings.{IsNewNetwork}
 use Rattle.lapd_c.proofs.lapd_side_network.Goals as goal
 
 pub returns-in-Ok : goal.returns-in-Ok
-returns-in-Ok c = subst (λ (o : Option Config). Makes (IsNewNetwork c.args.known.now) c.args.settings.now.most_waiting c.put.result c.args.handle.now.held c.put.new.handle.held o)
+returns-in-Ok c =
+    subst (λ (o : Option Config). Makes (IsNewNetwork c.args.known.now)
+    c.args.settings.now.most_waiting c.put.result c.args.handle.now.held c.put.new.handle.held
+    o)
     (sym (sym c.network_config.ensures ∙ c.in-Some.is))
-    (inr (record { done = c.put.ensures.done; held = c.in-Ok.side.value; owned = c.put.ensures.owned; is_new = c.in-Ok.ensures }))
+    (inr (record {
+      done = c.put.ensures.done;
+      held = c.in-Ok.side.value;
+      owned = c.put.ensures.owned;
+      is_new = c.in-Ok.ensures;
+    }))

@@ -7,7 +7,9 @@ loop-line-preserved c =
     let i = c.loop-line.invariant in
     let found = c.in-Some.ensures.found in
     let sum = c.saturating_add-feeds.ensures in
-    let rest = feeds-cut c.loop-line.rest.now c.in-Some._line.now c.in-Some.behind.now found.1 found.0 in
+    let rest =
+    feeds-cut c.loop-line.rest.now c.in-Some._line.now c.in-Some.behind.now found.1
+    found.0 in
     (i.0 + 1, omega arith, omega arith)
 
 pub returns : goal.returns

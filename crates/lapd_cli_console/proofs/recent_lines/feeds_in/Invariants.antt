@@ -7,4 +7,5 @@ decreases-loop-line l = length l.rest
 
 -- this many line feeds were found, and counted
 abbrev pub invariant-loop-line : goal.invariant-loop-line
-invariant-loop-line l = (count : ℕ) × (feeds l.octets ≡ count + feeds l.rest) × (l.feeds ≡ min count (2 ^ 64 - 1))
+invariant-loop-line l =
+    (count : ℕ) × (feeds l.octets ≡ count + feeds l.rest) × (l.feeds ≡ min count (2 ^ 64 - 1))

@@ -5,6 +5,8 @@ use Rattle.lapd_cli_console.proofs.typed_line.push_digits.Goals as goal
 
 pub loop-part-preserved : goal.loop-part-preserved
 loop-part-preserved c =
-    let e = digits_cut c.loop-part.rest.now c.in-Some.part.now c.in-Some.behind.now c.in-Some.ensures.parts.1 c.in-Some.ensures.parts.0 in
+    let e =
+    digits_cut c.loop-part.rest.now c.in-Some.part.now c.in-Some.behind.now
+    c.in-Some.ensures.parts.1 c.in-Some.ensures.parts.0 in
     let i = c.loop-part.invariant in
     grind (arith, common_steps, append_assoc)

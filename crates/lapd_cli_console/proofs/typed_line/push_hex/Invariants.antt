@@ -5,7 +5,8 @@ use Rattle.lapd_cli_console.proofs.typed_line.push_hex.Given as goal
 
 abbrev pub invariant-loop-word : goal.invariant-loop-word
 invariant-loop-word l = record {
-  digits : l.digits.items ++ flat_map digits_of_word l.words ≡ flat_map digits_of_word l.initial.words;
+  digits : l.digits.items ++ flat_map digits_of_word l.words
+      ≡ flat_map digits_of_word l.initial.words;
   unchanged : l.unchanged.items ++ spaced l.words ≡ spaced l.initial.words;
 }
 

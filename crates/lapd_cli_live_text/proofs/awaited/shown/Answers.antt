@@ -15,5 +15,10 @@ loop-character-preserved c =
 
 pub returns : goal.returns
 returns c =
-    let t = YieldsList-end (YieldsList-from_chars c.args.text.now c.utf8.text cc) c.loop-character.yielded _ c.loop-character.yielded_by _ _ c.in-None.is c.next.ensures.steps in
-    c.loop-character.invariant ∙ ap (λ all. encode_utf8_all (flat_map shown_char all)) (all_shown c.loop-character.yielded (chars c.args.text.now) t.0)
+    let t =
+    YieldsList-end (YieldsList-from_chars c.args.text.now c.utf8.text cc)
+    c.loop-character.yielded _ c.loop-character.yielded_by _ _ c.in-None.is
+    c.next.ensures.steps in
+    c.loop-character.invariant
+    ∙ ap (λ all. encode_utf8_all (flat_map shown_char all))
+    (all_shown c.loop-character.yielded (chars c.args.text.now) t.0)

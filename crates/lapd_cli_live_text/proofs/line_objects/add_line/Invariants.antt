@@ -10,7 +10,8 @@ abbrev pub invariant-loop-word : goal.invariant-loop-word
 invariant-loop-word l = record {
   text : shadow (Utf8 l.rest);
   place : l.place + length l.rest ≤ length l.initial.rest;
-  same : with_words l.place (words_of l.rest) (parts_of l.parts) ≡ with_words 0 (words_of l.initial.rest) (parts_of l.initial.parts);
+  same : with_words l.place (words_of l.rest) (parts_of l.parts)
+      ≡ with_words 0 (words_of l.initial.rest) (parts_of l.initial.parts);
 }
 
 abbrev pub decreases-loop-word : goal.decreases-loop-word

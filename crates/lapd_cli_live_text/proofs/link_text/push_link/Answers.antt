@@ -9,4 +9,6 @@ unfolding link_text
 returns-clause-end c = grind (arith, common_steps)
 
 pub returns-clause-shown : goal.returns-clause-shown
-returns-clause-shown c = returns-clause-end c (shown_end c.args.link.now) (shows_end c.args.link.now.machine c.args.link.now.between)
+returns-clause-shown c =
+    returns-clause-end c (shown_end c.args.link.now)
+    (shows_end c.args.link.now.machine c.args.link.now.between)

@@ -2,5 +2,7 @@ use Rattle.lapd_cli_side_commands.proofs.SideWalks.{net_served}
 use Rattle.lapd_cli_side_commands.proofs.sides.net.Goals as goal
 
 pub returns-clause-served : goal.returns-clause-served
-returns-clause-served g c = net_served c.in-Ok.side c.args.config c.args.known.now (g.R.Read.remaining c.args.script.now) _ _ _
+returns-clause-served g c =
+    net_served c.in-Ok.side c.args.config c.args.known.now (g.R.Read.remaining c.args.script.now) _
+    _ _
     c.in-Ok.ensures c.run_side.ensures.served

@@ -18,7 +18,10 @@ pub returns-in-Call : goal.returns-in-Call
 returns-in-Call c = ap words (sym (decimal_digit 0 (omega arith))) ∙ sym (ap words_of c.in-Call.is)
 
 pub returns-in-Packet : goal.returns-in-Packet
-returns-in-Packet c = ap words (sym (decimal_two 16 (omega arith) (omega arith))) ∙ sym (ap words_of c.in-Packet.is)
+returns-in-Packet c =
+    ap words (sym (decimal_two 16 (omega arith) (omega arith))) ∙ sym (ap words_of c.in-Packet.is)
 
 pub returns-in-Management : goal.returns-in-Management
-returns-in-Management c = ap words (sym (decimal_two 63 (omega arith) (omega arith))) ∙ sym (ap words_of c.in-Management.is)
+returns-in-Management c =
+    ap words (sym (decimal_two 63 (omega arith) (omega arith)))
+    ∙ sym (ap words_of c.in-Management.is)

@@ -21,10 +21,14 @@ owned : (a : Global) (p : Ptr) (w : Held) → Keyless (owns a p w)
 owned a null_ptr None = tt
 owned a null_ptr (Some x) = λ wrong. tt
 owned a (block_ptr b o) None = λ wrong. tt
-owned a (block_ptr b o) (Some x) = (lies held_side.the_row sent (block_ptr b o) x, heap.frees.frees a (raw (lone held_side.the_row.mir)) (block_ptr b o))
+owned a (block_ptr b o) (Some x) = (
+  lies held_side.the_row sent (block_ptr b o) x,
+  heap.frees.frees a (raw (lone held_side.the_row.mir)) (block_ptr b o),
+)
 
 pub send : IsSend the_row
 send =
     let all : AllSend (fields the_type) = (search sendable, (handle.the_field_send, tt)) in
     owning_send the_type all (λ d. owned d.alloc d.at d.held)
-    (λ k. quiet (to the_type) (exits_of k (fields the_type)) ((struct_send (shape the_type) all).leaving k))
+    (λ k. quiet (to the_type) (exits_of k (fields the_type))
+    ((struct_send (shape the_type) all).leaving k))

@@ -51,12 +51,15 @@ T = held_side.the_row
 
 -- the code after the `unsafe` block
 abbrev some_of_it : Body
-some_of_it = seq (assign (place 5 []) (rv_opd (copy (place 6 [])))) (assign (place 4 []) (aggregate (int w8 1 ∷ copy (place 5 []) ∷ [])))
+some_of_it =
+    seq (assign (place 5 []) (rv_opd (copy (place 6 []))))
+    (assign (place 4 []) (aggregate (int w8 1 ∷ copy (place 5 []) ∷ [])))
 
 abbrev stayed : Stays ended.signature.params ended.kept
 stayed = (stay_dropped (mut_ref_to (0 ∷ []) tt (plain (λ _. H))) no, tt)
 
-module _ {M : Type 1} {𝓤 : Ura M} (𝓛 : Logic 𝓤) (at_mem : Memory → SProp 𝓤) (run : Routine → Fun 𝓤) (κ : Lft) (q : Share) (rb ro : ℕ) (γ : GName) (a : Global) where
+module _ {M : Type 1} {𝓤 : Ura M} (𝓛 : Logic 𝓤) (at_mem : Memory → SProp 𝓤) (run : Routine → Fun 𝓤)
+    (κ : Lft) (q : Share) (rb ro : ℕ) (γ : GName) (a : Global) where
   abbrev Lent : RattleType
   Lent = MutRef (named 0) κ T
 
@@ -74,89 +77,150 @@ module _ {M : Type 1} {𝓤 : Ura M} (𝓛 : Logic 𝓤) (at_mem : Memory → SP
 
   -- all of the handle but its side
   abbrev Rest : ℕ → ℕ → Val → Fml
-  Rest b o h = fsep (fsep (ghosts.dealloc_token a (bare (lone T.mir)) (block_ptr b o)) (Z.own_val a (h ∷ []))) (cell_at full_share H.mir (both (vptr b o) h ∷ []) rb ro)
+  Rest b o h =
+      fsep
+      (fsep (ghosts.dealloc_token a (bare (lone T.mir)) (block_ptr b o)) (Z.own_val a (h ∷ [])))
+      (cell_at full_share H.mir (both (vptr b o) h ∷ []) rb ro)
 
   back : (b o : ℕ) (h : Val) (x w : T.Denot)
-      → ent 𝓤 (sep 𝓤 (sem 𝓛 ((mem T).own_at w b o)) (sem 𝓛 (Rest b o h))) (sem 𝓛 ((mem H).own_at (with_side (At (block_ptr b o) (Some x)) w) rb ro))
+      → ent 𝓤 (sep 𝓤 (sem 𝓛 ((mem T).own_at w b o)) (sem 𝓛 (Rest b o h)))
+      (sem 𝓛 ((mem H).own_at (with_side (At (block_ptr b o) (Some x)) w) rb ro))
   unfolding part_of
   back b o h x w =
-      qed 𝓛 (‵ (part_at T full_share w b o) ∷ ‵ (Rest b o h) ∷ []) ∵ move ! (1 ∷ []) $ fsplit ! $ fsplit ! $ move ! (3 ∷ []) $ fjoin ! $
+      qed 𝓛 (‵ (part_at T full_share w b o) ∷ ‵ (Rest b o h) ∷ []) ∵ move ! (1 ∷ []) $ fsplit !
+      $ fsplit ! $ move ! (3 ∷ []) $ fjoin ! $
       handle_in ! h (At (block_ptr b o) (Some w)) $ move ! (1 ∷ 0 ∷ []) $ fjoin ! $
-      fpack ! (List Val) (λ us. fsep (cell_at full_share H.mir us rb ro) (H.own_val (At (block_ptr b o) (Some w)) us)) (both (vptr b o) h ∷ []) $ done !
+      fpack ! (List Val) (λ us. fsep (cell_at full_share H.mir us rb ro)
+      (H.own_val (At (block_ptr b o) (Some w)) us)) (both (vptr b o) h ∷ []) $ done !
 
   lends_it : (b o : ℕ) (x : T.Denot) (γ' : GName)
-      → ent 𝓤 (sep 𝓤 (sem 𝓛 (Lent.own_val (record { ref_ptr = (b, o); ghost_name = γ'; now = x }) (vptr b o ∷ []))) (sep 𝓤 (𝓛.A.lft κ q) (sem 𝓛 (follows H T γ γ' (with_side (At (block_ptr b o) (Some x))))))) (Post (block_ptr b o) (Some x) (live 1 (of_list (vptr b o ∷ []))))
+      → ent 𝓤 (sep 𝓤 (sem 𝓛 (Lent.own_val (record { ref_ptr = (b, o); ghost_name = γ'; now = x })
+      (vptr b o ∷ []))) (sep 𝓤 (𝓛.A.lft κ q)
+      (sem 𝓛 (follows H T γ γ' (with_side (At (block_ptr b o) (Some x)))))))
+      (Post (block_ptr b o) (Some x) (live 1 (of_list (vptr b o ∷ []))))
   unfolding follows_by
   lends_it b o x γ' =
       let r : MutBor T.Denot = record { ref_ptr = (b, o); ghost_name = γ'; now = x } in
-      qed 𝓛 (‵ (Lent.own_val r (vptr b o ∷ [])) ∷ ‵ (flft κ q) ∷ ‵ (follows H T γ γ' (with_side (At (block_ptr b o) (Some x)))) ∷ []) ∵
-      use1 𝓛 (‵ ((OP.the_row Lent).own_val (Some r) (live 1 (of_list (vptr b o ∷ [])) ∷ []))) (Some-of 𝓛 Lent r (vptr b o)) $
-      suffices ! _ (ends_at 𝓛 ended stayed (clauses 𝓛 at_mem run) (y (block_ptr b o) (Some x)) (live 1 (of_list (vptr b o ∷ []))) (Some r) (tt, tt) (tt, tt)) $
-      nothing ! $ nothing ! $ fjoin ! $ join ! $ nothing ! $ move ! (2 ∷ 0 ∷ []) $ join ! $ join ! $ frame ! $ says ! refl $ done !
+      qed 𝓛 (‵ (Lent.own_val r (vptr b o ∷ [])) ∷ ‵ (flft κ q)
+      ∷ ‵ (follows H T γ γ' (with_side (At (block_ptr b o) (Some x)))) ∷ []) ∵
+      use1 𝓛 (‵ ((OP.the_row Lent).own_val (Some r) (live 1 (of_list (vptr b o ∷ [])) ∷ [])))
+      (Some-of 𝓛 Lent r (vptr b o)) $
+      suffices ! _ (ends_at 𝓛 ended stayed (clauses 𝓛 at_mem run) (y (block_ptr b o) (Some x))
+      (live 1 (of_list (vptr b o ∷ []))) (Some r) (tt, tt) (tt, tt)) $
+      nothing ! $ nothing ! $ fjoin ! $ join ! $ nothing ! $ move ! (2 ∷ 0 ∷ []) $ join ! $ join !
+      $ frame ! $ says ! refl $ done !
 
-  lends_none : ent 𝓤 (sep 𝓤 (𝓛.A.obs γ (H.coded.code (At null_ptr None))) (𝓛.A.lft κ q)) (Post null_ptr None (live 0 (of_list [])))
+  lends_none : ent 𝓤 (sep 𝓤 (𝓛.A.obs γ (H.coded.code (At null_ptr None))) (𝓛.A.lft κ q))
+      (Post null_ptr None (live 0 (of_list [])))
   unfolding follows_by
   lends_none =
       let seen = H.coded.code (At null_ptr None) in
-      qed 𝓛 (‵ (fobs γ seen) ∷ ‵ (flft κ q) ∷ []) ∵ use1 𝓛 (‵ (fres γ seen)) (𝓛.names.obs-res γ seen) $ move ! (1 ∷ []) $
+      qed 𝓛 (‵ (fobs γ seen) ∷ ‵ (flft κ q) ∷ []) ∵ use1 𝓛 (‵ (fres γ seen))
+      (𝓛.names.obs-res γ seen) $ move ! (1 ∷ []) $
       use0 𝓛 (‵ ((OP.the_row Lent).own_val None (live 0 (of_list []) ∷ []))) (none_of 𝓛 Lent) $
-      suffices ! _ (ends_at 𝓛 ended stayed (clauses 𝓛 at_mem run) (y null_ptr None) (live 0 (of_list [])) None (tt, tt) (tt, tt)) $
-      nothing ! $ nothing ! $ fjoin ! $ join ! $ nothing ! $ move ! (2 ∷ 0 ∷ []) $ join ! $ join ! $ frame ! $ says ! refl $ done !
+      suffices ! _ (ends_at 𝓛 ended stayed (clauses 𝓛 at_mem run) (y null_ptr None)
+      (live 0 (of_list [])) None (tt, tt) (tt, tt)) $
+      nothing ! $ nothing ! $ fjoin ! $ join ! $ nothing ! $ move ! (2 ∷ 0 ∷ []) $ join ! $ join !
+      $ frame ! $ says ! refl $ done !
 
   module _ (C : Calls 𝓤 𝓛.H) (Λ : Loops 𝓤 𝓛.H) where
-    walk : (p : Ptr) (w : Held) → ent 𝓤 (on_entry 𝓛 ended.signature (κ, tt) (q, tt) (lender p w, tt) (vptr rb ro ∷ [], tt)) (WpFn 𝓤 𝓛.H C Λ code.function (vptr rb ro ∷ []) (Post p w))
+    walk : (p : Ptr) (w : Held)
+        → ent 𝓤 (on_entry 𝓛 ended.signature (κ, tt) (q, tt) (lender p w, tt) (vptr rb ro ∷ [], tt))
+        (WpFn 𝓤 𝓛.H C Λ code.function (vptr rb ro ∷ []) (Post p w))
     walk null_ptr None =
-        qed 𝓛 ((‵ (flft κ q) ⊛ ‵ ftrue) ∷ ‵ (owns (MutRef (named 0) κ H ∷ []) (lender null_ptr None, tt) (vptr rb ro ∷ [], tt)) ∷ []) ∵
-        enter ! C Λ code.function (vptr rb ro ∷ []) _ $ alloc_all ! (λ l. pass_all ! refl ((tt, tt), tt) $
+        qed 𝓛 ((‵ (flft κ q) ⊛ ‵ ftrue)
+        ∷ ‵ (owns (MutRef (named 0) κ H ∷ []) (lender null_ptr None, tt)
+        (vptr rb ro ∷ [], tt)) ∷ []) ∵
+        enter ! C Λ code.function (vptr rb ro ∷ []) _
+        $ alloc_all ! (λ l. pass_all ! refl ((tt, tt), tt) $
         let En : Env 𝓤 𝓛.H = env code.function.locals l in
-        move ! (1 ∷ []) $ fsplit ! $ fsplit3 ! $ drop ! $ move ! (3 ∷ []) $ split ! $ move ! (2 ∷ 3 ∷ 0 ∷ []) $
-        opens ! tt H {h = At null_ptr None} rb ro (λ vs. move ! (1 ∷ []) $ handle_out ! (At null_ptr None) vs (λ h ws fits.
+        move ! (1 ∷ []) $ fsplit ! $ fsplit3 ! $ drop ! $ move ! (3 ∷ []) $ split !
+        $ move ! (2 ∷ 3 ∷ 0 ∷ []) $
+        opens ! tt H {h = At null_ptr None} rb ro
+        (λ vs. move ! (1 ∷ []) $ handle_out ! (At null_ptr None) vs (λ h ws fits.
         rewrite ! 2 (λ (us : List Val). ‵ (cell_at full_share H.mir us rb ro)) ws refl $
         -- [nothing; the allocator; the handle's cell; the open borrow, in three entries]
-        sets ! (of_opd ! (load ! (through ! refl (fld ! refl (stop !))) (look_in ! 2 (sub ! 0 refl (whole !))))) refl (tt, record { fits = lit< tt }) $
+        sets ! (of_opd ! (load ! (through ! refl (fld ! refl (stop !)))
+        (look_in ! 2 (sub ! 0 refl (whole !))))) refl (tt, record { fits = lit< tt }) $
         sets ! (bin ! (get ! refl) (lit ! tt) tt) refl (tt, tt) $ first ! $ branches ! (get ! refl)
-        (λ _. sets_last ! (agg ! (and_then ! (lit ! tt) (no_more !))) refl (tt, (record { fits = lit< tt }, tt)) $
-        exec ! C Λ En mir'.t-4 (at_ret En (Post null_ptr None)) $ sets ! (of_opd ! (get ! refl)) refl (tt, (record { fits = lit< tt }, tt)) $
-        handle_in ! h (At null_ptr None) $ move ! (1 ∷ 0 ∷ []) $ closes ! tt H (At null_ptr None) (both (ptr_val null_ptr) h ∷ []) rb ro $
+        (λ _. sets_last ! (agg ! (and_then ! (lit ! tt) (no_more !))) refl
+        (tt, (record { fits = lit< tt }, tt)) $
+        exec ! C Λ En mir'.t-4 (at_ret En (Post null_ptr None))
+        $ sets ! (of_opd ! (get ! refl)) refl (tt, (record { fits = lit< tt }, tt)) $
+        handle_in ! h (At null_ptr None) $ move ! (1 ∷ 0 ∷ [])
+        $ closes ! tt H (At null_ptr None) (both (ptr_val null_ptr) h ∷ []) rb ro $
         returns ! (look_at ! 0 refl) $ free_all ! refl $ keep ! (0 ∷ 2 ∷ []) $ by ! lends_none)
         (λ wrong. absurd wrong))))
     walk null_ptr (Some x) =
-        qed 𝓛 ((‵ (flft κ q) ⊛ ‵ ftrue) ∷ ‵ (owns (MutRef (named 0) κ H ∷ []) (lender null_ptr (Some x), tt) (vptr rb ro ∷ [], tt)) ∷ []) ∵
-        enter ! C Λ code.function (vptr rb ro ∷ []) _ $ alloc_all ! (λ l. pass_all ! refl ((tt, tt), tt) $
-        move ! (1 ∷ []) $ fsplit ! $ fsplit3 ! $ drop ! $ move ! (3 ∷ []) $ split ! $ move ! (2 ∷ 3 ∷ 0 ∷ []) $
-        opens ! tt H {h = At null_ptr (Some x)} rb ro (λ vs. move ! (1 ∷ []) $ handle_out ! (At null_ptr (Some x)) vs (λ h ws fits. fpick ! (λ wrong. absurd wrong))))
+        qed 𝓛 ((‵ (flft κ q) ⊛ ‵ ftrue)
+        ∷ ‵ (owns (MutRef (named 0) κ H ∷ []) (lender null_ptr (Some x), tt)
+        (vptr rb ro ∷ [], tt)) ∷ []) ∵
+        enter ! C Λ code.function (vptr rb ro ∷ []) _
+        $ alloc_all ! (λ l. pass_all ! refl ((tt, tt), tt) $
+        move ! (1 ∷ []) $ fsplit ! $ fsplit3 ! $ drop ! $ move ! (3 ∷ []) $ split !
+        $ move ! (2 ∷ 3 ∷ 0 ∷ []) $
+        opens ! tt H {h = At null_ptr (Some x)} rb ro
+        (λ vs. move ! (1 ∷ []) $ handle_out ! (At null_ptr (Some x)) vs
+        (λ h ws fits. fpick ! (λ wrong. absurd wrong))))
     walk (block_ptr b o) None =
-        qed 𝓛 ((‵ (flft κ q) ⊛ ‵ ftrue) ∷ ‵ (owns (MutRef (named 0) κ H ∷ []) (lender (block_ptr b o) None, tt) (vptr rb ro ∷ [], tt)) ∷ []) ∵
-        enter ! C Λ code.function (vptr rb ro ∷ []) _ $ alloc_all ! (λ l. pass_all ! refl ((tt, tt), tt) $
-        move ! (1 ∷ []) $ fsplit ! $ fsplit3 ! $ drop ! $ move ! (3 ∷ []) $ split ! $ move ! (2 ∷ 3 ∷ 0 ∷ []) $
-        opens ! tt H {h = At (block_ptr b o) None} rb ro (λ vs. move ! (1 ∷ []) $ handle_out ! (At (block_ptr b o) None) vs (λ h ws fits. fpick ! (λ wrong. absurd wrong))))
+        qed 𝓛 ((‵ (flft κ q) ⊛ ‵ ftrue)
+        ∷ ‵ (owns (MutRef (named 0) κ H ∷ []) (lender (block_ptr b o) None, tt)
+        (vptr rb ro ∷ [], tt)) ∷ []) ∵
+        enter ! C Λ code.function (vptr rb ro ∷ []) _
+        $ alloc_all ! (λ l. pass_all ! refl ((tt, tt), tt) $
+        move ! (1 ∷ []) $ fsplit ! $ fsplit3 ! $ drop ! $ move ! (3 ∷ []) $ split !
+        $ move ! (2 ∷ 3 ∷ 0 ∷ []) $
+        opens ! tt H {h = At (block_ptr b o) None} rb ro
+        (λ vs. move ! (1 ∷ []) $ handle_out ! (At (block_ptr b o) None) vs
+        (λ h ws fits. fpick ! (λ wrong. absurd wrong))))
     walk (block_ptr b o) (Some x) =
         let p : Ptr = block_ptr b o in let d : H.Denot = At p (Some x) in
-        qed 𝓛 ((‵ (flft κ q) ⊛ ‵ ftrue) ∷ ‵ (owns (MutRef (named 0) κ H ∷ []) (lender p (Some x), tt) (vptr rb ro ∷ [], tt)) ∷ []) ∵
-        enter ! C Λ code.function (vptr rb ro ∷ []) _ $ alloc_all ! (λ l. pass_all ! refl ((tt, tt), tt) $
+        qed 𝓛 ((‵ (flft κ q) ⊛ ‵ ftrue)
+        ∷ ‵ (owns (MutRef (named 0) κ H ∷ []) (lender p (Some x), tt) (vptr rb ro ∷ [], tt))
+        ∷ []) ∵
+        enter ! C Λ code.function (vptr rb ro ∷ []) _
+        $ alloc_all ! (λ l. pass_all ! refl ((tt, tt), tt) $
         let En : Env 𝓤 𝓛.H = env code.function.locals l in
-        let joined : Ends 𝓤 𝓛.H = any_q (after_seq 𝓤 𝓛.H (Wp 𝓤 𝓛.H C Λ En mir'.t-4 (post 𝓤 𝓛.H (at_ret En (Post p (Some x))))) (post 𝓤 𝓛.H (at_ret En (Post p (Some x))))) in
-        move ! (1 ∷ []) $ fsplit ! $ fsplit3 ! $ drop ! $ move ! (3 ∷ []) $ split ! $ move ! (2 ∷ 3 ∷ 0 ∷ []) $
+        let joined : Ends 𝓤 𝓛.H =
+        any_q (after_seq 𝓤 𝓛.H
+        (Wp 𝓤 𝓛.H C Λ En mir'.t-4 (post 𝓤 𝓛.H (at_ret En (Post p (Some x)))))
+        (post 𝓤 𝓛.H (at_ret En (Post p (Some x))))) in
+        move ! (1 ∷ []) $ fsplit ! $ fsplit3 ! $ drop ! $ move ! (3 ∷ []) $ split !
+        $ move ! (2 ∷ 3 ∷ 0 ∷ []) $
         opens ! tt H {h = d} rb ro (λ vs. move ! (1 ∷ []) $ handle_out ! d vs (λ h ws fits.
-        use1 𝓛 (given (Testable p) (‵ (box_owns (ghosts.dealloc_token a) T p x))) (tested 𝓛 a p x) $ learn ! (λ t.
+        use1 𝓛 (given (Testable p) (‵ (box_owns (ghosts.dealloc_token a) T p x))) (tested 𝓛 a p x)
+        $ learn ! (λ t.
         rewrite ! 2 (λ (us : List Val). ‵ (cell_at full_share H.mir us rb ro)) ws refl $
         -- [the box; the allocator; the handle's cell; the open borrow, in three entries]
-        sets ! (of_opd ! (load ! (through ! refl (fld ! refl (stop !))) (look_in ! 2 (sub ! 0 refl (whole !))))) refl (tt, tt) $
-        sets ! (bin ! (get ! refl) (lit ! tt) (tests_null p t)) refl (tt, tt) $ first ! $ branches ! (get ! refl) (λ wrong. absurd wrong) (λ _.
+        sets ! (of_opd ! (load ! (through ! refl (fld ! refl (stop !)))
+        (look_in ! 2 (sub ! 0 refl (whole !))))) refl (tt, tt) $
+        sets ! (bin ! (get ! refl) (lit ! tt) (tests_null p t)) refl (tt, tt) $ first !
+        $ branches ! (get ! refl) (λ wrong. absurd wrong) (λ _.
         first ! $ blocks ! $
-        sets ! (of_opd ! (load ! (through ! refl (fld ! refl (stop !))) (look_in ! 2 (sub ! 0 refl (whole !))))) refl (tt, tt) $
+        sets ! (of_opd ! (load ! (through ! refl (fld ! refl (stop !)))
+        (look_in ! 2 (sub ! 0 refl (whole !))))) refl (tt, tt) $
         sets_last ! (addr ! (through ! refl (stop !))) refl (tt, tt) $
         exec ! C Λ En some_of_it joined $ sets ! (of_opd ! (get ! refl)) refl (tt, tt) $
-        sets_last ! (agg ! (and_then ! (lit ! tt) (and_then ! (get ! refl) (no_more !)))) refl (tt, (record { fits = lit< tt }, (tt, tt))) $
-        exec ! C Λ En mir'.t-4 (at_ret En (Post p (Some x))) $ sets ! (of_opd ! (get ! refl)) refl (tt, (record { fits = lit< tt }, (tt, tt))) $
-        fsplit ! $ move ! (1 ∷ 2 ∷ []) $ fjoin ! $ move ! (0 ∷ 2 ∷ []) $ fjoin ! $ move ! (2 ∷ 3 ∷ 4 ∷ 1 ∷ 0 ∷ []) $ group ! 5 $
-        use1 𝓛 (later (some (λ (γ' : GName). raw (Part 𝓛 H T (with_side d) (named 0) κ q rb ro b o γ (sem 𝓛 (Rest b o h)) (back b o h x) x γ'))))
-        (lends_Part 𝓛 H T (with_side d) (named 0) κ q rb ro b o γ (sem 𝓛 (Rest b o h)) (back b o h x) (H.coded.code d) (H.coded.code d) x) $ await ! tt $ pick ! (λ γ'.
-        returns ! (look_at ! 0 refl) $ free_all ! refl $ keep ! (0 ∷ []) $ by ! (lends_it b o x γ')))))))
+        sets_last ! (agg ! (and_then ! (lit ! tt) (and_then ! (get ! refl) (no_more !)))) refl
+        (tt, (record { fits = lit< tt }, (tt, tt))) $
+        exec ! C Λ En mir'.t-4 (at_ret En (Post p (Some x)))
+        $ sets ! (of_opd ! (get ! refl)) refl (tt, (record { fits = lit< tt }, (tt, tt))) $
+        fsplit ! $ move ! (1 ∷ 2 ∷ []) $ fjoin ! $ move ! (0 ∷ 2 ∷ []) $ fjoin !
+        $ move ! (2 ∷ 3 ∷ 4 ∷ 1 ∷ 0 ∷ []) $ group ! 5 $
+        use1 𝓛 (later (some (λ (γ' : GName). raw
+        (Part 𝓛 H T (with_side d) (named 0) κ q rb ro b o γ (sem 𝓛 (Rest b o h))
+        (back b o h x) x γ'))))
+        (lends_Part 𝓛 H T (with_side d) (named 0) κ q rb ro b o γ (sem 𝓛 (Rest b o h))
+        (back b o h x) (H.coded.code d) (H.coded.code d) x) $ await ! tt $ pick ! (λ γ'.
+        returns ! (look_at ! 0 refl) $ free_all ! refl $ keep ! (0 ∷ [])
+        $ by ! (lends_it b o x γ')))))))
 
 pub side_spec : {M : Type 1} → statement M
 side_spec 𝓤 𝓛 𝓜 𝓡 wired =
     let c = clauses 𝓛 𝓜.mem 𝓡.returns in let 𝓣 = tables 𝓤 𝓛.H 𝓜 𝓡 𝓡.env in
-    proved 𝓛 ended stayed c 𝓜 𝓡 (Goes-spent_ref 𝓛 1 (0 ∷ []) tt (plain (λ _. H)), tt) #self code.function (code.unfolded 𝓤 𝓛.H 𝓜 𝓡 wired)
+    proved 𝓛 ended stayed c 𝓜 𝓡 (Goes-spent_ref 𝓛 1 (0 ∷ []) tt (plain (λ _. H)), tt) #self
+    code.function (code.unfolded 𝓤 𝓛.H 𝓜 𝓡 wired)
     (λ κs. (mut_vals, tt)) (λ κs. (mut_Tells (named 0) κs.0 H, tt))
-    (λ κs qs bounds r g are. via 𝓤 _ (fst∗ 𝓤 _ (emp 𝓤)) (walk 𝓛 𝓜.mem 𝓡.returns κs.0 qs.0 r.0.ref_ptr.0 r.0.ref_ptr.1 r.0.ghost_name r.0.now.alloc 𝓣.C 𝓣.Λ r.0.now.at r.0.now.held))
+    (λ κs qs bounds r g are. via 𝓤 _ (fst∗ 𝓤 _ (emp 𝓤))
+    (walk 𝓛 𝓜.mem 𝓡.returns κs.0 qs.0 r.0.ref_ptr.0 r.0.ref_ptr.1 r.0.ghost_name
+    r.0.now.alloc 𝓣.C 𝓣.Λ r.0.now.at r.0.now.held))

@@ -15,7 +15,9 @@ returns-in-Some c = record {
   has_table = subst (λ (x : EitherSide). HasTable x c.table.result.now) c.side.ensures
       c.table.ensures;
   link = subst (λ (o : Option Link). ReturnsLink c.of.result 0 o)
-      (sym (ap option_copied c.in-Some.is) ∙ (c.link_meant.ensures ∙ ap (link_meant c.table.result.now) c.meant.ensures)) (refl, c.of.ensures);
+      (sym (ap option_copied c.in-Some.is)
+      ∙ (c.link_meant.ensures ∙ ap (link_meant c.table.result.now) c.meant.ensures))
+      (refl, c.of.ensures);
 }
 
 pub returns-in-None : goal.returns-in-None
@@ -27,5 +29,7 @@ returns-in-None c = record {
   has_table = subst (λ (x : EitherSide). HasTable x c.table.result.now) c.side.ensures
       c.table.ensures;
   link = subst (λ (o : Option Link). ReturnsLink c.nothing.result 11 o)
-      (sym (ap option_copied c.in-None.is) ∙ (c.link_meant.ensures ∙ ap (link_meant c.table.result.now) c.meant.ensures)) (refl, c.nothing.ensures);
+      (sym (ap option_copied c.in-None.is)
+      ∙ (c.link_meant.ensures ∙ ap (link_meant c.table.result.now) c.meant.ensures))
+      (refl, c.nothing.ensures);
 }

@@ -10,9 +10,11 @@ returns-in-Ok c =
     let mid = c.make_ready.new.self in
     let q = c.take-result.new.self in
     let after = c.count_results.new.counts in
-    asked (Takes c.args.octets.now c.args.now) c.args.octets.now c.take-result.result c.code_of.result
+    asked (Takes c.args.octets.now c.args.now) c.args.octets.now c.take-result.result
+    c.code_of.result
     c.code_of.ensures (takes c.args.octets.now c.args.now c.take-result.result) old mid q after
     c.make_ready.ensures.rest c.in-Ok.ensures.ready
-    (counted_in_turn c.args.octets.now old mid q c.count_received.new.counts after c.make_ready.ensures.rest
+    (counted_in_turn c.args.octets.now old mid q c.count_received.new.counts after
+    c.make_ready.ensures.rest
     c.in-Ok.ensures.ready c.count_received.ensures c.count_results.ensures)
     (sym c.is_full.ensures ∙ c.if-is_full.false) c.take-result.ensures

@@ -5,6 +5,8 @@ use Rattle.lapd_cli_live_text.proofs.line_parts.LineParts.put_number.Goals as go
 
 pub invariant_of-self : goal.invariant_of-self
 invariant_of-self c = record {
-  no_float = put_preserves c.put.result c.args.name.now _ c.args.self.now.members.entries c.put.new.map.entries (ap has_float c.from.ensures) c.args.self.now.no_float
+  no_float =
+      put_preserves c.put.result c.args.name.now _ c.args.self.now.members.entries
+      c.put.new.map.entries (ap has_float c.from.ensures) c.args.self.now.no_float
       c.put.ensures.ok c.put.ensures.err;
 }

@@ -7,6 +7,8 @@ use Rattle.lapd_cli_side_commands.proofs.line_output.LineOutput.forward.Given as
 
 abbrev pub invariant-loop-sent : goal.invariant-loop-sent
 invariant-loop-sent g l =
-    Appends (g.K.Sink.written l.initial.port.sink) (g.K.Sink.written l.port.sink) (socket_text (map octets_of (take l.sent-index l.sent-items)))
+    Appends (g.K.Sink.written l.initial.port.sink) (g.K.Sink.written l.port.sink)
+    (socket_text (map octets_of (take l.sent-index l.sent-items)))
     × (l.port.source ≡ l.initial.port.source)
-    × Appends (g.W.Write.contents l.initial.out) (g.W.Write.contents l.out) (flat_map line_of (take l.sent-index l.sent-items))
+    × Appends (g.W.Write.contents l.initial.out) (g.W.Write.contents l.out)
+    (flat_map line_of (take l.sent-index l.sent-items))

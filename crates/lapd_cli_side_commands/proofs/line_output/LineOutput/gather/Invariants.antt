@@ -5,6 +5,9 @@ use Rattle.lapd_cli_side_commands.proofs.line_output.LineOutput.gather.Given as 
 
 abbrev pub invariant-loop-frame : goal.invariant-loop-frame
 invariant-loop-frame l =
-    (sent_of l.self ≡ sent_of l.initial.self ++ map (λ frame. frame.items) (take l.frame-index l.frame-items))
-    × (traced_of l.self ≡ traced_of l.initial.self ++ frames_text l.fn.style l.fn.side (map (λ frame. frame.items) (take l.frame-index l.frame-items)))
+    (sent_of l.self ≡ sent_of l.initial.self
+    ++ map (λ frame. frame.items) (take l.frame-index l.frame-items))
+    × (traced_of l.self ≡ traced_of l.initial.self
+    ++ frames_text l.fn.style l.fn.side
+    (map (λ frame. frame.items) (take l.frame-index l.frame-items)))
     × (primitives_text_of l.self ≡ primitives_text_of l.initial.self)

@@ -11,6 +11,7 @@ invariant-loop-tick g l = record {
   style : l.self.style ≡ l.initial.self.style;
   port : l.self.port ≡ l.initial.self.port;
   out : l.self.out ≡ l.initial.self.out;
-  some : ExpiresSome l.initial.self.style l.initial.self.now (side_of l.initial.self.side) l.initial.self.side l.self.side (sent_of l.self.output)
+  some : ExpiresSome l.initial.self.style l.initial.self.now (side_of l.initial.self.side)
+      l.initial.self.side l.self.side (sent_of l.self.output)
       (traced_of l.self.output) (primitives_text_of l.self.output);
 }

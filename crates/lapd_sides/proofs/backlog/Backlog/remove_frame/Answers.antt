@@ -2,4 +2,5 @@ use Rattle.lapd_sides.proofs.Backlogs.{frame_removed}
 use Rattle.lapd_sides.proofs.backlog.Backlog.remove_frame.Goals as goal
 
 pub returns : goal.returns
-returns c = rw (← c.self.view_is) (frame_removed c.self.inside.removed_frames c.self.inside.frames.items _)
+returns c =
+    rw (← c.self.view_is) (frame_removed c.self.inside.removed_frames c.self.inside.frames.items _)

@@ -2,4 +2,6 @@ use Rattle.lapd_sides.proofs.Backlogs.{primitive_removed}
 use Rattle.lapd_sides.proofs.backlog.Backlog.remove_primitive.Goals as goal
 
 pub returns : goal.returns
-returns c = rw (← c.self.view_is) (primitive_removed c.self.inside.removed_primitives c.self.inside.primitives.items _)
+returns c =
+    rw (← c.self.view_is)
+    (primitive_removed c.self.inside.removed_primitives c.self.inside.primitives.items _)

@@ -7,7 +7,8 @@ use Rattle.lapd_sides.proofs.managed_side.ManagedSide.receive_data.Goals as goal
 
 pub returns-then-is_for_layer_3 : goal.returns-then-is_for_layer_3
 returns-then-is_for_layer_3 g c = λ config s shown.
-    unit_delivered g.M.Represented.represents g.M.Represented.rules c.args.self.now config c.args.now
+    unit_delivered g.M.Represented.represents g.M.Represented.rules c.args.self.now config
+    c.args.now
     c.args.frame.now s c.is_for_layer_3.result c.address.result c.info.result.now
     c.deliver_for_sapi.new.acts
     (record { is = c.is_for_layer_3.ensures; answered = c.if-is_for_layer_3.true })

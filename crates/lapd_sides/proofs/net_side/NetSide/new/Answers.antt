@@ -9,7 +9,9 @@ pub returns : goal.returns
 returns c = record {
   configured = refl;
   served = record {
-    links = subst (λ (assigner : AssignerState). ShowLinks side.Network c.add_held.new.self (links_of_held c.args.config assigner.held)) c.new-assigner.ensures
+    links =
+        subst (λ (assigner : AssignerState). ShowLinks side.Network c.add_held.new.self
+        (links_of_held c.args.config assigner.held)) c.new-assigner.ensures
         (c.in_ok-add_held.ensures side.Network c.in_ok-served.ensures.shown.links);
     timers = c.in_ok-served.ensures.shown.timers;
   };

@@ -18,7 +18,12 @@ returns-in_err-admit c =
     let received = event.Heard c.args.message c.next.result in
     lacks c.from_residual.result _ _ _ _ _ c.from_residual.ensures.0 (record {
       only = λ config s shown. subst (λ (o : List TeiOut). IsSome (tei_given o))
-          (sym (outs_of c.args.side.now config s received c.as_slice.result.now shown (c.as_slice.ensures.value ∙ c.handle-outs.ensures.outs)) ∙ ap (λ (r : ℕ). (terminal_step s.management.terminal (event.Heard c.args.message r)).outs) (c.next.ensures s.management.random shown.management.random)) c.in_err-admit.ensures.only;
+          (sym (outs_of c.args.side.now config s received c.as_slice.result.now shown
+          (c.as_slice.ensures.value ∙ c.handle-outs.ensures.outs))
+          ∙ ap (λ (r : ℕ).
+          (terminal_step s.management.terminal (event.Heard c.args.message r)).outs)
+          (c.next.ensures s.management.random shown.management.random))
+          c.in_err-admit.ensures.only;
       unchanged = λ config s shown. record {
         configured = shown.configured;
         served = c.in_err-admit.ensures.unchanged side.User s.served shown.served;
@@ -32,16 +37,27 @@ pub returns : goal.returns
 returns c = λ config s shown.
     let received = event.Heard c.args.message c.next.result in
     let outs = c.as_slice-2.result.now in
-    let are = outs_of c.args.side.now config s received outs shown (c.as_slice-2.ensures.value ∙ c.handle-outs.ensures.outs) in
+    let are =
+    outs_of c.args.side.now config s received outs shown
+    (c.as_slice-2.ensures.value ∙ c.handle-outs.ensures.outs) in
     let served =
-    subst (λ (o : List TeiOut). ShowServed side.User c.admit.new.self (record s.served { links = links_with config (tei_given o) s.served.links })) (c.as_slice.ensures.value ∙ sym c.as_slice-2.ensures.value ∙ sym are)
-    (subst (λ (k : Config). ShowServed side.User c.admit.new.self (record s.served { links = links_with k (tei_given c.as_slice.result.now) s.served.links })) shown.configured (c.in_ok-admit.ensures.ok side.User s.served shown.served)) in
-    acts_so c.carry_out.new.self config c.args.now s c.carry_out.new.acts (event.Heard c.args.message) c.next.result (c.next.ensures s.management.random shown.management.random)
+    subst (λ (o : List TeiOut). ShowServed side.User c.admit.new.self
+    (record s.served { links = links_with config (tei_given o) s.served.links }))
+    (c.as_slice.ensures.value ∙ sym c.as_slice-2.ensures.value ∙ sym are)
+    (subst (λ (k : Config). ShowServed side.User c.admit.new.self
+    (record s.served
+    { links = links_with k (tei_given c.as_slice.result.now) s.served.links }))
+    shown.configured (c.in_ok-admit.ensures.ok side.User s.served shown.served)) in
+    acts_so c.carry_out.new.self config c.args.now s c.carry_out.new.acts
+    (event.Heard c.args.message) c.next.result
+    (c.next.ensures s.management.random shown.management.random)
     (c.carry_out.ensures config s (terminal_step s.management.terminal received) are (record {
       configured = shown.configured;
       served = served;
       management = record {
-        terminal = c.handle-outs.ensures.now ∙ ap (λ (p : Phase). (terminal_step p received).now) shown.management.terminal;
+        terminal =
+            c.handle-outs.ensures.now
+            ∙ ap (λ (p : Phase). (terminal_step p received).now) shown.management.terminal;
         pending = shown.management.pending;
         random = shown.management.random;
       };

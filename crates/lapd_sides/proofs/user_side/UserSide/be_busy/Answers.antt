@@ -12,11 +12,16 @@ act-requires-clause-for_link c = c.requires.for_link c.name.result
 pub returns-in-Some : goal.returns-in-Some
 unfolding link_of
 returns-in-Some c = answers_as c.act.result _ _ _ _ _ _ (λ config s shown.
-    is_own c.args.self.now config s c.tei.result c.in-Some.tei c.args.now c.args.sapi c.name.result (input_of c.args.event) [] (Err NoLink) shown (record { of = c.tei.ensures; is = c.in-Some.is; named = c.name.ensures })) c.act.ensures
+    is_own c.args.self.now config s c.tei.result c.in-Some.tei c.args.now c.args.sapi c.name.result
+    (input_of c.args.event) [] (Err NoLink) shown
+    (record { of = c.tei.ensures; is = c.in-Some.is; named = c.name.ensures })) c.act.ensures
 
 pub returns-in-None : goal.returns-in-None
 returns-in-None c = record {
-  kind = λ config s shown. is_none c.args.self.now config s c.tei.result c.args.now c.args.sapi (input_of c.args.event) [] (Err NoLink) shown c.tei.ensures c.in-None.is ∙ ap (λ (f : SideFault). Err f.kind) (sym c.without_message.ensures);
+  kind =
+      λ config s shown. is_none c.args.self.now config s c.tei.result c.args.now c.args.sapi
+      (input_of c.args.event) [] (Err NoLink) shown c.tei.ensures c.in-None.is ∙ ap
+      (λ (f : SideFault). Err f.kind) (sym c.without_message.ensures);
   returned = ap (λ (f : SideFault). f.message) c.without_message.ensures;
   unchanged = λ config s shown. shown;
   nothing = c.requires.empty;

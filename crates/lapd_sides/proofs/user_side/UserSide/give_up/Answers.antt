@@ -3,5 +3,7 @@ use Rattle.lapd_sides.proofs.user_side.UserSide.give_up.Goals as goal
 
 pub returns : goal.returns
 returns c = λ config s shown.
-    given_up c.args.self.now c.leave.new.self config c.args.now c.args.tei s c.leave.new.acts c.tei.result c.has_tei.result shown
-    (record { of = c.tei.ensures; is = c.has_tei.ensures; answered = c.if-not-has_tei.false }) (c.leave.ensures config s shown)
+    given_up c.args.self.now c.leave.new.self config c.args.now c.args.tei s c.leave.new.acts
+    c.tei.result c.has_tei.result shown
+    (record { of = c.tei.ensures; is = c.has_tei.ensures; answered = c.if-not-has_tei.false })
+    (c.leave.ensures config s shown)

@@ -8,4 +8,6 @@ pub manage-requires-clause-gets_none : goal.manage-requires-clause-gets_none
 manage-requires-clause-gets_none c = leave_gets_none
 
 pub returns : goal.returns
-returns c = λ config s shown. acts_so c.manage.new.self config c.args.now s c.manage.new.acts (λ ri. event.Leave) (next_reference s.management.random) refl (c.manage.ensures config s shown)
+returns c =
+    λ config s shown. acts_so c.manage.new.self config c.args.now s c.manage.new.acts
+    (λ ri. event.Leave) (next_reference s.management.random) refl (c.manage.ensures config s shown)

@@ -12,14 +12,38 @@ use Rattle.lapd_sides.proofs.user_side.UserSide.new.Goals as goal
 
 pub returns : goal.returns
 returns c =
-    let served : ShowServed side.User c.match-fixed.served (record { links = links_of_fixed c.args.config c.args.fixed; timers = all_stopped c.args.config.durations }) =
+    let served : ShowServed side.User c.match-fixed.served
+    (record {
+      links = links_of_fixed c.args.config c.args.fixed;
+      timers = all_stopped c.args.config.durations;
+    }) =
     elim c.match-fixed.branch [
-      | in-Some+in_ok-add_tei w ↦ with_fixed c.in_ok-served.served c.match-fixed.served w.add_tei.new.self c.args.config c.args.fixed w.in-Some.tei w.in-Some.is w.served-is c.in_ok-served.ensures.shown (w.in_ok-add_tei.ensures.ok side.User no_links c.in_ok-served.ensures.shown.links)
-      | in_default w ↦ without_fixed c.in_ok-served.served c.match-fixed.served c.args.config c.args.fixed w.in_default.is w.served-is c.in_ok-served.ensures.shown
+      | in-Some+in_ok-add_tei w ↦ with_fixed c.in_ok-served.served c.match-fixed.served
+          w.add_tei.new.self c.args.config c.args.fixed w.in-Some.tei w.in-Some.is w.served-is
+          c.in_ok-served.ensures.shown
+          (w.in_ok-add_tei.ensures.ok side.User no_links c.in_ok-served.ensures.shown.links)
+      | in_default w ↦ without_fixed c.in_ok-served.served c.match-fixed.served c.args.config
+          c.args.fixed w.in_default.is w.served-is c.in_ok-served.ensures.shown
     ] in
-    let fixed : c.match-fixed.fixed ≡ c.args.fixed = elim c.match-fixed.branch [ in-Some+in_ok-add_tei w ↦ w.fixed-is ∙ sym w.in-Some.is | in_default w ↦ w.fixed-is ] in
+    let fixed : c.match-fixed.fixed ≡ c.args.fixed =
+    elim c.match-fixed.branch [
+      | in-Some+in_ok-add_tei w ↦ w.fixed-is
+          ∙ sym w.in-Some.is
+      | in_default w ↦ w.fixed-is
+    ] in
     let none : c.match-fixed.served.discarded ≡ 0 = elim c.match-fixed.branch [
-      | in-Some+in_ok-add_tei w ↦ ap (λ (k : LinksAndTimer). k.discarded) w.served-is ∙ c.in_ok-served.ensures.none
-      | in_default w ↦ ap (λ (k : LinksAndTimer). k.discarded) w.served-is ∙ c.in_ok-served.ensures.none
+      | in-Some+in_ok-add_tei w ↦ ap (λ (k : LinksAndTimer). k.discarded) w.served-is
+          ∙ c.in_ok-served.ensures.none
+      | in_default w ↦ ap (λ (k : LinksAndTimer). k.discarded) w.served-is
+          ∙ c.in_ok-served.ensures.none
     ] in
-    record { configured = refl; served = served; management = record { terminal = c.new-2.ensures ∙ ap new_terminal fixed; pending = c.nothing.ensures; random = c.new-3.ensures }; discarded = none }
+    record {
+      configured = refl;
+      served = served;
+      management = record {
+        terminal = c.new-2.ensures ∙ ap new_terminal fixed;
+        pending = c.nothing.ensures;
+        random = c.new-3.ensures;
+      };
+      discarded = none;
+    }

@@ -10,8 +10,10 @@ manage-requires-clause-gets_none c = want_gets_none c.next.result
 pub returns : goal.returns
 returns c = λ config s shown.
     let t : User = with_kept s (with_pending c.args.sapi true s.management.pending) in
-    wanted c.args.self.now c.manage.new.self config c.args.now c.args.sapi s c.manage.new.acts c.serves.result c.serves.ensures c.if-not-serves.false shown
-    (acts_so c.manage.new.self config c.args.now t c.manage.new.acts event.Want c.next.result (c.next.ensures s.management.random shown.management.random)
+    wanted c.args.self.now c.manage.new.self config c.args.now c.args.sapi s c.manage.new.acts
+    c.serves.result c.serves.ensures c.if-not-serves.false shown
+    (acts_so c.manage.new.self config c.args.now t c.manage.new.acts event.Want c.next.result
+    (c.next.ensures s.management.random shown.management.random)
     (c.manage.ensures config t (record {
       configured = shown.configured;
       served = shown.served;
