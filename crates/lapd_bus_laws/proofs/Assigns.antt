@@ -37,6 +37,7 @@ use Rattle.lapd_sides.specs.Management.{links_with, links_without, removal_primi
 use Rattle.lapd_sides.specs.SideState.{with_links, with_stopped}
 use Rattle.lapd_sides.specs.Network as network
 use Rattle.lapd_sides.specs.Network.{Network, assigner_acts, group_frame, network_rules, sends_to_all}
+use Rattle.lapd_interface_laws.specs.Addressed.{those_for}
 use Rattle.lapd_interface_laws.specs.Interface.{network_behaviour}
 use Rattle.lapd_interface_laws.specs.Owed.{PassesBy}
 use Rattle.lapd_interface_laws.specs.Premises.{is_assignment, is_removal}
@@ -49,6 +50,7 @@ use Rattle.lapd_interface_laws.proofs.HeldTeis.{GivesFree, gives_free}
 use Rattle.lapd_interface_laws.proofs.LinkParts.{expiry_passes, any_more, absent_acts, spelled_is_for}
 use Rattle.lapd_interface_laws.proofs.Managed.{freed_is_reported}
 use Rattle.lapd_bus_laws.specs.Assignments.{Assignment, assignment_in}
+pub use Rattle.lapd_bus_laws.specs.Healing.{HasNoManagementLink}
 use Rattle.lapd_bus_laws.proofs.Messages.{management_id, others_assign_nothing, assignment_again, links_assign_nothing}
 use Rattle.lapd_sides.specs.AllTeis.{check_of_all, holds_any, removal_of_all}
 
@@ -187,10 +189,6 @@ step_assigns a event.T201 = timing a a a.check
 
 -- ---- A network side.
 
--- no link has the address of TEI management
-abbrev pub HasNoManagementLink : Network → Type 0
-HasNoManagementLink s = s.served.links management_id ≡ None
-
 -- A TEI that is held stays held, or is reported as freed.
 pub record AssignsNothing (s : Network) (a : Reaction Network) : Type 0 where
   pub frames : filter_map assignment_in a.effects.frames ≡ []
@@ -204,7 +202,8 @@ pub record AssignsOne (config : Config) (s : Network) (a : Reaction Network) : T
   pub assignment : Assignment
   pub free : IsFree s.management.held 64 assignment.tei
   pub now_held : is_held a.after.management.held assignment.tei ≡ true
-  pub keeps : (t : ℕ) → is_held s.management.held t ≡ true → is_held a.after.management.held t ≡ true
+  pub keeps : (t : ℕ) → is_held s.management.held t ≡ true
+      → is_held a.after.management.held t ≡ true
   pub frames : (filter_map assignment_in a.effects.frames ≡ [])
       ⊎ (filter_map assignment_in a.effects.frames ≡ assignment ∷ [])
   pub given : list_any (is_assignment assignment.tei) a.effects.primitives ≡ true
@@ -235,6 +234,19 @@ with_none config (Some t) links none = none
 or_none : (b : Bool) → (b || false) ≡ true → b ≡ true
 or_none true h = refl
 or_none false h = cc
+
+-- unit data to all terminals is not for TEI management
+pub group_is_other : (config : Config) (at : Sapi) (octets : List ℕ) → is_served config at ≡ true
+    → those_for side.Network management_id (spelling side.Network (group_frame at octets) ∷ []) ≡ []
+group_is_other config at octets served =
+    ap (λ (b : Bool). if b then spelling side.Network (group_frame at octets) ∷ [] else [])
+    (spelled_is_for side.Network management_id (group_frame at octets) ∙ apart at served)
+  where
+    apart : (at : Sapi) → is_served config at ≡ true
+        → id_eq management_id (record { sapi = at; tei = group_tei }) ≡ false
+    apart sapi.Call served = refl
+    apart sapi.Packet served = refl
+    apart sapi.Management served = cc
 
 module _ (config : Config) (now : ℕ) (s : Network) (none : HasNoManagementLink s) where
   abbrev Outcome : Reaction Network → Type 0
@@ -348,14 +360,7 @@ module _ (config : Config) (now : ℕ) (s : Network) (none : HasNoManagementLink
   to_group at octets served =
       assigns_nothing (sent_to_group at octets s) refl refl
       (links_assign_nothing (spelling side.Network (group_frame at octets) ∷ [])
-      (ap (λ (b : Bool). if b then spelling side.Network (group_frame at octets) ∷ [] else [])
-      (spelled_is_for side.Network management_id (group_frame at octets) ∙ apart at served))) refl
-    where
-      apart : (at : Sapi) → is_served config at ≡ true
-          → id_eq management_id (record { sapi = at; tei = group_tei }) ≡ false
-      apart sapi.Call served = refl
-      apart sapi.Packet served = refl
-      apart sapi.Management served = cc
+      (group_is_other config at octets served)) refl
 
 -- ---- Every event.
 

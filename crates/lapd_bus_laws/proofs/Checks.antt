@@ -17,16 +17,12 @@ use Rattle.lapd_interface_laws.specs.Interface.{Configs, user_behaviour, network
 use Rattle.lapd_interface_laws.specs.Premises.{is_assignment, IsTimely}
 use Rattle.lapd_interface_laws.specs.SideView.{SideView, SideEvent, Take, Lose, Expire, Ask, Overhear, reaction, does}
 use Rattle.lapd_interface_laws.proofs.Managed.{neither}
-use Rattle.lapd_bus_laws.specs.Assignments.{holds, awaited, awaits, is_answered, claims, is_taken, IsSingle}
+use Rattle.lapd_bus_laws.specs.Assignments.{holds, awaited, awaits, is_answered, claims, is_taken, IsSingle, IsHeldOnce}
 use Rattle.lapd_bus_laws.specs.Bus.{Bus, BusEvent, OfTerminal, OfNetwork, Join, Restart, NewTerminal, connected, new_bus, OverhearsNothing, on_line_of, bus_step}
 use Rattle.lapd_bus_laws.specs.Holdings.{AssignsFree, IsOwnReference, RequestsByItsOwn, RequestsUnanswered, JoinsWithFree, IsOfBus, KeepsTeisApart, Assigns, IsOnlyClaimant, IsClear, LeavesAlone, KeepsHolding}
 use Rattle.lapd_bus_laws.specs.Links.{Throughout, IsTimelyFor, AssignsOthers}
-use Rattle.lapd_bus_laws.proofs.Lists.{apart_index, map_back, any_at, any_other, either_some}
+use Rattle.lapd_bus_laws.proofs.Lists.{both_so, apart_index, map_back, any_at, any_other, either_some}
 use Rattle.lapd_bus_laws.proofs.Sole.{has_not, has_so}
-
-both_so : (a b : Bool) → (a && b) ≡ true → (a ≡ true) × (b ≡ true)
-both_so true b h = (refl, h)
-both_so false b h = cc
 
 not_so : (a : Bool) → not a ≡ true → a ≡ false
 not_so true h = cc
@@ -47,11 +43,11 @@ throughout_by c P test sound (e ∷ es) b h =
     (sound e b two.0, throughout_by c P test sound es (bus_step c e b) two.1)
 
 -- a test of the terminal at an index, if it exists
-abbrev where_there : (SideView User → Bool) → Option (SideView User) → Bool
+abbrev pub where_there : (SideView User → Bool) → Option (SideView User) → Bool
 where_there test None = true
 where_there test (Some t) = test t
 
-there_so : (test : SideView User → Bool) (o : Option (SideView User)) (t : SideView User) → o
+pub there_so : (test : SideView User → Bool) (o : Option (SideView User)) (t : SideView User) → o
     ≡ Some t → where_there test o ≡ true → test t ≡ true
 there_so test o t is h = subst (λ (x : Option (SideView User)). where_there test x ≡ true) is h
 
@@ -200,7 +196,9 @@ module _ (c : Configs) where
   later event t = does (user_behaviour c.user) event t
 
   abbrev asks_so : ℕ → SideEvent → Bus → SideView User → Bool
-  asks_so i event b t = asks_by_own (awaited t.now.management.terminal) (awaited (later event t).now.management.terminal)
+  asks_so i event b t =
+      asks_by_own (awaited t.now.management.terminal)
+      (awaited (later event t).now.management.terminal)
       i (later event t) b
 
   abbrev pub requests_by_its_own : BusEvent → Bus → Bool
@@ -211,7 +209,8 @@ module _ (c : Configs) where
   pub requests_by_its_own_so : (e : BusEvent) (b : Bus) → requests_by_its_own e b ≡ true
       → RequestsByItsOwn c e b
   requests_by_its_own_so (OfTerminal i event) b h = λ t at ri waits.
-      asks_by_own_so (awaited t.now.management.terminal) (awaited (later event t).now.management.terminal) i
+      asks_by_own_so (awaited t.now.management.terminal)
+      (awaited (later event t).now.management.terminal) i
       (later event t) b (there_so (asks_so i event b) (slice_get b.terminals i) t at h) ri
       (has_so ri (awaited (later event t).now.management.terminal) waits)
   requests_by_its_own_so (OfNetwork j event) b h = tt
@@ -345,8 +344,8 @@ holds_at tei (Some t) = holds tei t
 abbrev pub both_hold : ℕ → Bus → Bool
 both_hold tei b = holds_at tei (slice_get b.terminals 0) && holds_at tei (slice_get b.terminals 1)
 
-pub both_hold_so : (tei : ℕ) (b : Bus) → both_hold tei b ≡ true → IsSingle b → ⊥
-both_hold_so tei b h single = by (slice_get b.terminals 0) (slice_get b.terminals 1) refl refl h
+pub both_hold_it : (tei : ℕ) (b : Bus) → both_hold tei b ≡ true → IsHeldOnce tei b → ⊥
+both_hold_it tei b h once = by (slice_get b.terminals 0) (slice_get b.terminals 1) refl refl h
   where
     by : (o p : Option (SideView User)) → slice_get b.terminals 0 ≡ o → slice_get b.terminals 1 ≡ p
         → (holds_at tei o && holds_at tei p) ≡ true → ⊥
@@ -355,8 +354,11 @@ both_hold_so tei b h single = by (slice_get b.terminals 0) (slice_get b.terminal
         cc)
     by (Some t) (Some u) first second h =
         let two = both_so (holds tei t) (holds tei u) h in
-        let same : 0 ≡ 1 = single tei 0 1 t u first second two.0 two.1 in
+        let same : 0 ≡ 1 = once 0 1 t u first second two.0 two.1 in
         omega (arith, same)
+
+pub both_hold_so : (tei : ℕ) (b : Bus) → both_hold tei b ≡ true → IsSingle b → ⊥
+both_hold_so tei b h single = both_hold_it tei b h (single tei)
 
 -- ---- The moment of the assignment.
 

@@ -18,15 +18,11 @@ use Rattle.lapd_interface_laws.specs.SideView.{SideView, SideEvent, Take, Lose, 
 use Rattle.lapd_bus_laws.specs.Assignments.{Assignment, assignment_in, assignments, holds, is_of_tei, is_sent, awaited, awaits, has_reference, is_answered, is_offer, claims, is_taken}
 use Rattle.lapd_bus_laws.specs.Bus.{OverhearsNothing, reached_by}
 use Rattle.lapd_bus_laws.proofs.Assigns.{AssignsOne}
-use Rattle.lapd_bus_laws.proofs.Lists.{either_some, some_first, some_second, not_both, any_weaker, any_dropped, any_removed}
+use Rattle.lapd_bus_laws.proofs.Lists.{both_so, either_some, some_first, some_second, not_both, any_weaker, any_dropped, any_removed}
 use Rattle.lapd_bus_laws.proofs.Obtains.{FirstAnswers, TakesAnswer, event_obtains}
 use Rattle.lapd_bus_laws.proofs.Sole.{has_so}
 
 -- ---- Tests.
-
-both_so : (a b : Bool) → (a && b) ≡ true → (a ≡ true) × (b ≡ true)
-both_so true b h = (refl, h)
-both_so false b h = cc
 
 and_so : (a b : Bool) → a ≡ true → b ≡ true → (a && b) ≡ true
 and_so true b h g = g
@@ -62,7 +58,8 @@ claim_is_taken tei t h = elim (either_some (holds tei t)
       | inr offered ↦ some_second (holds tei t) (is_sent tei t)
           (any_weaker (is_offer tei t.now.management.terminal) (is_of_tei tei) (assignments t)
           (λ a is.
-          (both_so (is_of_tei tei a) (has_tei a.reference (awaited t.now.management.terminal)) is).0) offered)
+          (both_so (is_of_tei tei a) (has_tei a.reference (awaited t.now.management.terminal))
+          is).0) offered)
     ]
 
 -- ---- An event of a terminal: who claims a TEI afterwards, claimed it before.
@@ -76,12 +73,14 @@ module _ (c : Configs) (event : SideEvent) (t : SideView User) (ok : OverhearsNo
       → list_any (is_offer tei t.now.management.terminal) (filter_map assignment_in line) ≡ true
   answer_claims tei [] never = absurd never
   answer_claims tei (octets ∷ rest) answer = ap (λ (o : Option Assignment).
-      list_any (is_offer tei t.now.management.terminal) (cons_option o (filter_map assignment_in rest)))
+      list_any (is_offer tei t.now.management.terminal)
+      (cons_option o (filter_map assignment_in rest)))
       answer.assignment
       ∙ (some_first (is_offer tei t.now.management.terminal (record
       { reference = answer.reference; tei = tei }))
       (list_any (is_offer tei t.now.management.terminal) (filter_map assignment_in rest))
-      (and_so (tei == tei) (has_tei answer.reference (awaited t.now.management.terminal)) (same_tei tei)
+      (and_so (tei == tei) (has_tei answer.reference (awaited t.now.management.terminal))
+      (same_tei tei)
       (has_itself answer.reference (awaited t.now.management.terminal) answer.outstanding)))
 
   takes_claimed : (tei : ℕ) (e : SideEvent) → TakesAnswer e t tei → Claims tei t
@@ -103,7 +102,8 @@ module _ (c : Configs) (event : SideEvent) (t : SideView User) (ok : OverhearsNo
       let o = event_obtains c.user event t ok in
       elim (o.held tei (has_so tei (tei_of (reaction (user_behaviour c.user) event
       t).after.management.terminal) h)) [
-        | inl before ↦ some_first (holds tei t) _ (has_itself tei (tei_of t.now.management.terminal) before)
+        | inl before ↦ some_first (holds tei t) _
+            (has_itself tei (tei_of t.now.management.terminal) before)
         | inr got ↦ obtains_claimed tei got
       ]
 
@@ -140,12 +140,14 @@ module _ (c : Configs) (event : SideEvent) (t : SideView User) (ok : OverhearsNo
           same_reference : (n : ℕ) → (ri == n) ≡ true → (n == ri) ≡ true
           same_reference n e = grind (arith, nat_tests, e)
 
-      offered_claimed : (tei : ℕ) → list_any (is_offer tei After.now.management.terminal) (assignments After)
+      offered_claimed : (tei : ℕ)
+          → list_any (is_offer tei After.now.management.terminal) (assignments After)
           ≡ true → Claims tei t
       unfolding does
       offered_claimed tei h =
           let phase = (reaction (user_behaviour c.user) event t).after.management.terminal in
-          some_second (holds tei t) _ (any_left (is_offer tei t.now.management.terminal) event t.incoming
+          some_second (holds tei t) _
+          (any_left (is_offer tei t.now.management.terminal) event t.incoming
           (offer_by tei phase t.now.management.terminal (awaited phase)
           (filter_map assignment_in (left event t.incoming)) refl
           (λ ri is. elim (requests ri (has_itself ri (awaited phase) is)) [
@@ -178,19 +180,23 @@ or_none true h = refl
 or_none false h = cc
 
 claims_on : (tei : ℕ) (t : SideView User) (line : List Assignment)
-    → (holds tei t || list_any (is_offer tei t.now.management.terminal) line) ≡ true → line ≡ assignments t
+    → (holds tei t || list_any (is_offer tei t.now.management.terminal) line) ≡ true
+    → line ≡ assignments t
     → Claims tei t
 claims_on tei t line h is = subst (λ (l : List Assignment).
     (holds tei t || list_any (is_offer tei t.now.management.terminal) l) ≡ true) is h
 
 -- who claims a TEI after an assignment, claimed it before, or awaits it by this reference
 claims_with : (tei : ℕ) (t : SideView User) (x : Assignment)
-    → (holds tei t || list_any (is_offer tei t.now.management.terminal) (assignments t ++ x ∷ [])) ≡ true
+    → (holds tei t || list_any (is_offer tei t.now.management.terminal) (assignments t ++ x ∷ []))
+    ≡ true
     → Claims tei t ⊎ ((x.tei ≡ tei) × Awaits x.reference t)
 claims_with tei t x h = elim (either_some (holds tei t) _ h) [
   | inl it ↦ inl (some_first (holds tei t) _ it)
-  | inr offered ↦ elim (either_some (list_any (is_offer tei t.now.management.terminal) (assignments t))
-      (is_offer tei t.now.management.terminal x || false) (sym (list_any-append (is_offer tei t.now.management.terminal)
+  | inr offered ↦ elim
+      (either_some (list_any (is_offer tei t.now.management.terminal) (assignments t))
+      (is_offer tei t.now.management.terminal x || false)
+      (sym (list_any-append (is_offer tei t.now.management.terminal)
       (assignments t) (x ∷ [])) ∙ offered)) [
         | inl before ↦ inl (some_second (holds tei t) _ before)
         | inr new ↦ (let two = both_so (is_of_tei tei x)

@@ -82,7 +82,7 @@ or_none false h = cc
 
 module _ (c : Configs) where
   -- what a terminal has in use after its event, it had before
-  taken_before : (event : SideEvent) (t : SideView User) → OverhearsNothing event → (tei : ℕ)
+  pub taken_before : (event : SideEvent) (t : SideView User) → OverhearsNothing event → (tei : ℕ)
       → is_taken tei (does (user_behaviour c.user) event t) ≡ true → is_taken tei t ≡ true
   unfolding does
   taken_before event t ok tei h =

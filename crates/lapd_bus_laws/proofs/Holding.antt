@@ -6,6 +6,7 @@ use Rattle.std.specs.List.{list_any, filter_map, cons_option, AllByRecursion}
 use Rattle.std.proofs.lemmas.Bool.Decides.{nat_tests}
 use Rattle.std.proofs.lemmas.List.Folds.{list_any-append}
 use Rattle.lapd_link_definition.specs.End.{new_end}
+use Rattle.lapd_frame.specs.declared.Side.TheVariants as side
 use Rattle.lapd_tei.specs.declared.phase.Phase.{Phase}
 use Rattle.lapd_tei.specs.declared.phase.Phase.TheVariants.{Unassigned, Awaiting, Assigned}
 use Rattle.lapd_tei.specs.Terminal.{tei_of}
@@ -14,6 +15,7 @@ use Rattle.lapd_table.specs.declared.link_id.LinkId.{LinkId}
 use Rattle.lapd_sides_links.specs.Links.{Links, Linked, Reaction, is_link_of, or_new, with_tei, parameters_for}
 use Rattle.lapd_sides.specs.Network.{Network}
 use Rattle.lapd_sides.specs.User.{User, new_user}
+use Rattle.lapd_interface_laws.specs.Addressed.{those_for}
 use Rattle.lapd_interface_laws.specs.Interface.{Configs, fresh_link, from_here, user_behaviour, network_behaviour}
 use Rattle.lapd_interface_laws.specs.Premises.{is_removal, is_assignment, GivesTeiOnce}
 use Rattle.lapd_interface_laws.specs.Projects.{HasLink, AwaitsLink, IsSafeAt}
@@ -24,13 +26,14 @@ use Rattle.lapd_interface_laws.proofs.TerminalOwn.{Owns}
 use Rattle.lapd_interface_laws.proofs.Timed.{new_is_timed}
 use Rattle.lapd_bus_laws.specs.Assignments.{Assignment, assignment_in, assignments, holds, is_of_tei, is_sent, awaited, claims, is_taken}
 use Rattle.lapd_bus_laws.specs.Bus.{Bus, BusEvent, OfTerminal, OfNetwork, Join, Restart, NewTerminal, KeepsTerminal, connected, new_bus, OverhearsNothing, recorded_anew, from_now, reached_by, left_of, on_line_of, terminal_does, network_does, terminal_joins, bus_step, after_events, interface_of, moves_along}
-use Rattle.lapd_bus_laws.specs.Holdings.{RequestsUnanswered, KeepsTeisApart, IsReached, AssignsTei, Assigns, IsOnlyClaimant, IsClear, LeavesAlone, KeepsHolding}
+use Rattle.lapd_bus_laws.specs.Holdings.{RequestsUnanswered, KeepsTeisApart, IsReached, AssignsTei, Assigns, IsOnlyClaimant, IsClearToNetwork, LeavesAlone, KeepsHolding}
 use Rattle.lapd_bus_laws.specs.Links.{IsAside, IsNewHere, Throughout, IsTimelyFor, IsNotAssigned, AssignsOthers, ObtainsOnce, IsSole, IsNobodyElses}
+use Rattle.lapd_bus_laws.proofs.Apart.{kept_apart}
 use Rattle.lapd_bus_laws.proofs.Assigns.{HasNoManagementLink, AssignsOne, AssignsAtMostOne, event_assigns}
 use Rattle.lapd_bus_laws.proofs.Claims.{any_left, same_tei, claims_before, obtains_claimed, reached_by_none, reached_by_one, reached_without, reached_by_assignment}
 use Rattle.lapd_bus_laws.proofs.Lists.{Each, Others, AtMostOne, each_set, each_map, others_set, others_map, map_back, any_at, one_more, one_dropped, one_removed, either_some, some_first, not_both, false_by}
 use Rattle.lapd_bus_laws.proofs.Obtains.{TakesAnswer, event_obtains}
-use Rattle.lapd_bus_laws.proofs.Single.{fixed_of, no_management, KeepsApart, event_keeps, all_keep, new_keeps}
+use Rattle.lapd_bus_laws.proofs.Single.{fixed_of, no_management, KeepsApart, event_keeps}
 use Rattle.lapd_bus_laws.proofs.Sole.{has_so, has_not, safe_here, nobody_elses}
 use Rattle.lapd_interface_laws.proofs.Managed.{neither}
 
@@ -140,10 +143,11 @@ module _ (c : Configs) (id : LinkId) (i : ℕ) where
           own = (user_preserves c.user t event h.own).after;
           single = one_left OfTei event t.incoming h.single;
           spent = λ past. elim past [
-            | inl holding ↦ elim (o.held id.tei (has_so id.tei (tei_of a.after.management.terminal) holding)) [
-              | inl before ↦ none_after (h.spent (inl (held_so before)))
-              | inr got ↦ (taken t event id.tei (o.got id.tei got)).none_left h.single
-            ]
+            | inl holding ↦ elim
+                (o.held id.tei (has_so id.tei (tei_of a.after.management.terminal) holding)) [
+                  | inl before ↦ none_after (h.spent (inl (held_so before)))
+                  | inr got ↦ (taken t event id.tei (o.got id.tei got)).none_left h.single
+                ]
             | inr removed ↦ elim (either_some (list_any (is_removal id.tei) t.delivered)
                 (list_any (is_removal id.tei) a.effects.primitives)
                 (sym (list_any-append (is_removal id.tei) t.delivered a.effects.primitives)
@@ -162,7 +166,8 @@ module _ (c : Configs) (id : LinkId) (i : ℕ) where
         let its = taken t event id.tei ((event_obtains c.user event t ok).got id.tei got) in
         elim (either_some (is_some (t.now.served.links id))
         (list_any (is_removal id.tei) t.delivered) any) [
-          | inl there ↦ owner_awaits_nothing t.now.management.terminal id.tei its.reference (h.own id there)
+          | inl there ↦ owner_awaits_nothing t.now.management.terminal id.tei its.reference
+              (h.own id there)
               its.outstanding
           | inr removed ↦ not_both (is_sent id.tei t) its.sent (h.spent (inr removed))
         ])
@@ -468,12 +473,12 @@ module _ (c : Configs) (id : LinkId) (i : ℕ) where
     management = h.management;
   }
 
-  sole_now : (b : Bus) → KeepsApart c b → Each IsOffered b.terminals → IsClear id i b
+  sole_now : (b : Bus) → KeepsApart c b → Each IsOffered b.terminals → IsClearToNetwork id b
       → IsSole id i b
   sole_now b h offered clear = λ k u there apart. record {
     unheld = (offered k u there).unheld;
     link = absent_of b h offered k u there;
-    line = clear.to_network k u there;
+    line = clear k u there;
   }
 
 -- what the assignment leaves
@@ -483,11 +488,6 @@ record IsAssigned (c : Configs) (id : LinkId) (i : ℕ) (b : Bus) : Type 0 where
   pub network : HasLink b.network.served.links id (new_end (parameters_for c.network id.sapi))
       ⊎ AwaitsLink (fresh_link c.network id) b.network.served.links id
       (new_end (parameters_for c.network id.sapi))
-
-pub kept_apart : (c : Configs) (b : Bus) → IsReached c b → KeepsApart c b
-kept_apart c b r = subst (KeepsApart c) (sym r.reached)
-    (all_keep c r.events (new_bus c r.known r.terminals) r.apart
-    (new_keeps c r.known r.terminals r.single))
 
 assigned_now : (c : Configs) (id : LinkId) (i : ℕ) (b : Bus) (e : BusEvent) → KeepsApart c b
     → KeepsTeisApart c e b → Assigns c id.tei e b → IsAssigned c id i (bus_step c e b)
@@ -520,7 +520,7 @@ one_claimant c b e tei i t reached is at claim =
 module _ (c : Configs) (id : LinkId) (low : id.tei < 127) (i : ℕ) (b : Bus) (e : BusEvent)
     (after : List BusEvent) (reached : IsReached c b) (is : KeepsTeisApart c e b)
     (assigned : Assigns c id.tei e b)
-    (only : IsOnlyClaimant id.tei i (bus_step c e b)) (clear : IsClear id i (bus_step c e b))
+    (only : IsOnlyClaimant id.tei i (bus_step c e b)) (clear : IsClearToNetwork id (bus_step c e b))
     (keeps : Throughout c (KeepsHolding c id i) after (from_now (bus_step c e b))) where
   abbrev Now : Bus
   Now = bus_step c e b
@@ -534,9 +534,10 @@ module _ (c : Configs) (id : LinkId) (low : id.tei < 127) (i : ℕ) (b : Bus) (e
 
   pub holding_is_safe : (t : SideView User) → (parameters_for c.user id.sapi).k ≤ 127
       → (parameters_for c.network id.sapi).k ≤ 127 → slice_get Now.terminals i ≡ Some t
+      → those_for side.Network id t.incoming ≡ []
       → IsSafeAt c id (moves_along c i after (from_now Now)) (from_here (interface_of t Now))
-  holding_is_safe t small_p small_q at = safe_here c id low i (parameters_for c.user id.sapi)
-      (parameters_for c.network id.sapi) after t Now small_p small_q
+  holding_is_safe t small_p small_q at to_terminal = safe_here c id low i
+      (parameters_for c.user id.sapi) (parameters_for c.network id.sapi) after t Now small_p small_q
       (all_keep_terminal c id i after (from_now Now) keeps) at
       (record {
         user = inr (record {
@@ -545,8 +546,8 @@ module _ (c : Configs) (id : LinkId) (low : id.tei < 127) (i : ℕ) (b : Bus) (e
               refl;
         });
         network = Left.network;
-        to_user = clear.to_terminal t at;
-        to_network = clear.to_network i t at;
+        to_user = to_terminal;
+        to_network = clear i t at;
       })
       (sole_now c id i Now Left.apart Left.offered clear)
       (all_timely c id i after (from_now Now) keeps)

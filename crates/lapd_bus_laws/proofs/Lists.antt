@@ -156,6 +156,10 @@ unique_map P Q f xs back h = λ i j x y hi hj qx qy.
 
 -- ---- Tests of some elements.
 
+pub both_so : (a b : Bool) → (a && b) ≡ true → (a ≡ true) × (b ≡ true)
+both_so true b h = (refl, h)
+both_so false b h = cc
+
 pub either_some : (a b : Bool) → (a || b) ≡ true → (a ≡ true) ⊎ (b ≡ true)
 either_some true b h = inl refl
 either_some false b h = inr h

@@ -15,12 +15,12 @@ use Rattle.lapd_tei.specs.declared.kind.TeiKind.{TeiKind}
 use Rattle.lapd_tei.specs.declared.kind.TeiKind.TheVariants as kind
 use Rattle.lapd_tei.specs.declared.message.TeiMessage.{TeiMessage}
 use Rattle.lapd_tei.specs.Message.{frame_of_message, message_at, message_octets, with_ai, with_kind, kind_at, kind_number, permits, group_tei}
-use Rattle.lapd_table.specs.declared.link_id.LinkId.{LinkId}
 use Rattle.lapd_table.specs.LinkId.{id_eq, id_of_address}
 use Rattle.lapd_table.specs.Octets.{event_by}
 use Rattle.lapd_sides.specs.Management.{is_management, is_ui}
 use Rattle.lapd_interface_laws.specs.Addressed.{is_named, is_for, those_for}
 use Rattle.lapd_interface_laws.proofs.Managed.{and_not}
+pub use Rattle.lapd_bus_laws.specs.Healing.{management_id}
 use Rattle.lapd_bus_laws.specs.Assignments.{Assignment, assignment_by, assignment_of, assignment_in_frame, assignment_in}
 use Rattle.lapd_bus_laws.proofs.Lists.{none_first}
 
@@ -54,7 +54,7 @@ with_ai_again ri k last ai is_odd half =
     ∙ ap (λ (b : Bool). if b && permits k ai then Ok (message ri k ai) else Err BadAi) is_odd
 
 -- an action indicator that the message may not have is not read
-message_again : (m : TeiMessage) → message_at (message_octets m)
+pub message_again : (m : TeiMessage) → message_at (message_octets m)
     ≡ (if permits m.kind m.ai then Ok m else Err BadAi)
 message_again m =
     ap (λ (k : Option TeiKind).
@@ -96,11 +96,7 @@ assignment_again ri tei test is =
 
 -- ---- No frame of a link is a message of TEI management.
 
--- messages of TEI management carry this SAPI and TEI
-abbrev pub management_id : LinkId
-management_id = record { sapi = sapi.Management; tei = 127 }
-
-not_for_group : (tei : ℕ) → (127 == tei) ≡ false → (tei == group_tei) ≡ false
+pub not_for_group : (tei : ℕ) → (127 == tei) ≡ false → (tei == group_tei) ≡ false
 not_for_group tei h = grind (arith, nat_tests, h)
 
 frame_assigns_nothing : (r : Result Fields FrameFault) → is_named management_id (event_by r) ≡ false

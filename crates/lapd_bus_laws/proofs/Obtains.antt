@@ -53,11 +53,13 @@ use Rattle.lapd_interface_laws.proofs.Requests.{by_events, stepped_by, user_aske
 abbrev Reports : (Primitive → Bool) → List TeiOut → Type 0
 Reports p outs = list_any p (filter_map outcome_of outs) ≡ true
 
--- A TEI is obtained only if `From` holds of it; a TEI that is held was held before, or is obtained;
--- a TEI that is removed was held before.
+-- A TEI is obtained only if `From` holds of it; a TEI that is held was held before, or is obtained,
+-- and if it is not, the terminal stays as it was; a TEI that is removed was held before.
 record StepObtains (phase : Phase) (From : ℕ → Type 0) (done : TerminalStep) : Type 0 where
   pub got : (t : ℕ) → Reports (is_assignment t) done.outs → From t
   pub held : (t : ℕ) → tei_of done.now ≡ Some t → (tei_of phase ≡ Some t)
+      ⊎ Reports (is_assignment t) done.outs
+  pub same : (t : ℕ) → tei_of done.now ≡ Some t → (done.now ≡ phase)
       ⊎ Reports (is_assignment t) done.outs
   pub lost : (t : ℕ) → Reports (is_removal t) done.outs → tei_of phase ≡ Some t
 
@@ -81,11 +83,13 @@ some_equal : (x y : ℕ) → Some x ≡ Some y → x ≡ y
 some_equal x y h = cc
 
 -- the TEI stays, and nothing is reported about a TEI
-silent : (phase : Phase) (From : ℕ → Type 0) (done : TerminalStep) → tei_of done.now ≡ tei_of phase
+silent : (phase : Phase) (From : ℕ → Type 0) (done : TerminalStep)
+    → ((t : ℕ) → tei_of done.now ≡ Some t → done.now ≡ phase)
     → filter_map outcome_of done.outs ≡ [] → StepObtains phase From done
 silent phase From done same none = record {
   got = λ t h. (let no : false ≡ true = ap (list_any (is_assignment t)) (sym none) ∙ h in cc);
-  held = λ t h. inl (sym same ∙ h);
+  held = λ t h. inl (sym (ap tei_of (same t h)) ∙ h);
+  same = λ t h. inl (same t h);
   lost = λ t h. (let no : false ≡ true = ap (list_any (is_removal t)) (sym none) ∙ h in cc);
 }
 
@@ -97,6 +101,7 @@ ends_without : (phase : Phase) (From : ℕ → Type 0) (outs : List TeiOut)
 ends_without phase From outs none lost = record {
   got = λ t h. absurd (none t h);
   held = λ t h. cc;
+  same = λ t h. cc;
   lost = lost;
 }
 
@@ -116,7 +121,7 @@ again : (purpose : Purpose) (count ri new : ℕ) (From : ℕ → Type 0)
 again purpose count ri new From = either (Awaiting purpose count ri) From (nat_lt count n202) _ _
     (λ may.
     silent (Awaiting purpose count ri) From (moves_to (Awaiting purpose (count + 1) new)
-    (Send (request new) ∷ Start T202 ∷ [])) refl refl)
+    (Send (request new) ∷ Start T202 ∷ [])) (λ t h. cc) refl)
     (ends_without (Awaiting purpose count ri) From (Failed ∷ []) (λ t h. cc) (λ t h. cc))
 
 both_true : (a b : Bool) → (a && b) ≡ true → a ≡ true
@@ -135,6 +140,7 @@ obtained purpose count ri its ai test =
         assignment = ap (λ (n : ℕ). assignment_by kind.Assigned its n) (first_is ai t h);
       };
       held = λ t h. inr (here t (some_equal ai t h));
+      same = λ t h. inr (here t (some_equal ai t h));
       lost = λ t h. cc;
     }
   where
@@ -150,74 +156,85 @@ awaiting : (purpose : Purpose) (count ri : ℕ) (k : TeiKind) (its ai : ℕ)
     (awaiting_receives purpose count ri k its ai)
 awaiting purpose count ri kind.Assigned its ai = either (Awaiting purpose count ri) _
     ((its == ri) && is_automatic ai) _ _ (obtained purpose count ri its ai)
-    (silent (Awaiting purpose count ri) _ (moves_to (Awaiting purpose count ri) []) refl refl)
+    (silent (Awaiting purpose count ri) _ (moves_to (Awaiting purpose count ri) []) (λ t h. cc)
+    refl)
 awaiting purpose count ri kind.Request its ai = silent (Awaiting purpose count ri) _
-    (moves_to (Awaiting purpose count ri) []) refl refl
+    (moves_to (Awaiting purpose count ri) []) (λ t h. cc) refl
 awaiting purpose count ri kind.Denied its ai = silent (Awaiting purpose count ri) _
-    (moves_to (Awaiting purpose count ri) []) refl refl
+    (moves_to (Awaiting purpose count ri) []) (λ t h. cc) refl
 awaiting purpose count ri kind.CheckRequest its ai = silent (Awaiting purpose count ri) _
-    (moves_to (Awaiting purpose count ri) []) refl refl
+    (moves_to (Awaiting purpose count ri) []) (λ t h. cc) refl
 awaiting purpose count ri kind.CheckResponse its ai = silent (Awaiting purpose count ri) _
-    (moves_to (Awaiting purpose count ri) []) refl refl
+    (moves_to (Awaiting purpose count ri) []) (λ t h. cc) refl
 awaiting purpose count ri kind.Remove its ai = silent (Awaiting purpose count ri) _
-    (moves_to (Awaiting purpose count ri) []) refl refl
+    (moves_to (Awaiting purpose count ri) []) (λ t h. cc) refl
 awaiting purpose count ri kind.Verify its ai = silent (Awaiting purpose count ri) _
-    (moves_to (Awaiting purpose count ri) []) refl refl
+    (moves_to (Awaiting purpose count ri) []) (λ t h. cc) refl
 
 assigned : (by : Option ℕ) (tei : ℕ) (k : TeiKind) (its ai new : ℕ) (From : ℕ → Type 0)
     → StepObtains (Assigned by tei) From (assigned_receives by tei k its ai new)
 assigned by tei kind.Assigned its ai new From = either (Assigned by tei) From
     ((ai == tei) && not (is_got_by by its)) _ _
     (λ it.
-    gone by tei From) (silent (Assigned by tei) From (moves_to (Assigned by tei) []) refl refl)
+    gone by tei From) (silent (Assigned by tei) From (moves_to (Assigned by tei) []) (λ t h. refl)
+    refl)
 assigned by tei kind.CheckRequest its ai new From = either (Assigned by tei) From (names ai tei) _ _
     (λ it.
-    silent (Assigned by tei) From _ refl refl) (silent (Assigned by tei) From
-    (moves_to (Assigned by tei) []) refl refl)
+    silent (Assigned by tei) From _ (λ t h. refl) refl) (silent (Assigned by tei) From
+    (moves_to (Assigned by tei) []) (λ t h. refl) refl)
 assigned by tei kind.Remove its ai new From = either (Assigned by tei) From (names ai tei) _ _
     (λ it.
-    gone by tei From) (silent (Assigned by tei) From (moves_to (Assigned by tei) []) refl refl)
+    gone by tei From) (silent (Assigned by tei) From (moves_to (Assigned by tei) []) (λ t h. refl)
+    refl)
 assigned by tei kind.Request its ai new From = silent (Assigned by tei) From
-    (moves_to (Assigned by tei) []) refl refl
+    (moves_to (Assigned by tei) []) (λ t h. refl) refl
 assigned by tei kind.Denied its ai new From = silent (Assigned by tei) From
-    (moves_to (Assigned by tei) []) refl refl
+    (moves_to (Assigned by tei) []) (λ t h. refl) refl
 assigned by tei kind.CheckResponse its ai new From = silent (Assigned by tei) From
-    (moves_to (Assigned by tei) []) refl refl
+    (moves_to (Assigned by tei) []) (λ t h. refl) refl
 assigned by tei kind.Verify its ai new From = silent (Assigned by tei) From
-    (moves_to (Assigned by tei) []) refl refl
+    (moves_to (Assigned by tei) []) (λ t h. refl) refl
 
 step_obtains : (phase : Phase) (e : TerminalEvent) → StepObtains phase (FromEvent phase e)
     (terminal_step phase e)
-step_obtains Unassigned (event.Ask ri) = silent Unassigned _ (asks Assignment ri) refl refl
-step_obtains Unassigned (event.Want ri) = silent Unassigned _ (asks Establishment ri) refl refl
-step_obtains Unassigned (event.Heard m new) = silent Unassigned _ (moves_to Unassigned []) refl refl
-step_obtains Unassigned (event.T202 new) = silent Unassigned _ (moves_to Unassigned []) refl refl
-step_obtains Unassigned event.Leave = silent Unassigned _ (moves_to Unassigned []) refl refl
+step_obtains Unassigned (event.Ask ri) = silent Unassigned _ (asks Assignment ri) (λ t h. cc) refl
+step_obtains Unassigned (event.Want ri) = silent Unassigned _ (asks Establishment ri) (λ t h. cc)
+    refl
+step_obtains Unassigned (event.Heard m new) = silent Unassigned _ (moves_to Unassigned [])
+    (λ t h. cc) refl
+step_obtains Unassigned (event.T202 new) = silent Unassigned _ (moves_to Unassigned []) (λ t h. cc)
+    refl
+step_obtains Unassigned event.Leave = silent Unassigned _ (moves_to Unassigned []) (λ t h. cc) refl
 step_obtains (Awaiting purpose count ri) (event.Ask new) = silent (Awaiting purpose count ri) _
-    (moves_to (Awaiting purpose count ri) []) refl refl
+    (moves_to (Awaiting purpose count ri) []) (λ t h. cc) refl
 step_obtains (Awaiting purpose count ri) (event.Want new) = silent (Awaiting purpose count ri) _
-    (moves_to (Awaiting Establishment count ri) []) refl refl
+    (moves_to (Awaiting Establishment count ri) []) (λ t h. cc) refl
 step_obtains (Awaiting purpose count ri) (event.Heard m new) = awaiting purpose count ri m.kind m.ri
     m.ai
 step_obtains (Awaiting purpose count ri) (event.T202 new) = again purpose count ri new _
 step_obtains (Awaiting purpose count ri) event.Leave = silent (Awaiting purpose count ri) _
-    (moves_to Unassigned (Stop T202 ∷ [])) refl refl
+    (moves_to Unassigned (Stop T202 ∷ [])) (λ t h. cc) refl
 step_obtains (Assigned by tei) (event.Ask new) = silent (Assigned by tei) _
-    (moves_to (Assigned by tei) []) refl refl
+    (moves_to (Assigned by tei) []) (λ t h. refl) refl
 step_obtains (Assigned by tei) (event.Want new) = silent (Assigned by tei) _
-    (moves_to (Assigned by tei) []) refl refl
+    (moves_to (Assigned by tei) []) (λ t h. refl) refl
 step_obtains (Assigned by tei) (event.Heard m new) = assigned by tei m.kind m.ri m.ai new _
 step_obtains (Assigned by tei) (event.T202 new) = silent (Assigned by tei) _
-    (moves_to (Assigned by tei) []) refl refl
+    (moves_to (Assigned by tei) []) (λ t h. refl) refl
 step_obtains (Assigned by tei) event.Leave = gone by tei _
 
 -- ---- A user side.
 
 pub record Obtains (s : User) (From : ℕ → Type 0) (a : Reaction User) : Type 0 where
   pub got : (t : ℕ) → list_any (is_assignment t) a.effects.primitives ≡ true → From t
-  pub held : (t : ℕ) → tei_of a.after.management.terminal ≡ Some t → (tei_of s.management.terminal ≡ Some t)
+  pub held : (t : ℕ) → tei_of a.after.management.terminal ≡ Some t
+      → (tei_of s.management.terminal ≡ Some t)
       ⊎ (list_any (is_assignment t) a.effects.primitives ≡ true)
-  pub lost : (t : ℕ) → list_any (is_removal t) a.effects.primitives ≡ true → tei_of s.management.terminal
+  pub same : (t : ℕ) → tei_of a.after.management.terminal ≡ Some t
+      → (a.after.management.terminal ≡ s.management.terminal)
+      ⊎ (list_any (is_assignment t) a.effects.primitives ≡ true)
+  pub lost : (t : ℕ) → list_any (is_removal t) a.effects.primitives ≡ true
+      → tei_of s.management.terminal
       ≡ Some t
 
 abbrev Nowhere : ℕ → Type 0
@@ -225,7 +242,12 @@ Nowhere t = ⊥
 
 obtains_by : (s : User) (F G : ℕ → Type 0) (a : Reaction User) → ((t : ℕ) → F t → G t)
     → Obtains s F a → Obtains s G a
-obtains_by s F G a f h = record { got = λ t is. f t (h.got t is); held = h.held; lost = h.lost }
+obtains_by s F G a f h = record {
+  got = λ t is. f t (h.got t is);
+  held = h.held;
+  same = h.same;
+  lost = h.lost;
+}
 
 plainly : (s : User) (From : ℕ → Type 0) (a : Reaction User) → IsAside s a → Obtains s From a
 plainly s From a h = record {
@@ -234,6 +256,7 @@ plainly s From a h = record {
       (let no : false ≡ true = sym (plain_no_assignment t a.effects.primitives h.delivered) ∙ is in
       cc);
   held = λ t is. inl (ap tei_of (sym h.terminal) ∙ is);
+  same = λ t is. inl h.terminal;
   lost =
       λ t is.
       (let no : false ≡ true = sym (plain_no_removal t a.effects.primitives h.delivered) ∙ is in
@@ -251,7 +274,8 @@ only_first p xs ys none h = by_test (list_any p xs) (list_any p ys) none
     by_test false b none h = cc
 
 module _ (config : Config) (now : ℕ) (s : User) where
-  acting : (e : ℕ → TerminalEvent) → Obtains s (FromEvent s.management.terminal (e (next_reference s.management.random)))
+  acting : (e : ℕ → TerminalEvent)
+      → Obtains s (FromEvent s.management.terminal (e (next_reference s.management.random)))
       (terminal_acts config now e s)
   unfolding terminal_acts manages
   acting e =
@@ -279,6 +303,11 @@ module _ (config : Config) (now : ℕ) (s : User) where
             (plain_no_assignment t rest.effects.primitives plain.delivered) is);
         held = λ t is. elim (h.held t (ap tei_of (sym plain.terminal) ∙ is)) [
           | inl before ↦ inl before
+          | inr reported ↦ inr (any_more (is_assignment t) (outcomes ++ removed)
+              rest.effects.primitives (any_more (is_assignment t) outcomes removed reported))
+        ];
+        same = λ t is. elim (h.same t (ap tei_of (sym plain.terminal) ∙ is)) [
+          | inl before ↦ inl (plain.terminal ∙ before)
           | inr reported ↦ inr (any_more (is_assignment t) (outcomes ++ removed)
               rest.effects.primitives (any_more (is_assignment t) outcomes removed reported))
         ];
@@ -363,7 +392,7 @@ module _ (config : Config) (now : ℕ) where
       or_unmoved_aside (Err kind) op = (aside_links now).still s
   expiring s timer None =
       let h = acting config now (with_stopped timer s) event.T202 in
-      record { got = h.got; held = h.held; lost = h.lost }
+      record { got = h.got; held = h.held; same = h.same; lost = h.lost }
 
   requesting : (asked : Request) (s : User)
       → IfOk (user_requested config asked now s) (Obtaining s)
@@ -371,7 +400,7 @@ module _ (config : Config) (now : ℕ) where
       user_asked of_links config (by_events config now Obtaining AnyRequest
       (λ s. acting config now s event.Ask) (λ s. acting config now s event.Want)
       (λ s. acting config now s (λ ri. event.Leave))
-      (λ pending s a h. record { got = h.got; held = h.held; lost = h.lost })
+      (λ pending s a h. record { got = h.got; held = h.held; same = h.same; lost = h.lost })
       (λ at s. plainly s Nowhere _ (record {
         terminal = refl;
         timers = refl;

@@ -267,7 +267,7 @@ module _ (c : Configs) where
           none n None is = cc
           none n (Some tei) is = cc
 
-  single_from : (b : Bus) → KeepsApart b → IsSingle b
+  pub single_from : (b : Bus) → KeepsApart b → IsSingle b
   single_from b h = λ tei i j t u hi hj ht hu.
       h.claims tei i j t u hi hj (some_first (holds tei t) _ ht) (some_first (holds tei u) _ hu)
 

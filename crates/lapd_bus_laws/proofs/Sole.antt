@@ -67,13 +67,15 @@ module _ (c : Configs) (id : LinkId) (low : id.tei < 127) (i : ℕ) where
   aside_does event t ok h quiet =
       let a = reaction (user_behaviour c.user) event t in
       let o = event_obtains c.user event t ok in
-      let unheld : tei_of t.now.management.terminal ≡ Some id.tei → ⊥ = has_not id.tei (tei_of t.now.management.terminal)
+      let unheld : tei_of t.now.management.terminal ≡ Some id.tei → ⊥ =
+      has_not id.tei (tei_of t.now.management.terminal)
       h.unheld in
       record {
-        unheld = has_none id.tei (tei_of a.after.management.terminal) (λ is. elim (o.held id.tei is) [
-          | inl before ↦ unheld before
-          | inr got ↦ (let no : true ≡ false = sym got ∙ quiet in cc)
-        ]);
+        unheld =
+            has_none id.tei (tei_of a.after.management.terminal) (λ is. elim (o.held id.tei is) [
+              | inl before ↦ unheld before
+              | inr got ↦ (let no : true ≡ false = sym got ∙ quiet in cc)
+            ]);
         silent = stays_silent c.user id low event t h.silent
             ((λ any. quiet), (λ lost. unheld (o.lost id.tei lost)));
       }

@@ -89,7 +89,11 @@ claims tei t = holds tei t || list_any (is_offer tei t.now.management.terminal) 
 abbrev pub is_taken : ℕ → SideView User → Bool
 is_taken tei t = holds tei t || is_sent tei t
 
+-- no two terminals hold this TEI
+abbrev pub IsHeldOnce : ℕ → Bus → Type 0
+IsHeldOnce tei b = (i j : ℕ) (t u : SideView User) → slice_get b.terminals i ≡ Some t
+    → slice_get b.terminals j ≡ Some u → holds tei t ≡ true → holds tei u ≡ true → i ≡ j
+
 -- no two terminals hold the same TEI
 abbrev pub IsSingle : Bus → Type 0
-IsSingle b = (tei i j : ℕ) (t u : SideView User) → slice_get b.terminals i ≡ Some t
-    → slice_get b.terminals j ≡ Some u → holds tei t ≡ true → holds tei u ≡ true → i ≡ j
+IsSingle b = (tei : ℕ) → IsHeldOnce tei b

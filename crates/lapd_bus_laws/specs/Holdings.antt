@@ -10,7 +10,7 @@ use Rattle.lapd_interface_laws.specs.Addressed.{those_for}
 use Rattle.lapd_interface_laws.specs.Interface.{Configs, user_behaviour, network_behaviour}
 use Rattle.lapd_interface_laws.specs.Premises.{is_assignment}
 use Rattle.lapd_interface_laws.specs.SideView.{SideView, reaction, does}
-use Rattle.lapd_bus_laws.specs.Assignments.{is_taken, awaits, is_answered, claims, IsSingle}
+use Rattle.lapd_bus_laws.specs.Assignments.{is_taken, awaits, is_answered, claims}
 use Rattle.lapd_bus_laws.specs.Bus.{Bus, BusEvent, OfTerminal, OfNetwork, Join, NewTerminal, new_bus, OverhearsNothing, KeepsTerminal, on_line_of, after_events}
 use Rattle.lapd_bus_laws.specs.Links.{Throughout, OfOthers, IsTimelyFor, AssignsOthers}
 
@@ -59,15 +59,26 @@ pub record KeepsTeisApart (c : Configs) (e : BusEvent) (b : Bus) : Type 0 where
   pub requests : RequestsByItsOwn c e b
   pub joins : JoinsWithFree e b
 
--- A bus that is reached: events lead to it from a new bus on which no two terminals have the same
--- fixed TEI, and each event keeps the premises.
+-- No two terminals claim the same TEI, and no two await one by the same reference.
+pub record AreApart (b : Bus) : Type 0 where
+  pub teis : (tei i j : ℕ) (t u : SideView User) → slice_get b.terminals i ≡ Some t
+      → slice_get b.terminals j ≡ Some u → claims tei t ≡ true → claims tei u ≡ true → i ≡ j
+  pub references : (ri i j : ℕ) (t u : SideView User) → slice_get b.terminals i ≡ Some t
+      → slice_get b.terminals j ≡ Some u → awaits ri t ≡ true → awaits ri u ≡ true → i ≡ j
+
+-- A bus that is reached: any events lead from a new bus to one whose terminals are apart, as those
+-- of a new bus are whose fixed TEIs differ, or of a bus after checks of all TEIs. From there events
+-- lead to this bus that keep the premises.
 pub record IsReached (c : Configs) (b : Bus) : Type 0 where
   pub known : List ℕ
   pub terminals : List NewTerminal
+  pub before : List BusEvent
+  pub of_bus : Throughout c (λ e b. IsOfBus e) before (new_bus c known terminals)
+  pub start : AreApart (after_events c before (new_bus c known terminals))
   pub events : List BusEvent
-  pub single : IsSingle (new_bus c known terminals)
-  pub apart : Throughout c (KeepsTeisApart c) events (new_bus c known terminals)
-  pub reached : b ≡ after_events c events (new_bus c known terminals)
+  pub apart : Throughout c (KeepsTeisApart c) events
+      (after_events c before (new_bus c known terminals))
+  pub reached : b ≡ after_events c events (after_events c before (new_bus c known terminals))
 
 -- ---- A holding.
 
@@ -81,10 +92,14 @@ Assigns c tei other b = ⊥
 abbrev pub IsOnlyClaimant : ℕ → ℕ → Bus → Type 0
 IsOnlyClaimant tei i b = OfOthers (λ t. claims tei t ≡ false) i b
 
--- No octets of the link are in transit to the network, or to the terminal at this index.
+-- No octets of the link are in transit to the network.
+abbrev pub IsClearToNetwork : LinkId → Bus → Type 0
+IsClearToNetwork id b = (j : ℕ) (t : SideView User) → slice_get b.terminals j ≡ Some t
+    → those_for side.User id t.outgoing ≡ []
+
+-- Nor are any to the terminal at this index.
 pub record IsClear (id : LinkId) (i : ℕ) (b : Bus) : Type 0 where
-  pub to_network : (j : ℕ) (t : SideView User) → slice_get b.terminals j ≡ Some t
-      → those_for side.User id t.outgoing ≡ []
+  pub to_network : IsClearToNetwork id b
   pub to_terminal : (t : SideView User) → slice_get b.terminals i ≡ Some t
       → those_for side.Network id t.incoming ≡ []
 

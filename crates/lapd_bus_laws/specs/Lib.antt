@@ -3,6 +3,8 @@ pub mod Assignments
 pub mod Links
 pub mod Holdings
 pub mod Freeing
+pub mod Healing
 pub mod Calls
 pub mod Runs
 pub mod HoldingRuns
+pub mod HealingRuns

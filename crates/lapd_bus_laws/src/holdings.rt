@@ -10,7 +10,7 @@ ghost use Rattle.lapd_interface_laws.specs.SideView.{SideView};
 ghost use Rattle.lapd_bus_laws.specs.Assignments.{claims, IsSingle};
 ghost use Rattle.lapd_bus_laws.specs.Bus.{Bus, BusEvent, NewTerminal, new_bus, bus_step, after_events, from_now, interface_of, moves_along};
 ghost use Rattle.lapd_bus_laws.specs.Freeing.{KnowsTeisInUse, LosesNone};
-ghost use Rattle.lapd_bus_laws.specs.Holdings.{AssignsFree, KeepsTeisApart, IsReached, Assigns, IsOnlyClaimant, IsClear, KeepsHolding};
+ghost use Rattle.lapd_bus_laws.specs.Holdings.{AssignsFree, KeepsTeisApart, IsReached, Assigns, IsOnlyClaimant, IsClear, IsClearToNetwork, KeepsHolding};
 ghost use Rattle.lapd_bus_laws.specs.Links.{Throughout, IsNobodyElses};
 
 /// On a bus no two terminals ever hold the same TEI.
@@ -27,28 +27,36 @@ ghost use Rattle.lapd_bus_laws.specs.Links.{Throughout, IsNobodyElses};
 /// Nothing is said of when a TEI is freed, nor of what a network side knows that restarts.
 /// Terminals may join and give up their TEIs at any moment, octets may be lost for each terminal,
 /// and timers may expire at any moment.
+///
+/// `reached`: the premises may also begin later, on any bus whose terminals are apart (`IsReached`),
+/// as after checks of all TEIs ([`each_check_heals_its_tei`]).
+///
+/// [`each_check_heals_its_tei`]: crate::each_check_heals_its_tei
 pub fn every_bus_is_single()
     ensures single { (c : Configs) (known : List ℕ) (terminals : List NewTerminal)
         (events : List BusEvent) → IsSingle (new_bus c known terminals)
         → Throughout c (KeepsTeisApart c) events (new_bus c known terminals)
         → IsSingle (after_events c events (new_bus c known terminals)) }
+    ensures reached { (c : Configs) (b : Bus) → IsReached c b → IsSingle b }
 {}
 
 /// Each holding of a TEI is safe: from the moment at which the network assigns the TEI, for as long
 /// as it does not assign it again.
 ///
-/// Take a bus that events lead to from a new one, while the premises of [`every_bus_is_single`]
-/// hold, and an event in which the network assigns the TEI. At that moment no octets of the link
-/// are in transit to the network, nor to the terminal that may take the TEI (`IsClear`). Then, for
-/// any events in which T200 of the link waits for its answer, the network neither restarts nor
-/// assigns the TEI again, the terminal is not replaced, no other one joins with the TEI, and no
-/// terminal requests by a reference of which an assignment is in transit to it (`KeepsHolding`):
+/// Take a bus that is reached while the premises of [`every_bus_is_single`] hold, from a new one or
+/// from one whose terminals are apart, and an event in which the network assigns the TEI. At that
+/// moment no octets of the link are in transit to the network, nor to the terminal that may take
+/// the TEI (`IsClear`). Then, for any events in which T200 of the link waits for its answer, the
+/// network neither restarts nor assigns the TEI again, the terminal is not replaced, no other one
+/// joins with the TEI, and no terminal requests by a reference of which an assignment is in transit
+/// to it (`KeepsHolding`):
 ///
 /// - `one`: at most one terminal holds the TEI or may still take it.
 /// - `safe`: the link between the network and that terminal is safe, in both directions, as for two
 ///   sides (`each_link_is_safe` of `lapd_interface_laws`). Primitives and messages count from the
 ///   assignment on.
-/// - `nobody_elses`: no other terminal delivers anything about the link.
+/// - `nobody_elses`: no other terminal delivers anything about the link, with octets of it in
+///   transit to the terminal or not.
 ///
 /// The TEI may be freed, checked and removed meanwhile, and given up by its terminal. Other TEIs
 /// may be assigned.
@@ -69,7 +77,7 @@ pub fn every_holding_is_safe()
     ensures nobody_elses { (c : Configs) (id : LinkId) (i : ℕ) (b : Bus) (e : BusEvent)
         (after : List BusEvent) → id.tei < 127 → IsReached c b → KeepsTeisApart c e b
         → Assigns c id.tei e b → IsOnlyClaimant id.tei i (bus_step c e b)
-        → IsClear id i (bus_step c e b)
+        → IsClearToNetwork id (bus_step c e b)
         → Throughout c (KeepsHolding c id i) after (from_now (bus_step c e b))
         → IsNobodyElses id i (after_events c after (from_now (bus_step c e b))) }
 {}

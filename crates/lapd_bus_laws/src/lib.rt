@@ -16,7 +16,8 @@
 //! - `Holdings`: the premises on TEIs (`KeepsTeisApart`), and the holding of a TEI, from its
 //!   assignment to the next (`KeepsHolding`).
 //! - `Freeing`: another premise, on when a TEI is freed (`LosesNone`). `Calls`: which event a call
-//!   of a side in code is. `Runs`, `HoldingRuns`: worked runs.
+//!   of a side in code is. `Healing`: a check of a TEI on any bus, and the premises under which it
+//!   leaves the TEI to one terminal (`Heals`). `Runs`, `HoldingRuns`, `HealingRuns`: worked runs.
 //!
 //! The laws:
 //!
@@ -30,19 +31,26 @@
 //! - [`each_fixed_tei_is_safe`]: the same from the first event on, for fixed TEIs.
 //! - [`freeing_keeps_assignments`]: a premise on freeing TEIs implies that on assigning them.
 //! - [`calls_are_bus_events`]: the calls of n + 1 sides in code are events of the bus.
+//! - [`each_check_heals_its_tei`]: after a check of a TEI at most one terminal holds it, whatever
+//!   the bus held before.
 //! - [`bus_premises_can_be_met`], [`each_bus_premise_is_needed`],
-//!   [`each_holding_premise_is_needed`]: worked runs.
+//!   [`each_holding_premise_is_needed`], [`healing_premises_can_be_met`],
+//!   [`each_healing_premise_is_needed`]: worked runs.
 //!
 //! [`NetSide`]: lapd_sides::NetSide
 //! [`UserSide`]: lapd_sides::UserSide
 #![tactic(auto)]
 
 mod calls;
+mod healing;
 mod holdings;
 mod laws;
 mod runs;
 
 pub use calls::calls_are_bus_events;
+pub use healing::{
+    each_check_heals_its_tei, each_healing_premise_is_needed, healing_premises_can_be_met,
+};
 pub use holdings::{
     each_fixed_tei_is_safe, every_bus_is_single, every_holding_is_safe, freeing_keeps_assignments,
 };
