@@ -38,7 +38,7 @@ _lapd() {
                 bus) offered+=" --terminals" ;;
                 pair) offered+=" --k --n200 --room --recovery-user --recovery-net --ladder" ;;
                 loop) offered+=" --k --n200 --room --recovery-user --recovery-net" ;;
-                net) offered+=" --listen --terminals --idle-limit" ;;&
+                net) offered+=" --listen --clear --terminals --idle-limit" ;;&
                 user) offered+=" --connect" ;;&
                 net | user)
                     offered+=" --pri --tei --sapi16 --k --n200 --room --recovery --t200 --t201 --t202 --t203 --seed"

@@ -6,11 +6,12 @@ use crate::job::{SideSetup, config_of};
 use lapd_cli_console::Script;
 use lapd_cli_io::{ConnectionSetup, Connections, NoTaps, Notes, TapSetup, Taps, connect_side};
 use lapd_cli_live::{
-    Impaired, LiveSide, LiveStop, Printer, Style, Tapped, frames_of_step, live_script, live_session,
+    Impaired, LiveFault, LiveSide, LiveStop, Printer, Style, Tapped, frames_of_step, live_script,
+    live_session,
 };
 use lapd_cli_options::{Interface, LiveOptions};
 use lapd_cli_script::ScriptFault;
-use lapd_sides::{Acts, Config, EitherSide, NetSide, Side, UserSide};
+use lapd_sides::{Acts, Config, EitherSide, NetSide, Request, Side, UserSide};
 use std::alloc::AllocError;
 use std::io::{IsTerminal, Read, Write};
 use std::random::RandomSource;
@@ -45,8 +46,26 @@ pub fn do_live<R: Read, W: Write>(
         return Err(Stop::Script(ScriptFault::Memory));
     };
     let most = frames_of_step(options.terminals);
-    let live = LiveSide::new(rt.alloc(), made, acts, line, printer, most);
-    serve(rt, &notes, side, live, script, options.serve).map_err(stop_of)
+    let mut live = LiveSide::new(rt.alloc(), made, acts, line, printer, most);
+    match clear(&mut live, options.clear) {
+        Ok(()) => serve(rt, &notes, side, live, script, options.serve).map_err(stop_of),
+        Err(fault) => {
+            close(live);
+            Err(stop_of(LiveStop::from(fault)))
+        }
+    }
+}
+
+/// Removes the TEIs of all terminals, if the option is present, before anything else is sent.
+fn clear<W: Write>(
+    live: &mut LiveSide<Line<'_>, &mut W>,
+    is_requested: bool,
+) -> Result<(), LiveFault> {
+    if is_requested {
+        live.ask_first(Request::RemoveAll)
+    } else {
+        Ok(())
+    }
 }
 
 /// The line to the other side, and the places where its frames are recorded.

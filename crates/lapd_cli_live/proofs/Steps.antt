@@ -22,7 +22,7 @@ use Rattle.lapd_cli_line.specs.declared.impairment.Impairment.{Impairment}
 use Rattle.lapd_cli_live.specs.Entries.{Entry, Prints, Received, moment_after}
 use Rattle.lapd_cli_live.specs.Printers.{PrintsOn, shown}
 use Rattle.lapd_cli_live.specs.Log.{Around, CarriesOut, CarriesOutAll, Chain, Happen, HappenBeside, IsCarriedOut, LiveEvent, LiveState, ReadsClock, Shows, is_matched, moment_of, read_at}
-use Rattle.lapd_cli_live.specs.Steps.{CatchesUp, DoesDue, EndsByFrame, Continues, IsReached, HasReceived, IsAsked, IsServed, Looks, LooksInVain, Receives, Step, TakesAndContinues, TakesAt, TakesFrame, WaitsFor, ended_by, refusal_events}
+use Rattle.lapd_cli_live.specs.Steps.{CatchesUp, DoesDue, EndsByFrame, Continues, IsReached, HasReceived, IsExecuted, IsServed, Looks, LooksInVain, Receives, Step, TakesAndContinues, TakesAt, TakesFrame, WaitsFor, ended_by, refusal_events}
 use Rattle.lapd_cli_line.proofs.IoEvents.{adds_none, adds_same}
 use Rattle.lapd_cli_live.proofs.Log.{chain_more, happen_both, happen_none, live, prints_none}
 
@@ -191,12 +191,10 @@ all_due now a b side at some rests is = record {
 
 -- ---- Requests.
 
-pub asked : (request : Request) (a b c : LiveState) (side : EitherSide) (result : Result ⊤ SideFault) (acts : Effects) (refusal : List LiveEvent) (d : LiveState)
-    → CatchesUp until.End a b → Answers request (moment_of b) result b.side side acts → side_of side ≡ side_of b.side
-    → IsCarriedOut acts (record b { side = side }) c → refusal ≡ refusal_events result → HappenBeside refusal c d → IsAsked request a d
-asked request a b c side result acts refusal d caught answers is carried refuses beside = record {
-  ready = b;
-  catches_up = caught;
+pub executed : (request : Request) (b c : LiveState) (side : EitherSide) (result : Result ⊤ SideFault) (acts : Effects) (refusal : List LiveEvent) (d : LiveState)
+    → Answers request (moment_of b) result b.side side acts → side_of side ≡ side_of b.side
+    → IsCarriedOut acts (record b { side = side }) c → refusal ≡ refusal_events result → HappenBeside refusal c d → IsExecuted request b d
+executed request b c side result acts refusal d answers is carried refuses beside = record {
   result = result;
   acts = acts;
   answers = subst (λ (x : EitherSide). Answers request (moment_of b) result b.side x acts) (sym (beside.side ∙ carried.beside.side)) answers;

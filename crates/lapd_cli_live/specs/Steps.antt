@@ -207,17 +207,28 @@ abbrev pub refusal_events : Result ⊤ SideFault → List LiveEvent
 refusal_events (Ok done) = []
 refusal_events (Err fault) = Shows (refused fault.kind) ∷ []
 
--- The side catches up with the clock, and then executes a request. The output is carried out.
+-- A request is executed at the moment of the clock that was read last. The output is carried out.
+pub record IsExecuted (request : Request) (a b : LiveState) : Type 0 where
+  pub result : Result ⊤ SideFault
+  pub acts : Effects
+  pub answers : Answers request (moment_of a) result a.side b.side acts
+  pub given : List LiveEvent
+  pub carries : CarriesOut acts given
+  pub moment : moment_of b ≡ moment_of a
+  pub happen : Happen (given ++ refusal_events result) a b
+
+-- The side catches up with the clock, and then executes a request.
 pub record IsAsked (request : Request) (a b : LiveState) : Type 0 where
   pub ready : LiveState
   pub catches_up : CatchesUp until.End a ready
-  pub result : Result ⊤ SideFault
-  pub acts : Effects
-  pub answers : Answers request (moment_of ready) result ready.side b.side acts
-  pub given : List LiveEvent
-  pub carries : CarriesOut acts given
-  pub moment : moment_of b ≡ moment_of ready
-  pub happen : Happen (given ++ refusal_events result) ready b
+  pub executes : IsExecuted request ready b
+
+-- The clock is read, and then a request is executed; nothing is received before.
+pub record IsAskedFirst (request : Request) (a b : LiveState) : Type 0 where
+  pub now : ℕ
+  pub ready : LiveState
+  pub reads : ReadsClock now a ready
+  pub executes : IsExecuted request ready b
 
 -- ---- Spans.
 

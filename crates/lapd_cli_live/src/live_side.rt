@@ -50,7 +50,7 @@ pub struct LiveSide<O, W> {
 
 impl<O: Outside, W: Write> LiveSide<O, W> {
     ghost use Rattle.lapd_cli_live.specs.Log.{Between, IsCarriedOut, ReadsClock};
-    ghost use Rattle.lapd_cli_live.specs.Steps.{CatchesUp, DoesDue, EndsAfter, HasReceived, IsAsked, IsServed, Looks, Step, TakesAt, WaitsFor};
+    ghost use Rattle.lapd_cli_live.specs.Steps.{CatchesUp, DoesDue, EndsAfter, HasReceived, IsAsked, IsAskedFirst, IsExecuted, IsServed, Looks, Step, TakesAt, WaitsFor};
 
     /// A side with these surroundings. `acts` is the buffer for the output of its calls. A step
     /// receives at most `most` frames, as [`frames_of_step`] returns it for its connections.
@@ -214,7 +214,31 @@ impl<O: Outside, W: Write> LiveSide<O, W> {
         ensures { OnOk result
             (Between O.io_events O.impaired_by W.contents self.old self.new (IsAsked request)) }
     {
-        let now = self.catch_up()?;
+        self.catch_up()?;
+        self.execute(request)
+    }
+
+    /// Reads the clock, and submits a request to the side before anything is received. If it is
+    /// refused, the reason is printed.
+    ///
+    /// # Errors
+    ///
+    /// Those of [`Outside`], `Device` and `Memory`.
+    pub fn ask_first(&mut self, request: Request) -> Result<(), LiveFault>
+        ensures { OnOk result (Between O.io_events O.impaired_by W.contents self.old self.new
+            (IsAskedFirst request)) }
+    {
+        self.read_clock()?;
+        self.execute(request)
+    }
+
+    /// Submits a request to the side at the printer's moment. If it is refused, the reason is
+    /// printed.
+    fn execute(&mut self, request: Request) -> Result<(), LiveFault>
+        ensures { OnOk result (Between O.io_events O.impaired_by W.contents self.old self.new
+            (IsExecuted request)) }
+    {
+        let now = self.printer.moment();
         let answered = self.side.request(request, now, &mut self.acts);
         self.carry_out()?;
         match answered {

@@ -50,6 +50,7 @@ usual_options = record {
   quiet = false;
   serve = false;
   keep = false;
+  clear = false;
   terminals = 1;
   idle_limit = None;
   pcap = None;

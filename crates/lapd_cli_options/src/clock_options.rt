@@ -4,10 +4,12 @@ use crate::invocation::{Clock, LiveOptions};
 use crate::no_invocation::NoInvocation;
 use crate::script_command::ScriptCommand;
 use clap::ArgMatches;
-use lapd_cli_values::{CONNECTED_TERMINALS, GSMTAP, IDLE_LIMIT, number_written, terminals_written};
+use lapd_cli_values::{
+    CONNECTED_TERMINALS, GSMTAP, IDLE_LIMIT, KNOWN_TEI, number_written, terminals_written,
+};
 
 // The flags that require the real clock.
-const REAL_FLAGS: [&str; 4] = ["time", "quiet", "serve", "keep"];
+const REAL_FLAGS: [&str; 5] = ["time", "quiet", "serve", "keep", "clear"];
 
 // The options with a value that require the real clock.
 const REAL_OPTIONS: [&str; 5] = ["pcap", "ladder", "gsmtap", "terminals", "idle-limit"];
@@ -65,12 +67,28 @@ fn live_options_of<'a>(given: &ArgMatches<'a>) -> Result<LiveOptions<'a>, NoInvo
         quiet: given.get_flag("quiet"),
         serve: given.get_flag("serve"),
         keep: given.get_flag("keep"),
+        clear: clear_of(given)?,
         terminals,
         idle_limit: idle_limit_of(given, terminals)?,
         pcap: given.get_str("pcap"),
         ladder: given.get_str("ladder"),
         gsmtap: given.get_str(GSMTAP.name),
     })
+}
+
+// Whether the network side first removes the TEIs of all terminals. With a known TEI, the option is
+// refused: the side would ignore the request.
+fn clear_of<'a>(given: &ArgMatches<'a>) -> Result<bool, NoInvocation<'a>> {
+    if !given.get_flag("clear") {
+        return Ok(false);
+    }
+    if given.get_strs(KNOWN_TEI.name).is_some() {
+        return Err(NoInvocation::NotBoth("clear", KNOWN_TEI.name));
+    }
+    if given.get_flag("pri") {
+        return Err(NoInvocation::NotBoth("clear", "pri"));
+    }
+    Ok(true)
 }
 
 // The number of terminals that the network side accepts.

@@ -368,6 +368,11 @@ Lines of the script. SAPI is 0, 16 or 63. TEI is 0 to 127; 127 means all termina
   give SAPI TEI HEX     layer 3 submits a message of at most 260 octets (DL-DATA request)
   unit SAPI TEI HEX     layer 3 sends unit data of at most 260 octets (DL-UNIT DATA request)
   check TEI             checks whether a TEI is in use, and by one terminal alone
+  check-all             sends one check request to all terminals; each with a TEI answers with it
+  remove-all            removes all TEIs from the terminals, if this side holds none
+
+Check only TEIs that are held. A check of a TEI that no terminal has may end after the TEI was
+assigned, and then frees it under its terminal. `check-all` has no effect during a check.
 
 Output of a line: the frame that was read, the frames that are sent, and then the reports to the
 layers above:
@@ -457,6 +462,10 @@ frames in transit are lost, and so are those that are sent while there is no con
 error reports each lost connection.
 Without --keep a closed connection ends `run`, and a connection that fails ends the script with
 `port`, its fault and exit status 3.
+
+With --clear, when the first connection is made, the program removes all TEIs from the terminals, as
+`remove-all` does, before it sends anything else. Terminals whose TEIs a former run assigned request
+new ones. A terminal that connects later keeps its TEI.
 
 With --terminals N the program accepts up to N connections, each of a terminal on the bus. Each
 frame of this side is sent to all of them, and only terminals with its TEI use it. The script begins

@@ -148,6 +148,10 @@ pub const KEEP: &str = "\
 With --clock real, accepts or makes the next connection when one is
 lost";
 
+pub const CLEAR: &str = "\
+With --clock real, first removes the TEIs of all terminals, as
+`remove-all` does";
+
 pub const LIVE_PCAP: &str = "\
 With --clock real, writes each frame to this file, as pcap of link
 type 177 (LINUX_LAPD)";

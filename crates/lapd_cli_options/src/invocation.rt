@@ -78,6 +78,8 @@ pub struct LiveOptions<'a> {
     pub serve: bool,
     /// Whether a lost connection is replaced by the next one.
     pub keep: bool,
+    /// Whether the network side first removes the TEIs of all terminals. It then knows no TEI.
+    pub clear: bool,
     /// The number of terminals that the network side accepts, 1 to 127. On the user side it is 1.
     pub terminals: u8,
     /// How long a terminal may go without sending a whole frame, 1 to 3,600,000 milliseconds; no
@@ -98,6 +100,7 @@ impl LiveOptions<'static> {
         quiet: false,
         serve: false,
         keep: false,
+        clear: false,
         terminals: 1,
         idle_limit: None,
         pcap: None,

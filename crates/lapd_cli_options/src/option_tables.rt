@@ -46,6 +46,7 @@ pub(crate) const NET: &[&[CommandOption]] = &[
     INTERFACE,
     LIVE,
     &[
+        CommandOption::Flag("clear", help::CLEAR),
         CommandOption::BareNumber(CONNECTED_TERMINALS),
         CommandOption::BareNumber(IDLE_LIMIT),
     ],

@@ -59,6 +59,7 @@ lapd net --listen=a:1 --clock=real --terminals=127 --pcap line.pcap --gsmtap b:4
 lapd net --listen=a:1 --clock=real --ladder rungs --pcap=line.pcap => net 1 3 512 enquiry 3 3 512 enquiry 1000 1000 2000 10000 with-16 - at a:1 real 1 line.pcap - ladder rungs
 lapd user --ladder=/dev/stdout --connect=a:1 --clock=real --quiet => user 1 3 512 enquiry 3 3 512 enquiry 1000 1000 2000 10000 with-16 - at a:1 real 1 - - quiet ladder /dev/stdout
 lapd net --listen=a:1 --clock=real --serve => net 1 3 512 enquiry 3 3 512 enquiry 1000 1000 2000 10000 with-16 - at a:1 real 1 - - serve
+lapd net --listen=a:1 --clear --clock=real => net 1 3 512 enquiry 3 3 512 enquiry 1000 1000 2000 10000 with-16 - at a:1 real 1 - - clear
 lapd user --keep --connect=a:1 --clock=real => user 1 3 512 enquiry 3 3 512 enquiry 1000 1000 2000 10000 with-16 - at a:1 real 1 - - keep
 lapd net --listen=a:1 --clock=real --terminals=2 --idle-limit 3600000 => net 1 3 512 enquiry 3 3 512 enquiry 1000 1000 2000 10000 with-16 - at a:1 real 2 - - idle 3600000
 lapd net --listen=a:1 => net 1 3 512 enquiry 3 3 512 enquiry 1000 1000 2000 10000 with-16 - at a:1 open
@@ -240,6 +241,9 @@ lapd net --listen=a:1 --terminals 1 => error: --terminals requires --clock real~
 lapd net --listen=a:1 --serve => error: --serve requires --clock real~
 lapd user --connect=a:1 --clock=script --keep => error: --keep requires --clock real~
 lapd net --listen=a:1 --idle-limit 1000 => error: --idle-limit requires --clock real~
+lapd net --listen=a:1 --clear => error: --clear requires --clock real~
+lapd net --listen=a:1 --clock=real --clear --tei 64 => error: --clear cannot be used with --tei~
+lapd net --listen=a:1 --clock=real --pri --clear => error: --clear cannot be used with --pri~
 lapd net --listen=a:1 --clock=real --idle-limit 1000 => error: --idle-limit requires --terminals above 1~
 lapd net --listen=a:1 --clock=real --terminals=1 --idle-limit=1000 => error: --idle-limit requires --terminals above 1~
 lapd net --listen=a:1 --clock=real --terminals=2 --idle-limit=0 => error: invalid value '0' for '--idle-limit <MS>': not a number from 1 to 3600000 in decimal digits~
@@ -325,6 +329,7 @@ fn show(text: &mut String, chosen: &Invocation<'_>) {
         let _ = text.push_str(if options.quiet { " quiet" } else { "" });
         let _ = text.push_str(if options.serve { " serve" } else { "" });
         let _ = text.push_str(if options.keep { " keep" } else { "" });
+        let _ = text.push_str(if options.clear { " clear" } else { "" });
         if let Some(limit) = options.idle_limit {
             let _ = write!(text, " idle {limit}");
         }

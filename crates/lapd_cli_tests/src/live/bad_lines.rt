@@ -13,17 +13,17 @@ use std::test::Fail;
 const BAD: &str =
     "tick 5|read 0|read 3600001|read 1 1|read |run 0|run x|wait|wait 0|expect|expect 5|expect  5|expect a 0|\
     expect a|expect a 3600001|state 0|state 0 128|state 1 64|state 0 64 1|stats 1|ask|establish 0|give 0 0801|\
-    check|remove|remove 128|remove 64 1|Read|busy|busy 0 64|busy 0 on|busy 0 64 no|busy 0 64 on 1|busy 0 128 on|impair|impair x|impair 101|\
+    check|remove|check-all 64|remove-all 0|remove 128|remove 64 1|Read|busy|busy 0 64|busy 0 on|busy 0 64 no|busy 0 64 on 1|busy 0 128 on|impair|impair x|impair 101|\
     impair 101%|impair %|impair 5%%|impair 20% 3600001|impair 20% x|impair 20% 1 1";
 
 const GOOD: &str =
     "read 1|read 3600000|run 1|wait 1|state|state 0 64|state 16 5|stats|establish 0 64|give 0 64 0801|\
-    check 64|remove 64|unit 0 127 01|# tick||run|read|busy 0 64 on|busy 16 5 off|impair 0|impair 100%|impair 20% 0|\
+    check 64|remove 64|check-all|remove-all|unit 0 127 01|# tick||run|read|busy 0 64 on|busy 16 5 off|impair 0|impair 100%|impair 20% 0|\
     impair 20 3600000";
 
 /// Lines of the user side.
 const BAD_OF_USER: &str =
-    "tick 5|check 64|remove 64|establish 0 64|give 0 64 0801|state 0 64|ask 1|release|establish 1|\
+    "tick 5|check 64|remove 64|check-all|remove-all|establish 0 64|give 0 64 0801|state 0 64|ask 1|release|establish 1|\
     busy 0 64 on|busy 0|busy on|impair -1%";
 
 const GOOD_OF_USER: &str =

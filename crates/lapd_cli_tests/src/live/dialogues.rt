@@ -29,6 +29,20 @@ remove 64
 10 N>U SAPI 63 TEI 127 C UI P=0 info=0f00000681
 10 tei free 64
 10 0 64 released
+=== all TEIs are checked and removed, once none is held (Q.921 5.3.3, 5.3.4)
+net file done
+---
+check-all
+remove-all
+remove 64
+remove-all
+---
+0 N>U SAPI 63 TEI 127 C UI P=0 info=0f000004ff
+0 N>U SAPI 63 TEI 127 C UI P=0 info=0f00000681
+0 N>U SAPI 63 TEI 127 C UI P=0 info=0f00000681
+0 tei free 64
+0 N>U SAPI 63 TEI 127 C UI P=0 info=0f000006ff
+0 N>U SAPI 63 TEI 127 C UI P=0 info=0f000006ff
 === T200 expires N200 times, and once more (Q.921 5.5.1.3)
 net file done
 ---
