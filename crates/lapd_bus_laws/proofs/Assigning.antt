@@ -1,10 +1,9 @@
 -- Each event of the network is a step of its assigner, which sends the messages of this step, or
 -- leaves the assigner unchanged and assigns no TEI.
-use Rattle.std.proofs.Common.{◌≡◌, ◌⊎◌, inl, inr, ℕ, List, [], ◌∷◌, Bool, true, false, if◌then◌else◌, Option, Some, None, Result, Ok, Err, refl, sym, ap, subst, ◌∙◌}
+use Rattle.std.proofs.Common.{◌≡◌, ◌⊎◌, inl, inr, ℕ, List, [], ◌∷◌, Bool, true, false, if◌then◌else◌, Option, Some, None, Result, Ok, Err, refl, sym, ap, subst}
 use Rattle.std.specs.Prelude.{IfOk, filter}
 use Rattle.std.specs.List.{filter_map, list_any}
 use Rattle.lapd_timers.specs.declared.timer.Timer.{Timer}
-use Rattle.lapd_frame.specs.declared.Sapi.{Sapi}
 use Rattle.lapd_frame.specs.declared.Side.TheVariants as side
 use Rattle.lapd_frame.specs.declared.frame_fault.FrameFault.{FrameFault}
 use Rattle.lapd_frame.specs.Frame.{Fields, spelling}
@@ -24,9 +23,9 @@ use Rattle.lapd_table.specs.declared.link_id.LinkId.{LinkId}
 use Rattle.lapd_sides_links.specs.declared.config.Config.{Config}
 use Rattle.lapd_sides_links.specs.declared.side_fault.SideKind.{SideKind}
 use Rattle.lapd_sides_links.specs.Effects.{message_sent}
-use Rattle.lapd_sides_links.specs.Links.{Links, Reaction, is_served, in_links, link_expires}
+use Rattle.lapd_sides_links.specs.Links.{Links, Reaction, in_links, link_expires}
 use Rattle.lapd_sides.specs.declared.request.Request.{Request}
-use Rattle.lapd_sides.specs.AllTeis.{check_of_all, holds_any, removal_of_all}
+use Rattle.lapd_sides.specs.AllTeis.{check_of_all, holds_any}
 use Rattle.lapd_sides.specs.Management.{carries_message, manages}
 use Rattle.lapd_sides.specs.SideState as sides
 use Rattle.lapd_sides.specs.SideState.{among_links, data_received, expires, message_received, received, takes, with_links, with_stopped}
@@ -36,7 +35,7 @@ use Rattle.lapd_interface_laws.specs.Owed.{PassesBy}
 use Rattle.lapd_interface_laws.specs.SideView.{SideView, SideEvent, Take, Lose, Expire, Ask, Overhear, unmoved, takes_first, may_expire, or_unmoved, reaction}
 use Rattle.lapd_interface_laws.proofs.LinkParts.{absent_acts, expiry_passes}
 use Rattle.lapd_interface_laws.proofs.Reactions.{AnyInput, HoldsOfLinks, Law, any_frame, each_request, faulty, frame_data}
-use Rattle.lapd_interface_laws.proofs.Requests.{network_asked, sent_to_group}
+use Rattle.lapd_interface_laws.proofs.Requests.{network_asked}
 use Rattle.lapd_bus_laws.specs.Bus.{OverhearsNothing}
 use Rattle.lapd_bus_laws.specs.Healing.{message_if_any, message_in_frame, message_in, is_about, HasNoManagementLink, management_id}
 use Rattle.lapd_bus_laws.proofs.Assigns.{group_is_other}

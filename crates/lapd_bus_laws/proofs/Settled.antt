@@ -1,5 +1,5 @@
--- The messages of a check of a TEI, and what each terminal does by them. During the check it settles,
--- after Identity remove it leaves the TEI, and after an assignment it obeys that.
+-- One terminal during a check of a TEI and after it. It takes the request, Identity remove or an
+-- assignment behind all older assignments of the TEI, so that what it holds then is known.
 use Rattle.std.proofs.Common.{◌≡◌, ◌⊎◌, inl, inr, ℕ, ◌==◌, ◌&&◌, ◌<◌, List, [], ◌∷◌, Bool, true, false, Option, Some, None, refl, sym, ap, subst, ◌∙◌, arith}
 use Rattle.std.specs.List.{list_any, filter_map}
 use Rattle.std.proofs.lemmas.Bool.Decides.{nat_tests}
@@ -13,11 +13,10 @@ use Rattle.lapd_tei.specs.declared.terminal.TerminalEvent.TheVariants as termina
 use Rattle.lapd_tei.specs.Out.{assigned, check_request, remove}
 use Rattle.lapd_tei.specs.Terminal.{tei_of, reference_of, new_terminal, terminal_step}
 use Rattle.lapd_sides_links.specs.Links.{Reaction}
-use Rattle.lapd_sides.specs.Network.{Network}
 use Rattle.lapd_sides.specs.User.{User, new_user, has_tei}
-use Rattle.lapd_sides_laws.specs.Interface.{Configs, user_behaviour}
-use Rattle.lapd_sides_laws.specs.SideView.{SideView, SideEvent, Take, Lose, Expire, Ask, Overhear, reaction, left, does}
-use Rattle.lapd_sides_laws.proofs.Managed.{neither}
+use Rattle.lapd_interface_laws.specs.Interface.{Configs, user_behaviour}
+use Rattle.lapd_interface_laws.specs.SideView.{SideView, SideEvent, Take, Lose, Expire, Ask, Overhear, reaction, left, does}
+use Rattle.lapd_interface_laws.proofs.Managed.{neither}
 use Rattle.lapd_bus_laws.specs.Assignments.{assignment_in, holds, is_of_tei, is_sent, is_taken}
 use Rattle.lapd_bus_laws.specs.Bus.{NewTerminal, OverhearsNothing, reached_by}
 use Rattle.lapd_bus_laws.specs.Healing.{message_in, messages_to, messages_from, is_about, has_outgoing, LosesNoMessage}
@@ -141,8 +140,7 @@ module _ (c : Configs) (tei : ℕ) (low : tei < 127) where
     held_by p r h = ap tei_of (sym r.phase) ∙ has_so tei (tei_of Did.after.management.terminal) h
 
     unsent_behind : (p : TeiMessage → Bool)
-        → TakesLast p (IsAssigned tei) side.Network event t.incoming
-        → is_sent tei After ≡ false
+        → TakesLast p (IsAssigned tei) side.Network event t.incoming → is_sent tei After ≡ false
     unfolding does
     unsent_behind p taken = behind_last p event t.incoming taken
 
@@ -182,8 +180,7 @@ module _ (c : Configs) (tei : ℕ) (low : tei < 127) where
         ]
       where
         by : TakesLast (IsRequest tei) (IsAssigned tei) side.Network event t.incoming
-            → (test : Bool)
-            → holds tei After ≡ test
+            → (test : Bool) → holds tei After ≡ test
             → ((is_sent tei After ≡ false) × (has_outgoing kind.CheckResponse tei After ≡ true))
             ⊎ IsNotTaken tei After
         by taken true h = inl (
@@ -305,13 +302,13 @@ module _ (tei : ℕ) where
           inr (reached_sent tei frames u none ∙ unsent, by)
 
     pub settles_by_request : Carries frames ≡ check_request tei ∷ [] → Settles tei Reached
-    settles_by_request is =
-        inl (line_ends (IsRequest tei) (subst (HasLast (IsRequest tei) (IsAssigned tei)) (sym is)
+    settles_by_request is = inl (line_ends (IsRequest tei)
+        (subst (HasLast (IsRequest tei) (IsAssigned tei)) (sym is)
         (inr (same_tei tei, refl))))
 
     pub leaves_by_removals : Carries frames ≡ remove tei ∷ remove tei ∷ [] → Leaves tei Reached
-    leaves_by_removals is =
-        inl (line_ends (IsRemoval tei) (subst (HasLast (IsRemoval tei) (IsAssigned tei)) (sym is)
+    leaves_by_removals is = inl (line_ends (IsRemoval tei)
+        (subst (HasLast (IsRemoval tei) (IsAssigned tei)) (sym is)
         (inl (inr (same_tei tei, refl)))))
 
     pub obeys_by_assignment : (ri : ℕ) → Carries frames ≡ assigned ri tei ∷ []

@@ -28,8 +28,8 @@ ghost use Rattle.lapd_bus_laws.specs.Links.{Throughout, IsNobodyElses};
 /// Terminals may join and give up their TEIs at any moment, octets may be lost for each terminal,
 /// and timers may expire at any moment.
 ///
-/// `reached`: the premises may also begin later, on any bus whose terminals are apart (`IsReached`),
-/// as after checks of all TEIs ([`each_check_heals_its_tei`]).
+/// `reached`: the premises may also begin later, on any bus whose terminals are apart
+/// (`IsReached`), as after checks of all TEIs ([`each_check_heals_its_tei`]).
 ///
 /// [`each_check_heals_its_tei`]: crate::each_check_heals_its_tei
 pub fn every_bus_is_single()

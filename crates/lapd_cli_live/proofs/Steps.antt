@@ -32,13 +32,27 @@ true_is_not_false is = cc
 -- ---- One event.
 
 -- a call to the surroundings
-pub io_event_happens : (a : LiveState) (io_events : Option (List IoEvent)) (impairment : Option Impairment) (io_event : IoEvent) → Adds a.io_events io_events (io_event ∷ [])
-    → impairment ≡ a.impairment → Happen (Around io_event ∷ []) a (record a { io_events = io_events; impairment = impairment })
-io_event_happens a io_events impairment io_event adds same = record { own = refl; style = refl; io_events = adds; impairment = same; shown = prints_none a.style (side_of a.side) a.shown; most = refl }
+pub io_event_happens : (a : LiveState) (io_events : Option (List IoEvent))
+    (impairment : Option Impairment) (io_event : IoEvent)
+    → Adds a.io_events io_events (io_event ∷ [])
+    → impairment ≡ a.impairment
+    → Happen (Around io_event ∷ []) a
+    (record a { io_events = io_events; impairment = impairment })
+io_event_happens a io_events impairment io_event adds same = record {
+  own = refl;
+  style = refl;
+  io_events = adds;
+  impairment = same;
+  shown = prints_none a.style (side_of a.side) a.shown;
+  most = refl;
+}
 
 -- an entry is printed, and the side may have changed
-pub entry_happens : {W : Type 0} {most : ℕ} (contents : W → Option (List ℕ)) (old new : EitherSide) (own : Side) (a b : Option (List IoEvent)) (i j : Option Impairment) (p q : Printer W) (entry : Entry)
-    → side_of new ≡ side_of old → own ≡ side_of old → b ≡ a → j ≡ i → PrintsOn contents own (entry ∷ []) p q
+pub entry_happens : {W : Type 0} {most : ℕ} (contents : W → Option (List ℕ)) (old new : EitherSide)
+    (own : Side) (a b : Option (List IoEvent)) (i j : Option Impairment) (p q : Printer W)
+    (entry : Entry)
+    → side_of new ≡ side_of old → own ≡ side_of old → b ≡ a → j ≡ i
+    → PrintsOn contents own (entry ∷ []) p q
     → Happen (Shows entry ∷ []) (live most old a i contents p) (live most new b j contents q)
 entry_happens contents old new own a b i j p q entry is same stays unchanged prints = record {
   own = is;
@@ -46,40 +60,63 @@ entry_happens contents old new own a b i j p q entry is same stays unchanged pri
   io_events = adds_same a b stays;
   impairment = unchanged;
   most = refl;
-  shown = subst (λ (x : Side). Prints p.style x (entry ∷ []) (shown contents p) (shown contents q)) same prints.prints;
+  shown =
+      subst (λ (x : Side). Prints p.style x (entry ∷ []) (shown contents p) (shown contents q)) same
+      prints.prints;
 }
 
 -- ---- Receiving.
 
-pub taken_at : {W : Type 0} {most : ℕ} (contents : W → Option (List ℕ)) (frame : List ℕ) (now : ℕ) (old new : EitherSide) (own : Side) (a b : Option (List IoEvent)) (i j : Option Impairment) (p q : Printer W)
-    (acts : Effects) (c : LiveState) → own ≡ side_of old → PrintsOn contents own (Received frame ∷ []) p q → Takes frame now (Ok tt) old new acts
-    → side_of new ≡ side_of old → b ≡ a → j ≡ i → IsCarriedOut acts (live most new b j contents q) c → TakesAt frame now (live most old a i contents p) c
-taken_at {most = most} contents frame now old new own a b i j p q acts c is prints takes same stays unchanged carried = record {
-  acts = acts;
-  takes = subst (λ (x : EitherSide). Takes frame now (Ok tt) old x acts) (sym carried.beside.side) takes;
-  given = carried.events;
-  carries = carried.carries;
-  moment = carried.beside.moment ∙ prints.prints.now;
-  happen = happen_both (Shows (Received frame) ∷ []) carried.events (live most old a i contents p) (live most new b j contents q) c
-      (entry_happens contents old new own a b i j p q (Received frame) same is stays unchanged prints) carried.beside.happen;
-}
+pub taken_at : {W : Type 0} {most : ℕ} (contents : W → Option (List ℕ)) (frame : List ℕ) (now : ℕ)
+    (old new : EitherSide) (own : Side) (a b : Option (List IoEvent)) (i j : Option Impairment)
+    (p q : Printer W)
+    (acts : Effects) (c : LiveState) → own ≡ side_of old
+    → PrintsOn contents own (Received frame ∷ []) p q → Takes frame now (Ok tt) old new acts
+    → side_of new ≡ side_of old → b ≡ a → j ≡ i → IsCarriedOut acts (live most new b j contents q) c
+    → TakesAt frame now (live most old a i contents p) c
+taken_at {most = most} contents frame now old new own a b i j p q acts c is prints takes same stays
+    unchanged carried = record {
+      acts = acts;
+      takes =
+          subst (λ (x : EitherSide). Takes frame now (Ok tt) old x acts) (sym carried.beside.side)
+          takes;
+      given = carried.events;
+      carries = carried.carries;
+      moment = carried.beside.moment ∙ prints.prints.now;
+      happen =
+          happen_both (Shows (Received frame) ∷ []) carried.events (live most old a i contents p)
+          (live most new b j contents q) c
+          (entry_happens contents old new own a b i j p q (Received frame) same is stays unchanged
+          prints) carried.beside.happen;
+    }
 
-pub looked : (frame : List ℕ) (now : ℕ) (a m b : LiveState) (io_events : Option (List IoEvent)) (impairment : Option Impairment) → ReadsClock now a m
-    → Adds m.io_events io_events (Arrives frame ∷ []) → impairment ≡ m.impairment → TakesAt frame now (record m { io_events = io_events; impairment = impairment }) b → TakesFrame a b
+pub looked : (frame : List ℕ) (now : ℕ) (a m b : LiveState) (io_events : Option (List IoEvent))
+    (impairment : Option Impairment) → ReadsClock now a m
+    → Adds m.io_events io_events (Arrives frame ∷ []) → impairment ≡ m.impairment
+    → TakesAt frame now (record m { io_events = io_events; impairment = impairment }) b
+    → TakesFrame a b
 looked frame now a m b io_events impairment reads adds same takes =
     let is : now ≡ moment_of b = sym (takes.moment ∙ reads.moment) in
-    let all : Happen (read_at now ++ (Around (Arrives frame) ∷ Shows (Received frame) ∷ takes.given)) a b =
-    happen_both (read_at now) (Around (Arrives frame) ∷ Shows (Received frame) ∷ takes.given) a m b reads.happen
-    (happen_both (Around (Arrives frame) ∷ []) (Shows (Received frame) ∷ takes.given) m (record m { io_events = io_events; impairment = impairment }) b (io_event_happens m io_events impairment (Arrives frame) adds same) takes.happen) in
+    let all : Happen
+    (read_at now ++ (Around (Arrives frame) ∷ Shows (Received frame) ∷ takes.given)) a b =
+    happen_both (read_at now) (Around (Arrives frame) ∷ Shows (Received frame) ∷ takes.given) a m b
+    reads.happen
+    (happen_both (Around (Arrives frame) ∷ []) (Shows (Received frame) ∷ takes.given) m
+    (record m { io_events = io_events; impairment = impairment }) b
+    (io_event_happens m io_events impairment (Arrives frame) adds same) takes.happen) in
     record {
       frame = frame;
       acts = takes.acts;
       takes = subst (λ (x : ℕ). Takes frame x (Ok tt) a.side b.side takes.acts) is
-          (subst (λ (x : EitherSide). Takes frame now (Ok tt) x b.side takes.acts) reads.side takes.takes);
+          (subst (λ (x : EitherSide). Takes frame now (Ok tt) x b.side takes.acts) reads.side
+          takes.takes);
       given = takes.given;
       carries = takes.carries;
       rises = subst (λ (x : ℕ). moment_of a ≤ x) is reads.rises;
-      happen = subst (λ (x : ℕ). Happen (read_at x ++ (Around (Arrives frame) ∷ Shows (Received frame) ∷ takes.given)) a b) is all;
+      happen =
+          subst (λ (x : ℕ). Happen
+          (read_at x ++ (Around (Arrives frame) ∷ Shows (Received frame) ∷ takes.given)) a b) is
+          all;
     }
 
 -- this many frames are processed, and the service continues
@@ -91,15 +128,19 @@ pub record SomeTaken (until : Until) (count : ℕ) (a b : LiveState) : Type 0 wh
 pub none_taken : (until : Until) (a : LiveState) → SomeTaken until 0 a a
 none_taken until a = record { taken = []; are = refl; count_is = refl }
 
-pub more_taken : (until : Until) (count : ℕ) (a b c : LiveState) → SomeTaken until count a b → TakesFrame b c → ended_by until true (is_matched c) ≡ None
+pub more_taken : (until : Until) (count : ℕ) (a b c : LiveState) → SomeTaken until count a b
+    → TakesFrame b c → ended_by until true (is_matched c) ≡ None
     → SomeTaken until (count + 1) a c
 more_taken until count a b c some takes continuing = record {
   taken = some.taken ++ c ∷ [];
-  are = chain_more (TakesAndContinues until) some.taken a b c some.are (record { takes = takes; continuing = continuing });
+  are =
+      chain_more (TakesAndContinues until) some.taken a b c some.are
+      (record { takes = takes; continuing = continuing });
   count_is = length-append some.taken (c ∷ []) ∙ ap (λ (n : ℕ). n + 1) some.count_is;
 }
 
-pub takes_all : (until : Until) (count : ℕ) (a b c : LiveState) → SomeTaken until count a b → count < a.most → LooksInVain b c → Receives until a c
+pub takes_all : (until : Until) (count : ℕ) (a b c : LiveState) → SomeTaken until count a b
+    → count < a.most → LooksInVain b c → Receives until a c
 takes_all until count a b c some within looks = inl (record {
   taken = some.taken;
   within = subst (λ (n : ℕ). n < a.most) (sym some.count_is) within;
@@ -108,39 +149,56 @@ takes_all until count a b c some within looks = inl (record {
   looks = looks;
 })
 
-pub takes_most : (until : Until) (count : ℕ) (a b : LiveState) → SomeTaken until count a b → count ≡ a.most → Receives until a b
-takes_most until count a b some all = inr (record { taken = some.taken; count = some.count_is ∙ all; are = some.are })
+pub takes_most : (until : Until) (count : ℕ) (a b : LiveState) → SomeTaken until count a b
+    → count ≡ a.most → Receives until a b
+takes_most until count a b some all =
+    inr (record { taken = some.taken; count = some.count_is ∙ all; are = some.are })
 
-pub ends_by_frame : (until : Until) (count : ℕ) (why : EndReason) (a b c : LiveState) → SomeTaken until count a b → TakesFrame b c
+pub ends_by_frame : (until : Until) (count : ℕ) (why : EndReason) (a b c : LiveState)
+    → SomeTaken until count a b → TakesFrame b c
     → ended_by until true (is_matched c) ≡ Some why → EndsByFrame until why a c
-ends_by_frame until count why a b c some takes ends = record { taken = some.taken; last = b; are = some.are; takes = takes; ends = ends }
+ends_by_frame until count why a b c some takes ends =
+    record { taken = some.taken; last = b; are = some.are; takes = takes; ends = ends }
 
-pub looked_in_vain : (matched : Bool) (a b : LiveState) → matched ≡ false → Looks matched a b → LooksInVain a b
+pub looked_in_vain : (matched : Bool) (a b : LiveState) → matched ≡ false → Looks matched a b
+    → LooksInVain a b
 looked_in_vain matched a b is looks = subst (λ (x : Bool). Looks x a b) is looks
 
-pub taken_by : (matched : Bool) (a b : LiveState) → matched ≡ true → Looks matched a b → TakesFrame a b
+pub taken_by : (matched : Bool) (a b : LiveState) → matched ≡ true → Looks matched a b
+    → TakesFrame a b
 taken_by matched a b is looks = subst (λ (x : Bool). Looks x a b) is looks
 
-pub none_ended : (end_reason other : Option EndReason) → end_reason ≡ other → is_some end_reason ≡ false → other ≡ None
+pub none_ended : (end_reason other : Option EndReason) → end_reason ≡ other
+    → is_some end_reason ≡ false → other ≡ None
 none_ended None other is none = sym is
 none_ended (Some why) other is none = absurd (true_is_not_false none)
 
-pub received_by : (until : Until) (count : ℕ) (end_reason : Option EndReason) (a b c : LiveState) → SomeTaken until count a b → TakesFrame b c
-    → end_reason ≡ ended_by until true (is_matched c) → is_some end_reason ≡ true → HasReceived until end_reason a c
+pub received_by : (until : Until) (count : ℕ) (end_reason : Option EndReason) (a b c : LiveState)
+    → SomeTaken until count a b → TakesFrame b c
+    → end_reason ≡ ended_by until true (is_matched c) → is_some end_reason ≡ true
+    → HasReceived until end_reason a c
 received_by until count None a b c some takes is one = absurd (true_is_not_false (sym one))
-received_by until count (Some why) a b c some takes is one = ends_by_frame until count why a b c some takes (sym is)
+received_by until count (Some why) a b c some takes is one =
+    ends_by_frame until count why a b c some takes (sym is)
 
 -- no frame ends a service that lasts to its end
-pub received_end : (end_reason : Option EndReason) (a b : LiveState) → HasReceived until.End end_reason a b → Receives until.End a b
+pub received_end : (end_reason : Option EndReason) (a b : LiveState)
+    → HasReceived until.End end_reason a b → Receives until.End a b
 received_end None a b receives = receives
 received_end (Some why) a b ends = let never : None ≡ Some why = ends.ends in cc
 
 -- ---- Expiring.
 
-carries_more : (calls : List Effects) (acts : Effects) (first last : List LiveEvent) → CarriesOutAll calls first → CarriesOut acts last
+carries_more : (calls : List Effects) (acts : Effects) (first last : List LiveEvent)
+    → CarriesOutAll calls first → CarriesOut acts last
     → CarriesOutAll (calls ++ acts ∷ []) (first ++ last)
-carries_more [] acts first last none one =
-    (last, [], one, refl, ap (λ (events : List LiveEvent). events ++ last) none ∙ sym (append-nil last))
+carries_more [] acts first last none one = (
+  last,
+  [],
+  one,
+  refl,
+  ap (λ (events : List LiveEvent). events ++ last) none ∙ sym (append-nil last),
+)
 carries_more (call ∷ calls) acts first last all one = (
   all.0,
   all.1 ++ last,
@@ -159,110 +217,182 @@ pub record SomeDue (now : ℕ) (a b : LiveState) : Type 0 where
   pub happen : Happen events a b
 
 pub none_due : (now : ℕ) (a : LiveState) → SomeDue now a a
-none_due now a = record { calls = []; are = refl; events = []; carries = refl; moment = refl; happen = happen_none a }
+none_due now a = record {
+  calls = [];
+  are = refl;
+  events = [];
+  carries = refl;
+  moment = refl;
+  happen = happen_none a;
+}
 
 -- the side changes, and nothing else
-pub side_changes : (a : LiveState) (side : EitherSide) → side_of side ≡ side_of a.side → Happen [] a (record a { side = side })
-side_changes a side is = record { own = is; style = refl; io_events = adds_none a.io_events; impairment = refl; shown = prints_none a.style (side_of a.side) a.shown; most = refl }
+pub side_changes : (a : LiveState) (side : EitherSide) → side_of side ≡ side_of a.side
+    → Happen [] a (record a { side = side })
+side_changes a side is = record {
+  own = is;
+  style = refl;
+  io_events = adds_none a.io_events;
+  impairment = refl;
+  shown = prints_none a.style (side_of a.side) a.shown;
+  most = refl;
+}
 
-pub more_due : (now : ℕ) (a b c : LiveState) (side : EitherSide) (acts : Effects) → SomeDue now a b → Expires now b.side side acts → side_of side ≡ side_of b.side
+pub more_due : (now : ℕ) (a b c : LiveState) (side : EitherSide) (acts : Effects) → SomeDue now a b
+    → Expires now b.side side acts → side_of side ≡ side_of b.side
     → IsCarriedOut acts (record b { side = side }) c → SomeDue now a c
 more_due now a b c side acts some due is carried = record {
   calls = some.calls ++ acts ∷ [];
-  are = subst (λ (x : EitherSide). AreExpired now (some.calls ++ acts ∷ []) a.side x) (sym carried.beside.side) (one_more now some.calls acts a.side b.side side some.are due);
+  are =
+      subst (λ (x : EitherSide). AreExpired now (some.calls ++ acts ∷ []) a.side x)
+      (sym carried.beside.side) (one_more now some.calls acts a.side b.side side some.are due);
   events = some.events ++ carried.events;
   carries = carries_more some.calls acts some.events carried.events some.carries carried.carries;
   moment = carried.beside.moment ∙ some.moment;
   happen = happen_both some.events carried.events a b c some.happen
-      (happen_both [] carried.events b (record b { side = side }) c (side_changes b side is) carried.beside.happen);
+      (happen_both [] carried.events b (record b { side = side }) c (side_changes b side is)
+      carried.beside.happen);
 }
 
-pub all_due : (now : ℕ) (a b : LiveState) (side : EitherSide) → now ≡ moment_of a → SomeDue now a b → StaysIdle now b.side side → side_of side ≡ side_of b.side
+pub all_due : (now : ℕ) (a b : LiveState) (side : EitherSide) → now ≡ moment_of a → SomeDue now a b
+    → StaysIdle now b.side side → side_of side ≡ side_of b.side
     → DoesDue a (record b { side = side })
 all_due now a b side at some rests is = record {
   calls = some.calls;
-  in_order = subst (λ (x : ℕ). ExpireInOrder x some.calls a.side side) at (then_none now some.calls a.side b.side side some.are rests);
+  in_order =
+      subst (λ (x : ℕ). ExpireInOrder x some.calls a.side side) at
+      (then_none now some.calls a.side b.side side some.are rests);
   events = some.events;
   carries = some.carries;
   moment = some.moment;
-  happen = subst (λ (events : List LiveEvent). Happen events a (record b { side = side })) (append-nil some.events)
-      (happen_both some.events [] a b (record b { side = side }) some.happen (side_changes b side is));
+  happen =
+      subst (λ (events : List LiveEvent). Happen events a (record b { side = side }))
+      (append-nil some.events)
+      (happen_both some.events [] a b (record b { side = side }) some.happen
+      (side_changes b side is));
 }
 
 -- ---- Requests.
 
-pub executed : (request : Request) (b c : LiveState) (side : EitherSide) (result : Result ⊤ SideFault) (acts : Effects) (refusal : List LiveEvent) (d : LiveState)
+pub executed : (request : Request) (b c : LiveState) (side : EitherSide)
+    (result : Result ⊤ SideFault) (acts : Effects) (refusal : List LiveEvent) (d : LiveState)
     → Answers request (moment_of b) result b.side side acts → side_of side ≡ side_of b.side
-    → IsCarriedOut acts (record b { side = side }) c → refusal ≡ refusal_events result → HappenBeside refusal c d → IsExecuted request b d
+    → IsCarriedOut acts (record b { side = side }) c → refusal ≡ refusal_events result
+    → HappenBeside refusal c d → IsExecuted request b d
 executed request b c side result acts refusal d answers is carried refuses beside = record {
   result = result;
   acts = acts;
-  answers = subst (λ (x : EitherSide). Answers request (moment_of b) result b.side x acts) (sym (beside.side ∙ carried.beside.side)) answers;
+  answers =
+      subst (λ (x : EitherSide). Answers request (moment_of b) result b.side x acts)
+      (sym (beside.side ∙ carried.beside.side)) answers;
   given = carried.events;
   carries = carried.carries;
   moment = beside.moment ∙ carried.beside.moment;
   happen = subst (λ (x : List LiveEvent). Happen (carried.events ++ x) b d) refuses
       (happen_both carried.events refusal b c d
-      (happen_both [] carried.events b (record b { side = side }) c (side_changes b side is) carried.beside.happen) beside.happen);
+      (happen_both [] carried.events b (record b { side = side }) c (side_changes b side is)
+      carried.beside.happen) beside.happen);
 }
 
 pub beside_none : (a : LiveState) → HappenBeside [] a a
 beside_none a = record { side = refl; moment = refl; happen = happen_none a }
 
-pub beside_printed : {W : Type 0} {most : ℕ} (contents : W → Option (List ℕ)) (side : EitherSide) (io_events : Option (List IoEvent)) (impairment : Option Impairment) (p q : Printer W) (entry : Entry)
+pub beside_printed : {W : Type 0} {most : ℕ} (contents : W → Option (List ℕ)) (side : EitherSide)
+    (io_events : Option (List IoEvent)) (impairment : Option Impairment) (p q : Printer W)
+    (entry : Entry)
     → PrintsOn contents (side_of side) (entry ∷ []) p q → moment_after p.moment entry ≡ p.moment
-    → HappenBeside (Shows entry ∷ []) (live most side io_events impairment contents p) (live most side io_events impairment contents q)
+    → HappenBeside (Shows entry ∷ []) (live most side io_events impairment contents p)
+    (live most side io_events impairment contents q)
 beside_printed contents side io_events impairment p q entry prints stays = record {
   side = refl;
   moment = prints.prints.now ∙ stays;
-  happen = entry_happens contents side side (side_of side) io_events io_events impairment impairment p q entry refl refl refl refl prints;
+  happen =
+      entry_happens contents side side (side_of side) io_events io_events impairment impairment p q
+      entry refl refl refl refl prints;
 }
 
 -- ---- Steps.
 
 -- the printed text is passed to the writer, and then the side waits
-pub flushed_and_waited : {W : Type 0} {most : ℕ} (contents : W → Option (List ℕ)) (side : EitherSide) (a b : Option (List IoEvent)) (i j : Option Impairment) (p q : Printer W) (until : Option ℕ) (woken : Woken)
+pub flushed_and_waited : {W : Type 0} {most : ℕ} (contents : W → Option (List ℕ))
+    (side : EitherSide) (a b : Option (List IoEvent)) (i j : Option Impairment) (p q : Printer W)
+    (until : Option ℕ) (woken : Woken)
     → PrintsOn contents (side_of side) [] p q → Adds a b (Waits until woken ∷ []) → j ≡ i
-    → HappenBeside (Around (Waits until woken) ∷ []) (live most side a i contents p) (live most side b j contents q)
+    → HappenBeside (Around (Waits until woken) ∷ []) (live most side a i contents p)
+    (live most side b j contents q)
 flushed_and_waited contents side a b i j p q until woken prints adds same = record {
   side = refl;
   moment = prints.prints.now;
-  happen = record { own = refl; style = prints.style; io_events = adds; impairment = same; shown = prints.prints; most = refl };
+  happen = record {
+    own = refl;
+    style = prints.style;
+    io_events = adds;
+    impairment = same;
+    shown = prints.prints;
+    most = refl;
+  };
 }
 
-pub caught_up : (until : Until) (end_reason : Option EndReason) (a b c : LiveState) → HasReceived until end_reason a b → is_some end_reason ≡ false → DoesDue b c → CatchesUp until a c
-caught_up until None a b c receives none due = record { received = b; receives = receives; due = due }
+pub caught_up : (until : Until) (end_reason : Option EndReason) (a b c : LiveState)
+    → HasReceived until end_reason a b → is_some end_reason ≡ false → DoesDue b c
+    → CatchesUp until a c
+caught_up until None a b c receives none due =
+    record { received = b; receives = receives; due = due }
 caught_up until (Some why) a b c receives none due = absurd (true_is_not_false none)
 
-pub then_matched : (service : Service) (a b : LiveState) (outcome : Option EndReason) → CatchesUp service.until a b → outcome ≡ ended_by service.until false (is_matched b)
+pub then_matched : (service : Service) (a b : LiveState) (outcome : Option EndReason)
+    → CatchesUp service.until a b → outcome ≡ ended_by service.until false (is_matched b)
     → is_some outcome ≡ true → Step service a b outcome
 then_matched service a b None caught is one = absurd (true_is_not_false (sym one))
 then_matched service a b (Some why) caught is one =
-    inr (record { ready = b; catches_up = caught; then = inl (record { why = why; matched = sym is; is = refl; same = refl }) })
+    inr (record {
+      ready = b;
+      catches_up = caught;
+      then = inl (record { why = why; matched = sym is; is = refl; same = refl });
+    })
 
-none_matched : (outcome other : Option EndReason) → outcome ≡ other → is_some outcome ≡ false → other ≡ None
+none_matched : (outcome other : Option EndReason) → outcome ≡ other → is_some outcome ≡ false
+    → other ≡ None
 none_matched outcome other is none = none_ended outcome other is none
 
-pub then_over : (service : Service) (a b : LiveState) (outcome : Option EndReason) → CatchesUp service.until a b → outcome ≡ ended_by service.until false (is_matched b)
-    → is_some outcome ≡ false → IsReached service.end (moment_of b) → Step service a b (Some end_reason.End)
+pub then_over : (service : Service) (a b : LiveState) (outcome : Option EndReason)
+    → CatchesUp service.until a b → outcome ≡ ended_by service.until false (is_matched b)
+    → is_some outcome ≡ false → IsReached service.end (moment_of b)
+    → Step service a b (Some end_reason.End)
 then_over service a b outcome caught is none reached =
     inr (record {
       ready = b;
       catches_up = caught;
-      then = inr (inl (record { continuing = none_matched outcome (ended_by service.until false (is_matched b)) is none; reached = reached; is = refl; same = refl }));
+      then =
+          inr (inl (record {
+            continuing =
+                none_matched outcome (ended_by service.until false (is_matched b)) is none;
+            reached = reached;
+            is = refl;
+            same = refl;
+          }));
     })
 
-pub then_waits : (service : Service) (a b c : LiveState) (outcome end_reason : Option EndReason) → CatchesUp service.until a b
-    → outcome ≡ ended_by service.until false (is_matched b) → is_some outcome ≡ false → ¬ IsReached service.end (moment_of b) → WaitsFor service end_reason b c
+pub then_waits : (service : Service) (a b c : LiveState) (outcome end_reason : Option EndReason)
+    → CatchesUp service.until a b
+    → outcome ≡ ended_by service.until false (is_matched b) → is_some outcome ≡ false
+    → ¬ IsReached service.end (moment_of b) → WaitsFor service end_reason b c
     → Step service a c end_reason
 then_waits service a b c outcome end_reason caught is none not waits =
     inr (record {
       ready = b;
       catches_up = caught;
-      then = inr (inr (record { continuing = none_matched outcome (ended_by service.until false (is_matched b)) is none; not_over = not; waits = waits }));
+      then =
+          inr (inr (record {
+            continuing =
+                none_matched outcome (ended_by service.until false (is_matched b)) is none;
+            not_over = not;
+            waits = waits;
+          }));
     })
 
-pub if_ok : {A E : Type 0} (r : Result A E) (P Q : A → Type 0) → ((x : A) → P x → Q x) → IfOk r P → IfOk r Q
+pub if_ok : {A E : Type 0} (r : Result A E) (P Q : A → Type 0) → ((x : A) → P x → Q x) → IfOk r P
+    → IfOk r Q
 if_ok (Ok x) P Q f holds = f x holds
 if_ok (Err fault) P Q f holds = tt
 
@@ -273,14 +403,17 @@ pub record SomeSteps (service : Service) (a b : LiveState) : Type 0 where
 pub no_steps : (service : Service) (a : LiveState) → SomeSteps service a a
 no_steps service a = record { passed = []; are = refl }
 
-pub more_steps : (service : Service) (a b c : LiveState) → SomeSteps service a b → Continues service b c → SomeSteps service a c
+pub more_steps : (service : Service) (a b c : LiveState) → SomeSteps service a b
+    → Continues service b c → SomeSteps service a c
 more_steps service a b c some step = record {
   passed = some.passed ++ c ∷ [];
   are = chain_more (Continues service) some.passed a b c some.are step;
 }
 
-pub all_steps : (service : Service) (end_reason : EndReason) (a b c : LiveState) → SomeSteps service a b → Step service b c (Some end_reason) → IsServed service end_reason a c
-all_steps service end_reason a b c some step = record { passed = some.passed; last = b; are = some.are; ends = step }
+pub all_steps : (service : Service) (end_reason : EndReason) (a b c : LiveState)
+    → SomeSteps service a b → Step service b c (Some end_reason) → IsServed service end_reason a c
+all_steps service end_reason a b c some step =
+    record { passed = some.passed; last = b; are = some.are; ends = step }
 
 pub on_ok : {A E : Type 0} (r : Result A E) (P Q : Type 0) → (P → Q) → OnOk r P → OnOk r Q
 on_ok (Ok done) P Q f holds = f holds
@@ -291,10 +424,20 @@ on_err (Ok done) P holds = tt
 on_err (Err fault) P holds = holds
 
 -- the printed text is passed to the writer
-pub flushed : {W : Type 0} {most : ℕ} (contents : W → Option (List ℕ)) (side : EitherSide) (io_events : Option (List IoEvent)) (impairment : Option Impairment) (p q : Printer W)
-    → PrintsOn contents (side_of side) [] p q → HappenBeside [] (live most side io_events impairment contents p) (live most side io_events impairment contents q)
+pub flushed : {W : Type 0} {most : ℕ} (contents : W → Option (List ℕ)) (side : EitherSide)
+    (io_events : Option (List IoEvent)) (impairment : Option Impairment) (p q : Printer W)
+    → PrintsOn contents (side_of side) [] p q
+    → HappenBeside [] (live most side io_events impairment contents p)
+    (live most side io_events impairment contents q)
 flushed contents side io_events impairment p q prints = record {
   side = refl;
   moment = prints.prints.now;
-  happen = record { own = refl; style = prints.style; io_events = adds_none io_events; impairment = refl; shown = prints.prints; most = refl };
+  happen = record {
+    own = refl;
+    style = prints.style;
+    io_events = adds_none io_events;
+    impairment = refl;
+    shown = prints.prints;
+    most = refl;
+  };
 }

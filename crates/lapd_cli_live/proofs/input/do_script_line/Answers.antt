@@ -9,14 +9,22 @@ use Rattle.lapd_cli_live.proofs.input.do_script_line.Goals as goal
 
 pub returns-in-Bad : goal.returns-in-Bad
 returns-in-Bad g c =
-    this_stops obeyed.Bad c.args.line.now c.args.number.now c.in-Some.this _ _ (omega arith) (sym c.is_passed_over.ensures ∙ c.if-is_passed_over.false)
-    (subst (λ (x : Obeyed). ObeysAs x c.args.line.now Ignored (state_of g.O.Outside.io_events g.O.Outside.impaired_by g.W.Write.contents c.args.live.now)
-    (state_of g.O.Outside.io_events g.O.Outside.impaired_by g.W.Write.contents c.obey.new.self)) c.in-Bad.is c.in_ok-obey.ensures)
+    this_stops obeyed.Bad c.args.line.now c.args.number.now c.in-Some.this _ _ (omega arith)
+    (sym c.is_passed_over.ensures ∙ c.if-is_passed_over.false)
+    (subst (λ (x : Obeyed). ObeysAs x c.args.line.now Ignored
+    (state_of g.O.Outside.io_events g.O.Outside.impaired_by g.W.Write.contents
+    c.args.live.now)
+    (state_of g.O.Outside.io_events g.O.Outside.impaired_by g.W.Write.contents
+    c.obey.new.self)) c.in-Bad.is c.in_ok-obey.ensures)
 
 pub returns-in-Unmet : goal.returns-in-Unmet
 returns-in-Unmet g c = λ behind. (
   c.in-Some.this,
-  this_stops obeyed.Unmet c.args.line.now c.args.number.now c.in-Some.this _ _ (omega arith) (sym c.is_passed_over.ensures ∙ c.if-is_passed_over.false)
-      (subst (λ (x : Obeyed). ObeysAs x c.args.line.now Ignored (state_of g.O.Outside.io_events g.O.Outside.impaired_by g.W.Write.contents c.args.live.now)
-      (state_of g.O.Outside.io_events g.O.Outside.impaired_by g.W.Write.contents c.obey.new.self)) c.in-Unmet.is c.in_ok-obey.ensures) behind,
+  this_stops obeyed.Unmet c.args.line.now c.args.number.now c.in-Some.this _ _ (omega arith)
+      (sym c.is_passed_over.ensures ∙ c.if-is_passed_over.false)
+      (subst (λ (x : Obeyed). ObeysAs x c.args.line.now Ignored
+      (state_of g.O.Outside.io_events g.O.Outside.impaired_by g.W.Write.contents
+      c.args.live.now)
+      (state_of g.O.Outside.io_events g.O.Outside.impaired_by g.W.Write.contents
+      c.obey.new.self)) c.in-Unmet.is c.in_ok-obey.ensures) behind,
 )

@@ -7,5 +7,6 @@ use Rattle.lapd_cli_live.proofs.recent_output.place_of.Given as goal
 abbrev pub invariant-loop-place : goal.invariant-loop-place
 invariant-loop-place l = record {
   none : list_any (begins_with l.words) (take l.place l.lines) ≡ false;
-  left : lines_behind l.words (line_octets (drop l.place l.lines)) ≡ lines_behind l.words (line_octets l.lines);
+  left : lines_behind l.words (line_octets (drop l.place l.lines))
+      ≡ lines_behind l.words (line_octets l.lines);
 }

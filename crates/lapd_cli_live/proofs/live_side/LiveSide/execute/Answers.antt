@@ -7,17 +7,24 @@ use Rattle.lapd_cli_live.proofs.live_side.LiveSide.execute.Goals as goal
 
 pub returns-in-Ok : goal.returns-in-Ok
 returns-in-Ok g c =
-    let answers = subst (λ (now : ℕ). Answers c.args.request now c.request-answered.result c.args.self.now.side c.request-answered.new.self c.request-answered.new.acts)
+    let answers =
+    subst (λ (now : ℕ). Answers c.args.request now c.request-answered.result
+    c.args.self.now.side c.request-answered.new.self c.request-answered.new.acts)
     c.moment-now.ensures c.request-answered.ensures.answers in
-    executed _ _ _ _ _ _ _ _ answers c.request-answered.ensures.side c.in_ok-carry_out.ensures.carried
+    executed _ _ _ _ _ _ _ _ answers c.request-answered.ensures.side
+    c.in_ok-carry_out.ensures.carried
     (ap refusal_events (sym c.in-Ok.is)) (beside_none _)
 
 pub returns-in-Err : goal.returns-in-Err
 returns-in-Err g c =
-    let answers = subst (λ (now : ℕ). Answers c.args.request now c.request-answered.result c.args.self.now.side c.request-answered.new.self c.request-answered.new.acts)
+    let answers =
+    subst (λ (now : ℕ). Answers c.args.request now c.request-answered.result
+    c.args.self.now.side c.request-answered.new.self c.request-answered.new.acts)
     c.moment-now.ensures c.request-answered.ensures.answers in
     on_ok c.put_refused.result _ _
-    (λ prints. executed _ _ _ _ _ _ _ _ answers c.request-answered.ensures.side c.in_ok-carry_out.ensures.carried
+    (λ prints. executed _ _ _ _ _ _ _ _ answers c.request-answered.ensures.side
+    c.in_ok-carry_out.ensures.carried
     (ap refusal_events (sym c.in-Err.is))
-    (beside_printed g.W.Write.contents c.carry_out.new.self.side _ _ _ _ (refused c.in-Err.fault.kind) prints refl))
+    (beside_printed g.W.Write.contents c.carry_out.new.self.side _ _ _ _
+    (refused c.in-Err.fault.kind) prints refl))
     (c.put_refused.ensures (side_of c.carry_out.new.self.side))

@@ -13,9 +13,18 @@ use Rattle.lapd_cli_live.proofs.live_side.LiveSide.obey.Goals as goal
 pub returns-in_ok-flush-in-Ok-do_line : goal.returns-in_ok-flush-in-Ok-do_line
 returns-in_ok-flush-in-Ok-do_line g c =
     let asked = c.in-Ok.line in
-    let done_at = state_of g.O.Outside.io_events g.O.Outside.impaired_by g.W.Write.contents c.do_line.new.self in
-    let starts = c.begin_line.ensures ∙ ap (λ (x : Bool). begun x (state_of g.O.Outside.io_events g.O.Outside.impaired_by g.W.Write.contents c.args.self.now)) c.is_expect.ensures in
-    obeyed_as c.in-Ok-do_line.obeyed c.args.line.now c.args.lines c.own_tei-own.result asked _ done_at _ c.own_tei-own.ensures
-    (subst (λ (side : Side). live_request_of_line side c.own_tei-own.result c.args.line.now ≡ Some (live_request_of asked)) c.side-side.ensures c.in-Ok.ensures)
-    (subst (λ (s : LiveState). RequestEnds c.in-Ok-do_line.obeyed asked c.args.lines s done_at) starts c.in-Ok-do_line.ensures)
-    (flushed g.W.Write.contents c.do_line.new.self.side _ _ _ _ (c.in_ok-flush-in-Ok-do_line.ensures.shown (side_of c.do_line.new.self.side)))
+    let done_at =
+    state_of g.O.Outside.io_events g.O.Outside.impaired_by g.W.Write.contents
+    c.do_line.new.self in
+    let starts =
+    c.begin_line.ensures
+    ∙ ap (λ (x : Bool). begun x (state_of g.O.Outside.io_events g.O.Outside.impaired_by
+    g.W.Write.contents c.args.self.now)) c.is_expect.ensures in
+    obeyed_as c.in-Ok-do_line.obeyed c.args.line.now c.args.lines c.own_tei-own.result asked _
+    done_at _ c.own_tei-own.ensures
+    (subst (λ (side : Side). live_request_of_line side c.own_tei-own.result c.args.line.now ≡ Some
+    (live_request_of asked)) c.side-side.ensures c.in-Ok.ensures)
+    (subst (λ (s : LiveState). RequestEnds c.in-Ok-do_line.obeyed asked c.args.lines s done_at)
+    starts c.in-Ok-do_line.ensures)
+    (flushed g.W.Write.contents c.do_line.new.self.side _ _ _ _
+    (c.in_ok-flush-in-Ok-do_line.ensures.shown (side_of c.do_line.new.self.side)))

@@ -17,7 +17,9 @@ returns g c =
     (λ prints. record {
       ready = _;
       catches_up = c.in_ok-catch_up.ensures.does;
-      prints = inr (refuses_link c.args.id.now _ _ _ (puts_no_link c.args.id.now _ _ _ c.if-branch.false c.in_ok-put_state.ensures)
+      prints =
+          inr (refuses_link c.args.id.now _ _ _
+          (puts_no_link c.args.id.now _ _ _ c.if-branch.false c.in_ok-put_state.ensures)
           (beside_printed g.W.Write.contents c.put_state.new.self.side _ _ _ _ _ prints refl));
     })
     (c.put_refused.ensures (side_of c.put_state.new.self.side))

@@ -16,8 +16,13 @@ returns g c =
       table = c.table.result.now;
       has = c.table.ensures;
       ids = c.as_slice.result.now;
-      rising = subst (λ (xs : List LinkId). IsStrictlySortedBy id_cmp xs) (sym c.as_slice.ensures.value) c.in_ok-ids.ensures.rising;
-      all = subst (λ (xs : List LinkId). (id : LinkId) → Contains xs id ↔ IsSome (link_at c.table.result.now id)) (sym c.as_slice.ensures.value) c.in_ok-ids.ensures.all;
+      rising =
+          subst (λ (xs : List LinkId). IsStrictlySortedBy id_cmp xs) (sym c.as_slice.ensures.value)
+          c.in_ok-ids.ensures.rising;
+      all =
+          subst (λ (xs : List LinkId). (id : LinkId) → Contains xs id ↔ IsSome
+          (link_at c.table.result.now id)) (sym c.as_slice.ensures.value)
+          c.in_ok-ids.ensures.all;
       links_done = _;
       each = c.in_ok-put_each.ensures;
       management = management;

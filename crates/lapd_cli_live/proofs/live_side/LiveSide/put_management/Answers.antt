@@ -9,12 +9,17 @@ use Rattle.lapd_cli_live.proofs.live_side.LiveSide.put_management.Goals as goal
 pub returns : goal.returns
 returns g c =
     let text = λ (now : ℕ). management_text c.in-Some.timers.now now in
-    let pushed = c.in_ok-push_management.ensures ∙ ap (λ (front : List ℕ). front ++ text c.moment-now.result) c.new-words.ensures.bytes ∙ ap text c.moment-now.ensures in
+    let pushed =
+    c.in_ok-push_management.ensures
+    ∙ ap (λ (front : List ℕ). front ++ text c.moment-now.result) c.new-words.ensures.bytes
+    ∙ ap text c.moment-now.ensures in
     on_ok c.put_words.result _ _
     (λ prints. record {
       timers = option_copied c.timers.result;
       have = c.timers.ensures;
-      prints = management_printed (option_copied c.timers.result) c.in-Some.timers.now _ c.as_str-words.result.now _ _ (ap option_copied c.in-Some.is)
+      prints =
+          management_printed (option_copied c.timers.result) c.in-Some.timers.now _
+          c.as_str-words.result.now _ _ (ap option_copied c.in-Some.is)
           (c.as_str-words.ensures.value ∙ pushed)
           (sym c.is_empty.ensures ∙ c.if-is_empty.false)
           (beside_printed g.W.Write.contents c.args.self.now.side _ _ _ _ _ prints refl);

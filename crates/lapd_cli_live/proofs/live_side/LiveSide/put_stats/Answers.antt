@@ -11,6 +11,8 @@ returns g c =
       catches_up = c.in_ok-catch_up.ensures.does;
       discarded = c.discarded-discarded.result;
       have = c.discarded-discarded.ensures;
-      prints = counts_printed g.W.Write.contents c.catch_up.new.self.side _ _ _ _ c.discarded-discarded.result prints;
+      prints =
+          counts_printed g.W.Write.contents c.catch_up.new.self.side _ _ _ _
+          c.discarded-discarded.result prints;
     })
     (c.put_stats.ensures (side_of c.catch_up.new.self.side))

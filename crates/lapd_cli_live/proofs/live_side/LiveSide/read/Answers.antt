@@ -11,8 +11,15 @@ returns-in-Closed g c =
     on_ok c.put_named.result _ _
     (λ prints. record {
       why = c.in_ok-serve.field-0;
-      served_to = state_of g.O.Outside.io_events g.O.Outside.impaired_by g.W.Write.contents c.serve.new.self;
-      served = record { end = c.in_ok-end.end; begun = _; ends = c.in_ok-end.ensures; served = c.in_ok-serve.ensures };
+      served_to =
+          state_of g.O.Outside.io_events g.O.Outside.impaired_by g.W.Write.contents
+          c.serve.new.self;
+      served = record {
+        end = c.in_ok-end.end;
+        begun = _;
+        ends = c.in_ok-end.ensures;
+        served = c.in_ok-serve.ensures;
+      };
       prints = read_as c.in_ok-serve.field-0 end_reason.Closed _ _ c.in-Closed.is
           (beside_printed g.W.Write.contents c.serve.new.self.side _ _ _ _ _ prints refl);
     })
@@ -23,8 +30,15 @@ returns-in-End g c =
     on_ok c.put_words.result _ _
     (λ prints. record {
       why = c.in_ok-serve.field-0;
-      served_to = state_of g.O.Outside.io_events g.O.Outside.impaired_by g.W.Write.contents c.serve.new.self;
-      served = record { end = c.in_ok-end.end; begun = _; ends = c.in_ok-end.ensures; served = c.in_ok-serve.ensures };
+      served_to =
+          state_of g.O.Outside.io_events g.O.Outside.impaired_by g.W.Write.contents
+          c.serve.new.self;
+      served = record {
+        end = c.in_ok-end.end;
+        begun = _;
+        ends = c.in_ok-end.ensures;
+        served = c.in_ok-serve.ensures;
+      };
       prints = read_as c.in_ok-serve.field-0 end_reason.End _ _ c.in-End.is
           (beside_printed g.W.Write.contents c.serve.new.self.side _ _ _ _ _ prints refl);
     })
@@ -33,7 +47,13 @@ returns-in-End g c =
 pub returns-in-Frame : goal.returns-in-Frame
 returns-in-Frame g c = record {
   why = c.in_ok-serve.field-0;
-  served_to = state_of g.O.Outside.io_events g.O.Outside.impaired_by g.W.Write.contents c.serve.new.self;
-  served = record { end = c.in_ok-end.end; begun = _; ends = c.in_ok-end.ensures; served = c.in_ok-serve.ensures };
+  served_to =
+      state_of g.O.Outside.io_events g.O.Outside.impaired_by g.W.Write.contents c.serve.new.self;
+  served = record {
+    end = c.in_ok-end.end;
+    begun = _;
+    ends = c.in_ok-end.ensures;
+    served = c.in_ok-serve.ensures;
+  };
   prints = read_nothing c.in_ok-serve.field-0 _ c.in-Frame.is;
 }

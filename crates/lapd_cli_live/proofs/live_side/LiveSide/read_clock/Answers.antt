@@ -9,5 +9,12 @@ returns g c =
       side = refl;
       moment = c.set_moment.ensures.moment;
       rises = subst (λ (x : ℕ). x ≤ c.in_ok-now.now) c.moment-2.ensures c.if-now-moment.false;
-      happen = record { own = refl; style = dated.style; io_events = c.in_ok-now.ensures.io_events; impairment = c.in_ok-now.ensures.impaired_by; shown = dated.prints; most = refl };
+      happen = record {
+        own = refl;
+        style = dated.style;
+        io_events = c.in_ok-now.ensures.io_events;
+        impairment = c.in_ok-now.ensures.impaired_by;
+        shown = dated.prints;
+        most = refl;
+      };
     }

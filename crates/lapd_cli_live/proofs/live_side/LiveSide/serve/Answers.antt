@@ -10,12 +10,20 @@ loop-step-init g c = no_steps _ _
 
 pub returns-in-Some : goal.returns-in-Some
 returns-in-Some g c =
-    let step = subst (λ (end_reason : Option EndReason). Step c.args.service (state_of g.O.Outside.io_events g.O.Outside.impaired_by g.W.Write.contents c.loop-step.self)
-    (state_of g.O.Outside.io_events g.O.Outside.impaired_by g.W.Write.contents c.step.new.self) end_reason) c.in-Some.is c.in_ok-end_reason.ensures in
+    let step =
+    subst (λ (end_reason : Option EndReason). Step c.args.service
+    (state_of g.O.Outside.io_events g.O.Outside.impaired_by g.W.Write.contents
+    c.loop-step.self)
+    (state_of g.O.Outside.io_events g.O.Outside.impaired_by g.W.Write.contents c.step.new.self)
+    end_reason) c.in-Some.is c.in_ok-end_reason.ensures in
     all_steps _ _ _ _ _ c.loop-step.invariant step
 
 pub loop-step-preserved : goal.loop-step-preserved
 loop-step-preserved g c =
-    let step = subst (λ (end_reason : Option EndReason). Step c.args.service (state_of g.O.Outside.io_events g.O.Outside.impaired_by g.W.Write.contents c.loop-step.self)
-    (state_of g.O.Outside.io_events g.O.Outside.impaired_by g.W.Write.contents c.step.new.self) end_reason) c.in_default.is c.in_ok-end_reason.ensures in
+    let step =
+    subst (λ (end_reason : Option EndReason). Step c.args.service
+    (state_of g.O.Outside.io_events g.O.Outside.impaired_by g.W.Write.contents
+    c.loop-step.self)
+    (state_of g.O.Outside.io_events g.O.Outside.impaired_by g.W.Write.contents c.step.new.self)
+    end_reason) c.in_default.is c.in_ok-end_reason.ensures in
     more_steps _ _ _ _ c.loop-step.invariant step

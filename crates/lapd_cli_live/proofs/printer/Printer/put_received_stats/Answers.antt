@@ -7,7 +7,11 @@ use Rattle.lapd_cli_live.proofs.printer.Printer.put_received_stats.Goals as goal
 
 pub returns : goal.returns
 returns g c = λ own.
-    let is = c.as_str.ensures.value ∙ c.in_ok-push_received.ensures ∙ ap (λ (text : List ℕ). text ++ received_words c.args.self.now.stats c.args.discarded) c.new-words.ensures.bytes in
+    let is =
+    c.as_str.ensures.value ∙ c.in_ok-push_received.ensures
+    ∙ ap (λ (text : List ℕ). text ++ received_words c.args.self.now.stats c.args.discarded)
+    c.new-words.ensures.bytes in
     on_ok c.put_words.result _ _
-    (λ prints. subst (λ (words : List ℕ). PrintsOn g.W.Write.contents own (Worded words ∷ []) c.args.self.now c.put_words.new.self) is prints)
+    (λ prints. subst (λ (words : List ℕ). PrintsOn g.W.Write.contents own (Worded words ∷ [])
+    c.args.self.now c.put_words.new.self) is prints)
     (c.put_words.ensures own)

@@ -13,10 +13,14 @@ returns g c = λ own.
     let one = c.put_sent_stats.new.self in
     let two = c.put_received_stats.new.self in
     let first = c.in_ok-put_sent_stats.ensures own in
-    let second = subst (λ (stats : Stats). PrintsOn contents own (Worded (received_words stats c.args.discarded) ∷ []) one two) first.prints.stats
+    let second =
+    subst (λ (stats : Stats). PrintsOn contents own
+    (Worded (received_words stats c.args.discarded) ∷ []) one two) first.prints.stats
     (c.in_ok-put_received_stats.ensures own) in
     on_ok c.put_reports.result _ _
-    (λ third. prints_on_both contents own (_ ∷ []) (_ ∷ _ ∷ []) c.args.self.now one c.put_reports.new.self first
+    (λ third. prints_on_both contents own (_ ∷ []) (_ ∷ _ ∷ []) c.args.self.now one
+    c.put_reports.new.self first
     (prints_on_both contents own (_ ∷ []) (_ ∷ []) one two c.put_reports.new.self second
-    (subst (λ (stats : Stats). PrintsOn contents own (Worded (reports_words stats) ∷ []) two c.put_reports.new.self) (second.prints.stats ∙ first.prints.stats) third)))
+    (subst (λ (stats : Stats). PrintsOn contents own (Worded (reports_words stats) ∷ []) two
+    c.put_reports.new.self) (second.prints.stats ∙ first.prints.stats) third)))
     (c.put_reports.ensures own)
