@@ -11,7 +11,6 @@ ghost use Rattle.lapd_cli_answer.specs.PrintedOutputs.{made_output, phrase_line,
 use lapd_cli_script::{LineFault, put_line, put_number, put_octets, put_word};
 use lapd_frame::Frame;
 use lapd_link::{Link, Out};
-use lapd_sides_links::word_of_out;
 use std::io::Write;
 use std::marker::Model;
 
@@ -77,7 +76,7 @@ impl<'a> PrintedOutput<'a> {
 fn printed_unsent<'a>(output_octets: &OutputOctets<'a>, output: &Out) -> PrintedOutput<'a>
     ensures { printed_output_of result ≡ printed_unsent output_octets.now output.now }
 {
-    let word = word_of_out(output);
+    let word = output.word();
     match output {
         Out::Send(..) | Out::SendMessage(..) | Out::SendUnit => PrintedOutput::Nothing,
         Out::Up => PrintedOutput::Primitive(Phrase::Octets(word, output_octets.message)),

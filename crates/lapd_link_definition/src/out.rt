@@ -1,5 +1,5 @@
 ghost use Rattle.std.specs.Prelude.{◌≡◌, [], ◌∷◌};
-ghost use Rattle.lapd_link_definition.specs.Out.{letter_code};
+ghost use Rattle.lapd_link_definition.specs.Out.{letter_code, word_of_out};
 
 use lapd_frame::{Control, Role};
 use lapd_timers::Timer;
@@ -37,6 +37,28 @@ pub enum Out {
     Stop(Timer),
     /// Report an error to management (MDL-ERROR indication, Q.921 Appendix II).
     Report(Letter),
+}
+
+impl Out {
+    /// The word that reports this output to layer 3 or management, as in `established`; empty if it
+    /// is not reported.
+    #[inline(always)]
+    pub fn word(self) -> &'static str
+        ensures { result.now ≡ word_of_out self }
+    {
+        match self {
+            Out::Up => "data",
+            Out::UnitUp => "unit",
+            Out::Established => "established",
+            Out::Confirmed => "confirmed",
+            Out::Released => "released",
+            Out::ReleaseConfirm => "release-confirmed",
+            Out::Acknowledged(_) => "acknowledged",
+            Out::Dropped(_) => "dropped",
+            Out::Report(_) => "report",
+            Out::Send(..) | Out::SendMessage(..) | Out::SendUnit | Out::Start(_) | Out::Stop(_) => "",
+        }
+    }
 }
 
 /// The letter of an error report (Q.921 Appendix II).

@@ -3,7 +3,7 @@ use Rattle.std.specs.Prelude.{ℕ, List, [], ◌∷◌, ◌++◌, codes}
 use Rattle.std.specs.Fmt.{decimal}
 use Rattle.hex.specs.Hex.{encode_lower}
 use Rattle.lapd_frame.specs.Address.{sapi_value}
-use Rattle.lapd_link.specs.Out.{letter_code}
+use Rattle.lapd_link.specs.Out.{letter_code, word_of_out}
 use Rattle.lapd_link_definition.specs.declared.out.Out.{Out}
 use Rattle.lapd_link_definition.specs.declared.out.Out.TheVariants as out
 use Rattle.lapd_link.specs.Refusal.{refusal_name}
@@ -25,19 +25,6 @@ id_text id = decimal (sapi_value id.sapi) ++ 32 ∷ decimal id.tei ++ 32 ∷ []
 abbrev pub digits_text : List ℕ → List ℕ
 digits_text [] = []
 digits_text (octet ∷ octets) = 32 ∷ encode_lower (octet ∷ octets)
-
--- the word that reports an output to layer 3 or management; empty if it is not reported
-abbrev pub word_of_out : Out → List ℕ
-word_of_out out.Up = codes "data"
-word_of_out out.UnitUp = codes "unit"
-word_of_out out.Established = codes "established"
-word_of_out out.Confirmed = codes "confirmed"
-word_of_out out.Released = codes "released"
-word_of_out out.ReleaseConfirm = codes "release-confirmed"
-word_of_out (out.Acknowledged n) = codes "acknowledged"
-word_of_out (out.Dropped n) = codes "dropped"
-word_of_out (out.Report letter) = codes "report"
-word_of_out other = []
 
 -- the first word of a link's primitive: that of its output
 abbrev pub what_word : What → List ℕ

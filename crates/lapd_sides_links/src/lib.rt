@@ -35,6 +35,6 @@ pub use lapd_tei::{TeiMessage, TeiOut};
 pub use lapd_timers::{Durations, Timer, TimerSet};
 pub use link_set::LinkSet;
 pub use octets::Octets;
-pub use primitive::{Primitive, What, word_of_out};
+pub use primitive::{Primitive, What};
 pub use running_timer::RunningTimer;
 pub use side_fault::{SideFault, SideKind, refused};

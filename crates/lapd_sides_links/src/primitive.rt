@@ -1,7 +1,7 @@
 //! The primitives that a side reports to the layers above it.
 
 ghost use Rattle.std.specs.Prelude.{◌≡◌, Some};
-ghost use Rattle.lapd_sides_links.specs.Texts.{primitive_text, word_of_out, what_text, what_word};
+ghost use Rattle.lapd_sides_links.specs.Texts.{primitive_text, what_text, what_word};
 
 use crate::Octets;
 use lapd_link::{Letter, Out};
@@ -80,36 +80,16 @@ impl What {
         ensures { result.now ≡ what_word self.now }
     {
         match self {
-            What::Up(_) => word_of_out(&Out::Up),
-            What::UnitUp(_) => word_of_out(&Out::UnitUp),
-            What::Established => word_of_out(&Out::Established),
-            What::Confirmed => word_of_out(&Out::Confirmed),
-            What::Released => word_of_out(&Out::Released),
-            What::ReleaseConfirm => word_of_out(&Out::ReleaseConfirm),
-            What::Acknowledged(n) => word_of_out(&Out::Acknowledged(*n)),
-            What::Dropped(n) => word_of_out(&Out::Dropped(*n)),
-            What::Report(letter) => word_of_out(&Out::Report(*letter)),
+            What::Up(_) => Out::Up.word(),
+            What::UnitUp(_) => Out::UnitUp.word(),
+            What::Established => Out::Established.word(),
+            What::Confirmed => Out::Confirmed.word(),
+            What::Released => Out::Released.word(),
+            What::ReleaseConfirm => Out::ReleaseConfirm.word(),
+            What::Acknowledged(n) => Out::Acknowledged(*n).word(),
+            What::Dropped(n) => Out::Dropped(*n).word(),
+            What::Report(letter) => Out::Report(*letter).word(),
         }
-    }
-}
-
-/// The word that reports this output to layer 3 or management, as in `established`; empty if it is
-/// not reported.
-#[inline(always)]
-pub fn word_of_out(output: &Out) -> &'static str
-    ensures { result.now ≡ word_of_out output.now }
-{
-    match output {
-        Out::Up => "data",
-        Out::UnitUp => "unit",
-        Out::Established => "established",
-        Out::Confirmed => "confirmed",
-        Out::Released => "released",
-        Out::ReleaseConfirm => "release-confirmed",
-        Out::Acknowledged(_) => "acknowledged",
-        Out::Dropped(_) => "dropped",
-        Out::Report(_) => "report",
-        Out::Send(..) | Out::SendMessage(..) | Out::SendUnit | Out::Start(_) | Out::Stop(_) => "",
     }
 }
 
