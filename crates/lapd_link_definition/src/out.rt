@@ -56,7 +56,8 @@ impl Out {
             Out::Acknowledged(_) => "acknowledged",
             Out::Dropped(_) => "dropped",
             Out::Report(_) => "report",
-            Out::Send(..) | Out::SendMessage(..) | Out::SendUnit | Out::Start(_) | Out::Stop(_) => "",
+            Out::Send(..) | Out::SendMessage(..) | Out::SendUnit | Out::Start(_) | Out::Stop(_) =>
+                "",
         }
     }
 }

@@ -126,6 +126,26 @@ impl UserSide {
         ensures { IfOk result (λ side. ShowUser side config
             (new_user config fixed (seeded config.seed))) }
     {
+        let seed = config.seed;
+        UserSide::with_seed(alloc, config, fixed, seed)
+    }
+
+    /// Creates a user side like [`UserSide::new`], with this seed instead of [`Config::seed`]. So the
+    /// terminals of a bus share a configuration, and each has its own references.
+    ///
+    /// # Errors
+    ///
+    /// `AllocError` if an allocation failed.
+    pub fn with_seed(
+        alloc: Global,
+        config: Config,
+        fixed: Option<Tei>,
+        seed: u64,
+    ) -> Result<UserSide, AllocError>
+        requires { IfSome fixed (λ tei. tei < 127) }
+        ensures { IfOk result (λ side. ShowUser side config
+            (new_user config fixed (seeded seed))) }
+    {
         let mut served = LinksAndTimer::new(alloc, Side::User, config.durations)?;
         if let Some(tei) = fixed {
             served.links.add_tei(alloc, &config, tei)?;
@@ -137,7 +157,7 @@ impl UserSide {
             management: TerminalManagement {
                 terminal: Terminal::new(fixed),
                 pending: PendingEstablishments::nothing(),
-                references: References::new(config.seed),
+                references: References::new(seed),
             },
         })
     }

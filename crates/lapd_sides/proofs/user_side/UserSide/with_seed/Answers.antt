@@ -7,8 +7,8 @@ use Rattle.lapd_sides.specs.declared.links_and_timer.LinksAndTimer.{LinksAndTime
 use Rattle.lapd_sides.specs.Shows.{ShowServed}
 use Rattle.lapd_sides.specs.User.{links_of_fixed}
 use Rattle.lapd_sides.proofs.Using.{with_fixed, without_fixed}
-use Rattle.lapd_sides.proofs.user_side.UserSide.new.Goals.{in-Some+in_ok-add_tei, in_default}
-use Rattle.lapd_sides.proofs.user_side.UserSide.new.Goals as goal
+use Rattle.lapd_sides.proofs.user_side.UserSide.with_seed.Goals.{in-Some+in_ok-add_tei, in_default}
+use Rattle.lapd_sides.proofs.user_side.UserSide.with_seed.Goals as goal
 
 pub returns : goal.returns
 returns c =
