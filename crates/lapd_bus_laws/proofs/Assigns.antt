@@ -38,10 +38,10 @@ use Rattle.lapd_sides.specs.SideState.{with_links, with_stopped}
 use Rattle.lapd_sides.specs.Network as network
 use Rattle.lapd_sides.specs.Network.{Network, assigner_acts, group_frame, network_rules, sends_to_all}
 use Rattle.lapd_interface_laws.specs.Addressed.{those_for}
-use Rattle.lapd_interface_laws.specs.Interface.{network_behaviour}
+use Rattle.lapd_interface.specs.Interface.{network_behaviour}
 use Rattle.lapd_interface_laws.specs.Owed.{PassesBy}
 use Rattle.lapd_interface_laws.specs.Premises.{is_assignment, is_removal}
-use Rattle.lapd_interface_laws.specs.SideView.{SideView, SideEvent, reaction}
+use Rattle.lapd_interface.specs.SideView.{SideView, SideEvent, reaction}
 use Rattle.lapd_interface_laws.proofs.LinkOps.{ArePlain, IsLinkOp, none_of_both, op_acts, op_expires}
 use Rattle.lapd_interface_laws.proofs.Plain.{plain_no_assignment, plain_removals}
 use Rattle.lapd_interface_laws.proofs.Reactions.{AnyInput, AnyRequest, HoldsOfEvents, HoldsOfLinks, Law, each_event, each_request, reacts}

@@ -17,7 +17,6 @@ pub mod Settled
 pub mod Healed
 pub mod Apart
 pub mod Holding
-pub mod SideCalls
 pub mod Checks
 pub mod RunsComputed
 pub mod HoldingRunsComputed

@@ -9,11 +9,11 @@ use Rattle.lapd_sides_links.specs.declared.config.Config.{Config}
 use Rattle.lapd_sides_links.specs.Links.{Reaction}
 use Rattle.lapd_sides.specs.User.{User}
 use Rattle.lapd_interface_laws.specs.Addressed.{is_for, those_for}
-use Rattle.lapd_interface_laws.specs.Interface.{fresh_link, user_behaviour}
+use Rattle.lapd_interface.specs.Interface.{fresh_link, user_behaviour}
 use Rattle.lapd_interface_laws.specs.Owed.{IsUnmovedBy}
 use Rattle.lapd_interface_laws.specs.Premises.{is_removal, IsGivenOnce}
 use Rattle.lapd_interface_laws.specs.Primitives.{what_for, link_primitives}
-use Rattle.lapd_interface_laws.specs.SideView.{Behaviour, SideView, SideEvent, reaction, does}
+use Rattle.lapd_interface.specs.SideView.{Behaviour, SideView, SideEvent, reaction, does}
 use Rattle.lapd_interface_laws.proofs.Users.{reacts_without}
 use Rattle.lapd_interface_laws.proofs.Reactions.{moment_or}
 

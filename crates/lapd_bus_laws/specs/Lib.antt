@@ -1,10 +1,8 @@
-pub mod Bus
 pub mod Assignments
 pub mod Links
 pub mod Holdings
 pub mod Freeing
 pub mod Healing
-pub mod Calls
 pub mod Runs
 pub mod HoldingRuns
 pub mod HealingRuns

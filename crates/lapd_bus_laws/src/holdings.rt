@@ -4,11 +4,11 @@ ghost use Rattle.std.specs.Prelude.{◌≡◌, ◌<◌, ◌≤◌, ℕ, List, sl
 ghost use Rattle.lapd_table.specs.declared.link_id.LinkId.{LinkId};
 ghost use Rattle.lapd_sides.specs.User.{User};
 ghost use Rattle.lapd_sides_links.specs.Links.{parameters_for};
-ghost use Rattle.lapd_interface_laws.specs.Interface.{Configs, from_here};
+ghost use Rattle.lapd_interface.specs.Interface.{Configs, from_here};
 ghost use Rattle.lapd_interface_laws.specs.Projects.{IsSafeAt};
-ghost use Rattle.lapd_interface_laws.specs.SideView.{SideView};
+ghost use Rattle.lapd_interface.specs.SideView.{SideView};
 ghost use Rattle.lapd_bus_laws.specs.Assignments.{claims, IsSingle};
-ghost use Rattle.lapd_bus_laws.specs.Bus.{Bus, BusEvent, NewTerminal, new_bus, bus_step, after_events, from_now, interface_of, moves_along};
+ghost use Rattle.lapd_interface.specs.Bus.{Bus, BusEvent, NewTerminal, new_bus, bus_step, after_events, from_now, interface_of, moves_along};
 ghost use Rattle.lapd_bus_laws.specs.Freeing.{KnowsTeisInUse, LosesNone};
 ghost use Rattle.lapd_bus_laws.specs.Holdings.{AssignsFree, KeepsTeisApart, IsReached, Assigns, IsOnlyClaimant, IsClear, IsClearToNetwork, KeepsHolding};
 ghost use Rattle.lapd_bus_laws.specs.Links.{Throughout, IsNobodyElses};

@@ -5,10 +5,10 @@ ghost use Rattle.std.specs.List.{AllByRecursion};
 ghost use Rattle.lapd_link_definition.specs.Parameters.{Parameters};
 ghost use Rattle.lapd_table.specs.declared.link_id.LinkId.{LinkId};
 ghost use Rattle.lapd_sides.specs.User.{User};
-ghost use Rattle.lapd_interface_laws.specs.Interface.{Configs, from_here};
+ghost use Rattle.lapd_interface.specs.Interface.{Configs, from_here};
 ghost use Rattle.lapd_interface_laws.specs.Projects.{IsSafeAt};
-ghost use Rattle.lapd_interface_laws.specs.SideView.{SideView, SideEvent};
-ghost use Rattle.lapd_bus_laws.specs.Bus.{Bus, BusEvent, KeepsTerminal, IsOverheard, Follows, interface_of, moves_along, from_now, after_events};
+ghost use Rattle.lapd_interface.specs.SideView.{SideView, SideEvent};
+ghost use Rattle.lapd_interface.specs.Bus.{Bus, BusEvent, KeepsTerminal, IsOverheard, Follows, interface_of, moves_along, from_now, after_events};
 ghost use Rattle.lapd_bus_laws.specs.Links.{Throughout, IsTimelyFor, AssignsOthers, ObtainsOnce, IsSole, IsNewHere, IsNobodyElses};
 
 /// Each run of a bus is a run of the network and one terminal, for each of the terminals.

@@ -1,23 +1,17 @@
 //! A bus of sides, after ITU-T Q.921 (09/97): one network side and any number of terminals.
 //!
 //! The laws of two sides (`lapd_interface_laws`) are applied here to a passive bus: a [`NetSide`] and a
-//! [`UserSide`] for each terminal. Nothing here runs. The definitions, in the order of specs/:
+//! [`UserSide`] for each terminal. Nothing here runs. A bus and its events are defined in `lapd_interface`. The definitions, in the
+//! order of specs/:
 //!
-//! - `Bus`: the network side, and the terminals with their lines. Each frame of the network goes to
-//!   all terminals. Each terminal has a line of its own in each direction, which keeps order, and
-//!   repeats and alters nothing; each terminal may lose octets that others receive. An event of a
-//!   bus is an event of a terminal, or of the network with the line of a terminal. A terminal may
-//!   also be replaced by a new one, and the network may restart. `interface_of` is what the network
-//!   and one terminal see of the bus, and `moves_along` are the moves of this interface that events
-//!   of the bus are.
 //! - `Assignments`: the assignments in transit to a terminal, and the terminals that hold a TEI,
 //!   await one, or may still take one (`claims`).
 //! - `Links`: the premises on one link between the network and one terminal.
 //! - `Holdings`: the premises on TEIs (`KeepsTeisApart`), and the holding of a TEI, from its
 //!   assignment to the next (`KeepsHolding`).
-//! - `Freeing`: another premise, on when a TEI is freed (`LosesNone`). `Calls`: which event a call
-//!   of a side in code is. `Healing`: a check of a TEI on any bus, and the premises under which it
-//!   leaves the TEI to one terminal (`Heals`). `Runs`, `HoldingRuns`, `HealingRuns`: worked runs.
+//! - `Freeing`: another premise, on when a TEI is freed (`LosesNone`). `Healing`: a check of a TEI
+//!   on any bus, and the premises under which it leaves the TEI to one terminal (`Heals`). `Runs`,
+//!   `HoldingRuns`, `HealingRuns`: worked runs.
 //!
 //! The laws:
 //!
@@ -30,7 +24,6 @@
 //!   nobody else delivers anything about them.
 //! - [`each_fixed_tei_is_safe`]: the same from the first event on, for fixed TEIs.
 //! - [`freeing_keeps_assignments`]: a premise on freeing TEIs implies that on assigning them.
-//! - [`calls_are_bus_events`]: the calls of n + 1 sides in code are events of the bus.
 //! - [`each_check_heals_its_tei`]: after a check of a TEI at most one terminal holds it, whatever
 //!   the bus held before.
 //! - [`bus_premises_can_be_met`], [`each_bus_premise_is_needed`],
@@ -41,13 +34,11 @@
 //! [`UserSide`]: lapd_sides::UserSide
 #![tactic(auto)]
 
-mod calls;
 mod healing;
 mod holdings;
 mod laws;
 mod runs;
 
-pub use calls::calls_are_bus_events;
 pub use healing::{
     each_check_heals_its_tei, each_healing_premise_is_needed, healing_premises_can_be_met,
 };

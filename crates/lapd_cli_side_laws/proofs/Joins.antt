@@ -13,8 +13,8 @@ use Rattle.lapd_table.specs.declared.link_id.LinkId.{LinkId}
 use Rattle.lapd_sides_links.specs.declared.primitive.Primitive.{Primitive}
 use Rattle.lapd_sides.specs.Network.{Network}
 use Rattle.lapd_sides.specs.User.{User}
-use Rattle.lapd_interface_laws.specs.Interface.{Configs, Interface, Move, own_link, network_behaviour, user_behaviour, by_network, by_user, with_network, with_user, happens, run}
-use Rattle.lapd_interface_laws.specs.SideView.{SideView, SideEvent}
+use Rattle.lapd_interface.specs.Interface.{Configs, Interface, Move, own_link, network_behaviour, user_behaviour, by_network, by_user, with_network, with_user, happens, run}
+use Rattle.lapd_interface.specs.SideView.{SideView, SideEvent}
 use Rattle.lapd_cli_side_commands.specs.Served.{AtWork, LinesDo}
 use Rattle.lapd_cli_side_lines.specs.LineRequests.{LineRequest}
 use Rattle.lapd_cli_side_laws.specs.SideEvents.{AreFor, ShowsNetwork, ShowsUser, does_all, moves_of}

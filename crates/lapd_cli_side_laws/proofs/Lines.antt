@@ -22,10 +22,10 @@ use Rattle.lapd_sides.specs.ShowsNetwork.{ShowNetwork}
 use Rattle.lapd_sides.specs.Requests.{message_of}
 use Rattle.lapd_sides.specs.ShowsUser.{ShowUser}
 use Rattle.lapd_sides.specs.User.{User, user_rules}
-use Rattle.lapd_interface_laws.specs.Calls.{Puts}
-use Rattle.lapd_interface_laws.specs.Interface.{Configs, Interface, network_behaviour, user_behaviour, by_network, by_user, with_network, with_user, run}
-use Rattle.lapd_interface_laws.specs.SideView.{Behaviour, SideView, SideEvent, Take, Expire, Ask, does}
-use Rattle.lapd_interface_laws.proofs.Called.{call_takes, call_ticks, call_requests}
+use Rattle.lapd_interface.specs.Calls.{Puts}
+use Rattle.lapd_interface.specs.Interface.{Configs, Interface, network_behaviour, user_behaviour, by_network, by_user, with_network, with_user, run}
+use Rattle.lapd_interface.specs.SideView.{Behaviour, SideView, SideEvent, Take, Expire, Ask, does}
+use Rattle.lapd_interface.proofs.Called.{call_takes, call_ticks, call_requests}
 use Rattle.lapd_cli_side_lines.specs.Calls.{ExpireInOrder, frames_given}
 use Rattle.lapd_cli_side_commands.specs.Served.{AtWork, Asks, FindsNone, Ticks, LineDoes, LinesDo, TakesNext}
 use Rattle.lapd_cli_side_lines.specs.LineRequests.{LineRequest, Read, Tick, Establish, Release, Give, Unit, Busy, AskTei, Check, Remove, CheckAll, RemoveAll, line_request_of}

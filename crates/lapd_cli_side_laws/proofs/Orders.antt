@@ -9,7 +9,7 @@ use Rattle.lapd_port.specs.SocketText.{socket_text}
 use Rattle.lapd_sides.specs.declared.either_side.EitherSide.TheVariants as either
 use Rattle.lapd_sides.specs.User.{seeded}
 use Rattle.lapd_sides_links.specs.declared.config.Config.{Config}
-use Rattle.lapd_interface_laws.specs.Interface.{Configs, by_user}
+use Rattle.lapd_interface.specs.Interface.{Configs, by_user}
 use Rattle.lapd_cli_side_commands.specs.Served.{AtWork, Devices, LineDoes, LinesDo, NetHasServed, UserHasServed, at_work}
 use Rattle.lapd_cli_side_lines.specs.LineRequests.{LineRequest}
 use Rattle.lapd_cli_side_laws.specs.Joined.{AreAt, Program, Programs, ProgramsDo, WritesTo, requests_of_side}

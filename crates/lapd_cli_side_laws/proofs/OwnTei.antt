@@ -19,8 +19,8 @@ use Rattle.lapd_sides_links.specs.Effects.{outcome_of}
 use Rattle.lapd_sides.specs.Management.{links_with, removal_primitives, manages}
 use Rattle.lapd_sides.specs.SideState.{with_stopped}
 use Rattle.lapd_sides.specs.User.{TerminalState, User, next_reference, pending_after, terminal_acts, user_rules}
-use Rattle.lapd_interface_laws.specs.Interface.{user_behaviour}
-use Rattle.lapd_interface_laws.specs.SideView.{SideEvent, SideView, reaction, does}
+use Rattle.lapd_interface.specs.Interface.{user_behaviour}
+use Rattle.lapd_interface.specs.SideView.{SideEvent, SideView, reaction, does}
 use Rattle.lapd_cli_side_laws.specs.Transcripts.{own_tei, tei_after}
 use Rattle.lapd_interface_laws.proofs.LinkOps.{ArePlain, op_acts, op_expires}
 use Rattle.lapd_interface_laws.proofs.Plain.{pending_aside, plain_removals}

@@ -19,8 +19,8 @@ use Rattle.lapd_sides.specs.declared.request.Request.TheVariants as request
 use Rattle.lapd_sides.specs.declared.either_side.EitherSide.{EitherSide}
 use Rattle.lapd_sides.specs.declared.either_side.EitherSide.TheVariants as either
 use Rattle.lapd_sides.specs.Either.{side_of, Answers}
-use Rattle.lapd_interface_laws.specs.Interface.{network_behaviour, user_behaviour}
-use Rattle.lapd_interface_laws.specs.SideView.{Behaviour, SideView, SideEvent, Take, Expire, Ask, if_granted, or_unmoved, does}
+use Rattle.lapd_interface.specs.Interface.{network_behaviour, user_behaviour}
+use Rattle.lapd_interface.specs.SideView.{Behaviour, SideView, SideEvent, Take, Expire, Ask, if_granted, or_unmoved, does}
 use Rattle.lapd_cli_side_lines.specs.declared.line_style.LineStyle.{LineStyle}
 use Rattle.lapd_cli_side_lines.specs.Calls.{ExpireInOrder, frames_given, primitives_given}
 use Rattle.lapd_cli_side_lines.specs.LineRequests.{LineRequest, Read, Tick, Establish, Release, Give, Unit, Busy, AskTei, Check, Remove, CheckAll, RemoveAll, line_request_of}

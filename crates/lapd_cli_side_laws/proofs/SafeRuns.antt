@@ -7,7 +7,7 @@ use Rattle.lapd_sides_links.specs.Links.{parameters_for}
 use Rattle.lapd_sides.specs.Network.{new_network}
 use Rattle.lapd_sides.specs.User.{new_user, seeded}
 use Rattle.lapd_interface_laws.specs.Establishments.{IsReceivedUnskipped}
-use Rattle.lapd_interface_laws.specs.Interface.{Configs, Interface, Move, new_interface, run}
+use Rattle.lapd_interface.specs.Interface.{Configs, Interface, Move, new_interface, run}
 use Rattle.lapd_interface_laws.specs.Premises.{SatisfyPremisesAsMade}
 use Rattle.lapd_interface_laws.specs.Primitives.{AreExpectedOfLink, given_to, known_of, link_primitives}
 use Rattle.lapd_interface_laws.specs.Projects.{IsRight}

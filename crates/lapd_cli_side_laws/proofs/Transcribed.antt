@@ -13,9 +13,9 @@ use Rattle.lapd_table.specs.declared.link_id.LinkId.{LinkId}
 use Rattle.lapd_sides_links.specs.declared.config.Config.{Config}
 use Rattle.lapd_sides_links.specs.declared.primitive.Primitive.{Primitive}
 use Rattle.lapd_sides.specs.User.{User, new_user}
-use Rattle.lapd_interface_laws.specs.Interface as interface
-use Rattle.lapd_interface_laws.specs.Interface.{Configs, Interface, user_behaviour, by_user, run}
-use Rattle.lapd_interface_laws.specs.SideView.{SideView, SideEvent, does}
+use Rattle.lapd_interface.specs.Interface as interface
+use Rattle.lapd_interface.specs.Interface.{Configs, Interface, user_behaviour, by_user, run}
+use Rattle.lapd_interface.specs.SideView.{SideView, SideEvent, does}
 use Rattle.lapd_cli_side_commands.specs.Served.{AtWork}
 use Rattle.lapd_cli_side_lines.specs.declared.line_style.LineStyle.{LineStyle}
 use Rattle.lapd_cli_side_lines.specs.LineRequests.{LineRequest, Read, Tick, Establish, Release, Give, Unit, Busy, AskTei, Check, Remove, CheckAll, RemoveAll}

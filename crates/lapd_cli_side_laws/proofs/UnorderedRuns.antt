@@ -36,7 +36,7 @@ use Rattle.lapd_sides.specs.declared.either_side.EitherSide.TheVariants as eithe
 use Rattle.lapd_sides.specs.Either.{side_of}
 use Rattle.lapd_interface_laws.specs.Primitives.{AreExpectedOfLink, link_primitives}
 use Rattle.lapd_interface_laws.specs.Schedule.{call, configs}
-use Rattle.lapd_interface_laws.specs.SideView.{Behaviour, SideView, Take, Ask, does}
+use Rattle.lapd_interface.specs.SideView.{Behaviour, SideView, Take, Ask, does}
 use Rattle.lapd_cli_side_lines.specs.declared.line_style.LineStyle.{LineStyle}
 use Rattle.lapd_cli_side_lines.specs.LineRequests.{Read, Establish}
 use Rattle.lapd_cli_side_lines.specs.SideTexts.{frame_text_line}

@@ -29,10 +29,10 @@ use Rattle.lapd_sides.specs.declared.request.Request.{Request}
 use Rattle.lapd_sides.specs.declared.request.Request.TheVariants as request
 use Rattle.lapd_sides.specs.declared.either_side.EitherSide.{EitherSide}
 use Rattle.lapd_sides.specs.declared.either_side.EitherSide.TheVariants as either
-use Rattle.lapd_interface_laws.specs.Interface.{Move, network_behaviour, user_behaviour}
+use Rattle.lapd_interface.specs.Interface.{Move, network_behaviour, user_behaviour}
 use Rattle.lapd_interface_laws.specs.Premises.{SatisfyPremisesAsMade}
 use Rattle.lapd_interface_laws.specs.Schedule.{call, configs}
-use Rattle.lapd_interface_laws.specs.SideView.{Behaviour, SideView, SideEvent, Take, Ask, does}
+use Rattle.lapd_interface.specs.SideView.{Behaviour, SideView, SideEvent, Take, Ask, does}
 use Rattle.lapd_cli_side_commands.specs.Served.{AtWork, Asks, Devices, LineDoes, NetHasServed, TakesNext, UserHasServed, at_work}
 use Rattle.lapd_cli_side_lines.specs.LineRequests.{LineRequest, Read, Establish, Give, line_request_of}
 use Rattle.lapd_cli_side_laws.specs.SideEvents.{ShowsNetwork, ShowsUser, moves_of}

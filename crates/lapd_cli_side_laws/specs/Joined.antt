@@ -8,10 +8,10 @@ use Rattle.lapd_frame.specs.declared.Side.TheVariants as side
 use Rattle.lapd_port.specs.SocketText.{socket_text}
 use Rattle.lapd_table.specs.declared.link_id.LinkId.{LinkId}
 use Rattle.lapd_sides_links.specs.Links.{parameters_for}
-use Rattle.lapd_interface_laws.specs.Interface.{Configs, Interface, Move, run}
+use Rattle.lapd_interface.specs.Interface.{Configs, Interface, Move, run}
 use Rattle.lapd_interface_laws.specs.Premises.{SatisfyPremisesAsMade}
 use Rattle.lapd_interface_laws.specs.Projects.{IsSafeAt}
-use Rattle.lapd_interface_laws.specs.SideView.{SideEvent}
+use Rattle.lapd_interface.specs.SideView.{SideEvent}
 use Rattle.lapd_cli_side_commands.specs.Served.{AtWork, LineDoes}
 use Rattle.lapd_cli_side_lines.specs.LineRequests.{LineRequest}
 use Rattle.lapd_cli_side_laws.specs.SideEvents.{AreFor, ShowsNetwork, ShowsUser, moment_behind, moves_of}

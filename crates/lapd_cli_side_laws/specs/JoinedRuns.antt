@@ -8,7 +8,7 @@ use Rattle.lapd_sides.specs.declared.either_side.EitherSide.{EitherSide}
 use Rattle.lapd_sides.specs.Network.{new_network}
 use Rattle.lapd_sides.specs.User.{new_user, seeded}
 use Rattle.lapd_interface_laws.specs.Establishments.{records_of, IsReceivedUnskipped}
-use Rattle.lapd_interface_laws.specs.Interface.{Configs, Interface, Move, new_interface, run}
+use Rattle.lapd_interface.specs.Interface.{Configs, Interface, Move, new_interface, run}
 use Rattle.lapd_interface_laws.specs.Primitives.{AreExpectedOfLink, given_to, known_of, link_primitives}
 use Rattle.lapd_interface_laws.specs.Projects.{IsSafeAt}
 use Rattle.lapd_cli_side_commands.specs.Served.{AtWork, Devices, HasServed, LinesDo, at_work}

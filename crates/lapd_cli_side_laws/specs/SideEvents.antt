@@ -15,8 +15,8 @@ use Rattle.lapd_sides.specs.Network.{Network}
 use Rattle.lapd_sides.specs.ShowsNetwork.{ShowNetwork}
 use Rattle.lapd_sides.specs.ShowsUser.{ShowUser}
 use Rattle.lapd_sides.specs.User.{User}
-use Rattle.lapd_interface_laws.specs.Interface.{Move}
-use Rattle.lapd_interface_laws.specs.SideView.{Behaviour, SideView, SideEvent, Take, Expire, Ask, does}
+use Rattle.lapd_interface.specs.Interface.{Move}
+use Rattle.lapd_interface.specs.SideView.{Behaviour, SideView, SideEvent, Take, Expire, Ask, does}
 use Rattle.lapd_cli_side_commands.specs.Served.{AtWork}
 use Rattle.lapd_cli_side_lines.specs.LineRequests.{LineRequest, Read, Tick, line_request_of}
 

@@ -5,7 +5,7 @@ use Rattle.lapd_frame.specs.declared.Side.{Side}
 use Rattle.lapd_frame.specs.declared.Side.TheVariants as side
 use Rattle.lapd_port.specs.SocketText.{socket_text}
 use Rattle.lapd_sides.specs.declared.either_side.EitherSide.TheVariants as either
-use Rattle.lapd_interface_laws.specs.Interface.{Move}
+use Rattle.lapd_interface.specs.Interface.{Move}
 use Rattle.lapd_interface_laws.specs.Premises.{SatisfyPremisesAsMade}
 use Rattle.lapd_interface_laws.specs.Schedule.{call, configs}
 use Rattle.lapd_cli_side_commands.specs.Served.{Devices, NetHasServed, UserHasServed}

@@ -25,11 +25,11 @@ use Rattle.lapd_sides.specs.Worked as sides
 use Rattle.lapd_interface_laws.specs.Accounts.{queue_of, waiting_of, IsAccounted, KeepsTei, IsAccountedSince}
 use Rattle.lapd_interface_laws.specs.AccountRuns.{run_of, one_of_each, then_removed, too_early}
 use Rattle.lapd_interface_laws.specs.AnswerRuns.{user_with}
-use Rattle.lapd_interface_laws.specs.Interface.{user_behaviour}
+use Rattle.lapd_interface.specs.Interface.{user_behaviour}
 use Rattle.lapd_interface_laws.specs.Premises.{is_removal}
 use Rattle.lapd_interface_laws.specs.Primitives.{Known, link_primitives, given_to, known_of}
 use Rattle.lapd_interface_laws.specs.Schedule.{call, IsMessage}
-use Rattle.lapd_interface_laws.specs.SideView.{does}
+use Rattle.lapd_interface.specs.SideView.{does}
 use Rattle.lapd_interface_laws.proofs.Computed.{Fits, holding, with_octets, with_both}
 
 abbrev three_messages : List (List ℕ)

@@ -21,10 +21,10 @@ use Rattle.lapd_sides.specs.User.{User, user_requested, user_rules, with_tei_or,
 use Rattle.lapd_interface_laws.specs.Answers.{asks, answers, HasAnswer, expiries_of, KeepsRequest, IsBy, IsAtMostLate, IsPunctual, Throughout, most_periods}
 use Rattle.lapd_interface_laws.specs.EndAnswers.{Asked, Establishment, Withdrawal, Clearing, request_of, may_release, most_expiries}
 use Rattle.lapd_interface_laws.specs.ExactTimers.{HaveExactTimers, SideStep, BringsOctets, stepped, stepped_by_all, new_view}
-use Rattle.lapd_interface_laws.specs.Interface.{behaviour, network_behaviour, user_behaviour}
+use Rattle.lapd_interface.specs.Interface.{behaviour, network_behaviour, user_behaviour}
 use Rattle.lapd_interface_laws.specs.NewLinks.{network_after, user_after}
 use Rattle.lapd_interface_laws.specs.Owed.{IsStep}
-use Rattle.lapd_interface_laws.specs.SideView.{Behaviour, SideView}
+use Rattle.lapd_interface.specs.SideView.{Behaviour, SideView}
 use Rattle.lapd_interface_laws.proofs.AnsweredSides.{answered_by_count, answered_in_time, Debt, debt_closed}
 use Rattle.lapd_interface_laws.proofs.EachEvent.{IsClosed, Ways, network_ways, user_ways}
 use Rattle.lapd_interface_laws.proofs.EachLink.{HasLinks}

@@ -22,7 +22,7 @@ use Rattle.lapd_interface_laws.specs.Answers.{answers, HasAnswer, expiries_of, K
 use Rattle.lapd_interface_laws.specs.EndAnswers.{Asked, Establishment, Withdrawal, Clearing, request_of, may_release, most_expiries}
 use Rattle.lapd_interface_laws.specs.ExactTimers.{HaveExactTimers, SideStep, stepped_by_all, new_view}
 use Rattle.lapd_interface_laws.specs.Owed.{IsStep}
-use Rattle.lapd_interface_laws.specs.SideView.{Behaviour, SideEvent, Take, Lose, Expire, Ask, Overhear, SideView, runs_on}
+use Rattle.lapd_interface.specs.SideView.{Behaviour, SideEvent, Take, Lose, Expire, Ask, Overhear, SideView, runs_on}
 use Rattle.lapd_interface_laws.proofs.EachEvent.{IsClosed, Ways, more_answers, answers_behind, all_go}
 use Rattle.lapd_interface_laws.proofs.EachLink.{HasLinks, after_step}
 use Rattle.lapd_interface_laws.proofs.EndAnswers.{Situation, Establishing, Leaving, Releasing, periods, some_left, at_most, runs_t200, IsOwing, starts}

@@ -28,10 +28,10 @@ use Rattle.lapd_sides.specs.User.{User, PendingEstablishments, is_pending, with_
 use Rattle.lapd_interface_laws.specs.Answers.{asks, answers_for, HasAnswerFor, KeepsRequest, IsBy, most_periods, AreExpiredInTime, IsAnsweredFor, after_request, Throughout, IsPunctual, t202_expiries, expiries_of}
 use Rattle.lapd_interface_laws.specs.EndAnswers.{most_expiries, Asked, Establishment, Withdrawal, Clearing, request_of}
 use Rattle.lapd_interface_laws.specs.ExactTimers.{SideStep, stepped, stepped_by_all, new_view}
-use Rattle.lapd_interface_laws.specs.Interface.{user_behaviour}
+use Rattle.lapd_interface.specs.Interface.{user_behaviour}
 use Rattle.lapd_interface_laws.specs.ManagementTimers.{HasTimerOfTerminal}
 use Rattle.lapd_interface_laws.specs.NewLinks.{user_after}
-use Rattle.lapd_interface_laws.specs.SideView.{Behaviour, SideView, Ask, or_unmoved}
+use Rattle.lapd_interface.specs.SideView.{Behaviour, SideView, Ask, or_unmoved}
 use Rattle.lapd_interface_laws.proofs.AnsweredSides.{Debt}
 use Rattle.lapd_interface_laws.proofs.EachLink.{HasLinks}
 use Rattle.lapd_interface_laws.proofs.EndAnswers.{some_left}

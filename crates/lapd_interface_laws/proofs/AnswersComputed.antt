@@ -16,7 +16,7 @@ use Rattle.lapd_sides.specs.Management.{manages}
 use Rattle.lapd_sides.specs.SideState.{link_of, expires, takes}
 use Rattle.lapd_sides.specs.Network.{assigner_acts, network_requested}
 use Rattle.lapd_sides.specs.User.{terminal_acts, user_requested}
-use Rattle.lapd_interface_laws.specs.SideView.{does}
+use Rattle.lapd_interface.specs.SideView.{does}
 use Rattle.lapd_frame.specs.declared.Sapi.TheVariants.{Call}
 use Rattle.lapd_link_definition.specs.declared.out.Letter.TheVariants as letter
 use Rattle.lapd_sides_links.specs.Links.{of_sapi}
@@ -43,8 +43,8 @@ use Rattle.lapd_interface_laws.specs.Answers.{AreExpiredInTime, after_request}
 use Rattle.lapd_sides.specs.User.{User}
 use Rattle.lapd_sides_links.specs.Links.{Reaction}
 use Rattle.lapd_interface_laws.specs.ExactTimers.{SideStep}
-use Rattle.lapd_interface_laws.specs.Interface.{user_behaviour}
-use Rattle.lapd_interface_laws.specs.SideView.{Expire, Ask}
+use Rattle.lapd_interface.specs.Interface.{user_behaviour}
+use Rattle.lapd_interface.specs.SideView.{Expire, Ask}
 
 pub record AreReached : Type 0 where
   pub establish_accepted : user_requested sides.both_sapis (request.Establish call) 0

@@ -13,9 +13,9 @@ use Rattle.lapd_sides_links.specs.declared.config.Config.{Config}
 use Rattle.lapd_sides_links.specs.Links.{Linked, is_served, is_link_of, with_tei, is_held_below, links_below, Links, parameters_for}
 use Rattle.lapd_sides.specs.Network.{new_network}
 use Rattle.lapd_sides.specs.User.{new_user}
-use Rattle.lapd_interface_laws.specs.Interface.{Configs, Interface, Move, fresh_link, by_user, by_network, side_does, happens, new_interface}
+use Rattle.lapd_interface.specs.Interface.{Configs, Interface, Move, fresh_link, by_user, by_network, side_does, happens, new_interface}
 use Rattle.lapd_interface_laws.specs.Premises.{is_removal, IsMoveGivingTeiOnce, IsMoveLeavingTeiTaken, GiveTeiOnce, LeaveTeiTaken, SatisfyPremisesAsMade}
-use Rattle.lapd_interface_laws.specs.SideView.{SideEvent, does}
+use Rattle.lapd_interface.specs.SideView.{SideEvent, does}
 use Rattle.lapd_interface_laws.specs.Projects.{IsSafeAt}
 use Rattle.lapd_interface_laws.proofs.OwnSides.{AreHeld, network_preserves, AreOwn, user_preserves}
 use Rattle.lapd_interface_laws.proofs.OwnTeis.{both_of}

@@ -22,11 +22,11 @@ use Rattle.lapd_sides.specs.SideState.{link_of, expires, takes}
 use Rattle.lapd_sides.specs.Network.{assigner_acts, network_requested}
 use Rattle.lapd_sides.specs.User.{terminal_acts, user_requested}
 use Rattle.lapd_interface_laws.specs.Establishments.{records_of, AreNeighbours, IsReceivedUnskipped}
-use Rattle.lapd_interface_laws.specs.Interface.{run}
+use Rattle.lapd_interface.specs.Interface.{run}
 use Rattle.lapd_interface_laws.specs.Premises.{AreTimely, GiveTeiOnce, SatisfyPremises}
 use Rattle.lapd_interface_laws.specs.Projects.{IsReceivedByNetwork, IsReceivedByUser, IsUnskippedByNetwork, IsUnskippedByUser}
 use Rattle.lapd_interface_laws.specs.Schedule.{configs, call, packet, at_first, unassigned, IsMessage, both_links, assigned, removed, hasty, skipping, regained, skipping_regained, with_old_frames, answered_before}
-use Rattle.lapd_interface_laws.specs.SideView.{does}
+use Rattle.lapd_interface.specs.SideView.{does}
 use Rattle.lapd_interface_laws.specs.Primitives.{link_primitives, given_to, known_of, IsReceived}
 
 -- ---- A message of given octets.

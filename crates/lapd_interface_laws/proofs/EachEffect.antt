@@ -29,11 +29,11 @@ use Rattle.lapd_sides_links.specs.Links.{Links, Linked, Reaction, in_links, link
 use Rattle.lapd_sides.specs.declared.request.Request.{Request}
 use Rattle.lapd_sides.specs.Management.{is_management, is_ui, is_unit_to_group}
 use Rattle.lapd_interface_laws.specs.Addressed.{is_named, is_for}
-use Rattle.lapd_interface_laws.specs.Interface.{fresh_link}
+use Rattle.lapd_interface.specs.Interface.{fresh_link}
 use Rattle.lapd_interface_laws.specs.Owed.{PassesBy, IsStep, IsUnmovedBy, ServesLink}
 use Rattle.lapd_interface_laws.specs.Premises.{IsGivenOnce}
 use Rattle.lapd_interface_laws.specs.Primitives.{given_to}
-use Rattle.lapd_interface_laws.specs.SideView.{Behaviour, SideView, SideEvent, Take, Lose, Expire, Ask, Overhear, unmoved, takes_first, runs_on, may_expire, or_unmoved, accepted_by, accepted, reaction}
+use Rattle.lapd_interface.specs.SideView.{Behaviour, SideView, SideEvent, Take, Lose, Expire, Ask, Overhear, unmoved, takes_first, runs_on, may_expire, or_unmoved, accepted_by, accepted, reaction}
 use Rattle.lapd_interface_laws.proofs.LinkParts.{absent_acts, own_granted, passes_by_nothing}
 use Rattle.lapd_interface_laws.proofs.Managed.{and_not}
 use Rattle.lapd_interface_laws.proofs.SideEvents.{none_accepted}

@@ -28,9 +28,9 @@ use Rattle.lapd_sides.specs.SideState.{SideState, Rules, expires}
 use Rattle.lapd_sides.specs.User.{User, user_rules}
 use Rattle.lapd_interface_laws.specs.Answers.{is_t200_of, expiries_of, requests_release, Throughout}
 use Rattle.lapd_interface_laws.specs.ExactTimers.{SideStep, stepped, stepped_by_all}
-use Rattle.lapd_interface_laws.specs.Interface.{behaviour, network_behaviour, user_behaviour}
+use Rattle.lapd_interface.specs.Interface.{behaviour, network_behaviour, user_behaviour}
 use Rattle.lapd_interface_laws.specs.Primitives.{what_for, link_primitives}
-use Rattle.lapd_interface_laws.specs.SideView.{Behaviour, SideView, SideEvent, Take, Lose, Expire, Ask, Overhear, unmoved, takes_first, runs_on, may_expire, or_unmoved, reaction, does}
+use Rattle.lapd_interface.specs.SideView.{Behaviour, SideView, SideEvent, Take, Lose, Expire, Ask, Overhear, unmoved, takes_first, runs_on, may_expire, or_unmoved, reaction, does}
 use Rattle.lapd_interface_laws.proofs.EachLink.{IsKept, after_step}
 use Rattle.lapd_interface_laws.proofs.EachSide.{Allows, GoesOn, network_keeps, side_expired, side_takes, user_keeps}
 use Rattle.lapd_interface_laws.proofs.EndAnswers.{one_expiry}

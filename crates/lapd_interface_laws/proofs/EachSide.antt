@@ -32,7 +32,7 @@ use Rattle.lapd_sides.specs.SideState.{SideState, Rules, among_links, or_unmoved
 use Rattle.lapd_sides.specs.Network.{Network, network_rules, assigner_acts}
 use Rattle.lapd_sides.specs.User.{User, user_rules, terminal_acts}
 use Rattle.lapd_interface_laws.specs.Answers.{concerns, requests_release}
-use Rattle.lapd_interface_laws.specs.SideView.{Ask}
+use Rattle.lapd_interface.specs.SideView.{Ask}
 use Rattle.lapd_interface_laws.proofs.EachLink.{Goes, Answers, IsPermitted, IsKept, after_step, expired_ok, expired_err, acts, managing, then_goes}
 use Rattle.lapd_interface_laws.proofs.Reactions.{Inputs, Law, HoldsOfLinks, HoldsOfMessages, HoldsOfRules, PermitsRequest, any_frame, takes_so}
 use Rattle.lapd_interface_laws.proofs.Requests.{HoldsInTurn, by_events, network_asked, step_at, terminal_so, user_asked}

@@ -31,8 +31,8 @@ use Rattle.lapd_sides.specs.Network.{Network, new_network, network_rules, assign
 use Rattle.lapd_sides.specs.SideState.{Rules, SideState, with_stopped}
 use Rattle.lapd_sides.specs.User.{User, new_user, user_rules, terminal_acts}
 use Rattle.lapd_interface_laws.specs.ExactTimers.{HaveExactTimers, BothHaveExactTimers, AreOctets, SideStep, BringsOctets, stepped, stepped_by_all, new_view, OverhearsOctets, OverhearOctets}
-use Rattle.lapd_interface_laws.specs.Interface.{Configs, Interface, Move, behaviour, user_behaviour, network_behaviour, new_interface, by_user, by_network, side_does, happens, run}
-use Rattle.lapd_interface_laws.specs.SideView.{Behaviour, SideView, SideEvent, Take, Lose, Expire, Ask, Overhear, reaction, left, does}
+use Rattle.lapd_interface.specs.Interface.{Configs, Interface, Move, behaviour, user_behaviour, network_behaviour, new_interface, by_user, by_network, side_does, happens, run}
+use Rattle.lapd_interface.specs.SideView.{Behaviour, SideView, SideEvent, Take, Lose, Expire, Ask, Overhear, reaction, left, does}
 use Rattle.lapd_interface_laws.proofs.ExactLinks.{CarriesTags, octets_carry_tags, spelled_carries_tags, IsExact, IsExactAmong, quietly, acts_exactly, expires_exactly, fresh_or, no_link_is_exact, with_tei_exact, manages_exactly, messages_carry_tags}
 use Rattle.lapd_interface_laws.proofs.Reactions.{AnyRequest, Inputs, Law, HoldsOfLinks, HoldsOfRules, HoldsOfEvents, IsOfRequest, PermitsEvent, PermitsFault, PermitsFirst, PermitsFrame, any_request, reacts}
 use Rattle.lapd_interface_laws.proofs.Requests.{HoldsInTurn, by_events, network_asked, sent_to_group, step_at, terminal_so, user_asked}

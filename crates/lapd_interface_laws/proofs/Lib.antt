@@ -14,7 +14,6 @@ pub mod Unskipped
 pub mod Asked
 pub mod OneMove
 pub mod Whole
-pub mod Called
 pub mod Computed
 pub mod Reactions
 pub mod Requests

@@ -26,7 +26,7 @@ use Rattle.lapd_interface_laws.specs.Owed.{PassesBy, IsRemoval, AreSilent}
 use Rattle.lapd_interface_laws.specs.Addressed.{is_for}
 use Rattle.lapd_interface_laws.specs.Primitives.{what_for, link_primitives}
 use Rattle.lapd_interface_laws.specs.Premises.{is_removal, is_assignment, IsGivenOnce}
-use Rattle.lapd_interface_laws.specs.Interface.{fresh_link}
+use Rattle.lapd_interface.specs.Interface.{fresh_link}
 use Rattle.lapd_interface_laws.proofs.LinkParts.{none_pass, spelled_is_for, now_there, any_more, silent_both}
 
 -- ---- Tests.

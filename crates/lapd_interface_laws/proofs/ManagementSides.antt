@@ -19,9 +19,9 @@ use Rattle.lapd_sides.specs.Management.{manages}
 use Rattle.lapd_sides.specs.Network.{Network, new_network, network_rules, assigner_acts}
 use Rattle.lapd_sides.specs.SideState.{SideState, Rules, with_stopped}
 use Rattle.lapd_sides.specs.User.{User, TerminalState, new_user, user_rules, next_reference, pending_after, terminal_acts}
-use Rattle.lapd_interface_laws.specs.Interface.{Configs, Interface, Move, behaviour, user_behaviour, network_behaviour, new_interface, by_user, by_network, side_does, happens, run}
+use Rattle.lapd_interface.specs.Interface.{Configs, Interface, Move, behaviour, user_behaviour, network_behaviour, new_interface, by_user, by_network, side_does, happens, run}
 use Rattle.lapd_interface_laws.specs.ManagementTimers.{RunsAlone, HasTimerOfTerminal, HasTimerOfAssigner, HaveTimersOfManagement}
-use Rattle.lapd_interface_laws.specs.SideView.{SideEvent, SideView, reaction, does}
+use Rattle.lapd_interface.specs.SideView.{SideEvent, SideView, reaction, does}
 use Rattle.lapd_interface_laws.proofs.ManagementTimers.{assigner_row, awaits_before, checks_before, expired_201, expired_202, terminal_row}
 use Rattle.lapd_interface_laws.proofs.Plain.{pending_aside}
 use Rattle.lapd_interface_laws.proofs.Reactions.{Law, HoldsOfLinks, HoldsOfRules, HoldsOfEvents, AnyInput, AnyRequest, each_event, each_request, reacts}

@@ -12,7 +12,7 @@ use Rattle.lapd_sides_links.specs.Links.{is_served}
 use Rattle.lapd_sides.specs.Meant.{gives_to_link}
 use Rattle.lapd_sides.specs.Network.{Network, network_rules, assigner_acts, group_frame, sends_to_all}
 use Rattle.lapd_sides.specs.SideState.{with_stopped}
-use Rattle.lapd_interface_laws.specs.Interface.{network_behaviour}
+use Rattle.lapd_interface.specs.Interface.{network_behaviour}
 use Rattle.lapd_interface_laws.specs.Owed.{ServesLink}
 use Rattle.lapd_interface_laws.proofs.LinkParts.{spelled_is_for, none_pass}
 use Rattle.lapd_interface_laws.proofs.Managed.{managing, not_of_group, message_is_other}

@@ -18,10 +18,10 @@ use Rattle.lapd_sides_links.specs.Effects.{what_of}
 use Rattle.lapd_sides.specs.Network.{Network}
 use Rattle.lapd_sides.specs.User.{User}
 use Rattle.lapd_interface_laws.specs.Establishments.{LinkRecords, IsReceivedUnskipped, side_recorded}
-use Rattle.lapd_interface_laws.specs.Interface.{Configs, Interface, user_behaviour, network_behaviour, by_user, by_network, with_user, with_network, side_does}
+use Rattle.lapd_interface.specs.Interface.{Configs, Interface, user_behaviour, network_behaviour, by_user, by_network, with_user, with_network, side_does}
 use Rattle.lapd_interface_laws.specs.Premises.{IsTimelyMove, IsMoveGivingTeiOnce}
 use Rattle.lapd_interface_laws.specs.Projects.{ShowRecords, Projects, ProjectsTo}
-use Rattle.lapd_interface_laws.specs.SideView.{SideEvent, SideView, does}
+use Rattle.lapd_interface.specs.SideView.{SideEvent, SideView, does}
 use Rattle.lapd_interface_laws.specs.Primitives.{link_primitives, given_to, known_of, AreExpectedOfLink}
 use Rattle.lapd_interface_laws.proofs.SideEvents.{each_event}
 use Rattle.lapd_interface_laws.proofs.Frames.{delivered_is_expected}

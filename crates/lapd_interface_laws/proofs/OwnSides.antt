@@ -17,9 +17,9 @@ use Rattle.lapd_sides.specs.Network.{Network, network_rules, assigner_acts}
 use Rattle.lapd_sides.specs.SideState.{SideState, Rules, with_links, with_stopped}
 use Rattle.lapd_sides.specs.User.{User, TerminalState, user_rules, next_reference, pending_after, terminal_acts}
 use Rattle.lapd_interface_laws.specs.ExactTimers.{SideStep, stepped, stepped_by_all}
-use Rattle.lapd_interface_laws.specs.Interface.{behaviour, network_behaviour, user_behaviour}
+use Rattle.lapd_interface.specs.Interface.{behaviour, network_behaviour, user_behaviour}
 use Rattle.lapd_interface_laws.specs.Premises.{is_assignment}
-use Rattle.lapd_interface_laws.specs.SideView.{SideEvent, SideView, reaction, does}
+use Rattle.lapd_interface.specs.SideView.{SideEvent, SideView, reaction, does}
 use Rattle.lapd_interface_laws.proofs.HeldTeis.{GivesFree, gives_free}
 use Rattle.lapd_interface_laws.proofs.LinkOps.{IsLinkOp, none_of_both, op_acts, op_expires}
 use Rattle.lapd_interface_laws.proofs.OwnTeis.{AreOf, IsQuietFor, LeavesOwn, managed_are, managed_is_quiet}

@@ -12,7 +12,7 @@ use Rattle.lapd_sides_links.specs.declared.config.Config.{Config}
 use Rattle.lapd_sides_links.specs.Effects.{Effects, outcome_of}
 use Rattle.lapd_sides_links.specs.Links.{Links, Linked, Served, is_served, is_link_of, or_new, with_tei}
 use Rattle.lapd_sides.specs.Management.{links_with, links_without, removal_primitives, manages}
-use Rattle.lapd_interface_laws.specs.Interface.{fresh_link}
+use Rattle.lapd_interface.specs.Interface.{fresh_link}
 use Rattle.lapd_interface_laws.specs.Premises.{is_assignment}
 use Rattle.lapd_interface_laws.proofs.LinkOps.{none_of_both}
 use Rattle.lapd_interface_laws.proofs.Plain.{plain_no_assignment, plain_removals}

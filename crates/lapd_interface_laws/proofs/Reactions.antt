@@ -27,8 +27,8 @@ use Rattle.lapd_sides.specs.declared.request.Request.TheVariants as request
 use Rattle.lapd_sides.specs.Management.{carries_message}
 use Rattle.lapd_sides.specs.SideState as sides
 use Rattle.lapd_sides.specs.SideState.{SideState, Rules, unmoved, discards, with_links, among_links, or_discarded, unit_from_group, link_of, message_received, data_received, fault_received, received, takes, with_stopped, expires}
-use Rattle.lapd_interface_laws.specs.Interface.{behaviour}
-use Rattle.lapd_interface_laws.specs.SideView.{SideView, SideEvent, Take, Lose, Expire, Ask, Overhear, takes_first, may_expire, or_unmoved, reaction}
+use Rattle.lapd_interface.specs.Interface.{behaviour}
+use Rattle.lapd_interface.specs.SideView.{SideView, SideEvent, Take, Lose, Expire, Ask, Overhear, takes_first, may_expire, or_unmoved, reaction}
 
 abbrev pub IsNoExpiry : Input → Type 0
 IsNoExpiry (Expiry timer) = ⊥

@@ -37,8 +37,8 @@ use Rattle.lapd_sides.specs.Management.{carries_message, is_management, is_ui, i
 use Rattle.lapd_sides.specs.SideState.{SideState, Rules, unmoved, discards, with_links, among_links, or_discarded, or_unmoved, primitive_of_group, unit_from_group, link_of, message_received, data_received, received, takes, with_stopped, expires}
 use Rattle.lapd_interface_laws.specs.Owed.{PassesBy, IsStep, IsUnmovedBy, IsRequest, IsNoRequest, ServesLink}
 use Rattle.lapd_interface_laws.specs.Addressed.{is_named, is_for, parts_of, spelled}
-use Rattle.lapd_interface_laws.specs.Interface.{behaviour, fresh_link, or_named}
-use Rattle.lapd_interface_laws.specs.SideView.{if_granted, accepted_by}
+use Rattle.lapd_interface.specs.Interface.{behaviour, fresh_link, or_named}
+use Rattle.lapd_interface.specs.SideView.{if_granted, accepted_by}
 use Rattle.lapd_interface_laws.specs.Primitives.{link_primitives}
 use Rattle.lapd_interface_laws.specs.Premises.{IsGivenOnce}
 use Rattle.lapd_interface_laws.proofs.Asked.{IsMoveRequest, establish_request, release_request, busy_request, free_request, give_request, unit_request, granted_part, none_given, one_given}

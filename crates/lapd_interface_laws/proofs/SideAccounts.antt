@@ -39,12 +39,12 @@ use Rattle.lapd_sides.specs.User.{new_user, user_rules}
 use Rattle.lapd_interface_laws.specs.Accounts.{queue_of, waiting_of, IsAccounted, since, KeepsTei, IsAccountedSince}
 use Rattle.lapd_interface_laws.specs.Addressed.{is_for}
 use Rattle.lapd_interface_laws.specs.ExactTimers.{SideStep, stepped, stepped_by_all, new_view}
-use Rattle.lapd_interface_laws.specs.Interface.{behaviour, fresh_link, network_behaviour, user_behaviour}
+use Rattle.lapd_interface.specs.Interface.{behaviour, fresh_link, network_behaviour, user_behaviour}
 use Rattle.lapd_interface_laws.specs.NewLinks.{network_after, user_after}
 use Rattle.lapd_interface_laws.specs.Owed.{PassesBy, IsStep, ServesLink}
 use Rattle.lapd_interface_laws.specs.Premises.{is_removal}
 use Rattle.lapd_interface_laws.specs.Primitives.{Known, nothing_known, learns, learns_all, what_for, link_primitives, message_for, given_to, known_of}
-use Rattle.lapd_interface_laws.specs.SideView.{Behaviour, SideView, SideEvent, accepted, reaction, does}
+use Rattle.lapd_interface.specs.SideView.{Behaviour, SideView, SideEvent, accepted, reaction, does}
 use Rattle.lapd_interface_laws.proofs.AsMade.{new_are_held, new_are_own}
 use Rattle.lapd_interface_laws.proofs.EachEffect.{Affects, takes_its, each_effect}
 use Rattle.lapd_interface_laws.proofs.LinkParts.{now_there, any_more, any_behind, learns_both}

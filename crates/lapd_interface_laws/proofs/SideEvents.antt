@@ -36,7 +36,7 @@ use Rattle.lapd_interface_laws.specs.Establishments.{establishments_of, number_e
 use Rattle.lapd_interface_laws.specs.Addressed.{is_for, those_for, spelled, all_spelled}
 use Rattle.lapd_interface_laws.specs.Primitives.{nothing_known, learns_all, what_for, link_primitives, message_for, given_to, known_of, AreExpectedOfLink}
 use Rattle.lapd_interface_laws.specs.Premises.{is_removal, IsTimely, IsGivenOnce, GivesTeiOnce}
-use Rattle.lapd_interface_laws.specs.SideView.{Behaviour, SideEvent, Take, Lose, Expire, Ask, Overhear, SideView, unmoved, takes_first, runs_on, or_unmoved, if_granted, accepted_by, reaction, does}
+use Rattle.lapd_interface.specs.SideView.{Behaviour, SideEvent, Take, Lose, Expire, Ask, Overhear, SideView, unmoved, takes_first, runs_on, or_unmoved, if_granted, accepted_by, reaction, does}
 use Rattle.lapd_interface_laws.specs.Projects.{IsTimed, HasLink, ShowsEnd, Projects}
 use Rattle.lapd_interface_laws.proofs.Frames.{delivered_frames, delivered_is_known}
 use Rattle.lapd_interface_laws.specs.Owed.{PassesBy, IsStep, IsRemoval, IsUnmovedBy, IsRequest, ServesLink}

@@ -17,7 +17,7 @@ use Rattle.lapd_sides_links.specs.Links.{Links}
 use Rattle.lapd_interface_laws.specs.Establishments.{LinkRecord, recorded, establishments_of, number_each, AreNeighboursAfter, AreNeighbours, IsReceivedUnskipped}
 use Rattle.lapd_interface_laws.specs.Primitives.{Known, what_for, link_primitives, known_of, learns_all, nothing_known}
 use Rattle.lapd_interface_laws.specs.Projects.{ShowsEnd, ShowsRecord, Projects}
-use Rattle.lapd_interface_laws.specs.SideView.{Behaviour, SideEvent, SideView, reaction, does}
+use Rattle.lapd_interface.specs.SideView.{Behaviour, SideEvent, SideView, reaction, does}
 use Rattle.lapd_interface_laws.proofs.LinkParts.{learns_both}
 use Rattle.lapd_interface_laws.proofs.Recorded.{numbers_of, none_numbered, AreSentBy, sent_by_station, sent_by_none, sent_recorded}
 use Rattle.lapd_interface_laws.proofs.Sendings.{AreSentNow}

@@ -29,11 +29,11 @@ use Rattle.lapd_sides.specs.Meant.{gives_to_own_link}
 use Rattle.lapd_sides.specs.SideState.{among_links, link_of, or_unmoved, unmoved, with_stopped}
 use Rattle.lapd_sides.specs.User.{User, nothing_pending, user_rules, with_kept, establishes, establishes_pending, primitive_of_sapi, gives_up_pending, own_link, pending_after, terminal_acts, user_requested, with_tei_or}
 use Rattle.lapd_interface_laws.specs.Owed.{PassesBy, ServesLink}
-use Rattle.lapd_interface_laws.specs.Interface.{fresh_link, user_behaviour}
+use Rattle.lapd_interface.specs.Interface.{fresh_link, user_behaviour}
 use Rattle.lapd_interface_laws.specs.Primitives.{what_for, link_primitives}
 use Rattle.lapd_interface_laws.specs.Premises.{IsGivenOnce, is_assignment}
 use Rattle.lapd_interface_laws.proofs.LinkParts.{expiry_passes, now_there, absent_acts, own_granted, pass_then_step, step_then_pass, removal_then_pass, other_acts, passes_by_both}
-use Rattle.lapd_interface_laws.specs.SideView.{SideEvent, SideView, reaction}
+use Rattle.lapd_interface.specs.SideView.{SideEvent, SideView, reaction}
 use Rattle.lapd_interface_laws.proofs.Managed.{managing, outcomes_spare, and_not, neither, any_first, other_tei}
 use Rattle.lapd_interface_laws.proofs.Reactions.{AnyInput, AnyRequest, HoldsOfEvents, HoldsOfLinks, each_event, each_request, moment_or, reacts}
 use Rattle.lapd_interface_laws.proofs.Requests.{HoldsInTurn, by_events, forgotten_by, pending_so, step_at, stepped_by, user_asked}

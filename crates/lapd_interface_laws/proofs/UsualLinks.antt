@@ -30,10 +30,10 @@ use Rattle.lapd_sides.specs.Network.{Network, new_network}
 use Rattle.lapd_sides.specs.User.{User, new_user}
 use Rattle.lapd_interface_laws.specs.Answers.{IsBy, Throughout, expiries_of}
 use Rattle.lapd_interface_laws.specs.ExactTimers.{SideStep, stepped, stepped_by_all, new_view}
-use Rattle.lapd_interface_laws.specs.Interface.{network_behaviour, user_behaviour}
+use Rattle.lapd_interface.specs.Interface.{network_behaviour, user_behaviour}
 use Rattle.lapd_interface_laws.specs.NewLinks.{network_after, user_after}
 use Rattle.lapd_interface_laws.specs.Primitives.{link_primitives}
-use Rattle.lapd_interface_laws.specs.SideView.{Behaviour, SideEvent, Take, Lose, Expire, Ask, Overhear, SideView}
+use Rattle.lapd_interface.specs.SideView.{Behaviour, SideEvent, Take, Lose, Expire, Ask, Overhear, SideView}
 use Rattle.lapd_interface_laws.proofs.EachEvent.{IsClosed, GoesAt, network_ways, user_ways, Ways, all_go}
 use Rattle.lapd_interface_laws.proofs.EachLink.{after_step, IsKept}
 use Rattle.lapd_interface_laws.proofs.OwedAnswers.{durations_stay, stopped_durations}

@@ -26,10 +26,10 @@ use Rattle.lapd_sides.specs.Management.{manages}
 use Rattle.lapd_sides.specs.User.{User, new_user, next_reference, terminal_acts, TerminalState, user_rules}
 use Rattle.lapd_interface_laws.specs.Answers.{IsBy}
 use Rattle.lapd_interface_laws.specs.ExactTimers.{SideStep, stepped, stepped_by_all, new_view}
-use Rattle.lapd_interface_laws.specs.Interface.{user_behaviour}
+use Rattle.lapd_interface.specs.Interface.{user_behaviour}
 use Rattle.lapd_interface_laws.specs.ManagementTimers.{HasTimerOfTerminal}
 use Rattle.lapd_interface_laws.specs.NewLinks.{user_after}
-use Rattle.lapd_interface_laws.specs.SideView.{SideView, SideEvent, Take, Lose, Expire, Ask, Overhear, does}
+use Rattle.lapd_interface.specs.SideView.{SideView, SideEvent, Take, Lose, Expire, Ask, Overhear, does}
 use Rattle.lapd_interface_laws.proofs.AsMade.{new_are_own}
 use Rattle.lapd_interface_laws.proofs.Plain.{pending_aside}
 use Rattle.lapd_interface_laws.proofs.Requests.{by_events, step_at, stepped_by, user_asked}

@@ -3,7 +3,7 @@
 use Rattle.std.proofs.Common.{◌≡◌, sym, if◌then◌else◌, ◌⊎◌, inl, inr, ℕ, ◌+◌, ◌-◌, ◌*◌, ◌≤◌, ◌<◌, ◌==◌, ◌&&◌, ◌||◌, Bool, true, false, List, [], ◌∷◌, ◌++◌, Option, Some, None, refl, ap, subst, arith}
 use Rattle.std.specs.Prelude.{is_some, cond}
 use Rattle.std.proofs.lemmas.List.Sums.{sum_by-cons}
-use Rattle.lapd_interface_laws.specs.SideView.{unmoved}
+use Rattle.lapd_interface.specs.SideView.{unmoved}
 use Rattle.lapd_interface_laws.specs.Answers.{is_t202, t202_expiries}
 use Rattle.lapd_sides_links.specs.Links.{Reaction}
 use Rattle.std.specs.List.{list_any}
@@ -31,10 +31,10 @@ use Rattle.lapd_sides.specs.User.{User, user_rules, terminal_acts}
 use Rattle.lapd_interface_laws.specs.Answers.{answers, answers_for, HasAnswer, HasAnswerFor, KeepsRequest, requests_release, IsAtMostLate, IsPunctual, Throughout, expiries_of, most_periods}
 use Rattle.lapd_interface_laws.specs.EndAnswers.{Asked, may_release, most_expiries}
 use Rattle.lapd_interface_laws.specs.ExactTimers.{SideStep, stepped, stepped_by_all}
-use Rattle.lapd_interface_laws.specs.Interface.{user_behaviour}
+use Rattle.lapd_interface.specs.Interface.{user_behaviour}
 use Rattle.lapd_interface_laws.specs.ManagementTimers.{HasTimerOfTerminal}
 use Rattle.lapd_interface_laws.specs.Primitives.{link_primitives}
-use Rattle.lapd_interface_laws.specs.SideView.{SideView, SideEvent, Take, Lose, Expire, Ask, Overhear, reaction, does}
+use Rattle.lapd_interface.specs.SideView.{SideView, SideEvent, Take, Lose, Expire, Ask, Overhear, reaction, does}
 use Rattle.lapd_interface_laws.proofs.AnsweredSides.{Debt, debt_closed, advance, Ready, quiet_until}
 use Rattle.lapd_interface_laws.proofs.EachEvent.{user_ways, all_go}
 use Rattle.lapd_interface_laws.proofs.EachLink.{HasLinks}

@@ -27,9 +27,9 @@ use Rattle.lapd_sides.specs.SideState.{primitive_of_group, with_stopped}
 use Rattle.lapd_sides.specs.User.{User, TerminalState, PendingEstablishments, user_rules, with_kept, is_pending, with_pending, next_reference, assigned, terminal_acts, has_tei}
 use Rattle.lapd_interface_laws.specs.Answers.{answers_for}
 use Rattle.lapd_interface_laws.specs.EndAnswers.{Asked, Establishment, Withdrawal, Clearing, may_release}
-use Rattle.lapd_interface_laws.specs.SideView.{may_expire}
+use Rattle.lapd_interface.specs.SideView.{may_expire}
 use Rattle.lapd_interface_laws.specs.Answers.{requests_release}
-use Rattle.lapd_interface_laws.specs.SideView.{Ask}
+use Rattle.lapd_interface.specs.SideView.{Ask}
 use Rattle.lapd_interface_laws.proofs.Requests.{HoldsOfTerminal, UserIfOk, forgotten_by, user_asked}
 use Rattle.lapd_interface_laws.proofs.WaitingUser.{Establishes, IsReady, Goes, GoesWith, Acts, awaits, again, fails, obtains}
 use Rattle.lapd_interface_laws.proofs.Reactions.{AnyInput, HoldsOfEvents, HoldsOfLinks, Law, each_request, if_either}

@@ -22,7 +22,7 @@ use Rattle.lapd_sides.specs.Network.{Network}
 use Rattle.lapd_sides.specs.User.{User}
 use Rattle.lapd_interface_laws.specs.Addressed.{those_for}
 use Rattle.lapd_interface_laws.specs.Establishments.{LinkRecords, nothing_recorded, side_recorded, run_recorded, records_of}
-use Rattle.lapd_interface_laws.specs.Interface.{fresh_link, Configs, Interface, Move, new_interface, from_here, happens, run}
+use Rattle.lapd_interface.specs.Interface.{fresh_link, Configs, Interface, Move, new_interface, from_here, happens, run}
 use Rattle.lapd_interface_laws.specs.Premises.{AreTimely, GiveTeiOnce, SatisfyPremises}
 use Rattle.lapd_interface_laws.specs.Primitives.{AreExpectedOfLink, link_primitives}
 use Rattle.lapd_interface_laws.specs.Projects.{HasLink, AwaitsLink, ShowsEnd, ShowRecords, ProjectsTo, IsRight, IsSafeAt}

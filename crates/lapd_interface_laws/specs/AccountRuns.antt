@@ -7,9 +7,9 @@ use Rattle.lapd_sides.specs.Worked as sides
 use Rattle.lapd_interface_laws.specs.Accounts.{since}
 use Rattle.lapd_interface_laws.specs.AnswerRuns.{alone, arriving, user_with}
 use Rattle.lapd_interface_laws.specs.ExactTimers.{SideStep}
-use Rattle.lapd_interface_laws.specs.Interface.{user_behaviour}
+use Rattle.lapd_interface.specs.Interface.{user_behaviour}
 use Rattle.lapd_interface_laws.specs.Schedule.{call}
-use Rattle.lapd_interface_laws.specs.SideView.{SideView, Ask}
+use Rattle.lapd_interface.specs.SideView.{SideView, Ask}
 
 -- the side after these steps, since its creation
 abbrev pub run_of : List SideStep → SideView User

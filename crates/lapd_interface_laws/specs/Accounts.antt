@@ -9,7 +9,7 @@ use Rattle.lapd_sides_links.specs.Links.{Linked}
 use Rattle.lapd_interface_laws.specs.ExactTimers.{SideStep, stepped_by_all, new_view}
 use Rattle.lapd_interface_laws.specs.Premises.{is_removal}
 use Rattle.lapd_interface_laws.specs.Primitives.{Known, given_to, known_of}
-use Rattle.lapd_interface_laws.specs.SideView.{Behaviour, SideView}
+use Rattle.lapd_interface.specs.SideView.{Behaviour, SideView}
 
 -- ---- The messages of a link that wait. A link that does not exist has none.
 

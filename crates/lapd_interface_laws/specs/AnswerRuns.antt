@@ -16,10 +16,10 @@ use Rattle.lapd_sides.specs.User.{User, advanced, next_reference, user_requested
 use Rattle.lapd_sides.specs.Worked as sides
 use Rattle.lapd_interface_laws.specs.Answers.{after_request}
 use Rattle.lapd_interface_laws.specs.ExactTimers.{SideStep}
-use Rattle.lapd_interface_laws.specs.Interface.{user_behaviour}
+use Rattle.lapd_interface.specs.Interface.{user_behaviour}
 use Rattle.lapd_interface_laws.specs.NewLinks.{user_after}
 use Rattle.lapd_interface_laws.specs.Schedule.{call}
-use Rattle.lapd_interface_laws.specs.SideView.{SideEvent, Take, Expire, Ask, or_unmoved}
+use Rattle.lapd_interface.specs.SideView.{SideEvent, Take, Expire, Ask, or_unmoved}
 
 -- a step before which nothing arrives
 abbrev pub alone : SideEvent → SideStep

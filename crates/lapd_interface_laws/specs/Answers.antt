@@ -20,7 +20,7 @@ use Rattle.lapd_sides.specs.declared.request.Request.TheVariants as request
 use Rattle.lapd_interface_laws.specs.EndAnswers.{Asked, Establishment, Withdrawal, Clearing, may_release}
 use Rattle.lapd_interface_laws.specs.ExactTimers.{SideStep, stepped, stepped_by_all, new_view}
 use Rattle.lapd_interface_laws.specs.Primitives.{link_primitives}
-use Rattle.lapd_interface_laws.specs.SideView.{Behaviour, SideView, SideEvent, Take, Lose, Expire, Ask, Overhear}
+use Rattle.lapd_interface.specs.SideView.{Behaviour, SideView, SideEvent, Take, Lose, Expire, Ask, Overhear}
 
 -- the first request
 abbrev pub asks : Asked → LinkId → Request

@@ -15,8 +15,8 @@ use Rattle.lapd_sides_links.specs.declared.primitive.What.{What}
 use Rattle.lapd_sides_links.specs.declared.primitive.What.TheVariants as what
 use Rattle.lapd_sides_links.specs.Links.{Linked}
 use Rattle.lapd_interface_laws.specs.Primitives.{link_primitives, IsReceived}
-use Rattle.lapd_interface_laws.specs.SideView.{Behaviour, SideEvent, SideView, reaction}
-use Rattle.lapd_interface_laws.specs.Interface.{Configs, Interface, Move, user_behaviour, network_behaviour, by_user, by_network, happens}
+use Rattle.lapd_interface.specs.SideView.{Behaviour, SideEvent, SideView, reaction}
+use Rattle.lapd_interface.specs.Interface.{Configs, Interface, Move, user_behaviour, network_behaviour, by_user, by_network, happens}
 
 -- ---- One link of one side.
 

@@ -10,8 +10,8 @@ use Rattle.lapd_link_definition.specs.End.{runs}
 use Rattle.lapd_link_definition.specs.RunningTimers.{AreTimersOf, HasTimersOfState}
 use Rattle.lapd_table.specs.declared.link_id.LinkId.{LinkId}
 use Rattle.lapd_sides_links.specs.Links.{Linked, Links}
-use Rattle.lapd_interface_laws.specs.Interface.{Interface, Move}
-use Rattle.lapd_interface_laws.specs.SideView.{Behaviour, SideView, SideEvent, Overhear, does}
+use Rattle.lapd_interface.specs.Interface.{Interface, Move}
+use Rattle.lapd_interface.specs.SideView.{Behaviour, SideView, SideEvent, Overhear, does}
 
 -- A timer has a deadline exactly when it runs at the link's end: T200 and T203 by the state, T201
 -- and T202 never. V(S), V(A) and V(R) are tags.

@@ -1,14 +1,11 @@
 pub mod Addressed
 pub mod Primitives
-pub mod SideView
-pub mod Interface
 pub mod Establishments
 pub mod Premises
 pub mod Projects
 pub mod Owed
 pub mod ExactTimers
 pub mod ManagementTimers
-pub mod Calls
 pub mod Schedule
 pub mod NewLinks
 pub mod EndAnswers

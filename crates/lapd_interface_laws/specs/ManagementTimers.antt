@@ -9,7 +9,7 @@ use Rattle.lapd_tei.specs.Terminal.{is_awaiting}
 use Rattle.lapd_sides.specs.Network.{Network}
 use Rattle.lapd_sides.specs.User.{User}
 use Rattle.lapd_interface_laws.specs.ExactTimers.{IsNoLaterThan}
-use Rattle.lapd_interface_laws.specs.Interface.{Interface}
+use Rattle.lapd_interface.specs.Interface.{Interface}
 
 -- this timer has a deadline exactly if `runs` is true, and no other timer has one
 abbrev pub RunsAlone : Timer → Bool → Timers → Type 0

@@ -11,7 +11,7 @@ use Rattle.lapd_sides_links.specs.Shown.{ShowLinks}
 use Rattle.lapd_sides.specs.Network.{Network, new_network}
 use Rattle.lapd_sides.specs.User.{User, new_user}
 use Rattle.lapd_interface_laws.specs.ExactTimers.{SideStep, stepped_by_all, new_view}
-use Rattle.lapd_interface_laws.specs.Interface.{network_behaviour, user_behaviour}
+use Rattle.lapd_interface.specs.Interface.{network_behaviour, user_behaviour}
 
 -- a newly created side after these steps, whatever octets arrive
 abbrev pub network_after : Config → List ℕ → List SideStep → Network

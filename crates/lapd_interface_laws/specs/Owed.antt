@@ -25,7 +25,7 @@ use Rattle.lapd_sides.specs.declared.request.Request.{Request}
 use Rattle.lapd_interface_laws.specs.Addressed.{is_for, those_for, spelled}
 use Rattle.lapd_interface_laws.specs.Premises.{is_removal, IsGivenOnce}
 use Rattle.lapd_interface_laws.specs.Projects.{IsTimed}
-use Rattle.lapd_interface_laws.specs.SideView.{Behaviour, accepted_by}
+use Rattle.lapd_interface.specs.SideView.{Behaviour, accepted_by}
 use Rattle.lapd_interface_laws.specs.Primitives.{link_primitives, given_to, Known, learns_all, AreExpectedOfLink}
 
 -- ---- An event of a side does nothing to one of its links, or one step.

@@ -13,8 +13,8 @@ use Rattle.lapd_sides_links.specs.declared.primitive.Primitive.TheVariants.{Mana
 use Rattle.lapd_sides_links.specs.Effects.{Effects}
 use Rattle.lapd_sides_links.specs.Links.{Links}
 use Rattle.lapd_interface_laws.specs.Addressed.{is_for, is_poll_for, is_final_for}
-use Rattle.lapd_interface_laws.specs.Interface.{Configs, Interface, Move, user_behaviour, network_behaviour, by_user, by_network, happens}
-use Rattle.lapd_interface_laws.specs.SideView.{Behaviour, SideView, SideEvent, Expire, Overhear, reaction}
+use Rattle.lapd_interface.specs.Interface.{Configs, Interface, Move, user_behaviour, network_behaviour, by_user, by_network, happens}
+use Rattle.lapd_interface.specs.SideView.{Behaviour, SideView, SideEvent, Expire, Overhear, reaction}
 
 -- ---- Of one event.
 

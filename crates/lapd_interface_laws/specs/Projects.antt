@@ -20,9 +20,9 @@ use Rattle.lapd_sides_links.specs.declared.primitive.Primitive.{Primitive}
 use Rattle.lapd_sides_links.specs.Links.{Links, Linked}
 use Rattle.lapd_interface_laws.specs.Addressed.{those_for, all_spelled}
 use Rattle.lapd_interface_laws.specs.Establishments.{LinkRecord, LinkRecords, records_of, IsReceivedUnskipped}
-use Rattle.lapd_interface_laws.specs.Interface.{Configs, Interface, Move, user_behaviour, network_behaviour, by_user, by_network, run}
+use Rattle.lapd_interface.specs.Interface.{Configs, Interface, Move, user_behaviour, network_behaviour, by_user, by_network, run}
 use Rattle.lapd_interface_laws.specs.Premises.{is_removal}
-use Rattle.lapd_interface_laws.specs.SideView.{Behaviour, SideView}
+use Rattle.lapd_interface.specs.SideView.{Behaviour, SideView}
 use Rattle.lapd_interface_laws.specs.Primitives.{Known, link_primitives, given_to, known_of, IsReceived, AreExpectedOfLink}
 
 -- T200 and T203 of a link run only if its end says so

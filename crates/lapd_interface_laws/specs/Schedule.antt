@@ -10,8 +10,8 @@ use Rattle.lapd_sides.specs.declared.request.Request.TheVariants as request
 use Rattle.lapd_sides.specs.Network.{new_network}
 use Rattle.lapd_sides.specs.User.{new_user}
 use Rattle.lapd_sides.specs.Worked as sides
-use Rattle.lapd_interface_laws.specs.Interface.{Configs, Interface, Move, new_interface}
-use Rattle.lapd_interface_laws.specs.SideView.{SideEvent, Take, Lose, Expire, Ask}
+use Rattle.lapd_interface.specs.Interface.{Configs, Interface, Move, new_interface}
+use Rattle.lapd_interface.specs.SideView.{SideEvent, Take, Lose, Expire, Ask}
 
 abbrev pub by_user : SideEvent → Move
 by_user event = record { side = side.User; event = event }

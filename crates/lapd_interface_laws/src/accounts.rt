@@ -13,7 +13,7 @@ ghost use Rattle.lapd_interface_laws.specs.Accounts.{queue_of, IsAccounted, sinc
 ghost use Rattle.lapd_interface_laws.specs.AccountRuns.{run_of, one_of_each, then_removed, too_early};
 ghost use Rattle.lapd_interface_laws.specs.AnswerRuns.{user_with};
 ghost use Rattle.lapd_interface_laws.specs.ExactTimers.{SideStep};
-ghost use Rattle.lapd_interface_laws.specs.Interface.{network_behaviour, user_behaviour};
+ghost use Rattle.lapd_interface.specs.Interface.{network_behaviour, user_behaviour};
 ghost use Rattle.lapd_interface_laws.specs.NewLinks.{network_after, user_after};
 ghost use Rattle.lapd_interface_laws.specs.Premises.{is_removal};
 ghost use Rattle.lapd_interface_laws.specs.Primitives.{link_primitives, given_to, known_of};

@@ -26,10 +26,10 @@ ghost use Rattle.lapd_interface_laws.specs.AnswerRuns.{alone, t200_at, user_with
 ghost use Rattle.lapd_interface_laws.specs.Answers.{asks, expiries_of, t202_expiries, KeepsRequest, IsBy, most_periods, after_request, IsAnswered, IsAnsweredFor, AreExpiredInTime};
 ghost use Rattle.lapd_interface_laws.specs.EndAnswers.{Asked, request_of, may_release, most_expiries, is_answered, is_release, t200_expiries, outs_of};
 ghost use Rattle.lapd_interface_laws.specs.ExactTimers.{SideStep, BringsOctets};
-ghost use Rattle.lapd_interface_laws.specs.Interface.{network_behaviour, user_behaviour};
+ghost use Rattle.lapd_interface.specs.Interface.{network_behaviour, user_behaviour};
 ghost use Rattle.lapd_interface_laws.specs.NewLinks.{network_after, user_after};
 ghost use Rattle.lapd_interface_laws.specs.Schedule.{call};
-ghost use Rattle.lapd_interface_laws.specs.SideView.{Ask};
+ghost use Rattle.lapd_interface.specs.SideView.{Ask};
 
 /// An end answers each request of layer 3 before its T200 has expired too often, whatever the
 /// inputs are.

@@ -1,6 +1,6 @@
 //! Laws of an interface between two sides. A call of a law does nothing.
 
-ghost use Rattle.std.specs.Prelude.{◌≡◌, ◌<◌, ◌≤◌, Bool, [], ◌∷◌, ℕ, List, Some, Option, Result, Vec, ⊤, is_some, true};
+ghost use Rattle.std.specs.Prelude.{◌≡◌, ◌<◌, ◌≤◌, Bool, [], ◌∷◌, ℕ, List, Some, Option, Vec, is_some, true};
 ghost use Rattle.std.specs.List.{All};
 ghost use Rattle.std.specs.declared.alloc.Global.{Global};
 ghost use Rattle.rand_pcg.specs.Lcg.{Lcg};
@@ -13,32 +13,22 @@ ghost use Rattle.lapd_link_definition.specs.Parameters.{Parameters};
 ghost use Rattle.lapd_table.specs.declared.link_id.LinkId.{LinkId};
 ghost use Rattle.lapd_sides_links.specs.declared.config.Config.{Config};
 ghost use Rattle.lapd_sides_links.specs.declared.primitive.What.TheVariants as what;
-ghost use Rattle.lapd_sides_links.specs.declared.running_timer.RunningTimer.{RunningTimer};
-ghost use Rattle.lapd_sides_links.specs.declared.side_fault.SideFault.{SideFault};
-ghost use Rattle.lapd_sides_links.specs.Effects.{Effects};
-ghost use Rattle.lapd_sides_links.specs.Expiries.{IsDue, IsNextDeadline};
+ghost use Rattle.lapd_sides_links.specs.Expiries.{IsNextDeadline};
 ghost use Rattle.lapd_sides_links.specs.Links.{Linked, Served, new_linked, parameters_for};
-ghost use Rattle.lapd_sides.specs.ShowsNetwork.{NetSide};
-ghost use Rattle.lapd_sides.specs.declared.request.Request.{Request};
-ghost use Rattle.lapd_sides.specs.ShowsUser.{UserSide};
-ghost use Rattle.lapd_sides.specs.SideState.{expires, given_for, takes};
-ghost use Rattle.lapd_sides.specs.Network.{Network, new_network, network_requested, network_rules};
-ghost use Rattle.lapd_sides.specs.Calls as calls;
-ghost use Rattle.lapd_sides.specs.ShowsNetwork as net;
-ghost use Rattle.lapd_sides.specs.ShowsUser as usr;
-ghost use Rattle.lapd_sides.specs.User.{User, new_user, user_requested, user_rules};
+ghost use Rattle.lapd_sides.specs.SideState.{expires, given_for};
+ghost use Rattle.lapd_sides.specs.Network.{Network, new_network, network_rules};
+ghost use Rattle.lapd_sides.specs.User.{User, new_user, user_rules};
 ghost use Rattle.lapd_interface_laws.specs.Addressed.{those_for};
-ghost use Rattle.lapd_interface_laws.specs.Calls.{NetworkDoes, UserDoes, take_of};
 ghost use Rattle.lapd_interface_laws.specs.Establishments.{records_of};
 ghost use Rattle.lapd_interface_laws.specs.ExactTimers.{HasExactTimers, HaveExactTimers, BothHaveExactTimers, RunByState, IsWoken, AreOctets, BringsOctets, OverhearsOctets, OverhearOctets, SideStep, stepped_by_all, new_view};
-ghost use Rattle.lapd_interface_laws.specs.Interface.{user_behaviour, network_behaviour, Configs, Move, Interface, new_interface, from_here, run};
+ghost use Rattle.lapd_interface.specs.Interface.{user_behaviour, network_behaviour, Configs, Move, Interface, new_interface, from_here, run};
 ghost use Rattle.lapd_interface_laws.specs.ManagementTimers.{HasTimerOfTerminal, HasTimerOfAssigner, HaveTimersOfManagement, IsAwaited};
 ghost use Rattle.lapd_interface_laws.specs.NewLinks.{HasNoLinks, network_after, user_after};
 ghost use Rattle.lapd_interface_laws.specs.Owed.{ServesLink};
 ghost use Rattle.lapd_interface_laws.specs.Premises.{AreTimely, GiveTeiOnce, SatisfyPremises, SatisfyPremisesAsMade};
 ghost use Rattle.lapd_interface_laws.specs.Projects.{IsReceivedByNetwork, IsReceivedByUser, IsUnskippedByNetwork, IsUnskippedByUser, IsSafeAt};
 ghost use Rattle.lapd_interface_laws.specs.Schedule.{configs, call, packet, at_first, unassigned, IsMessage, both_links, assigned, removed, hasty, skipping, regained, skipping_regained, with_old_frames, answered_before};
-ghost use Rattle.lapd_interface_laws.specs.SideView.{SideView, SideEvent, Expire, Ask, does};
+ghost use Rattle.lapd_interface.specs.SideView.{SideView, SideEvent, does};
 ghost use Rattle.lapd_interface_laws.specs.Primitives.{link_primitives};
 
 /// Every link between two sides is safe after every run, in both directions, if its T200 never
@@ -99,52 +89,6 @@ pub fn each_link_gets_its_own()
         → ServesLink (network_behaviour config) side.Network id removed }
     ensures user { (config : Config) (id : LinkId) → id.tei < 127 → (removed : Bool)
         → ServesLink (user_behaviour config) side.User id removed }
-{}
-
-/// Each call of a side in code is an event of the side, by the contract of the call.
-///
-/// Let the code represent any side before the call. After it the code represents the side that the
-/// event leaves. The call adds exactly the frames that the event sends and the primitives that it
-/// delivers. A `take` that runs out of memory loses its octets, unless they are taken again. A
-/// `tick` that does something is the expiry of the timer that is due. A `request` is a request
-/// event, whether the side accepts or refuses it.
-pub fn calls_are_events()
-    ensures network_takes { (old new : NetSide) (acts : Effects) (result : Result ⊤ SideFault)
-        (octets : List ℕ) (rest : List (List ℕ)) (now : ℕ)
-        → calls.Receives net.ShowNetwork result old new acts
-        (λ s. given_for network_rules s.management octets)
-        (λ config. takes network_rules config octets now)
-        → (config : Config) (v : SideView Network) → net.ShowNetwork old config v.now
-        → v.incoming ≡ octets ∷ rest → NetworkDoes new config acts (take_of result now) v }
-    ensures network_ticks { (old new : NetSide) (acts : Effects) (now : ℕ)
-        → calls.Expires net.ShowNetwork (expires network_rules) old new acts now
-        → (config : Config) (v : SideView Network) → net.ShowNetwork old config v.now
-        → (e : RunningTimer) × IsDue now v.now.served (Some e)
-        × NetworkDoes new config acts (Expire e.timer e.of now) v }
-    ensures network_requests { (old new : NetSide) (acts : Effects) (result : Result ⊤ SideFault)
-        (message : Option (Vec ℕ Global)) (request : Request) (now : ℕ)
-        → calls.Answers net.ShowNetwork result old new acts message
-        (λ config. network_requested config request now)
-        → (config : Config) (v : SideView Network) → net.ShowNetwork old config v.now
-        → NetworkDoes new config acts (Ask request now) v }
-    ensures user_takes { (old new : UserSide) (acts : Effects) (result : Result ⊤ SideFault)
-        (octets : List ℕ) (rest : List (List ℕ)) (now : ℕ)
-        → calls.Receives usr.ShowUser result old new acts
-        (λ s. given_for user_rules s.management octets)
-        (λ config. takes user_rules config octets now)
-        → (config : Config) (v : SideView User) → usr.ShowUser old config v.now
-        → v.incoming ≡ octets ∷ rest → UserDoes new config acts (take_of result now) v }
-    ensures user_ticks { (old new : UserSide) (acts : Effects) (now : ℕ)
-        → calls.Expires usr.ShowUser (expires user_rules) old new acts now
-        → (config : Config) (v : SideView User) → usr.ShowUser old config v.now
-        → (e : RunningTimer) × IsDue now v.now.served (Some e)
-        × UserDoes new config acts (Expire e.timer e.of now) v }
-    ensures user_requests { (old new : UserSide) (acts : Effects) (result : Result ⊤ SideFault)
-        (message : Option (Vec ℕ Global)) (request : Request) (now : ℕ)
-        → calls.Answers usr.ShowUser result old new acts message
-        (λ config. user_requested config request now)
-        → (config : Config) (v : SideView User) → usr.ShowUser old config v.now
-        → UserDoes new config acts (Ask request now) v }
 {}
 
 /// Worked runs meet the premises of a link.

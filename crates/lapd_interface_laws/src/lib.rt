@@ -3,22 +3,14 @@
 //!
 //! The theorem about two ends (`lapd_pair_laws`) is applied here to what people run: a [`NetSide`]
 //! and a [`UserSide`] of `lapd_sides`, with many links, timers and TEI management. Nothing here
-//! runs. The definitions, in the order of specs/:
+//! runs. Sides, their events and the line are defined in `lapd_interface`. The definitions, in the
+//! order of specs/:
 //!
 //! - `Addressed`: octets on the line belong to a link if they carry its SAPI and TEI.
 //! - `Primitives`: what layer 3 knows of a link from its primitives and its own messages alone: the
 //!   messages received, and the positions of its own messages that were acknowledged or dropped.
 //!   `IsReceived` says when this is right: the messages received are, in order and once each, among
 //!   the messages submitted, and each message that counts as acknowledged was received.
-//! - `SideView`: a side as a program sees it: the primitives that it delivered, the messages that
-//!   it accepted, and the octets in transit to it and from it. An event of a side is one of five:
-//!   it takes the first octets in transit to it, some of these are lost, a running timer expires
-//!   (due or not), it executes a request, or it overhears octets of someone else, which are not in
-//!   transit to it here. The network side of a bus so takes octets of other terminals.
-//! - `Interface`: both sides with the octets between them. A move is an event of one of them, and a
-//!   run is a list of moves. The line keeps order, and repeats and alters nothing. All else is
-//!   open: which octets are lost, when timers expire, which requests are made when, and what a side
-//!   overhears.
 //! - `Establishments`: in which establishment each message of a link was received and last sent, by
 //!   the link's end after each event, and when no message is skipped within one
 //!   (`IsReceivedUnskipped`). Neither the primitives nor the frames of a side show these numbers.
@@ -41,15 +33,13 @@
 //!   `AnswerRuns`: worked runs.
 //! - `Accounts`: the messages of a link that wait, and when each message submitted is acknowledged,
 //!   dropped or waits (`IsAccounted`). `AccountRuns`: worked runs.
-//! - `Calls`: which event a call of a side in code is. `Schedule`: worked runs.
+//! - `Schedule`: worked runs.
 //!
 //! The laws:
 //!
 //! - [`each_link_gets_its_own`]: an event leaves a link unchanged, is one step of it, or creates or
 //!   removes it with its TEI.
 //! - [`each_link_is_safe`]: after every run that keeps the premises of a link, that link is safe.
-//! - [`calls_are_events`]: `take`, `tick` and `request` of both sides are events, by their
-//!   contracts.
 //! - [`schedule_is_computed`]: the premises can be met.
 //! - [`each_premise_is_needed`]: no premise can be dropped.
 //! - [`timers_run_as_ends_require`]: no link ever lacks the timer that it waits for, whatever
@@ -77,7 +67,6 @@ mod laws;
 pub use accounts::{accounts_are_computed, every_message_is_accounted_for};
 pub use answers::{bounds_are_reached, every_end_answers, every_request_is_answered};
 pub use laws::{
-    added_links_are_new, calls_are_events, each_link_gets_its_own, each_link_is_safe,
-    each_premise_is_needed, management_timers_run_while_it_waits, schedule_is_computed,
-    timers_run_as_ends_require,
+    added_links_are_new, each_link_gets_its_own, each_link_is_safe, each_premise_is_needed,
+    management_timers_run_while_it_waits, schedule_is_computed, timers_run_as_ends_require,
 };

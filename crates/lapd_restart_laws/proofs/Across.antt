@@ -17,9 +17,9 @@ use Rattle.lapd_sides.specs.Network.{Network, new_network}
 use Rattle.lapd_sides.specs.User.{User, new_user}
 use Rattle.lapd_interface_laws.specs.Addressed.{those_for}
 use Rattle.lapd_interface_laws.specs.Establishments.{LinkRecord, LinkRecords}
-use Rattle.lapd_interface_laws.specs.Interface.{fresh_link, Configs, Interface, user_behaviour, network_behaviour, by_user, by_network, with_user, with_network, from_here}
+use Rattle.lapd_interface.specs.Interface.{fresh_link, Configs, Interface, user_behaviour, network_behaviour, by_user, by_network, with_user, with_network, from_here}
 use Rattle.lapd_interface_laws.specs.Projects.{ShowsEnd, ShowsRecord, ShowRecords, Projects, ProjectsTo}
-use Rattle.lapd_interface_laws.specs.SideView.{Behaviour, SideView}
+use Rattle.lapd_interface.specs.SideView.{Behaviour, SideView}
 use Rattle.lapd_interface_laws.proofs.OneMove.{IsReached, by_user_after, by_network_after, one_move, to_network_unskipped, to_user_unskipped}
 use Rattle.lapd_interface_laws.proofs.Timed.{new_is_timed}
 use Rattle.lapd_interface_laws.proofs.Whole.{IsNew, begins_in}

@@ -7,7 +7,7 @@ use Rattle.lapd_table.specs.declared.link_id.LinkId.{LinkId}
 use Rattle.lapd_sides_links.specs.Links.{Linked, parameters_for}
 use Rattle.lapd_sides.specs.Network.{new_network}
 use Rattle.lapd_sides.specs.User.{new_user}
-use Rattle.lapd_interface_laws.specs.Interface.{Configs, Interface, Move, new_interface, happens, run}
+use Rattle.lapd_interface.specs.Interface.{Configs, Interface, Move, new_interface, happens, run}
 use Rattle.lapd_interface_laws.proofs.AsMade.{new_are_own, new_are_held, preserves_own, preserves_held, given_once, new_of_user, new_of_network}
 use Rattle.lapd_interface_laws.proofs.OwnSides.{AreHeld, AreOwn}
 use Rattle.lapd_restart_laws.specs.RestartPremises.{KeepsPremises, KeepPremises, KeepsPremisesAsMade, KeepPremisesAsMade}

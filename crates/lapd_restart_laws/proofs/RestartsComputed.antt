@@ -21,9 +21,9 @@ use Rattle.lapd_sides.specs.Network.{assigner_acts, network_requested}
 use Rattle.lapd_sides.specs.User.{terminal_acts, user_requested}
 use Rattle.lapd_link_definition.specs.declared.out.Letter.TheVariants as letter
 use Rattle.lapd_pair_laws.specs.Schedule.{two_messages}
-use Rattle.lapd_interface_laws.specs.Interface.{run}
+use Rattle.lapd_interface.specs.Interface.{run}
 use Rattle.lapd_interface_laws.specs.Schedule.{configs, call, at_first, unassigned, IsMessage}
-use Rattle.lapd_interface_laws.specs.SideView.{does}
+use Rattle.lapd_interface.specs.SideView.{does}
 use Rattle.lapd_interface_laws.specs.Primitives.{link_primitives, given_to, known_of, AreExpectedOfLink}
 use Rattle.lapd_interface_laws.specs.Projects.{IsReceivedByNetwork}
 use Rattle.lapd_interface_laws.proofs.Computed.{Fits, holding, with_octets, with_both, second_for_first}

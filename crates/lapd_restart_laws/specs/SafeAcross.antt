@@ -8,7 +8,7 @@ use Rattle.lapd_pair_laws.specs.World.{new_world}
 use Rattle.lapd_recovery_laws.specs.QuickRestart.{run_quickly}
 use Rattle.lapd_table.specs.declared.link_id.LinkId.{LinkId}
 use Rattle.lapd_interface_laws.specs.Establishments.{LinkRecords, IsReceivedUnskipped}
-use Rattle.lapd_interface_laws.specs.Interface.{Configs, Interface}
+use Rattle.lapd_interface.specs.Interface.{Configs, Interface}
 use Rattle.lapd_interface_laws.specs.Primitives.{link_primitives, given_to, known_of, AreExpectedOfLink}
 use Rattle.lapd_interface_laws.specs.Projects.{ProjectsTo, ShowRecords}
 use Rattle.lapd_restart_laws.specs.Restarts.{Change, run_across, records_across}

@@ -16,7 +16,7 @@ ghost use Rattle.lapd_sides.specs.ShowsNetwork.{ShowNetwork};
 ghost use Rattle.lapd_sides.specs.ShowsUser.{ShowUser};
 ghost use Rattle.lapd_sides.specs.User.{User, new_user};
 ghost use Rattle.lapd_interface_laws.specs.Addressed.{those_for};
-ghost use Rattle.lapd_interface_laws.specs.Interface.{Configs, Interface, Move, fresh_link, new_interface, from_here, run};
+ghost use Rattle.lapd_interface.specs.Interface.{Configs, Interface, Move, fresh_link, new_interface, from_here, run};
 ghost use Rattle.lapd_interface_laws.specs.Primitives.{link_primitives, AreExpectedOfLink};
 ghost use Rattle.lapd_interface_laws.specs.Projects.{IsReceivedByNetwork};
 ghost use Rattle.lapd_interface_laws.specs.Schedule.{configs, call, at_first, unassigned, IsMessage};

@@ -1,4 +1,4 @@
-use Rattle.lapd_interface_laws.specs.SideView.{does}
+use Rattle.lapd_interface.specs.SideView.{does}
 use Rattle.lapd_interface_laws.proofs.ManagementSides.{network_timer, user_timer, new_network_waits, new_user_waits, run_waits}
 use Rattle.lapd_interface_laws.proofs.Woken.{terminal_is_woken, assigner_is_woken}
 use Rattle.lapd_interface_laws.proofs.laws.management_timers_run_while_it_waits.Goals as goal

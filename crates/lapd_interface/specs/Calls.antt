@@ -8,8 +8,8 @@ use Rattle.lapd_sides.specs.Network.{Network}
 use Rattle.lapd_sides.specs.ShowsNetwork.{ShowNetwork}
 use Rattle.lapd_sides.specs.ShowsUser.{ShowUser}
 use Rattle.lapd_sides.specs.User.{User}
-use Rattle.lapd_interface_laws.specs.Interface.{network_behaviour, user_behaviour}
-use Rattle.lapd_interface_laws.specs.SideView.{Behaviour, SideEvent, SideView, Take, Lose, does}
+use Rattle.lapd_interface.specs.Interface.{network_behaviour, user_behaviour}
+use Rattle.lapd_interface.specs.SideView.{Behaviour, SideEvent, SideView, Take, Lose, does}
 
 -- The call adds exactly the frames and the primitives that the event adds.
 pub record Puts {S : Type 0} (w : Behaviour S) (acts : Effects) (event : SideEvent)

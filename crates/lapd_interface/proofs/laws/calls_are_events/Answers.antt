@@ -2,8 +2,8 @@ use Rattle.lapd_sides.specs.Network.{network_rules}
 use Rattle.lapd_sides.specs.ShowsNetwork.{ShowNetwork}
 use Rattle.lapd_sides.specs.ShowsUser.{ShowUser}
 use Rattle.lapd_sides.specs.User.{user_rules}
-use Rattle.lapd_interface_laws.proofs.Called.{call_takes, call_ticks, call_requests}
-use Rattle.lapd_interface_laws.proofs.laws.calls_are_events.Goals as goal
+use Rattle.lapd_interface.proofs.Called.{call_takes, call_ticks, call_requests}
+use Rattle.lapd_interface.proofs.laws.calls_are_events.Goals as goal
 
 pub returns : goal.returns
 returns c = record {

@@ -8,8 +8,8 @@ use Rattle.lapd_table.specs.declared.link_id.LinkId.{LinkId}
 use Rattle.lapd_sides_links.specs.declared.primitive.Primitive.{Primitive}
 use Rattle.lapd_sides.specs.Network.{Network, new_network}
 use Rattle.lapd_sides.specs.User.{User, new_user}
-use Rattle.lapd_interface_laws.specs.Interface.{Configs, Interface, Move, run, user_behaviour, network_behaviour}
-use Rattle.lapd_interface_laws.specs.SideView.{SideView, SideEvent, Take, Lose, Overhear, reaction, accepted, left, does}
+use Rattle.lapd_interface.specs.Interface.{Configs, Interface, Move, run, user_behaviour, network_behaviour}
+use Rattle.lapd_interface.specs.SideView.{SideView, SideEvent, Take, Lose, Overhear, reaction, accepted, left, does}
 
 -- The network side, what it delivered, and the messages that it accepted; and the terminals, each
 -- with the octets in transit to it and from it.

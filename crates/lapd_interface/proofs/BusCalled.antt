@@ -8,12 +8,12 @@ use Rattle.lapd_sides.specs.ShowsNetwork.{NetSide}
 use Rattle.lapd_sides.specs.ShowsUser.{UserSide}
 use Rattle.lapd_sides.specs.ShowsNetwork.{ShowNetwork}
 use Rattle.lapd_sides.specs.User.{User}
-use Rattle.lapd_interface_laws.specs.Calls.{NetworkDoes, UserDoes}
-use Rattle.lapd_interface_laws.specs.Interface.{Configs, user_behaviour, network_behaviour}
-use Rattle.lapd_interface_laws.specs.SideView.{SideView, SideEvent, reaction, does}
-use Rattle.lapd_bus_laws.specs.Bus.{Bus, OfTerminal, OfNetwork, reached_by, left_of, on_line_of, terminal_does, network_does, network_did, bus_step}
-use Rattle.lapd_bus_laws.specs.Calls.{IsOfTerminal, Reaches, IsOfNetwork}
-use Rattle.lapd_bus_laws.proofs.Lists.{set_here, set_there, equal_index, apart_index}
+use Rattle.lapd_interface.specs.Calls.{NetworkDoes, UserDoes}
+use Rattle.lapd_interface.specs.Interface.{Configs, user_behaviour, network_behaviour}
+use Rattle.lapd_interface.specs.SideView.{SideView, SideEvent, reaction, does}
+use Rattle.lapd_interface.specs.Bus.{Bus, OfTerminal, OfNetwork, reached_by, left_of, on_line_of, terminal_does, network_does, network_did, bus_step}
+use Rattle.lapd_interface.specs.BusCalls.{IsOfTerminal, Reaches, IsOfNetwork}
+use Rattle.lapd_interface.proofs.Indices.{set_here, set_there, equal_index, apart_index}
 
 -- what the terminal at an index is after an event of the network
 module _ (c : Configs) (j : ℕ) (event : SideEvent) (t : SideView User) (b : Bus)

@@ -15,9 +15,9 @@ use Rattle.lapd_sides_links.specs.Links.{Linked, Served, Reaction}
 use Rattle.lapd_sides.specs.declared.request.Request.{Request}
 use Rattle.lapd_sides.specs.SideState.{SideState, Rules, expires, given_for, takes}
 use Rattle.lapd_sides.specs.Calls.{Answers, Expires, HasDone, Receives}
-use Rattle.lapd_interface_laws.specs.Calls.{Puts, SideDoes, take_of}
-use Rattle.lapd_interface_laws.specs.Interface.{behaviour}
-use Rattle.lapd_interface_laws.specs.SideView.{Behaviour, SideView, SideEvent, Take, Lose, Expire, Ask, unmoved, takes_first, runs_on, may_expire, or_unmoved, reaction, does}
+use Rattle.lapd_interface.specs.Calls.{Puts, SideDoes, take_of}
+use Rattle.lapd_interface.specs.Interface.{behaviour}
+use Rattle.lapd_interface.specs.SideView.{Behaviour, SideView, SideEvent, Take, Lose, Expire, Ask, unmoved, takes_first, runs_on, may_expire, or_unmoved, reaction, does}
 
 -- ---- A timer that is due may expire.
 

@@ -12,7 +12,7 @@ use Rattle.lapd_sides.specs.SideState.{Rules, SideState, expires, takes}
 use Rattle.lapd_sides.specs.Network.{Network, network_rules}
 use Rattle.lapd_sides.specs.User as user
 use Rattle.lapd_sides.specs.User.{User, user_rules}
-use Rattle.lapd_interface_laws.specs.SideView.{Behaviour, SideView, SideEvent, does}
+use Rattle.lapd_interface.specs.SideView.{Behaviour, SideView, SideEvent, does}
 
 -- ---- The two sides.
 

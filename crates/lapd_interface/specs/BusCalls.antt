@@ -6,9 +6,9 @@ use Rattle.lapd_sides.specs.ShowsUser.{UserSide}
 use Rattle.lapd_sides.specs.ShowsNetwork.{ShowNetwork}
 use Rattle.lapd_sides.specs.ShowsUser.{ShowUser}
 use Rattle.lapd_sides.specs.User.{User}
-use Rattle.lapd_interface_laws.specs.Interface.{Configs}
-use Rattle.lapd_interface_laws.specs.SideView.{SideView}
-use Rattle.lapd_bus_laws.specs.Bus.{Bus, BusEvent, bus_step}
+use Rattle.lapd_interface.specs.Interface.{Configs}
+use Rattle.lapd_interface.specs.SideView.{SideView}
+use Rattle.lapd_interface.specs.Bus.{Bus, BusEvent, bus_step}
 
 -- The code of the terminal at this index represents it after the event. The frames of the call are
 -- now in transit to the network, and the call added the primitives that the terminal delivered.

@@ -1,0 +1,3 @@
+pub mod Indices
+pub mod Called
+pub mod BusCalled

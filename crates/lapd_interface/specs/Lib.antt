@@ -1,0 +1,5 @@
+pub mod SideView
+pub mod Interface
+pub mod Calls
+pub mod Bus
+pub mod BusCalls
