@@ -7,24 +7,28 @@ use Rattle.std.proofs.lemmas.Slice.Eq.{bytes_eq-Decides}
 use Rattle.lapd_frame.specs.declared.Sapi.{Sapi as SapiValue}
 use Rattle.lapd_cli_script.specs.Line.{parsed_number}
 use Rattle.lapd_cli_grammar.specs.declared.form.Argument.{Argument}
-use Rattle.lapd_cli_grammar.specs.declared.form.Argument.TheVariants.{Delay, Hex, Loss, Message, Milliseconds, OnOff, OptionalMilliseconds, OptionalSapi, Place, Reference, Sapi, Side, Tei, Terminal, Words}
+use Rattle.lapd_cli_grammar.specs.declared.form.Argument.TheVariants.{Delay, FixedTei, Hex, Loss, Message, Milliseconds, OnOff, OptionalMilliseconds, OptionalSapi, Place, Reference, Sapi, Side, Station, Tei, Terminal, Words}
 use Rattle.lapd_cli_grammar.specs.declared.script.Script.{Script}
 use Rattle.lapd_cli_grammar.specs.Forms.{Shape, shapes_of}
-use Rattle.lapd_cli_grammar.specs.Values.{LineValues, by_arguments, is_left_out, no_values, parsed_delay, parsed_loss, parsed_octets, parsed_reference, parsed_sapi, parsed_side, parsed_span, parsed_switch, parsed_tei, parsed_text, parsed_words, values_by, with_word, with_words}
+use Rattle.lapd_cli_grammar.specs.Values.{LineValues, by_arguments, is_left_out, no_values, parsed_delay, parsed_fixed, parsed_loss, parsed_octets, parsed_reference, parsed_sapi, parsed_side, parsed_span, parsed_station, parsed_switch, parsed_tei, parsed_text, parsed_words, values_by, with_word, with_words}
 
 -- ---- There is a request for all values that the words of these arguments may have.
 
 -- this holds with each value that a word of this argument may have
 abbrev WithEach : Argument → LineValues → (LineValues → Type 0) → Type 0
 WithEach Delay v P = (ms : ℕ) → P (record v { delay = ms })
+WithEach FixedTei v P = (tei : ℕ) → P (record v { tei = Some tei })
 WithEach Hex v P = (octets : List ℕ) → P (record v { octets = octets })
 WithEach Loss v P = (loss : ℕ) → P (record v { loss = loss })
 WithEach Milliseconds v P = (ms : ℕ) → P (record v { ms = Some ms })
 WithEach OnOff v P = (on : Bool) → P (record v { on = on })
 WithEach OptionalMilliseconds v P = (ms : ℕ) → P (record v { ms = Some ms })
 WithEach OptionalSapi v P = (s : SapiValue) → P (record v { sapi = Some s })
+WithEach Place v P = (n : ℕ) → P (record v { place = Some n })
 WithEach Sapi v P = (s : SapiValue) → P (record v { sapi = Some s })
+WithEach Station v P = (n : Option ℕ) → P (record v { terminal = n })
 WithEach Tei v P = (tei : ℕ) → P (record v { tei = Some tei })
+WithEach Terminal v P = (n : ℕ) → P (record v { terminal = Some n })
 WithEach Words v P = (text : List ℕ) → P (record v { text = text })
 WithEach argument v P = P v
 
@@ -62,6 +66,9 @@ each : {R : Type 0} (req : LineValues → Option R) (P : LineValues → Type 0)
 each req P more k Delay word v h =
     mapped req more (λ ms. record v { delay = ms }) (parsed_delay word)
     (λ ms. k (record v { delay = ms }) (h ms))
+each req P more k FixedTei word v h =
+    mapped req more (λ tei. record v { tei = Some tei }) (parsed_fixed word)
+    (λ tei. k (record v { tei = Some tei }) (h tei))
 each req P more k Hex word v h =
     mapped req more (λ octets. record v { octets = octets }) (parsed_octets word)
     (λ octets. k (record v { octets = octets }) (h octets))
@@ -81,17 +88,24 @@ each req P more k OptionalMilliseconds word v h =
 each req P more k OptionalSapi word v h =
     mapped req more (λ s. record v { sapi = Some s }) (parsed_sapi word)
     (λ s. k (record v { sapi = Some s }) (h s))
-each req P more k Place word v h = mapped req more (λ n. v) (parsed_number word) (λ n. k v h)
+each req P more k Place word v h =
+    mapped req more (λ n. record v { place = Some n }) (parsed_number word)
+    (λ n. k (record v { place = Some n }) (h n))
 each req P more k Reference word v h =
     mapped req more (λ ri. v) (parsed_reference word) (λ ri. k v h)
 each req P more k Sapi word v h =
     mapped req more (λ s. record v { sapi = Some s }) (parsed_sapi word)
     (λ s. k (record v { sapi = Some s }) (h s))
 each req P more k Side word v h = mapped req more (λ side. v) (parsed_side word) (λ side. k v h)
+each req P more k Station word v h =
+    mapped req more (λ n. record v { terminal = n }) (parsed_station word)
+    (λ n. k (record v { terminal = n }) (h n))
 each req P more k Tei word v h =
     mapped req more (λ tei. record v { tei = Some tei }) (parsed_tei word)
     (λ tei. k (record v { tei = Some tei }) (h tei))
-each req P more k Terminal word v h = mapped req more (λ n. v) (parsed_number word) (λ n. k v h)
+each req P more k Terminal word v h =
+    mapped req more (λ n. record v { terminal = Some n }) (parsed_number word)
+    (λ n. k (record v { terminal = Some n }) (h n))
 each req P more k Words word v h =
     mapped req more (λ text. record v { text = text }) (parsed_text word)
     (λ text. k (record v { text = text }) (h text))

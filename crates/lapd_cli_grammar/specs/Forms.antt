@@ -2,10 +2,10 @@
 use Rattle.std.specs.Prelude.{ℕ, List, [], ◌∷◌, ◌++◌, codes, Option, find}
 use Rattle.std.specs.Str.{bytes_eq}
 use Rattle.lapd_cli_grammar.specs.declared.form.Argument.{Argument}
-use Rattle.lapd_cli_grammar.specs.declared.form.Argument.TheVariants.{Delay, Hex, Loss, Message, Milliseconds, OnOff, OptionalMilliseconds, OptionalSapi, Place, Reference, Sapi, Side, Tei, Terminal, Words}
+use Rattle.lapd_cli_grammar.specs.declared.form.Argument.TheVariants.{Delay, FixedTei, Hex, Loss, Message, Milliseconds, OnOff, OptionalMilliseconds, OptionalSapi, Place, Reference, Sapi, Side, Station, Tei, Terminal, Words}
 use Rattle.lapd_cli_grammar.specs.declared.form.Form.{Form}
 use Rattle.lapd_cli_grammar.specs.declared.script.Script.{Script}
-use Rattle.lapd_cli_grammar.specs.declared.script.Script.TheVariants.{Answer, Bus, Decode, LiveNet, LiveUser, Loop, Net, Pair, User}
+use Rattle.lapd_cli_grammar.specs.declared.script.Script.TheVariants.{Answer, Bus, BusLinks, Decode, LiveNet, LiveUser, Loop, Net, Pair, User}
 
 -- the first word of a line, and the meaning of the words after it
 abbrev pub Shape : Type 0
@@ -73,9 +73,23 @@ bus_shapes =
     ∷ (codes "drop-up", Message ∷ []) ∷ (codes "check", Tei ∷ []) ∷ (codes "t201", [])
     ∷ (codes "leave", Terminal ∷ []) ∷ []
 
+-- the lines of a bus of whole sides
+abbrev pub bus_links_shapes : List Shape
+bus_links_shapes =
+    (codes "take", Terminal ∷ []) ∷ (codes "take-up", Terminal ∷ [])
+    ∷ (codes "lose", Terminal ∷ Place ∷ []) ∷ (codes "lose-up", Terminal ∷ Place ∷ [])
+    ∷ (codes "settle", []) ∷ (codes "tick", Milliseconds ∷ [])
+    ∷ link_shapes (Station ∷ Sapi ∷ Tei ∷ [])
+    ++ (codes "busy", Station ∷ Sapi ∷ Tei ∷ OnOff ∷ []) ∷ (codes "ask", Terminal ∷ [])
+    ∷ (codes "check", Tei ∷ []) ∷ (codes "remove", Tei ∷ []) ∷ (codes "check-all", [])
+    ∷ (codes "remove-all", [])
+    ∷ (codes "join", Terminal ∷ FixedTei ∷ []) ∷ (codes "restart", [])
+    ∷ (codes "restart-known", []) ∷ []
+
 abbrev pub shapes_of : Script → List Shape
 shapes_of Answer = answer_shapes
 shapes_of Bus = bus_shapes
+shapes_of BusLinks = bus_links_shapes
 shapes_of Decode = (codes "user", Hex ∷ []) ∷ (codes "net", Hex ∷ []) ∷ []
 shapes_of LiveNet = live_net_shapes
 shapes_of LiveUser = live_user_shapes

@@ -9,7 +9,7 @@ use Rattle.lapd_cli_script.specs.Script.{is_passed_over}
 use Rattle.lapd_cli_script.specs.declared.script.LineFault.{LineFault}
 use Rattle.lapd_cli_script.specs.declared.script.LineFault.TheVariants.{Bad as LineBad, Memory as LineMemory}
 use Rattle.lapd_cli_grammar.specs.declared.form.Argument.{Argument}
-use Rattle.lapd_cli_grammar.specs.declared.form.Argument.TheVariants.{Delay, Hex, Loss, Message, Milliseconds, OnOff, OptionalMilliseconds, OptionalSapi, Place, Reference, Sapi, Side, Tei, Terminal, Words}
+use Rattle.lapd_cli_grammar.specs.declared.form.Argument.TheVariants.{Delay, FixedTei, Hex, Loss, Message, Milliseconds, OnOff, OptionalMilliseconds, OptionalSapi, Place, Reference, Sapi, Side, Station, Tei, Terminal, Words}
 use Rattle.lapd_cli_grammar.specs.declared.script.Script.{Script}
 use Rattle.lapd_cli_grammar.specs.declared.unread.Unread.{Unread}
 use Rattle.lapd_cli_grammar.specs.declared.unread.Unread.TheVariants.{Bad, Memory}
@@ -30,6 +30,13 @@ parsed_tei word = option_and_then number_at (parsed_octet word)
 
 abbrev pub parsed_sapi : List ℕ → Option SapiValue
 parsed_sapi word = option_and_then sapi_at (parsed_octet word)
+
+-- the fixed TEI of a terminal, 0 to 126
+abbrev pub fixed_at : ℕ → Option ℕ
+fixed_at tei = if nat_le tei 126 then Some tei else None
+
+abbrev pub parsed_fixed : List ℕ → Option ℕ
+parsed_fixed word = option_and_then fixed_at (parsed_tei word)
 
 -- the octets that a word spells in hexadecimal digits
 abbrev pub parsed_octets : List ℕ → Option (List ℕ)
@@ -78,9 +85,16 @@ abbrev pub parsed_side : List ℕ → Option ⊤
 parsed_side word = if bytes_eq word (codes "user") || bytes_eq word (codes "net") then Some tt
     else None
 
+-- `net`, which is no terminal, or the number of a terminal
+abbrev pub parsed_station : List ℕ → Option (Option ℕ)
+parsed_station word = if bytes_eq word (codes "net") then Some None
+    else option_map Some (parsed_number word)
+
 -- ---- The values of a line's words. A value that no word has is `None`, 0, empty or false.
 
 pub record LineValues : Type 0 where
+  pub terminal : Option ℕ
+  pub place : Option ℕ
   pub sapi : Option SapiValue
   pub tei : Option ℕ
   pub ms : Option ℕ
@@ -92,6 +106,8 @@ pub record LineValues : Type 0 where
 
 abbrev pub no_values : LineValues
 no_values = record {
+  terminal = None;
+  place = None;
   sapi = None;
   tei = None;
   ms = None;
@@ -103,9 +119,10 @@ no_values = record {
 }
 
 -- with the value of a word of this argument; `None` if the word is not valid. Of a message, a
--- place, a reference number, a terminal and the side of a pair the value is not kept.
+-- reference number and the side of a pair the value is not kept.
 abbrev pub with_word : Argument → List ℕ → LineValues → Option LineValues
 with_word Delay word v = option_map (λ ms. record v { delay = ms }) (parsed_delay word)
+with_word FixedTei word v = option_map (λ tei. record v { tei = Some tei }) (parsed_fixed word)
 with_word Hex word v = option_map (λ octets. record v { octets = octets }) (parsed_octets word)
 with_word Loss word v = option_map (λ loss. record v { loss = loss }) (parsed_loss word)
 with_word Message word v = option_map (λ n. v) (parsed_number word)
@@ -114,12 +131,13 @@ with_word OnOff word v = option_map (λ on. record v { on = on }) (parsed_switch
 with_word OptionalMilliseconds word v =
     option_map (λ ms. record v { ms = Some ms }) (parsed_span word)
 with_word OptionalSapi word v = option_map (λ s. record v { sapi = Some s }) (parsed_sapi word)
-with_word Place word v = option_map (λ n. v) (parsed_number word)
+with_word Place word v = option_map (λ n. record v { place = Some n }) (parsed_number word)
 with_word Reference word v = option_map (λ ri. v) (parsed_reference word)
 with_word Sapi word v = option_map (λ s. record v { sapi = Some s }) (parsed_sapi word)
 with_word Side word v = option_map (λ side. v) (parsed_side word)
+with_word Station word v = option_map (λ n. record v { terminal = n }) (parsed_station word)
 with_word Tei word v = option_map (λ tei. record v { tei = Some tei }) (parsed_tei word)
-with_word Terminal word v = option_map (λ n. v) (parsed_number word)
+with_word Terminal word v = option_map (λ n. record v { terminal = Some n }) (parsed_number word)
 with_word Words word v = option_map (λ text. record v { text = text }) (parsed_text word)
 
 -- ---- The words of a line.
@@ -132,6 +150,7 @@ is_hex argument = false
 -- the form has a square bracket before this argument, whose word may be left out
 abbrev pub has_bracket : Argument → Bool
 has_bracket Delay = true
+has_bracket FixedTei = true
 has_bracket OptionalMilliseconds = true
 has_bracket OptionalSapi = true
 has_bracket argument = false
@@ -218,6 +237,8 @@ line_fault_of Memory = LineMemory
 
 abbrev pub line_values : Values → LineValues
 line_values v = record {
+  terminal = v.terminal;
+  place = v.place;
   sapi = v.sapi;
   tei = v.tei;
   ms = v.ms;

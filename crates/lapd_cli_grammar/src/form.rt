@@ -7,6 +7,8 @@ use std::fmt;
 pub enum Argument {
     /// The delay of each sent frame in milliseconds, 0 to 3,600,000. It may be left out.
     Delay,
+    /// The fixed TEI of a terminal, 0 to 126. It may be left out.
+    FixedTei,
     /// Octets in hexadecimal digits, which end the line. Left out if there are no octets.
     Hex,
     /// The chance that a sent frame is lost, 0 to 100 per cent, with or without a `%`.
@@ -29,6 +31,8 @@ pub enum Argument {
     Sapi,
     /// `user` or `net`.
     Side,
+    /// `net` or the number of a terminal.
+    Station,
     /// A TEI, 0 to 127.
     Tei,
     /// The number of a terminal.
@@ -54,7 +58,8 @@ impl Argument {
             Argument::Reference => "RI",
             Argument::Sapi | Argument::OptionalSapi => "SAPI",
             Argument::Side => "SIDE",
-            Argument::Tei => "TEI",
+            Argument::Station => "WHO",
+            Argument::Tei | Argument::FixedTei => "TEI",
             Argument::Terminal => "T",
             Argument::Words => "WORDS..",
         }
@@ -73,7 +78,10 @@ impl Argument {
     {
         matches!(
             self,
-            Argument::Delay | Argument::OptionalMilliseconds | Argument::OptionalSapi
+            Argument::Delay
+                | Argument::FixedTei
+                | Argument::OptionalMilliseconds
+                | Argument::OptionalSapi
         )
     }
 
@@ -95,6 +103,7 @@ impl Argument {
     pub fn range(self) -> &'static str {
         match self {
             Argument::Delay => "a number from 0 to 3,600,000",
+            Argument::FixedTei => "a number from 0 to 126",
             Argument::Hex => "octets in hexadecimal digits",
             Argument::Loss => "a number from 0 to 100",
             Argument::Message | Argument::Place | Argument::Terminal => {
@@ -107,6 +116,7 @@ impl Argument {
             Argument::Reference => "four hexadecimal digits",
             Argument::Sapi | Argument::OptionalSapi => "0, 16 or 63",
             Argument::Side => "'user' or 'net'",
+            Argument::Station => "'net' or the number of a terminal",
             Argument::Tei => "a number from 0 to 127",
             Argument::Words => "text",
         }

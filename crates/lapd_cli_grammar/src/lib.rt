@@ -6,7 +6,8 @@
 //! word and the [`Values`] of the others, or says what is wrong ([`FormFault`]). The meaning of the
 //! first word is defined by the crates that execute it.
 //!
-//! The lines with the real clock are those of [`Script::LiveNet`] and [`Script::LiveUser`].
+//! The lines with the real clock are those of [`Script::LiveNet`] and [`Script::LiveUser`], and the
+//! lines of a bus of whole sides are those of [`Script::BusLinks`].
 #![tactic(auto)]
 
 mod cuts;

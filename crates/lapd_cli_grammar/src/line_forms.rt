@@ -6,8 +6,8 @@ ghost use Rattle.std.specs.Str.{bytes_eq};
 ghost use Rattle.lapd_cli_grammar.specs.Forms.{shape_named, shape_of, shapes_of};
 
 use crate::form::Argument::{
-    Delay, Hex, Loss, Message, Milliseconds, OnOff, OptionalMilliseconds, OptionalSapi, Place,
-    Reference, Sapi, Side, Tei, Terminal, Words,
+    Delay, FixedTei, Hex, Loss, Message, Milliseconds, OnOff, OptionalMilliseconds, OptionalSapi,
+    Place, Reference, Sapi, Side, Station, Tei, Terminal, Words,
 };
 use crate::form::Form;
 use crate::script::Script;
@@ -21,6 +21,7 @@ pub fn forms(script: Script) -> &'static [Form]
     match script {
         Script::Answer => ANSWER,
         Script::Bus => BUS,
+        Script::BusLinks => BUS_LINKS,
         Script::Decode => DECODE,
         Script::LiveNet => LIVE_NET,
         Script::LiveUser => LIVE_USER,
@@ -162,6 +163,28 @@ const BUS: &[Form] = &[
     line!("check" Tei),
     line!("t201"),
     line!("leave" Terminal),
+];
+
+const BUS_LINKS: &[Form] = &[
+    line!("take" Terminal),
+    line!("take-up" Terminal),
+    line!("lose" Terminal Place),
+    line!("lose-up" Terminal Place),
+    line!("settle"),
+    line!("tick" Milliseconds),
+    line!("establish" Station Sapi Tei),
+    line!("release" Station Sapi Tei),
+    line!("give" Station Sapi Tei Hex),
+    line!("unit" Station Sapi Tei Hex),
+    line!("busy" Station Sapi Tei OnOff),
+    line!("ask" Terminal),
+    line!("check" Tei),
+    line!("remove" Tei),
+    line!("check-all"),
+    line!("remove-all"),
+    line!("join" Terminal FixedTei),
+    line!("restart"),
+    line!("restart-known"),
 ];
 
 const DECODE: &[Form] = &[line!("user" Hex), line!("net" Hex)];

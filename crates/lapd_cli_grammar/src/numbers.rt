@@ -2,14 +2,17 @@
 
 ghost use Rattle.std.specs.Prelude.{◌≡◌};
 ghost use Rattle.std.specs.Str.{is_utf8 as is_utf8_octets};
-ghost use Rattle.lapd_cli_script.specs.Line.{Reads};
-ghost use Rattle.lapd_cli_grammar.specs.Values.{parsed_delay, parsed_loss, parsed_octet, parsed_sapi, parsed_side, parsed_span, parsed_switch, parsed_tei, parsed_text, without_percent as digits_of_percent};
+ghost use Rattle.lapd_cli_script.specs.Line.{Reads, parsed_number};
+ghost use Rattle.lapd_cli_grammar.specs.Values.{parsed_delay, parsed_fixed, parsed_loss, parsed_octet, parsed_sapi, parsed_side, parsed_span, parsed_station, parsed_switch, parsed_tei, parsed_text, without_percent as digits_of_percent};
 
 use lapd_cli_script::{LineFault, number_of};
 use lapd_frame::{Sapi, Tei};
 
 /// The longest time in a line, in milliseconds: an hour.
 const MOST_MS: u64 = 3_600_000;
+
+/// The greatest TEI of a terminal. The next one addresses all terminals.
+const MOST_FIXED: u8 = 126;
 
 /// The greatest loss, in per cent.
 const MOST_LOSS: u64 = 100;
@@ -43,6 +46,39 @@ pub(crate) fn tei_of(word: &[u8]) -> Result<Tei, LineFault>
     match Tei::new(number) {
         Some(tei) => Ok(tei),
         None => Err(LineFault::Bad),
+    }
+}
+
+/// The fixed TEI of a terminal in decimal digits: 0 to 126.
+pub(crate) fn fixed_of(word: &[u8]) -> Result<Tei, LineFault>
+    ensures { Reads (λ tei. tei) result (parsed_fixed word.now) }
+{
+    let tei = tei_of(word)?;
+    if tei.value() <= MOST_FIXED {
+        Ok(tei)
+    } else {
+        Err(LineFault::Bad)
+    }
+}
+
+/// The number of a terminal, or the place of a frame, in decimal digits.
+pub(crate) fn place_of(word: &[u8]) -> Result<u64, LineFault>
+    ensures { Reads (λ n. n) result (parsed_number word.now) }
+{
+    match number_of(word) {
+        Some(number) => Ok(number),
+        None => Err(LineFault::Bad),
+    }
+}
+
+/// `net`, which is no terminal, or the number of a terminal.
+pub(crate) fn station_of(word: &[u8]) -> Result<Option<u64>, LineFault>
+    ensures { Reads (λ n. n) result (parsed_station word.now) }
+{
+    if word == b"net".as_slice() {
+        Ok(None)
+    } else {
+        Ok(Some(place_of(word)?))
     }
 }
 

@@ -9,6 +9,8 @@ pub enum Script {
     Answer,
     /// `lapd bus`
     Bus,
+    /// `lapd bus --links`
+    BusLinks,
     /// `lapd decode`
     Decode,
     /// `lapd net --clock real`
@@ -26,11 +28,12 @@ pub enum Script {
 }
 
 impl Script {
-    /// The command's word on the command line.
+    /// The command's word on the command line; with `--links` if it has other lines then.
     pub fn name(self) -> &'static str {
         match self {
             Script::Answer => "answer",
             Script::Bus => "bus",
+            Script::BusLinks => "bus --links",
             Script::Decode => "decode",
             Script::Loop => "loop",
             Script::Net | Script::LiveNet => "net",

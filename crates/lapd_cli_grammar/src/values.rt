@@ -5,8 +5,11 @@ ghost use Rattle.lapd_cli_script.specs.Line.{Reads, parsed_number};
 ghost use Rattle.lapd_cli_grammar.specs.Values.{line_values, no_values, parsed_octets, parsed_reference, with_word};
 
 use crate::form::Argument;
-use crate::numbers::{delay_of, loss_of, sapi_of, side_of, span_of, switch_of, tei_of, text_of};
-use lapd_cli_script::{LineFault, Words, number_of};
+use crate::numbers::{
+    delay_of, fixed_of, loss_of, place_of, sapi_of, side_of, span_of, station_of, switch_of,
+    tei_of, text_of,
+};
+use lapd_cli_script::{LineFault, Words};
 use lapd_frame::{Sapi, Tei};
 use std::alloc::Global;
 
@@ -14,6 +17,10 @@ use std::alloc::Global;
 /// empty or `false`.
 #[derive(Drop)]
 pub struct Values<'l> {
+    /// The number of the terminal. It is `None` too if the line names `net` instead.
+    pub terminal: Option<u64>,
+    /// The place of a frame among those on their way.
+    pub place: Option<u64>,
     /// The SAPI.
     pub sapi: Option<Sapi>,
     /// The TEI.
@@ -38,6 +45,8 @@ impl<'l> Values<'l> {
         ensures { line_values result ≡ no_values }
     {
         Values {
+            terminal: None,
+            place: None,
             sapi: None,
             tei: None,
             ms: None,
@@ -65,17 +74,21 @@ impl<'l> Values<'l> {
     {
         match argument {
             Argument::Delay => self.delay = delay_of(word)?,
+            Argument::FixedTei => self.tei = Some(fixed_of(word)?),
             Argument::Hex => Words::of(word).octets_into(&mut self.octets)?,
             Argument::Loss => self.loss = loss_of(word)?,
-            Argument::Message | Argument::Place | Argument::Terminal => place(word)?,
+            Argument::Message => message(word)?,
             Argument::Milliseconds | Argument::OptionalMilliseconds => {
                 self.ms = Some(span_of(word)?);
             }
             Argument::OnOff => self.on = switch_of(word)?,
+            Argument::Place => self.place = Some(place_of(word)?),
             Argument::Reference => reference(alloc, word)?,
             Argument::Sapi | Argument::OptionalSapi => self.sapi = Some(sapi_of(word)?),
             Argument::Side => side_of(word)?,
+            Argument::Station => self.terminal = station_of(word)?,
             Argument::Tei => self.tei = Some(tei_of(word)?),
+            Argument::Terminal => self.terminal = Some(place_of(word)?),
             Argument::Words => self.text = text_of(word)?,
         }
         Ok(())
@@ -83,13 +96,11 @@ impl<'l> Values<'l> {
 }
 
 /// Checks that a word is a number below 2^64.
-fn place(word: &[u8]) -> Result<(), LineFault>
+fn message(word: &[u8]) -> Result<(), LineFault>
     ensures { Reads (λ done. done) result (option_map (λ n. tt) (parsed_number word.now)) }
 {
-    match number_of(word) {
-        Some(_) => Ok(()),
-        None => Err(LineFault::Bad),
-    }
+    place_of(word)?;
+    Ok(())
 }
 
 /// Checks that a word is a reference number: four hexadecimal digits.

@@ -9,7 +9,7 @@ use std::alloc::Global;
 pub(crate) fn text_of(script: Script) -> &'static str {
     match script {
         Script::Answer => command_help::ANSWER,
-        Script::Bus => command_help::BUS,
+        Script::Bus | Script::BusLinks => command_help::BUS,
         Script::Decode => command_help::DECODE,
         Script::Loop => command_help::LOOP,
         Script::Net | Script::LiveNet => command_help::NET,
