@@ -1,0 +1,7 @@
+mod Lines
+mod Listed
+mod Outcomes
+mod Steps
+mod Sent
+mod Sides
+mod NetworkSide

@@ -1,0 +1,32 @@
+-- Octets in transit as lists.
+use Rattle.std.proofs.Common.{◌≡◌, ℕ, zero, suc, List, [], ◌∷◌, map, length, drop, ◌≤◌, ◌<◌, Some, refl, ap, arith}
+use Rattle.std.specs.List.{remove}
+use Rattle.std.specs.Prelude.{slice_get}
+
+pub map_remove : {X Y : Type 0} (f : X → Y) (xs : List X) (i : ℕ)
+    → map f (remove xs i) ≡ remove (map f xs) i
+map_remove f [] zero = refl
+map_remove f [] (suc i) = refl
+map_remove f (x ∷ xs) zero = refl
+map_remove {Y = Y} f (x ∷ xs) (suc i) = ap (λ (ys : List Y). f x ∷ ys) (map_remove f xs i)
+
+pub remove_past : {X : Type 0} (xs : List X) (i : ℕ) → length xs ≤ i → remove xs i ≡ xs
+remove_past [] zero past = refl
+remove_past [] (suc i) past = refl
+remove_past {X} (x ∷ xs) zero past = (let no : ⊥ = omega arith in absurd no)
+remove_past {X} (x ∷ xs) (suc i) past =
+    let rest : length xs ≤ i = omega arith in
+    ap (λ (ys : List X). x ∷ ys) (remove_past xs i rest)
+
+pub remove_first : {X : Type 0} (xs : List X) → remove xs 0 ≡ drop 1 xs
+remove_first [] = refl
+remove_first (x ∷ xs) = refl
+
+pub first_of : {X : Type 0} (xs : List X) (x : X) → slice_get xs 0 ≡ Some x
+    → xs ≡ x ∷ drop 1 xs
+first_of [] x there = cc
+first_of {X} (y ∷ ys) x there = (let e : y ≡ x = cc in ap (λ (z : X). z ∷ ys) e)
+
+pub some_there : {X : Type 0} (xs : List X) (x : X) → slice_get xs 0 ≡ Some x → 0 < length xs
+some_there [] x there = cc
+some_there (y ∷ ys) x there = omega arith
