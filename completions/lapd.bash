@@ -35,7 +35,7 @@ _lapd() {
             offered="--strict --help"
             case ${COMP_WORDS[1]} in
                 answer) offered+=" --side --sapi --tei --k --n200 --room --recovery" ;;
-                bus) offered+=" --terminals" ;;
+                bus) offered+=" --terminals --links --ladder" ;;
                 pair) offered+=" --k --n200 --room --recovery-user --recovery-net --ladder" ;;
                 loop) offered+=" --k --n200 --room --recovery-user --recovery-net" ;;
                 net) offered+=" --listen --clear --terminals --idle-limit" ;;&

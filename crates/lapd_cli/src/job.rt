@@ -15,6 +15,7 @@ use lapd_cli_options::{
     PrintedTime, Side,
 };
 use lapd_cli_script::ScriptFault;
+use lapd_cli_side_bus::{BusLayout, bus_links};
 use lapd_cli_side_commands::{Config, FromRead, FromWrite, Port, SideRun, net, user};
 use lapd_cli_side_lines::LineStyle;
 use std::alloc::{AllocError, Global};
@@ -40,6 +41,7 @@ pub fn script_of(job: &Job, clock: &Clock<'_>) -> Script {
     match (job, clock) {
         (Job::Answer(_), _) => Script::Answer,
         (Job::Bus { .. }, _) => Script::Bus,
+        (Job::BusLinks { .. }, _) => Script::BusLinks,
         (Job::Pair { .. }, _) => Script::Pair,
         (Job::Loop { .. }, _) => Script::Loop,
         (Job::Net(_), Clock::Script) => Script::Net,
@@ -65,6 +67,17 @@ pub fn do_job<R: Read, W: Write>(
     let ended = match &chosen.job {
         Job::Answer(end) => do_answer(rt, script, out, *end),
         Job::Bus { terminals } => bus(rt.alloc(), script, out, *terminals),
+        Job::BusLinks {
+            terminals,
+            is_drawn,
+        } => {
+            let layout = if *is_drawn {
+                BusLayout::Ladder
+            } else {
+                BusLayout::Lines
+            };
+            bus_links(rt.alloc(), script, out, *terminals, layout)
+        }
         Job::Pair {
             user,
             network,

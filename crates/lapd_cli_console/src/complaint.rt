@@ -55,7 +55,7 @@ fn put_form_fault<W: fmt::Write>(
 }
 
 /// Says that no line of this command begins with this word. If the command has the word with the
-/// other clock, it says so; else it lists the command's lines.
+/// other clock or with `--links`, it says so; else it lists the command's lines.
 fn put_no_line<W: fmt::Write>(
     script: Script,
     word: &[u8],
@@ -64,6 +64,9 @@ fn put_no_line<W: fmt::Write>(
     let shown = Shown(word);
     if needs_real_clock(script, word) {
         return write!(f, "{shown} needs --clock real");
+    }
+    if needs_links(script, word) {
+        return write!(f, "{shown} needs --links");
     }
     if script.has_real_clock() && word == b"tick".as_slice() {
         return write!(f, "{shown} {PASSES}");
@@ -81,6 +84,11 @@ fn needs_real_clock(script: Script, word: &[u8]) -> bool {
         Some(script) => form_of(script, word).is_some(),
         None => false,
     }
+}
+
+/// Whether only the same command with `--links` has lines that begin with this word.
+fn needs_links(script: Script, word: &[u8]) -> bool {
+    matches!(script, Script::Bus) && form_of(Script::BusLinks, word).is_some()
 }
 
 /// Says which values the argument has, and that this word is not one.

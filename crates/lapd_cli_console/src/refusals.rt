@@ -10,6 +10,9 @@ use std::io::{self, Write};
 /// The beginning of a line that reports a refusal.
 const REFUSED: &[u8] = b"refused ";
 
+/// The beginning of a line that reports a refusal of the network side of a bus.
+const NET_REFUSED: &[u8] = b"net refused ";
+
 /// The beginning of a JSON object that reports a refusal.
 const REFUSED_OBJECT: &[u8] = b"{\"refused\":";
 
@@ -17,8 +20,8 @@ const REFUSED_OBJECT: &[u8] = b"{\"refused\":";
 const NOTED: usize = 256;
 
 /// A writer that passes text to another writer, and notes the first refusal if requested. A refusal
-/// is a line that begins with `refused `, or with a time and `refused `, or an object whose first
-/// member is `refused`.
+/// is a line that begins with `refused `, with a time or a terminal's number and `refused `, or
+/// with `net refused `, or an object whose first member is `refused`.
 #[derive(Drop)]
 pub struct Refusals<W> {
     writer: W,
@@ -138,6 +141,7 @@ impl Noted {
 fn is_refusal(line: &[u8]) -> bool {
     match line {
         [b'r', ..] => line.starts_with(REFUSED),
+        [b'n', ..] => line.starts_with(NET_REFUSED),
         [b'{', ..] => line.starts_with(REFUSED_OBJECT),
         [octet, ..] => octet.is_ascii_digit() && behind_moment(line).starts_with(REFUSED),
         [] => false,

@@ -182,7 +182,71 @@ Example. A line after < is a line of the script, and a line after > is printed.
   < t201
   > down feff030f00000481
   < t201
-  > net free 64";
+  > net free 64
+
+With --links the network side and each terminal is a whole side at basic access, as `lapd net` and
+`lapd user` run it, with its links and timers. A frame of the network side is in transit to each
+terminal, and one terminal may lose it while another takes it. The script's clock begins at 0.
+
+Lines of the script with --links. WHO is net, or the number of a terminal, which ignores the TEI:
+  take T             terminal T takes the first octets in transit to it
+  take-up T          the network side takes the first octets in transit from terminal T
+  lose T N           the octets at place N, from 0, in transit to terminal T are lost
+  lose-up T N        the same, of those in transit from terminal T
+  settle             octets are delivered until none are in transit, at most 10,000 times: the next
+                     of the network side to each terminal, then the next of each to the network side
+  tick MS            the clock advances by 1 to 3,600,000 ms, and the timers that are due expire
+  establish WHO SAPI TEI, release WHO SAPI TEI
+                     layer 3 requests that the link is established, or released
+  give WHO SAPI TEI HEX, unit WHO SAPI TEI HEX
+                     layer 3 submits a message, or sends unit data
+  busy WHO SAPI TEI on|off
+                     the link can receive no more messages, or can receive them again
+  ask T              terminal T requests a TEI
+  check TEI, remove TEI
+                     the network side checks a TEI, or removes it
+  check-all, remove-all
+                     it checks, or removes, the TEIs of all terminals
+  join T [TEI]       a new terminal replaces terminal T, with this fixed TEI, 0 to 126, or none
+  restart            the network side restarts and knows no TEI
+  restart-known      it restarts, and knows the TEIs that it held
+
+Output of a line with --links: nothing, or lines that begin with the side, net or its number:
+  0 N>U SAPI 0 ..    the trace line of a frame that the side takes or sends
+  0 0 64 confirmed   a report to the layers above, as of `lapd net` and `lapd user`
+  0 refused L1 NotEstablished
+                     the side refuses the request, with one of L1 to L5, or B1 NoLink
+  nothing            there is no such terminal, or there are no such octets
+  settled N rest     `settle` made N deliveries, and no octets are in transit
+  settled N          `settle` made N deliveries, its bound, and octets are in transit
+With --ladder a row is a frame that arrives, at < or >, or is lost, at x. Reports are below it. The
+row of a frame of the network side is printed when other output follows it.
+
+Example with --links and --ladder:
+  >  0   1  net
+  < # terminal 0 requests a link, so it first requests a TEI
+  < establish 0 0 0
+  < take-up 0
+  >  |------>|  63 127 UI P=0 identity request Ri=6199 Ai=127
+  >  |   |   |    net tei given 64
+  < # both terminals receive the assignment, and the SABME is lost
+  < take 0
+  < take 1
+  < lose-up 0 0
+  >  <---<---|  63 127 UI P=0 identity assigned Ri=6199 Ai=64
+  >  |   |   |    0 tei got 64
+  >  |-----x |  0 64 SABME P=1
+  < # T200 expires
+  < tick 1000
+  >  |   |   |    at 1000 ms
+  < settle
+  >  |------>|  0 64 SABME P=1
+  >  |   |   |    net 0 64 established
+  < # no octets are in transit any more
+  < take 0
+  >  <---<---|  0 64 UA F=1
+  >  |   |   |    0 0 64 confirmed
+  > nothing";
 
 /// The end of the long help of `pair`.
 pub const PAIR: &str = "\

@@ -46,7 +46,15 @@ fn answer_of<'a>(given: &ArgMatches<'a>) -> Result<Job, NoInvocation<'a>> {
 
 fn bus_of<'a>(given: &ArgMatches<'a>) -> Result<Job, NoInvocation<'a>> {
     let terminals = terminals_written(number_of(given, TERMINALS))?;
-    Ok(Job::Bus { terminals })
+    let is_drawn = given.get_flag("ladder");
+    match (given.get_flag("links"), is_drawn) {
+        (true, _) => Ok(Job::BusLinks {
+            terminals,
+            is_drawn,
+        }),
+        (false, true) => Err(NoInvocation::NotLinks("ladder")),
+        (false, false) => Ok(Job::Bus { terminals }),
+    }
 }
 
 fn pair_of<'a>(given: &ArgMatches<'a>) -> Result<Job, NoInvocation<'a>> {

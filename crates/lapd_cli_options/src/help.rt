@@ -13,6 +13,15 @@ pub const ANSWER_ABOUT: &str =
 pub const BUS_ABOUT: &str =
     "Runs a bus of terminals that get TEIs from a network side, from a script";
 
+/// The help of the options of `bus`.
+pub const LINKS: &str = "\
+Runs whole sides, with their links and timers, and the octets in
+transit between them";
+
+pub const BUS_LADDER: &str = "\
+With --links, draws each frame that arrives or is lost as an arrow
+between a terminal and the network";
+
 /// The description of the command `pair`.
 pub const PAIR_ABOUT: &str = "Runs two ends of a link and the line between them, from a script";
 

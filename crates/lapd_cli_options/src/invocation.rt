@@ -37,6 +37,12 @@ pub enum Job {
     Bus {
         terminals: u8,
     },
+    /// Execute a script on a bus of a network side and 1 to 127 terminals, each a whole side. Print
+    /// its output, or draw it.
+    BusLinks {
+        terminals: u8,
+        is_drawn: bool,
+    },
     /// Execute a script of moves on two ends with these parameters, and the line between them.
     /// Print its output, or draw it.
     Pair {

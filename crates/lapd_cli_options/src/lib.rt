@@ -46,8 +46,8 @@ use std::convert::AsStr;
 /// # Errors
 ///
 /// - `Shown` if the words request help or the version;
-/// - `Refused`, `OutOfRange`, `NotReal`, `NotFollowed`, `NotNamed`, `NotCaptured`, `PcapAndFile`,
-///   `OneFile`, `NotBoth`, `NotKinds` or `OneTerminal` if they are not valid;
+/// - `Refused`, `OutOfRange`, `NotReal`, `NotFollowed`, `NotLinks`, `NotNamed`, `NotCaptured`,
+///   `PcapAndFile`, `OneFile`, `NotBoth`, `NotKinds` or `OneTerminal` if they are not valid;
 /// - `Memory` if an allocation fails.
 pub fn parse_words<'a, S: AsStr>(
     alloc: Global,

@@ -11,8 +11,8 @@ pub enum NoInvocation<'a> {
     /// 0.
     Shown(String),
     /// The parser refuses them, for the reason in this text. The text is for standard error, and
-    /// the exit status is 2, as for `OutOfRange`, `NotReal`, `NotFollowed`, `NotNamed`, `NotCaptured`,
-    /// `PcapAndFile`, `OneFile`, `NotBoth`, `NotKinds` and `OneTerminal`.
+    /// the exit status is 2, as for `OutOfRange`, `NotReal`, `NotFollowed`, `NotLinks`, `NotNamed`,
+    /// `NotCaptured`, `PcapAndFile`, `OneFile`, `NotBoth`, `NotKinds` and `OneTerminal`.
     Refused(String),
     /// A number that is not in the range of its option.
     OutOfRange(OutOfRange<'a>),
@@ -21,6 +21,8 @@ pub enum NoInvocation<'a> {
     NotReal(&'static str),
     /// The option with this name, without the hyphens, requires `--follow`, which is absent.
     NotFollowed(&'static str),
+    /// The option with this name, without the hyphens, requires `--links`, which is absent.
+    NotLinks(&'static str),
     /// The option with this name, without the hyphens, requires `--names`, which is absent.
     NotNamed(&'static str),
     /// The option with this name, without the hyphens, requires a capture, and there is no file.
@@ -51,6 +53,7 @@ impl fmt::Display for NoInvocation<'_> {
             NoInvocation::NotFollowed(option) => {
                 writeln!(f, "error: --{option} requires --follow")
             }
+            NoInvocation::NotLinks(option) => writeln!(f, "error: --{option} requires --links"),
             NoInvocation::NotNamed(option) => writeln!(f, "error: --{option} requires --names"),
             NoInvocation::NotCaptured(option) => {
                 writeln!(

@@ -22,7 +22,14 @@ pub(crate) const ANSWER: &[&[CommandOption]] = &[
 ];
 
 /// The options of `bus`.
-pub(crate) const BUS: &[&[CommandOption]] = &[EACH, &[CommandOption::Number(TERMINALS)]];
+pub(crate) const BUS: &[&[CommandOption]] = &[
+    EACH,
+    &[
+        CommandOption::Number(TERMINALS),
+        CommandOption::Flag("links", help::LINKS),
+        CommandOption::Flag("ladder", help::BUS_LADDER),
+    ],
+];
 
 /// The options of `pair`.
 pub(crate) const PAIR: &[&[CommandOption]] = &[

@@ -40,8 +40,8 @@ struct BusRunner {
 }
 
 /// Executes a script on a bus of a network side that knows no TEI and `terminals` terminals without
-/// one (the program allows 1 to 127), at basic access and from time 0 on. Each terminal has a seed of
-/// its own for its references. Prints what the sides take, send and report, in this layout.
+/// one (the program allows 1 to 127), at basic access and from time 0 on. Each terminal has a seed
+/// of its own for its references. Prints what the sides take, send and report, in this layout.
 ///
 /// # Errors
 ///
@@ -361,13 +361,23 @@ fn held_teis(alloc: Global, network: &NetSide) -> Result<Vec<Tei>, AllocError>
 {
     let mut teis = Vec::new(alloc);
     for value in 0..127u8 {
-        if let Some(tei) = of_terminal(Tei::new(value))
-            && network.assigner().holds(tei)
-        {
+        if let Some(tei) = held_at(network, value) {
             teis.push(tei)?;
         }
     }
     Ok(teis)
+}
+
+/// The TEI with this value, if the network side holds it.
+fn held_at(network: &NetSide, value: u8) -> Option<Tei>
+    ensures { IfSome result (λ tei. tei < 127) }
+{
+    let tei = of_terminal(Tei::new(value))?;
+    if network.assigner().holds(tei) {
+        Some(tei)
+    } else {
+        None
+    }
 }
 
 /// The TEI, if it is one of a terminal: 0 to 126.

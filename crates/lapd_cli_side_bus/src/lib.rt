@@ -1,9 +1,9 @@
 //! The command `bus --links` of the program `lapd`, over any reader and writer: a network side and
 //! terminals on one bus, each a whole side of an interface, and the octets in transit between them.
 //!
-//! [`bus_links`] executes a script. `lapd_cli_grammar` has the forms of its lines, and `lapd_side_bus`
-//! the bus. A line says which side takes or loses octets, advances the clock, or makes a request
-//! of a side. The command prints what the sides take, send and report, or draws it
+//! [`bus_links`] executes a script. `lapd_cli_grammar` has the forms of its lines, and
+//! `lapd_side_bus` the bus. A line says which side takes or loses octets, advances the clock, or
+//! makes a request of a side. The command prints what the sides take, send and report, or draws it
 //! ([`BusLayout`]).
 #![tactic(auto)]
 

@@ -39,6 +39,9 @@ lapd decode => decode
 lapd bus => bus 2
 lapd bus --terminals 1 => bus 1
 lapd bus --terminals=0127 => bus 127
+lapd bus --links => bus 2 links
+lapd bus --ladder --terminals 3 --links => bus 3 links ladder
+lapd bus --strict --links => bus 2 links strict
 lapd pair => pair 1 3 512 enquiry 1 3 512 enquiry
 lapd pair --k 7 --n200 2 --room 9 --recovery-user last => pair 7 2 9 last 7 2 9 enquiry
 lapd pair --recovery-net=last --recovery-user=enquiry => pair 1 3 512 enquiry 1 3 512 last
@@ -165,6 +168,8 @@ lapd decode --sapi => refused
 lapd --terminals 3 => refused
 lapd bus more => refused
 lapd bus --k 3 => refused
+lapd bus --links --links => refused
+lapd pair --links => refused
 lapd bus --terminals => refused
 lapd bus --terminals 3 --terminals 3 => refused
 lapd other => refused
@@ -215,6 +220,8 @@ lapd answer --room 18446744073709551617 => error: invalid value '184467440737095
 lapd loop --n200 101 => error: invalid value '101' for '--n200 <TIMES>': not a number from 1 to 100 in decimal digits~
 lapd bus --terminals 0 => error: invalid value '0' for '--terminals <TERMINALS>': not a number from 1 to 127 in decimal digits~
 lapd bus --terminals 128 => error: invalid value '128' for '--terminals <TERMINALS>': not a number from 1 to 127 in decimal digits~
+lapd bus --ladder => error: --ladder requires --links~
+lapd bus --links --terminals 0 --ladder => error: invalid value '0' for '--terminals <TERMINALS>': not a number from 1 to 127 in decimal digits~
 lapd decode --k 3 => error: --k requires --follow~
 lapd decode --no-octets => error: --no-octets requires --names~
 lapd decode --no-octets --names --json => error: --no-octets cannot be used with --json~
@@ -364,6 +371,13 @@ fn show_job(text: &mut String, job: &Job) {
         }
         Job::Bus { terminals } => {
             let _ = write!(text, "bus {terminals}");
+        }
+        Job::BusLinks {
+            terminals,
+            is_drawn,
+        } => {
+            let _ = write!(text, "bus {terminals} links");
+            let _ = text.push_str(if *is_drawn { " ladder" } else { "" });
         }
         Job::Pair {
             user,

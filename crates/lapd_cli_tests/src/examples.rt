@@ -42,7 +42,13 @@ const EXAMPLES: &[(&str, Script, &str, bool)] = &[
         true,
     ),
     ("lapd pair", Script::Loop, "\nExample", true),
-    ("lapd bus", Script::Bus, "\nExample", true),
+    ("lapd bus", Script::Bus, "\nWith --links", false),
+    (
+        "lapd bus --links --ladder",
+        Script::Bus,
+        "\nWith --links",
+        true,
+    ),
     ("lapd decode", Script::Decode, "\nExample. ", true),
 ];
 
@@ -61,7 +67,10 @@ pub(crate) fn wrong_example(alloc: Global) -> Option<&'static str> {
 /// Whether the example in a text is a scenario and runs as written, as the command of these words.
 pub(crate) fn example_passes(alloc: Global, words: &str, text: &str, trial: Trial<'_>) -> bool {
     let scenario = example_of(alloc, text);
-    !scenario.is_empty() && words_pass(alloc, words, scenario.as_str(), trial)
+    match scenario.as_str().strip_prefix('\n') {
+        Some(scenario) => words_pass(alloc, words, scenario, trial),
+        None => false,
+    }
 }
 
 /// The scenario of an example, whose lines begin with `  < ` and `  > `. The closing lines of

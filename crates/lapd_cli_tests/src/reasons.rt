@@ -23,6 +23,7 @@ use std::test::Fail;
 const COMMANDS: &[(Script, &str)] = &[
     (Script::Answer, "lapd answer"),
     (Script::Bus, "lapd bus"),
+    (Script::BusLinks, "lapd bus --links"),
     (Script::Decode, "lapd decode"),
     (Script::LiveNet, "lapd net --listen a:1 --clock real"),
     (Script::LiveUser, "lapd user --connect a:1 --clock real"),
@@ -61,7 +62,7 @@ const WORDS: &str =
 const WORD_COUNT: usize = 77;
 
 /// The number of valid lines from which changed lines are made.
-const GOOD_COUNT: usize = 95;
+const GOOD_COUNT: usize = 115;
 
 /// Octets that are inserted into lines.
 const OCTETS: &[u8] = b" 0g1#\t\r\xff";

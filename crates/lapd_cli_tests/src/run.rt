@@ -8,6 +8,7 @@ use lapd_cli_decode::{
 use lapd_cli_link_commands::{bus, draw_pair, loop_over, pair};
 use lapd_cli_options::{DecodeOptions, Interface, Invocation, Job, LinkEnd, PrintedLayout};
 use lapd_cli_script::ScriptFault;
+use lapd_cli_side_bus::{BusLayout, bus_links};
 use lapd_cli_side_commands::{Config, Port, SideRun, Sink, Source, net, user};
 use lapd_cli_side_lines::LineStyle;
 use std::alloc::Global;
@@ -32,6 +33,17 @@ pub(crate) fn run<R: Read, W: Write, S: Source, K: Sink>(
     match &chosen.job {
         Job::Answer(end) => (do_answer(alloc, script, out, *end), port),
         Job::Bus { terminals } => (bus(alloc, script, out, *terminals), port),
+        Job::BusLinks {
+            terminals,
+            is_drawn,
+        } => {
+            let layout = if *is_drawn {
+                BusLayout::Ladder
+            } else {
+                BusLayout::Lines
+            };
+            (bus_links(alloc, script, out, *terminals, layout), port)
+        }
         Job::Decode(options) => (do_decode(alloc, script, out, *options), port),
         Job::Loop { user, network } => loop_over(alloc, script, out, *user, *network, port),
         Job::Net(interface) => do_net(alloc, (interface, style), script, out, port),

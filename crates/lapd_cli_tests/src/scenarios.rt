@@ -5,6 +5,7 @@
 
 pub(crate) mod answers;
 pub(crate) mod buses;
+pub(crate) mod buses_of_sides;
 pub(crate) mod decodes;
 pub(crate) mod follows;
 pub(crate) mod ladders;
@@ -39,6 +40,8 @@ const TABLES: &[&str] = &[
     answers::SCENARIOS,
     answers::LONG,
     buses::SCENARIOS,
+    buses_of_sides::LISTED,
+    buses_of_sides::DRAWN,
     decodes::SCENARIOS,
     follows::SCENARIOS,
     ladders::SCENARIOS,

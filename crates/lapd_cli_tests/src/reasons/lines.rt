@@ -71,6 +71,21 @@ bus: ask x 1234 => ask T RI: T must be a number below 2^64 in decimal digits, no
 bus: hear 0 1 => hear I T RI: RI is missing
 bus: drop -0 => drop I: I must be a number below 2^64 in decimal digits, not '-0'
 bus: up 0 => 'up' is not a line of bus; valid lines: ask T RI, t202 T RI, hear I T RI, drop I, hear-up I, drop-up I, check TEI, t201, leave T
+bus: take 0 => 'take' needs --links
+bus: restart-known => 'restart-known' needs --links
+bus --links: take => take T: T is missing
+bus --links: take net => take T: T must be a number below 2^64 in decimal digits, not 'net'
+bus --links: lose 0 => lose T N: N is missing
+bus --links: lose-up 0 -1 => lose-up T N: N must be a number below 2^64 in decimal digits, not '-1'
+bus --links: give user 0 64 01 => give WHO SAPI TEI HEX: WHO must be 'net' or the number of a terminal, not 'user'
+bus --links: give 0 64 0801 => give WHO SAPI TEI HEX: SAPI must be 0, 16 or 63, not '64'
+bus --links: busy net 0 64 => busy WHO SAPI TEI on|off: on|off is missing
+bus --links: ask 0 1234 => ask T: unexpected extra word '1234'
+bus --links: join 0 127 => join T [TEI]: TEI must be a number from 0 to 126, not '127'
+bus --links: join 0 5 6 => join T [TEI]: unexpected extra word '6'
+bus --links: tick 3600001 => tick MS: MS must be a number from 1 to 3,600,000, not '3600001'
+bus --links: check 128 => check TEI: TEI must be a number from 0 to 127, not '128'
+bus --links: t201 => 't201' is not a line of bus --links; valid lines: take T, take-up T, lose T N, lose-up T N, settle, tick MS, establish WHO SAPI TEI, release WHO SAPI TEI, give WHO SAPI TEI HEX, unit WHO SAPI TEI HEX, busy WHO SAPI TEI on|off, ask T, check TEI, remove TEI, check-all, remove-all, join T [TEI], restart, restart-known
 decode: net 0 => net HEX: an odd number of digits
 decode: 00 => '00' is not a line of decode; valid lines: user HEX, net HEX";
 
@@ -169,6 +184,26 @@ bus: drop-up 00
 bus: check 127
 bus: t201
 bus: leave 1
+bus --links: take 0
+bus --links: take-up 18446744073709551615
+bus --links: lose 1 0
+bus --links: lose-up 127 00
+bus --links: settle
+bus --links: tick 3600000
+bus --links: establish 0 0 127
+bus --links: release net 16 64
+bus --links: give 1 0 0 0801
+bus --links: unit net 0 127
+bus --links: busy 1 0 0 off
+bus --links: ask 1
+bus --links: check 127
+bus --links: remove 64
+bus --links: check-all
+bus --links: remove-all
+bus --links: join 0
+bus --links: join 1 126
+bus --links: restart
+bus --links: restart-known
 decode: user
 decode: net 00817f";
 
@@ -193,6 +228,7 @@ net: give 0 64 0x08 01 => give 0 64 0801
 net: give 0x0 64 08 01 => give 0x0 64 0801
 net: give 0 => give 0
 net: check 0x40 => check 0x40
+bus --links: give net 0 64 08 01 => give net 0 64 0801
 live net:  unit 0 127 0x01 => unit 0 127 01
 live net: expect 0x 0 :  5 => expect 0x 0 :  5
 live user: give 0 08 01 => give 0 0801
