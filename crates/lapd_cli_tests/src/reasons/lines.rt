@@ -242,6 +242,10 @@ answer: frame |frame 0|frame 00 81|frame  00817f|frame 00817g|frames|Frame 00817
 bus: ask 18446744073709551616 0001|ask 0|ask 0 1|ask 0 00001|ask 0 000g|ask +0 0001|ask  0 0001|ask 0 0001 |\
     \x20ask 0 0001|ASK 0 0001|ask 0 0001 1|hear 0 0|drop|drop x|check 128|check 999999999999999999999|t201 0|t203|leave|\
     state
+bus --links: take -1|take net|take 0 0|Take 0|take  0|take-up|take-up x|lose 0|lose net 0|lose 0 0 0|lose-up|settle 1|tick 0|tick|check|\
+    establish 0 0|establish Net 0 64|establish 0 1 64|establish user 0 64|release 0 0 128|give 0 0 0 0|unit net 0 127 0g|\
+    busy 1 0 0 ON|busy 1 0 0|ask|ask net|ask 0 0001|check 64 64|remove|remove 128|check-all 1|join|join net|join 0 127|join 0 5 6|\
+    restart 0|restart known|restart-known 64|leave 0|hear 0 0 0001|read|state
 pair: establish|establish user net|establish users|establish User|establish network| establish user|establish user |\
     establish  user|deliver|deliver net 0|lose net|lose net |lose net +1|lose net -1|lose net 1a|lose net 0x1|lose net 1 1|\
     lose net 18446744073709551616|lose net 99999999999999999999999999999999999999999|lose 0 net|expire user 200|expire200|\
