@@ -1,0 +1,8 @@
+pub mod FollowedAcross
+pub mod AsideAcross
+pub mod LinkSafe
+pub mod ApartAcross
+pub mod HeldAcross
+pub mod HoldingAcross
+pub mod ChecksAcross
+pub mod RunsComputedAcross

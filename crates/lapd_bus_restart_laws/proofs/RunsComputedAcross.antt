@@ -1,0 +1,240 @@
+-- The worked runs of a bus with restarts, computed.
+use Rattle.std.proofs.Common.{◌≡◌, ℕ, List, [], ◌∷◌, Option, Some, None, refl}
+use Rattle.std.specs.Prelude.{Vec, slice_get, map}
+use Rattle.std.specs.declared.alloc.Global.{Global}
+use Rattle.lapd_mod128.specs.Counting.{after, steps, lies_within}
+use Rattle.lapd_supervision.specs.StateVariables.{initial_variables, without_exceptions, with_zero_counters, status_frame, acknowledgement, without_ack_pending, poll_response, is_accepted, is_rejected, after_i_frame, i_frame_response, is_valid_nr, with_va, acknowledged_count, acknowledges_all, with_vs, may_send, next_i_frame, after_sending, with_own_busy, with_peer_busy}
+use Rattle.lapd_link_definition.specs.AwaitingEstablishment.{end_establishment, confirm_or_indicate, ua_final, awaiting_establishment_t200, awaiting_establishment}
+use Rattle.lapd_link_definition.specs.AwaitingRelease.{confirm_release, awaiting_release_t200, awaiting_release}
+use Rattle.lapd_link_definition.specs.EndOfStep.{send_all, acknowledge_pending, end_step}
+use Rattle.lapd_link_definition.specs.End.{begin}
+use Rattle.lapd_link_definition.specs.Established.{established_t200, acknowledge_with_timers, i_frame_nr, poll_or_final, rr_nr, rej_nr, rnr_nr, busy_on, busy_off, in_7_and_8, multiple_frame_established}
+use Rattle.lapd_link_definition.specs.Procedures.{put, state_to, rc_to, increment_rc, layer3_initiated_to, release_pending_to, start, stop, expired, clear_exception_conditions, zero_state_variables, set_peer_busy, set_own_busy, enquiry_response, transmit_enquiry, queue_up, discard_i_queue, acknowledge, invoke_retransmission, i_frame_ns, discard_unacknowledged, transmit_i_frame, ensure_t200, transmit_rr, establish_data_link, reestablish_data_link, nr_error_recovery}
+use Rattle.lapd_link_definition.specs.Table.{by_state, report_fault, row, step}
+use Rattle.lapd_link_definition.specs.TeiAssigned.{tei_assigned}
+use Rattle.lapd_link_definition.specs.TimerRecovery.{i_frame_nr_in_recovery, poll, rr_nr_in_recovery, rnr_nr_in_recovery, timer_recovery_t200, timer_recovery}
+use Rattle.lapd_sides_links.specs.Links.{links_below, link_acts, link_expires, in_links, with_tei, without_tei, primitive_of_tei}
+use Rattle.lapd_sides.specs.Management.{manages}
+use Rattle.lapd_sides.specs.SideState.{link_of, expires, takes}
+use Rattle.lapd_sides.specs.Network.{assigner_acts, network_requested}
+use Rattle.lapd_sides.specs.User.{User, terminal_acts, user_requested}
+use Rattle.lapd_link_definition.specs.declared.out.Letter.TheVariants as letter
+use Rattle.lapd_pair_laws.specs.Schedule.{two_messages}
+use Rattle.lapd_sides_links.specs.declared.primitive.What.TheVariants as what
+use Rattle.lapd_interface_laws.specs.Primitives.{link_primitives, given_to, known_of, AreExpectedOfLink}
+use Rattle.lapd_interface_laws.specs.Schedule.{configs, IsMessage}
+use Rattle.lapd_interface.specs.SideView.{SideView, does}
+use Rattle.lapd_interface_laws.proofs.Computed.{Fits, holding, with_both, second_for_first}
+use Rattle.lapd_interface.specs.Bus.{Bus, from_now}
+use Rattle.lapd_bus_laws.specs.HoldingRuns.{IsReceivedByNetwork}
+use Rattle.lapd_bus_laws.specs.Holdings.{IsOfBus, RequestsByItsOwn, IsOnlyClaimant}
+use Rattle.lapd_bus_laws.specs.Links.{IsTimelyFor, AssignsOthers}
+use Rattle.lapd_bus_laws.specs.Runs.{two_fixed, fixed_call}
+use Rattle.lapd_bus_laws.proofs.Checks.{of_bus, of_bus_so, timely_for, timely_for_so, assigns_others, assigns_others_so, requests_by_its_own, requests_by_its_own_so, only_claimant_so}
+use Rattle.lapd_restart_laws.specs.Restarts.{losses}
+use Rattle.lapd_bus_restart_laws.specs.BusAcross.{after_across, ThroughoutAcross}
+use Rattle.lapd_bus_restart_laws.specs.HoldingsAcross.{OthersJoinWithout, KeepsHoldingAcross}
+use Rattle.lapd_bus_restart_laws.specs.RunsAcross.{across_both, alone, KeepsAllButRestarting, command_outlasts, comes_back}
+use Rattle.lapd_bus_restart_laws.proofs.ChecksAcross.{throughout_by, others_join_without, others_join_without_so, keeps_holding, keeps_holding_so}
+
+-- ---- Both sides restart.
+
+pub record AcrossBoth (first answer second third : Vec ℕ Global) : Type 0 where
+  pub keeps : ThroughoutAcross configs (KeepsHoldingAcross configs fixed_call 0)
+      (across_both first answer second third) (from_now two_fixed)
+  pub to_network : link_primitives fixed_call (after_across configs
+      (across_both first answer second third) (from_now two_fixed)).delivered
+      ≡ what.Established ∷ what.Up (1 ∷ []) ∷ what.Report letter.F ∷ what.Dropped 1
+      ∷ what.Established ∷ what.Up (3 ∷ []) ∷ what.Established ∷ []
+  pub to_terminals : map (λ (t : SideView User). link_primitives fixed_call t.delivered)
+      (after_across configs (across_both first answer second third)
+      (from_now two_fixed)).terminals
+      ≡ (what.Confirmed ∷ what.Dropped 1 ∷ what.Confirmed ∷ what.Acknowledged 1
+      ∷ what.Dropped 1 ∷ what.Confirmed ∷ []) ∷ [] ∷ []
+
+across_both_holds : (s t u v : Vec ℕ Global) (w : Fits s (1 ∷ [])) (x : Fits t (2 ∷ []))
+    (y : Fits u (3 ∷ [])) (z : Fits v (4 ∷ []))
+    → AcrossBoth (holding s (1 ∷ []) w) (holding t (2 ∷ []) x) (holding u (3 ∷ []) y)
+    (holding v (4 ∷ []) z)
+unfolding link_acts link_expires in_links with_tei without_tei primitive_of_tei manages
+    assigner_acts link_of takes expires network_requested begin put state_to rc_to increment_rc
+    layer3_initiated_to release_pending_to start stop expired clear_exception_conditions
+    zero_state_variables set_peer_busy set_own_busy enquiry_response transmit_enquiry queue_up
+    discard_i_queue acknowledge invoke_retransmission i_frame_ns discard_unacknowledged
+    transmit_i_frame ensure_t200 transmit_rr establish_data_link reestablish_data_link
+    end_establishment tei_assigned confirm_or_indicate ua_final awaiting_establishment_t200
+    awaiting_establishment confirm_release awaiting_release_t200 awaiting_release
+    acknowledge_with_timers nr_error_recovery i_frame_nr i_frame_nr_in_recovery poll_or_final poll
+    rr_nr rej_nr rnr_nr rr_nr_in_recovery rnr_nr_in_recovery timer_recovery_t200 busy_on busy_off
+    in_7_and_8 established_t200 multiple_frame_established timer_recovery by_state report_fault row
+    send_all acknowledge_pending end_step step initial_variables without_exceptions
+    with_zero_counters status_frame acknowledgement without_ack_pending poll_response is_accepted
+    is_rejected after_i_frame i_frame_response is_valid_nr with_va acknowledged_count
+    acknowledges_all with_vs may_send next_i_frame after_sending with_own_busy with_peer_busy after
+    steps lies_within terminal_acts user_requested links_below does losses
+across_both_holds s t u v w x y z = record {
+  keeps = throughout_by configs (KeepsHoldingAcross configs fixed_call 0)
+      (keeps_holding configs fixed_call 0) (keeps_holding_so configs fixed_call 0)
+      (across_both (holding s (1 ∷ []) w) (holding t (2 ∷ []) x) (holding u (3 ∷ []) y)
+      (holding v (4 ∷ []) z)) (from_now two_fixed) refl;
+  to_network = refl;
+  to_terminals = refl;
+}
+
+pub across_both_so : (first answer second third : Vec ℕ Global) → IsMessage 1 first
+    → IsMessage 2 answer → IsMessage 3 second → IsMessage 4 third
+    → AcrossBoth first answer second third
+across_both_so first answer second third one two three four =
+    with_both (λ s t. AcrossBoth s t second third) (1 ∷ []) (2 ∷ []) (λ s t w x.
+    with_both (λ u v. AcrossBoth (holding s (1 ∷ []) w) (holding t (2 ∷ []) x) u v) (3 ∷ [])
+    (4 ∷ []) (λ u v y z. across_both_holds s t u v w x y z) second third three four)
+    first answer one two
+
+pub fixed_only : IsOnlyClaimant 0 0 two_fixed
+unfolding link_acts link_expires in_links with_tei without_tei primitive_of_tei manages
+    assigner_acts link_of takes expires network_requested begin put state_to rc_to increment_rc
+    layer3_initiated_to release_pending_to start stop expired clear_exception_conditions
+    zero_state_variables set_peer_busy set_own_busy enquiry_response transmit_enquiry queue_up
+    discard_i_queue acknowledge invoke_retransmission i_frame_ns discard_unacknowledged
+    transmit_i_frame ensure_t200 transmit_rr establish_data_link reestablish_data_link
+    end_establishment tei_assigned confirm_or_indicate ua_final awaiting_establishment_t200
+    awaiting_establishment confirm_release awaiting_release_t200 awaiting_release
+    acknowledge_with_timers nr_error_recovery i_frame_nr i_frame_nr_in_recovery poll_or_final poll
+    rr_nr rej_nr rnr_nr rr_nr_in_recovery rnr_nr_in_recovery timer_recovery_t200 busy_on busy_off
+    in_7_and_8 established_t200 multiple_frame_established timer_recovery by_state report_fault row
+    send_all acknowledge_pending end_step step initial_variables without_exceptions
+    with_zero_counters status_frame acknowledgement without_ack_pending poll_response is_accepted
+    is_rejected after_i_frame i_frame_response is_valid_nr with_va acknowledged_count
+    acknowledges_all with_vs may_send next_i_frame after_sending with_own_busy with_peer_busy after
+    steps lies_within terminal_acts user_requested links_below does losses
+fixed_only = only_claimant_so 0 0 two_fixed refl
+
+-- ---- A frame of an exchange is in transit.
+
+pub command_keeps : KeepsAllButRestarting fixed_call 0 command_outlasts alone
+unfolding link_acts link_expires in_links with_tei without_tei primitive_of_tei manages
+    assigner_acts link_of takes expires network_requested begin put state_to rc_to increment_rc
+    layer3_initiated_to release_pending_to start stop expired clear_exception_conditions
+    zero_state_variables set_peer_busy set_own_busy enquiry_response transmit_enquiry queue_up
+    discard_i_queue acknowledge invoke_retransmission i_frame_ns discard_unacknowledged
+    transmit_i_frame ensure_t200 transmit_rr establish_data_link reestablish_data_link
+    end_establishment tei_assigned confirm_or_indicate ua_final awaiting_establishment_t200
+    awaiting_establishment confirm_release awaiting_release_t200 awaiting_release
+    acknowledge_with_timers nr_error_recovery i_frame_nr i_frame_nr_in_recovery poll_or_final poll
+    rr_nr rej_nr rnr_nr rr_nr_in_recovery rnr_nr_in_recovery timer_recovery_t200 busy_on busy_off
+    in_7_and_8 established_t200 multiple_frame_established timer_recovery by_state report_fault row
+    send_all acknowledge_pending end_step step initial_variables without_exceptions
+    with_zero_counters status_frame acknowledgement without_ack_pending poll_response is_accepted
+    is_rejected after_i_frame i_frame_response is_valid_nr with_va acknowledged_count
+    acknowledges_all with_vs may_send next_i_frame after_sending with_own_busy with_peer_busy after
+    steps lies_within terminal_acts user_requested links_below does losses
+command_keeps = (
+  throughout_by configs (λ e b. IsOfBus e) of_bus of_bus_so command_outlasts alone refl,
+  throughout_by configs (λ e b. OthersJoinWithout 0 0 e) (others_join_without 0 0)
+      (others_join_without_so 0 0) command_outlasts alone refl,
+  throughout_by configs (IsTimelyFor fixed_call 0) (timely_for configs fixed_call 0)
+      (timely_for_so configs fixed_call 0) command_outlasts alone refl,
+  throughout_by configs (AssignsOthers configs 0) (assigns_others configs 0)
+      (assigns_others_so configs 0) command_outlasts alone refl,
+  throughout_by configs (RequestsByItsOwn configs) (requests_by_its_own configs)
+      (requests_by_its_own_so configs) command_outlasts alone refl,
+)
+
+pub command_is_not_expected : AreExpectedOfLink
+    (link_primitives fixed_call (after_across configs command_outlasts alone).delivered) → ⊥
+unfolding link_acts link_expires in_links with_tei without_tei primitive_of_tei manages
+    assigner_acts link_of takes expires network_requested begin put state_to rc_to increment_rc
+    layer3_initiated_to release_pending_to start stop expired clear_exception_conditions
+    zero_state_variables set_peer_busy set_own_busy enquiry_response transmit_enquiry queue_up
+    discard_i_queue acknowledge invoke_retransmission i_frame_ns discard_unacknowledged
+    transmit_i_frame ensure_t200 transmit_rr establish_data_link reestablish_data_link
+    end_establishment tei_assigned confirm_or_indicate ua_final awaiting_establishment_t200
+    awaiting_establishment confirm_release awaiting_release_t200 awaiting_release
+    acknowledge_with_timers nr_error_recovery i_frame_nr i_frame_nr_in_recovery poll_or_final poll
+    rr_nr rej_nr rnr_nr rr_nr_in_recovery rnr_nr_in_recovery timer_recovery_t200 busy_on busy_off
+    in_7_and_8 established_t200 multiple_frame_established timer_recovery by_state report_fault row
+    send_all acknowledge_pending end_step step initial_variables without_exceptions
+    with_zero_counters status_frame acknowledgement without_ack_pending poll_response is_accepted
+    is_rejected after_i_frame i_frame_response is_valid_nr with_va acknowledged_count
+    acknowledges_all with_vs may_send next_i_frame after_sending with_own_busy with_peer_busy after
+    steps lies_within terminal_acts user_requested links_below does losses
+command_is_not_expected h = h.0
+
+-- ---- The link exists again.
+
+abbrev given_at : Option (SideView User) → List (List ℕ)
+given_at None = []
+given_at (Some t) = given_to fixed_call t.given
+
+abbrev acked_at : Option (SideView User) → List ℕ
+acked_at None = []
+acked_at (Some t) = (known_of fixed_call t.delivered).acked
+
+-- the first message counts as acknowledged, and the second alone was received
+not_by_network : (b : Bus) → given_at (slice_get b.terminals 0) ≡ two_messages
+    → acked_at (slice_get b.terminals 0) ≡ 0 ∷ []
+    → (known_of fixed_call b.delivered).received ≡ (2 ∷ []) ∷ []
+    → IsReceivedByNetwork fixed_call 0 b → ⊥
+not_by_network b given acked received h = by (slice_get b.terminals 0) refl given acked
+  where
+    by : (o : Option (SideView User)) → slice_get b.terminals 0 ≡ o → given_at o ≡ two_messages
+        → acked_at o ≡ 0 ∷ [] → ⊥
+    by None at is acks = cc
+    by (Some t) at is acks = second_for_first _ _ _ is acks received (h t at)
+
+pub record ComesBack (first second : Vec ℕ Global) : Type 0 where
+  pub keeps : KeepsAllButRestarting fixed_call 0 (comes_back first second) alone
+  pub given : given_at (slice_get (after_across configs (comes_back first second)
+      alone).terminals 0) ≡ two_messages
+  pub acked : acked_at (slice_get (after_across configs (comes_back first second)
+      alone).terminals 0) ≡ 0 ∷ []
+  pub received : (known_of fixed_call (after_across configs (comes_back first second)
+      alone).delivered).received ≡ (2 ∷ []) ∷ []
+
+comes_back_holds : (v w : Vec ℕ Global) (x : Fits v (1 ∷ [])) (y : Fits w (2 ∷ []))
+    → ComesBack (holding v (1 ∷ []) x) (holding w (2 ∷ []) y)
+unfolding link_acts link_expires in_links with_tei without_tei primitive_of_tei manages
+    assigner_acts link_of takes expires network_requested begin put state_to rc_to increment_rc
+    layer3_initiated_to release_pending_to start stop expired clear_exception_conditions
+    zero_state_variables set_peer_busy set_own_busy enquiry_response transmit_enquiry queue_up
+    discard_i_queue acknowledge invoke_retransmission i_frame_ns discard_unacknowledged
+    transmit_i_frame ensure_t200 transmit_rr establish_data_link reestablish_data_link
+    end_establishment tei_assigned confirm_or_indicate ua_final awaiting_establishment_t200
+    awaiting_establishment confirm_release awaiting_release_t200 awaiting_release
+    acknowledge_with_timers nr_error_recovery i_frame_nr i_frame_nr_in_recovery poll_or_final poll
+    rr_nr rej_nr rnr_nr rr_nr_in_recovery rnr_nr_in_recovery timer_recovery_t200 busy_on busy_off
+    in_7_and_8 established_t200 multiple_frame_established timer_recovery by_state report_fault row
+    send_all acknowledge_pending end_step step initial_variables without_exceptions
+    with_zero_counters status_frame acknowledgement without_ack_pending poll_response is_accepted
+    is_rejected after_i_frame i_frame_response is_valid_nr with_va acknowledged_count
+    acknowledges_all with_vs may_send next_i_frame after_sending with_own_busy with_peer_busy after
+    steps lies_within terminal_acts user_requested links_below does losses
+comes_back_holds v w x y =
+    let run = comes_back (holding v (1 ∷ []) x) (holding w (2 ∷ []) y) in
+    record {
+      keeps = (
+        throughout_by configs (λ e b. IsOfBus e) of_bus of_bus_so run alone refl,
+        throughout_by configs (λ e b. OthersJoinWithout 0 0 e) (others_join_without 0 0)
+            (others_join_without_so 0 0) run alone refl,
+        throughout_by configs (IsTimelyFor fixed_call 0) (timely_for configs fixed_call 0)
+            (timely_for_so configs fixed_call 0) run alone refl,
+        throughout_by configs (AssignsOthers configs 0) (assigns_others configs 0)
+            (assigns_others_so configs 0) run alone refl,
+        throughout_by configs (RequestsByItsOwn configs) (requests_by_its_own configs)
+            (requests_by_its_own_so configs) run alone refl,
+      );
+      given = refl;
+      acked = refl;
+      received = refl;
+    }
+
+pub comes_back_so : (first second : Vec ℕ Global) → IsMessage 1 first → IsMessage 2 second
+    → ComesBack first second
+comes_back_so = with_both ComesBack (1 ∷ []) (2 ∷ []) comes_back_holds
+
+pub comes_back_is_not_right : (first second : Vec ℕ Global) → IsMessage 1 first → IsMessage 2 second
+    → IsReceivedByNetwork fixed_call 0 (after_across configs (comes_back first second) alone) → ⊥
+comes_back_is_not_right first second one two =
+    let h = comes_back_so first second one two in
+    not_by_network (after_across configs (comes_back first second) alone) h.given h.acked
+    h.received

@@ -1,0 +1,4 @@
+pub mod BusAcross
+pub mod LinksAcross
+pub mod HoldingsAcross
+pub mod RunsAcross

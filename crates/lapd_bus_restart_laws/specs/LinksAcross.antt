@@ -1,0 +1,46 @@
+-- The premises on one link between the network and one terminal of a bus whose sides also restart.
+use Rattle.std.specs.Prelude.{◌≡◌, ℕ, slice_get, Some}
+use Rattle.lapd_frame.specs.declared.Side.TheVariants as side
+use Rattle.lapd_table.specs.declared.link_id.LinkId.{LinkId}
+use Rattle.lapd_sides.specs.Network.{new_network}
+use Rattle.lapd_sides.specs.User.{User, new_user}
+use Rattle.lapd_interface.specs.Interface.{Configs, network_behaviour}
+use Rattle.lapd_interface_laws.specs.Premises.{GivesTeiOnce}
+use Rattle.lapd_interface.specs.SideView.{SideView}
+use Rattle.lapd_interface.specs.Bus.{Bus, BusEvent, OfNetwork, Join, Restart, on_line_of}
+use Rattle.lapd_bus_laws.specs.Holdings.{IsOfBus}
+use Rattle.lapd_bus_laws.specs.Links.{IsTimelyFor, ObtainsOnce}
+use Rattle.lapd_restart_laws.specs.RestartPremises.{IsQuick}
+
+-- The network does not assign the TEI while it has the link, nor after the TEI was removed.
+abbrev pub AssignsOnce : Configs → LinkId → BusEvent → Bus → Type 0
+AssignsOnce c id (OfNetwork j event) b = (t : SideView User) → slice_get b.terminals j ≡ Some t
+    → GivesTeiOnce (network_behaviour c.network) id event (on_line_of t b)
+AssignsOnce c id other b = Unit {0}
+
+-- The terminal at this index does not obtain the TEI while it has the link, nor after it lost the
+-- TEI. No other terminal obtains it or restarts with it.
+abbrev pub ObtainsOnceAcross : Configs → LinkId → ℕ → BusEvent → Bus → Type 0
+ObtainsOnceAcross c id i (Join j new) b = (j ≡ i → ⊥) → new.fixed ≡ Some id.tei → ⊥
+ObtainsOnceAcross c id i event b = ObtainsOnce c id i event b
+
+-- If the network or the terminal at this index has the link before and after a restart, no exchange
+-- of the link is in transit. It does not have the link again after its TEI was removed.
+abbrev pub RestartsQuickly : Configs → LinkId → ℕ → BusEvent → Bus → Type 0
+RestartsQuickly c id i (Join j new) b = j ≡ i → (t : SideView User)
+    → slice_get b.terminals i ≡ Some t
+    → IsQuick side.User id t.now.served.links
+    (new_user c.user new.fixed new.random).served.links t
+RestartsQuickly c id i (Restart known) b = (t : SideView User) → slice_get b.terminals i ≡ Some t
+    → IsQuick side.Network id b.network.served.links
+    (new_network c.network known).served.links (on_line_of t b)
+RestartsQuickly c id i other b = Unit {0}
+
+-- The premises of one event on the link of the terminal at this index. Besides, T200 of the link
+-- waits for its answer.
+pub record KeepsLink (c : Configs) (id : LinkId) (i : ℕ) (e : BusEvent) (b : Bus) : Type 0 where
+  pub of_bus : IsOfBus e
+  pub timely : IsTimelyFor id i e b
+  pub assigns : AssignsOnce c id e b
+  pub obtains : ObtainsOnceAcross c id i e b
+  pub quick : RestartsQuickly c id i e b
