@@ -44,7 +44,7 @@ module _ (c : Configs) (id : LinkId) (low : id.tei < 127) (i : ℕ) where
 
   -- ---- Events that are no restart.
 
-  aside_does : (event : SideEvent) (t : SideView User) → OverhearsNothing event → StaysAside t
+  pub aside_does : (event : SideEvent) (t : SideView User) → OverhearsNothing event → StaysAside t
       → IsNotAssigned id.tei (reaction (user_behaviour c.user) event t).effects
       → StaysAside (does (user_behaviour c.user) event t)
   unfolding does
@@ -74,7 +74,8 @@ module _ (c : Configs) (id : LinkId) (low : id.tei < 127) (i : ℕ) where
     };
   }
 
-  aside_left : (event : SideEvent) (t : SideView User) → StaysAside t → StaysAside (left_of event t)
+  pub aside_left : (event : SideEvent) (t : SideView User) → StaysAside t
+      → StaysAside (left_of event t)
   aside_left event t h = record {
     unheld = h.unheld;
     silent = record {
@@ -105,7 +106,8 @@ module _ (c : Configs) (id : LinkId) (low : id.tei < 127) (i : ℕ) where
 
   -- ---- A terminal restarts without the TEI.
 
-  no_link : (fixed : Option ℕ) → (fixed ≡ Some id.tei → ⊥) → links_of_fixed c.user fixed id ≡ None
+  pub no_link : (fixed : Option ℕ) → (fixed ≡ Some id.tei → ⊥)
+      → links_of_fixed c.user fixed id ≡ None
   unfolding with_tei
   no_link None apart = refl
   no_link (Some tei) apart =
@@ -114,7 +116,7 @@ module _ (c : Configs) (id : LinkId) (low : id.tei < 127) (i : ℕ) where
       ap (λ (b : Bool). if b then or_new (new_linked (parameters_for c.user id.sapi)
       c.user.durations) None else None) (and_not (is_served c.user id.sapi) (id.tei == tei) other)
 
-  fixed_tei : (fixed : Option ℕ) (tei : ℕ) → tei_of (new_terminal fixed) ≡ Some tei
+  pub fixed_tei : (fixed : Option ℕ) (tei : ℕ) → tei_of (new_terminal fixed) ≡ Some tei
       → fixed ≡ Some tei
   fixed_tei None tei is = is
   fixed_tei (Some t) tei is = is
@@ -125,7 +127,7 @@ module _ (c : Configs) (id : LinkId) (low : id.tei < 127) (i : ℕ) where
   nothing_lost before new none =
       losses_are before new id low ∙ ap (λ o. loss_of o (new id)) none
 
-  aside_restarts : (new : NewTerminal) (t : SideView User) → (new.fixed ≡ Some id.tei → ⊥)
+  pub aside_restarts : (new : NewTerminal) (t : SideView User) → (new.fixed ≡ Some id.tei → ⊥)
       → StaysAside t → StaysAside (restarted_as c new t)
   aside_restarts new t apart h =
       let made : Links = (new_user c.user new.fixed new.random).served.links in

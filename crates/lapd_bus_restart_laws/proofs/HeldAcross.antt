@@ -323,7 +323,7 @@ module _ (c : Configs) (id : LinkId) (i : ℕ) where
 
   -- ---- Every event of a holding.
 
-  event_holds : (e : BusEvent) (b : Bus) → KeepsHoldingAcross c id i e b → IsHeld b
+  pub event_holds : (e : BusEvent) (b : Bus) → KeepsHoldingAcross c id i e b → IsHeld b
       → IsHeld (step_across c e b)
   event_holds (OfTerminal j event) b is h = terminal_holds b j event (slice_get b.terminals j)
       is.of_bus refl is.requests h

@@ -50,7 +50,7 @@ none_by (Some l) none = absurd (none refl)
 
 module _ (c : Configs) (id : LinkId) (b : Bus) (h : KeepsApart c b) where
   -- a terminal that does not hold the TEI has no link of it
-  absent_at : (k : ℕ) (u : SideView User) → slice_get b.terminals k ≡ Some u → holds id.tei u
+  pub absent_at : (k : ℕ) (u : SideView User) → slice_get b.terminals k ≡ Some u → holds id.tei u
       ≡ false → u.now.served.links id ≡ None
   absent_at k u there unheld = none_by (u.now.served.links id) (λ link.
       has_not id.tei (tei_of u.now.management.terminal) unheld
@@ -84,7 +84,7 @@ module _ (c : Configs) (id : LinkId) (b : Bus) (h : KeepsApart c b) where
     One = assigned_one (event_assigns c.network event (on_line_of t b) h.management)
 
     -- the network's link is new
-    absent_before : b.network.served.links id ≡ None
+    pub absent_before : b.network.served.links id ≡ None
     absent_before = none_by (b.network.served.links id) (λ there.
         not_both _ given ((network_preserves c.network (on_line_of t b) event h.held).quiet id
         there))
@@ -114,13 +114,13 @@ module _ (c : Configs) (id : LinkId) (b : Bus) (h : KeepsApart c b) where
     ]
 
 -- what the assignment leaves
-record IsAssigned (c : Configs) (id : LinkId) (b : Bus) : Type 0 where
+pub record IsAssigned (c : Configs) (id : LinkId) (b : Bus) : Type 0 where
   pub unheld : Each (λ (u : SideView User). holds id.tei u ≡ false) b.terminals
   pub network : HasLink b.network.served.links id (new_end (parameters_for c.network id.sapi))
       ⊎ AwaitsLink (fresh_link c.network id) b.network.served.links id
       (new_end (parameters_for c.network id.sapi))
 
-assigned_now : (c : Configs) (id : LinkId) (b : Bus) (e : BusEvent) → KeepsApart c b
+pub assigned_now : (c : Configs) (id : LinkId) (b : Bus) (e : BusEvent) → KeepsApart c b
     → KeepsTeisApart c e b → Assigns c id.tei e b → IsAssigned c id (step_across c e b)
 assigned_now c id b (OfNetwork j event) h is (t, at, given) =
     let free = is.assigns t at id.tei given in
@@ -159,7 +159,7 @@ module _ (c : Configs) (id : LinkId) (low : id.tei < 127) (i : ℕ) (b : Bus) (e
     apart : KeepsApart c Now
     apart = event_keeps_across c e b is before
 
-    held_now : IsHeld c id i (from_now Now)
+    pub held_now : IsHeld c id i (from_now Now)
     held_now = record {
       others = others_map (IsUnclaimed c id i) (IsUnclaimed c id i) recorded_anew i Now.terminals
           (λ u none. none) only;
@@ -171,7 +171,7 @@ module _ (c : Configs) (id : LinkId) (low : id.tei < 127) (i : ℕ) (b : Bus) (e
       management = apart.management;
     }
 
-    sole_now : IsSole id i Now
+    pub sole_now : IsSole id i Now
     sole_now = λ k u there aside.
         (let unheld = (neither (holds id.tei u) _ (only k u there aside)).0 in
         record {
@@ -180,7 +180,7 @@ module _ (c : Configs) (id : LinkId) (low : id.tei < 127) (i : ℕ) (b : Bus) (e
           line = clear k u there;
         })
 
-    link_keeps : ThroughoutAcross c (KeepsLink c id i) after (from_now Now)
+    pub link_keeps : ThroughoutAcross c (KeepsLink c id i) after (from_now Now)
     link_keeps = keeps_link c id i after (from_now Now) keeps held_now
 
     pub holding_is_nobody_elses_across : IsNobodyElses id i (after_across c after (from_now Now))

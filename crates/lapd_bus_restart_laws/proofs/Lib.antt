@@ -6,3 +6,11 @@ pub mod HeldAcross
 pub mod HoldingAcross
 pub mod ChecksAcross
 pub mod RunsComputedAcross
+pub mod OldFrames
+pub mod LockStep
+pub mod NoFrames
+pub mod AtAssignment
+pub mod BehindOldFrames
+pub mod LockStepAcross
+pub mod BehindAcross
+pub mod OldFrameComputed

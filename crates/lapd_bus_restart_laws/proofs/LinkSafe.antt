@@ -78,7 +78,7 @@ module _ (c : Configs) (id : LinkId) (low : id.tei < 127) (i : ℕ) where
     join_keeps j new true is quick = (quick (equal_index j i is) t at, tt)
     join_keeps j new false is quick = tt
 
-    one_keeps : (e : BusEvent) → OthersAside c id low i b → KeepsLink c id i e b
+    pub one_keeps : (e : BusEvent) → OthersAside c id low i b → KeepsLink c id i e b
         → KeepPremises c id (changes_of i e b) (interface_of t b)
     one_keeps (OfTerminal j event) h is = terminal_keeps j event (j == i) refl is.timely is.obtains
     one_keeps (OfNetwork j event) h is =
@@ -89,7 +89,7 @@ module _ (c : Configs) (id : LinkId) (low : id.tei < 127) (i : ℕ) where
 
   -- ---- Every run.
 
-  all_keep : (events : List BusEvent) (t : SideView User) (b : Bus)
+  pub all_keep : (events : List BusEvent) (t : SideView User) (b : Bus)
       → slice_get b.terminals i ≡ Some t → OthersAside c id low i b
       → ThroughoutAcross c (KeepsLink c id i) events b
       → KeepPremises c id (changes_along c i events b) (interface_of t b)

@@ -1,4 +1,5 @@
 pub mod BusAcross
 pub mod LinksAcross
 pub mod HoldingsAcross
+pub mod OldFrames
 pub mod RunsAcross

@@ -10,6 +10,8 @@
 //! - `LinksAcross`: the premises on one link (`KeepsLink`);
 //! - `HoldingsAcross`: the holding of a TEI, from its assignment to the next
 //!   (`KeepsHoldingAcross`);
+//! - `OldFrames`: the premise on a terminal that restarts while old frames are in transit to it,
+//!   and a run that shows that it is needed;
 //! - `RunsAcross`: worked runs.
 //!
 //! The laws:
@@ -23,16 +25,25 @@
 //! - [`every_holding_is_safe_across_restarts`]: the links of a TEI are safe from its assignment to
 //!   the next.
 //! - [`each_fixed_tei_is_safe_across_restarts`]: the same from the first event on, for fixed TEIs.
+//! - [`every_holding_is_safe_behind_old_frames`],
+//!   [`every_holding_is_safe_behind_old_frames_across_restarts`]: all primitives of a link are
+//!   right even if old frames of it are in transit to the terminal at the assignment.
+//! - [`old_frame_premise_is_needed`]: with restarts one more premise is needed for that.
 //! - [`restarts_on_a_bus_are_computed`], [`each_restart_premise_is_needed_on_a_bus`]: worked runs.
 #![tactic(auto)]
 
 mod holdings;
 mod laws;
+mod old_frames;
 mod runs;
 
 pub use holdings::{each_fixed_tei_is_safe_across_restarts, every_holding_is_safe_across_restarts};
 pub use laws::{
     each_link_of_a_bus_is_safe_across_restarts, each_run_across_restarts_is_one_of_two_sides,
     new_sides_restart_on_a_bus,
+};
+pub use old_frames::{
+    every_holding_is_safe_behind_old_frames,
+    every_holding_is_safe_behind_old_frames_across_restarts, old_frame_premise_is_needed,
 };
 pub use runs::{each_restart_premise_is_needed_on_a_bus, restarts_on_a_bus_are_computed};
