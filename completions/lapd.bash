@@ -21,7 +21,7 @@ _lapd() {
             fi
             ;;
         --pcap | --svg) mapfile -t COMPREPLY < <(compgen -f -- "$word"); return ;;
-        --tei | --k | --n200 | --room | --terminals | --idle-limit | --t20? | --seed | --count) return ;;
+        --tei | --k | --n200 | --room | --terminals | --idle-limit | --audit | --t20? | --seed | --count) return ;;
         --listen | --connect | --gsmtap) return ;;
     esac
     if [[ -z $offered && ${COMP_WORDS[1]} == decode && $word == [!-]* ]]; then
@@ -38,11 +38,11 @@ _lapd() {
                 bus) offered+=" --terminals --links --ladder" ;;
                 pair) offered+=" --k --n200 --room --recovery-user --recovery-net --ladder" ;;
                 loop) offered+=" --k --n200 --room --recovery-user --recovery-net" ;;
-                net) offered+=" --listen --clear --terminals --idle-limit" ;;&
+                net) offered+=" --listen --clear --terminals --audit --no-audit --no-ties" ;;&
                 user) offered+=" --connect" ;;&
                 net | user)
                     offered+=" --pri --tei --sapi16 --k --n200 --room --recovery --t200 --t201 --t202 --t203 --seed"
-                    offered+=" --json --clock --time --quiet --serve --keep --pcap --ladder --gsmtap"
+                    offered+=" --json --clock --time --quiet --serve --keep --idle-limit --pcap --ladder --gsmtap"
                     ;;
                 decode)
                     offered+=" --loose --sender --names --no-octets --json --keep-going --pcap --follow --ladder --svg --k"

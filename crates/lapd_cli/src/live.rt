@@ -4,14 +4,16 @@ use crate::console_notes::ConsoleNotes;
 use crate::ending::Stop;
 use crate::job::{SideSetup, config_of};
 use lapd_cli_console::Script;
-use lapd_cli_io::{ConnectionSetup, Connections, NoTaps, Notes, TapSetup, Taps, connect_side};
+use lapd_cli_io::{
+    BusSetup, ConnectionSetup, Connections, NoTaps, Notes, TapSetup, Taps, connect_side,
+};
 use lapd_cli_live::{
     Impaired, LiveFault, LiveSide, LiveStop, Printer, Style, Tapped, frames_of_step, live_script,
     live_session,
 };
 use lapd_cli_options::{Interface, LiveOptions};
 use lapd_cli_script::ScriptFault;
-use lapd_sides::{Acts, Config, EitherSide, NetSide, Request, Side, UserSide};
+use lapd_sides::{Acts, Config, EitherSide, NetSide, Request, Side, Timer, UserSide};
 use std::alloc::AllocError;
 use std::io::{IsTerminal, Read, Write};
 use std::random::RandomSource;
@@ -112,6 +114,11 @@ fn connection_setup<'a>(setup: &SideSetup<'a>, options: &LiveOptions<'_>) -> Con
         is_primary: setup.interface.pri,
         keep: options.keep,
         idle_limit: options.idle_limit,
+        bus: BusSetup {
+            t201: setup.interface.durations.of(Timer::T201),
+            audit: options.audit,
+            is_tied: options.ties && 1 < options.terminals,
+        },
     }
 }
 

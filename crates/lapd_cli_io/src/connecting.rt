@@ -3,10 +3,14 @@
 use crate::connection;
 use crate::connections::Connections;
 use crate::notes::Notes;
+use crate::shared_bus::BusSetup;
 use lapd_frame::Side;
 use mio::net::{TcpListener, TcpStream};
 use std::io;
 use std::net::{self, SocketAddr};
+
+/// The note about an address that other hosts can reach.
+const OPEN_TO_ALL: &str = "anybody who can reach this address can connect as a terminal";
 
 /// How a side gets its connections.
 #[derive(Clone, Copy)]
@@ -21,6 +25,8 @@ pub struct ConnectionSetup<'a> {
     pub keep: bool,
     /// How many milliseconds a connection may send no whole frame, if that is limited.
     pub idle_limit: Option<u64>,
+    /// How a network side at basic access serves a bus, if it accepts several connections.
+    pub bus: BusSetup,
 }
 
 /// Makes the connections of a side, and starts its clock when the first of them is made.
@@ -48,6 +54,9 @@ fn accepted<'a>(
     setup: &ConnectionSetup<'_>,
 ) -> io::Result<Connections<'a>> {
     let listener = connection::listening(rt, notes, setup.address)?;
+    if !listener.local_addr()?.ip().is_loopback() {
+        notes.print(OPEN_TO_ALL);
+    }
     let (stream, peer) = connection::next(notes, &listener)?;
     let mut connections = Connections::new(
         rt,
@@ -60,6 +69,9 @@ fn accepted<'a>(
     if setup.keep || 1 < setup.terminals {
         listener.set_nonblocking(true)?;
         connections.accept_from(TcpListener::from_std(listener))?;
+        if !setup.is_primary {
+            connections.serve_bus(setup.bus);
+        }
     }
     connections.limit_idle(setup.idle_limit);
     Ok(connections)
@@ -78,6 +90,7 @@ fn made<'a>(
     if setup.keep {
         connections.dial(peer);
     }
+    connections.limit_idle(setup.idle_limit);
     Ok(connections)
 }
 

@@ -10,14 +10,18 @@ use crate::dialler::Dialler;
 use crate::discards::Discards;
 use crate::frame_stream::FrameStream;
 use crate::input::Input;
+use crate::lost::Lost;
 use crate::next_connections::{INCOMING, Incoming, NextConnections};
 use crate::notes::Notes;
 use crate::peers::{LostPeer, Peers};
-use lapd_cli_line::{Impairment, Lines, Outside, Sending, Woken, is_reached};
+use crate::shared_bus::{BusSetup, ForeignUse, SharedBus};
+use lapd_cli_line::{Impairment, Incident, Lines, Outside, Sending, Woken, is_reached};
 use lapd_cli_script::port_reason;
 use lapd_frame::Side;
 use lapd_port::{MOST_OCTETS, PortFault};
-use lapd_table::LinkId;
+use lapd_table::{LinkId, LinkTable};
+use lapd_tei::{Assigner, TeiKind, TeiMessage};
+use lapd_tei_audit::AuditStep;
 use lapd_timers::earlier;
 use mio::net::{TcpListener, TcpStream};
 use mio::{Events, Poll, Token};
@@ -30,6 +34,16 @@ const INPUT: Token = Token(1000);
 
 /// The most events per poll.
 const EVENTS: usize = 130;
+
+/// The notes of requests without effect, and of a denied request.
+const NOT_CHECKED: &str = "check-all without effect: a check is in progress";
+
+const NOT_REMOVED: &str = "remove-all without effect: a TEI is held; `remove TEI` removes it";
+
+const NOT_ASSIGNED: &str = "a request for a TEI was denied: all of 64 to 126 are held";
+
+/// The lowest TEI that a network side assigns. A lower one is fixed at its terminal.
+const FIRST_ASSIGNED: u8 = 64;
 
 /// The most frames taken in a row before the next poll, if each is answered to one connection. With
 /// more connections fewer are taken, since an answer is sent to all: a terminal that sends without
@@ -51,6 +65,8 @@ pub struct Connections<'a> {
     /// `None`.
     idle_limit: Option<u64>,
     discards: Discards,
+    /// The terminals of a network side that serves a bus.
+    bus: Option<SharedBus>,
     /// The number of frames taken since the last poll.
     taken: u32,
     /// Whether the only connection is closed and all frames that arrived over it were taken.
@@ -82,6 +98,7 @@ impl<'a> Connections<'a> {
             next_connections: NextConnections::Nowhere,
             idle_limit: None,
             discards: Discards::new(side, is_primary),
+            bus: None,
             taken: 0,
             is_closed: false,
             poll,
@@ -96,7 +113,18 @@ impl<'a> Connections<'a> {
     pub fn add(&mut self, stream: TcpStream, peer: SocketAddr) -> io::Result<()> {
         let _ = stream.set_nodelay(true);
         let stream = FrameStream::new(self.rt, stream, peer)?;
-        self.peers.add(&self.poll, stream, self.clock.latest())
+        self.peers.add(&self.poll, stream, self.clock.latest())?;
+        if let Some(bus) = &mut self.bus {
+            bus.join();
+        }
+        Ok(())
+    }
+
+    /// Serves the connections as terminals of a bus from now on.
+    pub fn serve_bus(&mut self, setup: BusSetup) {
+        let mut bus = SharedBus::new(setup);
+        bus.join();
+        self.bus = Some(bus);
     }
 
     /// Accepts further connections from this listener from now on, when there is room. The listener
@@ -170,7 +198,9 @@ impl<'a> Connections<'a> {
             match self.peers.next_frame(frame, self.clock.latest()) {
                 Ok(Some(count)) => {
                     self.taken = self.taken.saturating_add(1);
-                    return Ok(Some(count));
+                    if self.is_admitted(&frame[..count]) {
+                        return Ok(Some(count));
+                    }
                 }
                 Ok(None) => return Ok(None),
                 Err(lost) => self.lose(lost)?,
@@ -180,6 +210,43 @@ impl<'a> Connections<'a> {
             }
         }
         Ok(None)
+    }
+
+    /// Whether the side may receive this frame, the last one that was taken. A frame whose TEI is
+    /// tied to another connection is dropped.
+    fn is_admitted(&mut self, frame: &[u8]) -> bool {
+        let Some(bus) = &mut self.bus else {
+            return true;
+        };
+        let place = self.peers.last_place();
+        match bus.receive(frame, place) {
+            Ok(()) => true,
+            Err(foreign) => {
+                let count = bus.drops.add(self.clock.latest());
+                self.refuse(foreign, place, count);
+                false
+            }
+        }
+    }
+
+    /// Removes a TEI from the terminal at this place, which is not its own: Identity remove is sent
+    /// over this connection alone (Q.921 5.3.4). Notes it, if this is the `count`th frame.
+    fn refuse(&mut self, foreign: ForeignUse, place: usize, count: Option<u64>) {
+        let ForeignUse { tei, owner } = foreign;
+        if FIRST_ASSIGNED <= tei.value() {
+            let (ri, kind, ai) = (0, TeiKind::Remove, tei.value());
+            let message = TeiMessage { ri, kind, ai };
+            self.peers.send_to(place, &message.frame(Side::Network));
+        }
+        if let (Some(count), Some(owner), Some(other)) = (
+            count,
+            self.peers.address(owner),
+            self.peers.address(place),
+        ) {
+            self.notes.print(format_args!(
+                "TEI {tei} belongs to {owner}: a frame from {other} was dropped; {count} so far"
+            ));
+        }
     }
 
     /// Handles a lost connection. If no other connection can take its place, the side ends.
@@ -200,6 +267,9 @@ impl<'a> Connections<'a> {
     /// Removes a connection whose place the next one may take, and notes it.
     fn drop_peer(&mut self, lost: LostPeer) {
         let is_alone = self.peers.is_alone();
+        if let Some(bus) = &mut self.bus {
+            bus.lose(lost.place);
+        }
         if let Some(peer) = self.peers.remove(lost.place) {
             let now = self.clock.latest();
             self.next_connections
@@ -240,18 +310,52 @@ impl<'a> Connections<'a> {
         }
     }
 
+    /// Notes a discarded frame, if it is the first one of its address.
+    fn note_discarded(&mut self, id: LinkId) {
+        if let Some(bus) = &mut self.bus {
+            bus.discard(id);
+        }
+        if let Some(discard) = self.discards.add(id) {
+            self.notes.print(discard);
+        }
+    }
+
+    /// Removes the only connection, if the next one can take its place: its other side does not
+    /// answer.
+    fn drop_silent(&mut self) {
+        if self.peers.is_alone() && !self.next_connections.is_nowhere() {
+            self.drop_peer(LostPeer {
+                place: 0,
+                why: Lost::Unanswered,
+            });
+        }
+    }
+
+    /// Records a frame that the side sends.
+    fn record_sent(&mut self, frame: &[u8]) {
+        if let Some(bus) = &mut self.bus {
+            if bus.send(frame) {
+                if let Some(count) = bus.denials.add(self.clock.latest()) {
+                    self.notes
+                        .print(format_args!("{NOT_ASSIGNED}; {count} so far"));
+                }
+            }
+        }
+    }
+
     /// Removes the connections that have been idle for too long at this moment, in milliseconds. A
     /// poll must have reported what had arrived by then.
-    fn drop_idle(&mut self, now: u64) {
+    fn drop_idle(&mut self, now: u64) -> Result<(), PortFault> {
         let Some(limit) = self.idle_limit else {
-            return;
+            return Ok(());
         };
         for _place in 0..self.peers.most() {
             match self.peers.idle_peer(limit, now) {
-                Some(lost) => self.drop_peer(lost),
-                None => return,
+                Some(lost) => self.lose(lost)?,
+                None => return Ok(()),
             }
         }
+        Ok(())
     }
 
     /// Polls until something has arrived, or for at most `left` milliseconds.
@@ -283,7 +387,11 @@ impl<'a> Connections<'a> {
         } else {
             None
         };
-        let next = earlier(until, earlier(idle, next_attempt))?;
+        let audit = match &self.bus {
+            Some(bus) => bus.next_moment(),
+            None => None,
+        };
+        let next = earlier(earlier(until, audit), earlier(idle, next_attempt))?;
         Some(next.saturating_sub(now))
     }
 
@@ -292,17 +400,26 @@ impl<'a> Connections<'a> {
         matches!(lines, Lines::Awaited) && self.input.is_ready()
     }
 
-    /// Whether there is already a reason to end a wait.
-    fn is_awake(&self, lines: Lines) -> bool {
-        self.has_line(lines) || self.peers.is_ready() || self.is_closed
+    /// Whether an audit may have something to do at this moment.
+    fn is_audit_ready(&self, now: u64) -> bool {
+        match &self.bus {
+            Some(bus) => bus.is_ready(now),
+            None => false,
+        }
     }
 
-    /// The reason to end a wait, if there is one.
-    fn woken(&mut self, lines: Lines) -> Option<Woken> {
+    /// Whether there is already a reason to end a wait at this moment.
+    fn is_awake(&self, lines: Lines, now: u64) -> bool {
+        let has_work = self.peers.is_ready() || self.is_audit_ready(now);
+        self.has_line(lines) || has_work || self.is_closed
+    }
+
+    /// The reason to end a wait at this moment, if there is one.
+    fn woken(&mut self, lines: Lines, now: u64) -> Option<Woken> {
         if self.has_line(lines) {
             self.input.pass_on();
             Some(Woken::Line)
-        } else if self.peers.is_ready() {
+        } else if self.peers.is_ready() || self.is_audit_ready(now) {
             Some(Woken::Arrival)
         } else if self.is_closed {
             Some(Woken::Closed)
@@ -319,17 +436,20 @@ impl<'a> Connections<'a> {
         for _sleep in 0..u64::MAX {
             let now = self.clock.now()?;
             self.connect_further();
-            let left = if self.is_awake(lines) {
+            let left = if self.is_awake(lines, now) {
                 Some(0)
             } else {
                 self.left(until, now)
             };
             self.poll(left)?;
-            self.drop_idle(now);
-            if let Some(woken) = self.woken(lines) {
+            if self.drop_idle(now).is_err() {
+                return Err(io::Error::from(ErrorKind::TimedOut));
+            }
+            let now = self.clock.now()?;
+            if let Some(woken) = self.woken(lines, now) {
                 return Ok(woken);
             }
-            if is_reached(until, self.clock.now()?) {
+            if is_reached(until, now) {
                 return Ok(Woken::Due);
             }
         }
@@ -365,6 +485,7 @@ impl Outside for Connections<'_> {
     }
 
     fn send(&mut self, frame: &[u8]) -> Result<Sending, PortFault> {
+        self.record_sent(frame);
         if self.peers.send(frame) {
             return Ok(Sending::Sent);
         }
@@ -375,9 +496,20 @@ impl Outside for Connections<'_> {
         }
     }
 
-    fn discarded(&mut self, id: LinkId) {
-        if let Some(discard) = self.discards.add(id) {
-            self.notes.print(discard);
+    fn note(&mut self, incident: Incident) {
+        match incident {
+            Incident::Discarded(id) => self.note_discarded(id),
+            Incident::Unanswered(_) => self.drop_silent(),
+            Incident::NotChecked => self.notes.print(NOT_CHECKED),
+            Incident::NotRemoved => self.notes.print(NOT_REMOVED),
+        }
+    }
+
+    fn next_audit(&mut self, assigner: &Assigner, links: &LinkTable) -> Option<AuditStep> {
+        let now = self.clock.latest();
+        match &mut self.bus {
+            Some(bus) => bus.next_audit(assigner, links, now),
+            None => None,
         }
     }
 

@@ -7,6 +7,7 @@
 #![tactic(auto)]
 
 mod acceptor;
+mod auditor;
 mod clock;
 mod connecting;
 pub mod connection;
@@ -20,10 +21,14 @@ mod next_connections;
 mod notes;
 mod peers;
 mod record_file;
+mod repeated;
+mod shared_bus;
 mod taps;
+mod ties;
 mod watch;
 
 pub use connecting::{ConnectionSetup, connect_side};
 pub use connections::Connections;
 pub use notes::Notes;
+pub use shared_bus::BusSetup;
 pub use taps::{NoTaps, TapSetup, Taps};

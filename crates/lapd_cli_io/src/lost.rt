@@ -11,6 +11,8 @@ pub enum Lost {
     NotTaken,
     /// No whole frame arrived for this many milliseconds.
     Idle(u64),
+    /// A link's SABME or DISC was not answered, N200 + 1 times.
+    Unanswered,
 }
 
 impl Lost {
@@ -18,7 +20,7 @@ impl Lost {
     pub fn fault(self) -> PortFault {
         match self {
             Lost::Port(fault) => fault,
-            Lost::NotTaken | Lost::Idle(_) => PortFault::Device,
+            Lost::NotTaken | Lost::Idle(_) | Lost::Unanswered => PortFault::Device,
         }
     }
 }
@@ -28,6 +30,7 @@ impl fmt::Display for Lost {
         match self {
             Lost::Port(fault) => f.write_str(port_reason(*fault)),
             Lost::NotTaken => f.write_str("the other side did not accept a whole frame at once"),
+            Lost::Unanswered => f.write_str("the other side does not answer"),
             Lost::Idle(limit) => write!(f, "no complete frame was received for {limit} ms"),
         }
     }

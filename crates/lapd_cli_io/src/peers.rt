@@ -19,6 +19,8 @@ pub struct Peers {
     most: usize,
     /// The place to look for the next frame first.
     next_place: usize,
+    /// The place of the last frame that was taken.
+    last_place: usize,
 }
 
 /// A connection.
@@ -45,6 +47,7 @@ impl Peers {
             streams: Slab::new(rt.alloc()),
             most: usize::from(most),
             next_place: 0,
+            last_place: 0,
         }
     }
 
@@ -98,6 +101,25 @@ impl Peers {
         Some(peer.stream.peer())
     }
 
+    /// The place of the connection over which the last frame was taken.
+    pub fn last_place(&self) -> usize {
+        self.last_place
+    }
+
+    /// The address of the other side of the connection at this place.
+    pub fn address(&self, place: usize) -> Option<SocketAddr> {
+        Some(self.streams.get(place)?.stream.peer())
+    }
+
+    /// Sends a frame of 3 to 264 octets over the connection at this place alone.
+    pub fn send_to(&mut self, place: usize, frame: &[u8])
+        requires { IsFrameLength (length frame.now) }
+    {
+        if let Some(peer) = self.streams.get_mut(place) {
+            let _ = peer.stream.send(frame);
+        }
+    }
+
     /// Records that something may have arrived over the connection at this place.
     pub fn wake(&mut self, place: usize) {
         if let Some(peer) = self.streams.get_mut(place) {
@@ -135,7 +157,10 @@ impl Peers {
             let place = self.next_place;
             self.next_place = place_behind(place, self.most);
             match self.next_frame_at(place, frame, now) {
-                Ok(Some(count)) => return Ok(Some(count)),
+                Ok(Some(count)) => {
+                    self.last_place = place;
+                    return Ok(Some(count));
+                }
                 Ok(None) => {}
                 Err(why) => return Err(LostPeer { place, why }),
             }

@@ -5,9 +5,11 @@ ghost use Rattle.lapd_port.specs.SocketText.{IsFrameLength};
 
 use crate::delays::Delays;
 use crate::impairment::Impairment;
-use crate::outside::{Lines, Outside, Sending, Woken, is_reached};
+use crate::outside::{Incident, Lines, Outside, Sending, Woken, is_reached};
 use lapd_port::{MOST_OCTETS, PortFault};
-use lapd_table::LinkId;
+use lapd_table::LinkTable;
+use lapd_tei::Assigner;
+use lapd_tei_audit::AuditStep;
 use lapd_timers::earlier;
 use std::alloc::Global;
 
@@ -170,8 +172,12 @@ impl<O: Outside> Outside for Impaired<O> {
         Ok(Sending::Sent)
     }
 
-    fn discarded(&mut self, id: LinkId) {
-        self.inner.discarded(id);
+    fn note(&mut self, incident: Incident) {
+        self.inner.note(incident);
+    }
+
+    fn next_audit(&mut self, assigner: &Assigner, links: &LinkTable) -> Option<AuditStep> {
+        self.inner.next_audit(assigner, links)
     }
 
     fn impair(&mut self, impairment: Impairment)

@@ -13,5 +13,5 @@ mod tapped;
 
 pub use impaired::Impaired;
 pub use impairment::Impairment;
-pub use outside::{Lines, Outside, Sending, Woken, is_reached};
+pub use outside::{Incident, Lines, Outside, Sending, Woken, is_reached};
 pub use tapped::{Tap, Tapped};

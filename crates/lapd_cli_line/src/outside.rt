@@ -7,12 +7,14 @@ ghost use Rattle.lapd_cli_line.specs.declared.impairment.Impairment.{Impairment 
 
 use crate::impairment::Impairment;
 use lapd_port::{MOST_OCTETS, PortFault};
-use lapd_table::LinkId;
+use lapd_table::{LinkId, LinkTable};
+use lapd_tei::Assigner;
+use lapd_tei_audit::AuditStep;
 
 /// Why a wait ended.
 #[derive(Clone, Copy)]
 pub enum Woken {
-    /// A frame may have arrived.
+    /// A frame may have arrived, or an audit may have a step to do.
     Arrival,
     /// A line of input can be read.
     Line,
@@ -38,6 +40,19 @@ pub enum Sending {
     Sent,
     /// It was lost on purpose, to try how a link recovers.
     Lost,
+}
+
+/// What a side reports to its surroundings, beside its frames.
+#[derive(Clone, Copy)]
+pub enum Incident {
+    /// It discarded a frame: it has no link with this SAPI and TEI.
+    Discarded(LinkId),
+    /// The other side answered no SABME or DISC of this link, N200 + 1 times (report G or H).
+    Unanswered(LinkId),
+    /// A check of all TEIs had no effect: a check is in progress.
+    NotChecked,
+    /// A removal of all TEIs had no effect: the side holds a TEI.
+    NotRemoved,
 }
 
 /// The surroundings of a side: the line with the other side behind it, and a clock. Moments are
@@ -102,8 +117,14 @@ pub trait Outside {
         ensures err { OnErr result (io_events self.new ≡ io_events self.old) }
         ensures impaired_by { impaired_by self.new ≡ impaired_by self.old };
 
-    /// Notes that the side discarded a frame, because it has no link with this SAPI and TEI.
-    fn discarded(&mut self, id: LinkId)
+    /// Notes an incident.
+    fn note(&mut self, incident: Incident)
+        ensures io_events { io_events self.new ≡ io_events self.old }
+        ensures impaired_by { impaired_by self.new ≡ impaired_by self.old };
+
+    /// The next step of an audit of the TEIs of a network side (Q.921 5.3.3), which holds these TEIs
+    /// and has these links. `None` if there is nothing to do at the moment, or no audit.
+    fn next_audit(&mut self, assigner: &Assigner, links: &LinkTable) -> Option<AuditStep>
         ensures io_events { io_events self.new ≡ io_events self.old }
         ensures impaired_by { impaired_by self.new ≡ impaired_by self.old };
 

@@ -5,10 +5,12 @@ ghost use Rattle.lapd_cli_line.specs.IoEvents.{Adds, IoEvent};
 ghost use Rattle.lapd_cli_line.specs.Passed.{ArePassed, PassedFrame, passed_more, passed_frame};
 
 use crate::impairment::Impairment;
-use crate::outside::{Lines, Outside, Sending, Woken};
+use crate::outside::{Incident, Lines, Outside, Sending, Woken};
 use lapd_frame::Side;
 use lapd_port::{MOST_OCTETS, PortFault};
-use lapd_table::LinkId;
+use lapd_table::LinkTable;
+use lapd_tei::Assigner;
+use lapd_tei_audit::AuditStep;
 
 /// Receives a copy of each frame of a line, such as a capture file or a socket. It reports its own
 /// errors, and the line continues without it.
@@ -93,8 +95,12 @@ impl<O: Outside, T: Tap> Outside for Tapped<O, T> {
         Ok(sending)
     }
 
-    fn discarded(&mut self, id: LinkId) {
-        self.inner.discarded(id);
+    fn note(&mut self, incident: Incident) {
+        self.inner.note(incident);
+    }
+
+    fn next_audit(&mut self, assigner: &Assigner, links: &LinkTable) -> Option<AuditStep> {
+        self.inner.next_audit(assigner, links)
     }
 
     fn impair(&mut self, impairment: Impairment) {

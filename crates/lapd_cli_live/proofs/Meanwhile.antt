@@ -6,7 +6,7 @@ use Rattle.lapd_cli_live.specs.declared.service.Service.{Service}
 use Rattle.lapd_cli_live.specs.declared.service.Until.{Until}
 use Rattle.lapd_cli_live.specs.declared.service.EndReason.{EndReason}
 use Rattle.lapd_cli_live.specs.Log.{Chain, Happen, LiveEvent, LiveState}
-use Rattle.lapd_cli_live.specs.Steps.{CatchesUp, Continues, IsMatched, IsOver, IsServed, Receives, Step, TakesAndContinues, WaitsOnce}
+use Rattle.lapd_cli_live.specs.Steps.{AuditsOnce, CatchesUp, Continues, IsMatched, IsOver, IsServed, Receives, Step, TakesAndContinues, WaitsOnce}
 use Rattle.lapd_cli_live.specs.WaitingLines.{Expects, PrintsMeanwhile, awaiting}
 use Rattle.lapd_cli_live.proofs.Log.{happen_both, happen_none}
 
@@ -42,11 +42,13 @@ caught_happens until a b caught =
     (caught.due.events, caught.due.happen)
 
 ended_happens : (service : Service) (a b : LiveState) (outcome : Option EndReason)
-    → IsMatched service a b outcome ⊎ IsOver service a b outcome ⊎ WaitsOnce service a b outcome
+    → IsMatched service a b outcome ⊎ IsOver service a b outcome
+    ⊎ AuditsOnce service a b outcome ⊎ WaitsOnce service a b outcome
     → SomeHappen a b
 ended_happens service a b outcome (inl matched) = none_happen a b matched.same
 ended_happens service a b outcome (inr (inl over)) = none_happen a b over.same
-ended_happens service a b outcome (inr (inr once)) =
+ended_happens service a b outcome (inr (inr (inl audits))) = (_, audits.executes.happen)
+ended_happens service a b outcome (inr (inr (inr once))) =
     some_both a once.waits.waited b (_, once.waits.waits.happen) (_, once.waits.reads.happen)
 
 step_happens : (service : Service) (a b : LiveState) (outcome : Option EndReason)

@@ -1,11 +1,16 @@
 -- A running side, step by step. A step receives every frame that had arrived, then expires every
--- timer that is due, and then waits once, until the next deadline.
+-- timer that is due, and then does a step of an audit or waits once, until the next deadline.
 use Rattle.std.specs.Prelude.{◌≡◌, ◌⊎◌, ℕ, ◌+◌, ◌-◌, ◌/◌, ◌^◌, ◌<◌, ◌≤◌, Bool, true, false, List, [], ◌∷◌, ◌++◌, length, max, min, Option, None, Some, Result, Ok, Err, ⊤}
 use Rattle.lapd_timers.specs.Moments.{earlier}
 use Rattle.lapd_sides_links.specs.Effects.{Effects}
 use Rattle.lapd_sides_links.specs.declared.side_fault.SideFault.{SideFault}
 use Rattle.lapd_sides.specs.declared.request.Request.{Request}
-use Rattle.lapd_sides.specs.Either.{Answers, HasNextDeadline, Takes}
+use Rattle.lapd_sides.specs.declared.request.Request.TheVariants as request
+use Rattle.lapd_sides.specs.declared.either_side.EitherSide.{EitherSide}
+use Rattle.lapd_frame.specs.declared.Side.TheVariants.{Network}
+use Rattle.lapd_tei_audit.specs.declared.audit_step.AuditStep.{AuditStep}
+use Rattle.lapd_tei_audit.specs.declared.audit_step.AuditStep.TheVariants as audit
+use Rattle.lapd_sides.specs.Either.{Answers, HasNextDeadline, Takes, side_of}
 use Rattle.lapd_cli_side_lines.specs.Calls.{ExpireInOrder}
 use Rattle.lapd_cli_line.specs.declared.outside.Lines.{Lines}
 use Rattle.lapd_cli_line.specs.declared.outside.Lines.TheVariants.{Awaited, Ignored}
@@ -135,6 +140,37 @@ pub record CatchesUp (until : Until) (a b : LiveState) : Type 0 where
   pub receives : Receives until a received
   pub due : DoesDue received b
 
+-- ---- Requests.
+
+-- the refusal of a request is printed, with the reason
+abbrev pub refusal_events : Result ⊤ SideFault → List LiveEvent
+refusal_events (Ok done) = []
+refusal_events (Err fault) = Shows (refused fault.kind) ∷ []
+
+-- A request is executed at the moment of the clock that was read last. The output is carried out.
+pub record IsExecuted (request : Request) (a b : LiveState) : Type 0 where
+  pub result : Result ⊤ SideFault
+  pub acts : Effects
+  pub answers : Answers request (moment_of a) result a.side b.side acts
+  pub given : List LiveEvent
+  pub carries : CarriesOut acts given
+  pub moment : moment_of b ≡ moment_of a
+  pub happen : Happen (given ++ refusal_events result) a b
+
+-- ---- Audits.
+
+-- the request that does a step of an audit
+abbrev pub request_for : AuditStep → Request
+request_for (audit.Remove tei) = request.Remove tei
+request_for (audit.Check tei) = request.Check tei
+request_for audit.CheckAll = request.CheckAll
+
+-- the request does a step of an audit of the TEIs that a network side has assigned (5.3.3)
+pub record IsForAudit (side : EitherSide) (request : Request) : Type 0 where
+  pub network : side_of side ≡ Network
+  pub step : AuditStep
+  pub is : request ≡ request_for step
+
 -- ---- Steps.
 
 -- an awaited line was printed, for which the service lasts
@@ -164,7 +200,17 @@ pub record WaitsFor (service : Service) (outcome : Option EndReason)
   pub reads : ReadsClock now waited b
   pub is : outcome ≡ end_by_wait service.lines woken
 
--- or neither, and there is one wait
+-- or neither, and a step of an audit is done
+pub record AuditsOnce (service : Service) (a b : LiveState)
+    (outcome : Option EndReason) : Type 0 where
+  pub continuing : ended_by service.until false (is_matched a) ≡ None
+  pub not_over : ¬ IsReached service.end (moment_of a)
+  pub request : Request
+  pub audits : IsForAudit a.side request
+  pub executes : IsExecuted request a b
+  pub is : outcome ≡ None
+
+-- or there is none to do, and there is one wait
 pub record WaitsOnce (service : Service) (a b : LiveState)
     (outcome : Option EndReason) : Type 0 where
   pub continuing : ended_by service.until false (is_matched a) ≡ None
@@ -177,7 +223,7 @@ pub record WholeStep (service : Service) (a b : LiveState)
   pub ready : LiveState
   pub catches_up : CatchesUp service.until a ready
   pub then : IsMatched service ready b outcome ⊎ IsOver service ready b outcome
-      ⊎ WaitsOnce service ready b outcome
+      ⊎ AuditsOnce service ready b outcome ⊎ WaitsOnce service ready b outcome
 
 -- A step of a service. The service continues if the outcome is `None`.
 pub record CutStep (service : Service) (a b : LiveState) (outcome : Option EndReason) : Type 0 where
@@ -199,23 +245,6 @@ pub record IsServed (service : Service) (end_reason : EndReason) (a b : LiveStat
   pub last : LiveState
   pub are : Chain (Continues service) passed a last
   pub ends : Step service last b (Some end_reason)
-
--- ---- Requests.
-
--- the refusal of a request is printed, with the reason
-abbrev pub refusal_events : Result ⊤ SideFault → List LiveEvent
-refusal_events (Ok done) = []
-refusal_events (Err fault) = Shows (refused fault.kind) ∷ []
-
--- A request is executed at the moment of the clock that was read last. The output is carried out.
-pub record IsExecuted (request : Request) (a b : LiveState) : Type 0 where
-  pub result : Result ⊤ SideFault
-  pub acts : Effects
-  pub answers : Answers request (moment_of a) result a.side b.side acts
-  pub given : List LiveEvent
-  pub carries : CarriesOut acts given
-  pub moment : moment_of b ≡ moment_of a
-  pub happen : Happen (given ++ refusal_events result) a b
 
 -- The side catches up with the clock, and then executes a request.
 pub record IsAsked (request : Request) (a b : LiveState) : Type 0 where

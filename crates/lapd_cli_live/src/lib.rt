@@ -27,7 +27,9 @@ mod typed_lines;
 
 pub use fault::LiveFault;
 pub use input::{Console, LiveStop, live_script, live_session};
-pub use lapd_cli_line::{Impaired, Impairment, Lines, Outside, Sending, Tap, Tapped, Woken};
+pub use lapd_cli_line::{
+    Impaired, Impairment, Incident, Lines, Outside, Sending, Tap, Tapped, Woken,
+};
 pub use lapd_cli_side_lines::LineStyle;
 pub use laws::{
     expect_finds_what_is_printed, no_service_ends_early, no_timer_expires_early,

@@ -1,6 +1,6 @@
 //! A side that runs on the real clock.
 
-ghost use Rattle.std.specs.Prelude.{◌≡◌, map, IfOk, OnErr, OnOk};
+ghost use Rattle.std.specs.Prelude.{◌≡◌, map, IfOk, IfSome, OnErr, OnOk};
 ghost use Rattle.std.specs.List.{All};
 ghost use Rattle.lapd_sides_links.specs.Effects.{HasLeastOctets};
 ghost use Rattle.lapd_frame.specs.declared.Side.{Side as SideValue};
@@ -8,16 +8,17 @@ ghost use Rattle.lapd_cli_line.specs.IoEvents.{SendsFront};
 ghost use Rattle.lapd_cli_live.specs.Entries.{Delivered};
 ghost use Rattle.std.specs.Io.KnownBytes.{Keeps};
 ghost use Rattle.lapd_cli_live.specs.Printers.{PrintsOn, SendsAll, shown};
-ghost use Rattle.lapd_cli_live.specs.Steps.{end_by_wait as end_of_wait, ended_by as ends_by, most_frames};
+ghost use Rattle.lapd_cli_live.specs.Steps.{end_by_wait as end_of_wait, ended_by as ends_by, most_frames, request_for};
 
 use crate::fault::LiveFault;
 use crate::printer::Printer;
 use crate::service::{EndReason, Service, Until};
-use lapd_cli_line::{Lines, Outside, Woken, is_reached};
+use lapd_cli_line::{Incident, Lines, Outside, Woken, is_reached};
 use lapd_cli_script::LineFault;
 use lapd_frame::{Frame, FrameFault, Side, read};
 use lapd_port::{MOST_OCTETS, PortFault};
-use lapd_sides::{Acts, EitherSide, FrameOctets, LinkId, Primitive, Request};
+use lapd_sides::{Acts, EitherSide, FrameOctets, Letter, LinkId, Primitive, Request, What};
+use lapd_tei_audit::AuditStep;
 use lapd_timers::earlier;
 use std::alloc::Global;
 use std::io::Write;
@@ -50,7 +51,7 @@ pub struct LiveSide<O, W> {
 
 impl<O: Outside, W: Write> LiveSide<O, W> {
     ghost use Rattle.lapd_cli_live.specs.Log.{Between, IsCarriedOut, ReadsClock};
-    ghost use Rattle.lapd_cli_live.specs.Steps.{CatchesUp, DoesDue, EndsAfter, HasReceived, IsAsked, IsAskedFirst, IsExecuted, IsServed, Looks, Step, TakesAt, WaitsFor};
+    ghost use Rattle.lapd_cli_live.specs.Steps.{CatchesUp, DoesDue, EndsAfter, HasReceived, IsAsked, IsAskedFirst, IsExecuted, IsForAudit, IsServed, Looks, Step, TakesAt, WaitsFor};
 
     /// A side with these surroundings. `acts` is the buffer for the output of its calls. A step
     /// receives at most `most` frames, as [`frames_of_step`] returns it for its connections.
@@ -118,6 +119,7 @@ impl<O: Outside, W: Write> LiveSide<O, W> {
         let own = self.side.side();
         let (frames, primitives) = (self.acts.frames(), self.acts.primitives());
         send_all(own, frames, &mut self.outside, &mut self.printer)?;
+        report_unanswered(primitives, &mut self.outside);
         put_primitives(primitives, &mut self.printer)
     }
 
@@ -239,7 +241,9 @@ impl<O: Outside, W: Write> LiveSide<O, W> {
             (IsExecuted request)) }
     {
         let now = self.printer.moment();
+        let without_effect = incident_without_effect(&request);
         let answered = self.side.request(request, now, &mut self.acts);
+        report_without_effect(without_effect, self.acts.frames(), &mut self.outside);
         self.carry_out()?;
         match answered {
             Ok(()) => Ok(()),
@@ -273,8 +277,23 @@ impl<O: Outside, W: Write> LiveSide<O, W> {
         Ok(end_by_wait(service.lines, woken))
     }
 
-    /// One step: processes the frames that have arrived, expires the timers that are due, and
-    /// waits. Returns why the service ends, if it does.
+    /// The request of the next step of an audit of TEIs, if there is one.
+    fn next_audit(&mut self) -> Option<Request>
+        ensures unchanged { Between O.io_events O.impaired_by W.contents self.old self.new
+            (λ a b. b ≡ a) }
+        ensures request { IfSome result (IsForAudit self.old.side) }
+    {
+        match &self.side {
+            EitherSide::Network(side) => {
+                let step = self.outside.next_audit(side.assigner(), side.table())?;
+                Some(request_of(step))
+            }
+            EitherSide::User(_) => None,
+        }
+    }
+
+    /// One step: processes the frames that have arrived, expires the timers that are due, and then
+    /// does the next step of an audit of TEIs, or waits. Returns why the service ends, if it does.
     fn step(&mut self, service: Service) -> Result<Option<EndReason>, LiveFault>
         ensures { IfOk result (λ end_reason.
             Between O.io_events O.impaired_by W.contents self.old self.new
@@ -291,6 +310,10 @@ impl<O: Outside, W: Write> LiveSide<O, W> {
         }
         if is_reached(service.end, self.printer.moment()) {
             return Ok(Some(EndReason::End));
+        }
+        if let Some(request) = self.next_audit() {
+            self.execute(request)?;
+            return Ok(None);
         }
         self.wait(service)
     }
@@ -326,12 +349,59 @@ fn report_discarded<O: Outside>(
     match frame {
         Ok(frame) if is_discarded => {
             let address = frame.address();
-            outside.discarded(LinkId {
+            outside.note(Incident::Discarded(LinkId {
                 sapi: address.sapi,
                 tei: address.tei,
-            });
+            }));
         }
         _ => {}
+    }
+}
+
+/// Reports each link whose SABME or DISC the other side did not answer.
+fn report_unanswered<O: Outside>(primitives: &[Primitive], outside: &mut O)
+    ensures io_events { O.io_events outside.new ≡ O.io_events outside.old }
+    ensures impaired_by { O.impaired_by outside.new ≡ O.impaired_by outside.old }
+{
+    for primitive in primitives {
+        if let Primitive::Of(id, What::Report(Letter::G | Letter::H)) = primitive {
+            outside.note(Incident::Unanswered(*id));
+        }
+    }
+}
+
+/// The incident of a request to all terminals that sends nothing.
+fn incident_without_effect(request: &Request) -> Option<Incident> {
+    match request {
+        Request::CheckAll => Some(Incident::NotChecked),
+        Request::RemoveAll => Some(Incident::NotRemoved),
+        _ => None,
+    }
+}
+
+/// Reports a request to all terminals that sent nothing.
+fn report_without_effect<O: Outside>(
+    incident: Option<Incident>,
+    frames: &[FrameOctets],
+    outside: &mut O,
+)
+    ensures io_events { O.io_events outside.new ≡ O.io_events outside.old }
+    ensures impaired_by { O.impaired_by outside.new ≡ O.impaired_by outside.old }
+{
+    match incident {
+        Some(incident) if frames.is_empty() => outside.note(incident),
+        _ => {}
+    }
+}
+
+/// The request that does a step of an audit.
+fn request_of(step: AuditStep) -> Request
+    ensures { result ≡ request_for step }
+{
+    match step {
+        AuditStep::Remove(tei) => Request::Remove(tei),
+        AuditStep::Check(tei) => Request::Check(tei),
+        AuditStep::CheckAll => Request::CheckAll,
     }
 }
 

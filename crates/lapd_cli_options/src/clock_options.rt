@@ -1,18 +1,27 @@
 //! The clock of `net` or `user`, from the parsed options.
 
-use crate::invocation::{Clock, LiveOptions};
+use crate::invocation::{Clock, LiveOptions, USUAL_AUDIT};
 use crate::no_invocation::NoInvocation;
 use crate::script_command::ScriptCommand;
 use clap::ArgMatches;
 use lapd_cli_values::{
-    CONNECTED_TERMINALS, GSMTAP, IDLE_LIMIT, KNOWN_TEI, number_written, terminals_written,
+    AUDIT, CONNECTED_TERMINALS, GSMTAP, IDLE_LIMIT, KNOWN_TEI, number_written, terminals_written,
 };
 
 // The flags that require the real clock.
-const REAL_FLAGS: [&str; 5] = ["time", "quiet", "serve", "keep", "clear"];
+const REAL_FLAGS: [&str; 7] = [
+    "time", "quiet", "serve", "keep", "clear", "no-audit", "no-ties",
+];
 
 // The options with a value that require the real clock.
-const REAL_OPTIONS: [&str; 5] = ["pcap", "ladder", "gsmtap", "terminals", "idle-limit"];
+const REAL_OPTIONS: [&str; 6] = [
+    "pcap",
+    "ladder",
+    "gsmtap",
+    "terminals",
+    "idle-limit",
+    "audit",
+];
 
 /// The clock of this command.
 pub(crate) fn clock_of<'a>(
@@ -69,7 +78,9 @@ fn live_options_of<'a>(given: &ArgMatches<'a>) -> Result<LiveOptions<'a>, NoInvo
         keep: given.get_flag("keep"),
         clear: clear_of(given)?,
         terminals,
-        idle_limit: idle_limit_of(given, terminals)?,
+        idle_limit: idle_limit_of(given)?,
+        audit: audit_of(given, terminals)?,
+        ties: !given.get_flag("no-ties"),
         pcap: given.get_str("pcap"),
         ladder: given.get_str("ladder"),
         gsmtap: given.get_str(GSMTAP.name),
@@ -99,14 +110,24 @@ fn terminals_of<'a>(given: &ArgMatches<'a>) -> Result<u8, NoInvocation<'a>> {
     }
 }
 
-// How long a terminal may go without sending a whole frame, in milliseconds. With only one terminal
-// the option is refused.
-fn idle_limit_of<'a>(
-    given: &ArgMatches<'a>,
-    terminals: u8,
-) -> Result<Option<u64>, NoInvocation<'a>> {
+// The interval of the audits of a network side, in milliseconds; `None` without audits. The option
+// is refused if the side would make none.
+fn audit_of<'a>(given: &ArgMatches<'a>, terminals: u8) -> Result<Option<u64>, NoInvocation<'a>> {
+    match (given.get_str(AUDIT.name), given.get_flag("no-audit")) {
+        (Some(_), true) => Err(NoInvocation::NotBoth(AUDIT.name, "no-audit")),
+        (Some(_), _) if given.get_flag("pri") => Err(NoInvocation::NotBoth(AUDIT.name, "pri")),
+        (Some(_), _) if terminals < 2 && !given.get_flag("keep") => {
+            Err(NoInvocation::OneConnection)
+        }
+        (Some(written), _) => Ok(Some(number_written(AUDIT, written)?)),
+        (None, true) => Ok(None),
+        (None, false) => Ok(Some(USUAL_AUDIT)),
+    }
+}
+
+// How long a connection may go without sending a whole frame, in milliseconds.
+fn idle_limit_of<'a>(given: &ArgMatches<'a>) -> Result<Option<u64>, NoInvocation<'a>> {
     match given.get_str(IDLE_LIMIT.name) {
-        Some(_) if terminals < 2 => Err(NoInvocation::OneTerminal),
         Some(written) => Ok(Some(number_written(IDLE_LIMIT, written)?)),
         None => Ok(None),
     }

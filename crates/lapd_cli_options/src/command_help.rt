@@ -528,14 +528,24 @@ Without --keep a closed connection ends `run`, and a connection that fails ends 
 `port`, its fault and exit status 3.
 
 With --clear, when the first connection is made, the program removes all TEIs from the terminals, as
-`remove-all` does, before it sends anything else. Terminals whose TEIs a former run assigned request
-new ones. A terminal that connects later keeps its TEI.
+`remove-all` does, before it sends anything else.
 
 With --terminals N the program accepts up to N connections, each of a terminal on the bus. Each
 frame of this side is sent to all of them, and only terminals with its TEI use it. The script begins
 with the first connection. A connection is removed if it closes, breaks the framing, does not accept
 a frame, or sends no whole frame for --idle-limit MS. Standard error reports that, and the others
 continue. A closed connection does not end `run` then, and --keep changes nothing.
+
+With --keep or --terminals above 1, at basic access, the program audits the TEIs of 64 to 126: when
+a terminal connects, and every --audit MS, it asks all terminals for their TEIs. It removes a TEI
+that this side does not hold, such as one that a former run assigned, and checks one that two
+terminals have, or that no terminal answers for while no link of it is established.
+
+With --terminals above 1 a TEI is tied to the connection that requested it, or that used it first,
+until that connection ends. A frame with this TEI over another connection is dropped, and the TEI is
+removed there. Anybody who can connect is a terminal: listen only where you trust all.
+
+With --keep and one connection, the connection ends if a SABME or DISC is never answered.
 
 If this side has no link for a frame, the frame is discarded. Standard error reports the first one
 of each SAPI and TEI. A report on standard error is dropped if nobody reads it, and so are frames

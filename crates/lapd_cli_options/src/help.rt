@@ -161,6 +161,12 @@ pub const CLEAR: &str = "\
 With --clock real, first removes the TEIs of all terminals, as
 `remove-all` does";
 
+pub const NO_AUDIT: &str = "With --clock real, never audits the terminals' TEIs";
+
+pub const NO_TIES: &str = "\
+With --clock real, lets every connection use every TEI, as a copper
+bus does";
+
 pub const LIVE_PCAP: &str = "\
 With --clock real, writes each frame to this file, as pcap of link
 type 177 (LINUX_LAPD)";

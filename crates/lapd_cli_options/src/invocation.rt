@@ -73,6 +73,9 @@ pub enum Clock<'a> {
     Real(LiveOptions<'a>),
 }
 
+/// The interval of the audits of TEIs, in milliseconds, if `--audit` is absent.
+pub(crate) const USUAL_AUDIT: u64 = 60_000;
+
 /// The options of the real clock.
 #[derive(Clone, Copy)]
 pub struct LiveOptions<'a> {
@@ -88,9 +91,14 @@ pub struct LiveOptions<'a> {
     pub clear: bool,
     /// The number of terminals that the network side accepts, 1 to 127. On the user side it is 1.
     pub terminals: u8,
-    /// How long a terminal may go without sending a whole frame, 1 to 3,600,000 milliseconds; no
+    /// How long a connection may go without sending a whole frame, 1 to 3,600,000 milliseconds; no
     /// limit if `None`.
     pub idle_limit: Option<u64>,
+    /// The interval of the audits of TEIs of a network side that accepts several connections, 1 to
+    /// 3,600,000 milliseconds; no audits if `None`.
+    pub audit: Option<u64>,
+    /// Whether a TEI is tied to the connection that uses it.
+    pub ties: bool,
     /// The file of `--pcap`, unchanged from the command line.
     pub pcap: Option<&'a str>,
     /// The file of `--ladder`, unchanged from the command line.
@@ -109,6 +117,8 @@ impl LiveOptions<'static> {
         clear: false,
         terminals: 1,
         idle_limit: None,
+        audit: Some(USUAL_AUDIT),
+        ties: true,
         pcap: None,
         ladder: None,
         gsmtap: None,

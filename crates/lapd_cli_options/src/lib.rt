@@ -47,7 +47,7 @@ use std::convert::AsStr;
 ///
 /// - `Shown` if the words request help or the version;
 /// - `Refused`, `OutOfRange`, `NotReal`, `NotFollowed`, `NotLinks`, `NotNamed`, `NotCaptured`,
-///   `PcapAndFile`, `OneFile`, `NotBoth`, `NotKinds` or `OneTerminal` if they are not valid;
+///   `PcapAndFile`, `OneFile`, `NotBoth`, `NotKinds` or `OneConnection` if they are not valid;
 /// - `Memory` if an allocation fails.
 pub fn parse_words<'a, S: AsStr>(
     alloc: Global,

@@ -12,7 +12,7 @@ pub enum NoInvocation<'a> {
     Shown(String),
     /// The parser refuses them, for the reason in this text. The text is for standard error, and
     /// the exit status is 2, as for `OutOfRange`, `NotReal`, `NotFollowed`, `NotLinks`, `NotNamed`,
-    /// `NotCaptured`, `PcapAndFile`, `OneFile`, `NotBoth`, `NotKinds` and `OneTerminal`.
+    /// `NotCaptured`, `PcapAndFile`, `OneFile`, `NotBoth`, `NotKinds` and `OneConnection`.
     Refused(String),
     /// A number that is not in the range of its option.
     OutOfRange(OutOfRange<'a>),
@@ -35,8 +35,8 @@ pub enum NoInvocation<'a> {
     NotKinds(&'a str),
     /// The options with these names, without the hyphens, exclude each other.
     NotBoth(&'static str, &'static str),
-    /// `--idle-limit` is present, but the side accepts only one connection.
-    OneTerminal,
+    /// `--audit` is present, but the side accepts no connection after the first.
+    OneConnection,
     /// An allocation failed.
     Memory,
 }
@@ -74,8 +74,8 @@ impl fmt::Display for NoInvocation<'_> {
             NoInvocation::NotBoth(option, other) => {
                 writeln!(f, "error: --{option} cannot be used with --{other}")
             }
-            NoInvocation::OneTerminal => {
-                f.write_str("error: --idle-limit requires --terminals above 1\n")
+            NoInvocation::OneConnection => {
+                f.write_str("error: --audit requires --keep or --terminals above 1\n")
             }
             NoInvocation::Memory => f.write_str("out of memory\n"),
         }

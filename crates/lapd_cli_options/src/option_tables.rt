@@ -4,9 +4,9 @@
 use crate::command_option::{CommandOption, WordOption};
 use crate::help;
 use lapd_cli_values::{
-    CONNECT, CONNECTED_TERMINALS, COUNT, FIXED_TEI, FOLLOWED_K, GSMTAP, IDLE_LIMIT, K, KNOWN_TEI,
-    LINK_TEI, LINKS_K, LISTEN, N200, PRINTED_SAPI, PRINTED_TEI, ROOM, SEED, T200, T201, T202, T203,
-    TERMINALS,
+    AUDIT, CONNECT, CONNECTED_TERMINALS, COUNT, FIXED_TEI, FOLLOWED_K, GSMTAP, IDLE_LIMIT, K,
+    KNOWN_TEI, LINK_TEI, LINKS_K, LISTEN, N200, PRINTED_SAPI, PRINTED_TEI, ROOM, SEED, T200, T201,
+    T202, T203, TERMINALS,
 };
 
 /// The options of `answer`.
@@ -55,7 +55,9 @@ pub(crate) const NET: &[&[CommandOption]] = &[
     &[
         CommandOption::Flag("clear", help::CLEAR),
         CommandOption::BareNumber(CONNECTED_TERMINALS),
-        CommandOption::BareNumber(IDLE_LIMIT),
+        CommandOption::BareNumber(AUDIT),
+        CommandOption::Flag("no-audit", help::NO_AUDIT),
+        CommandOption::Flag("no-ties", help::NO_TIES),
     ],
 ];
 
@@ -136,6 +138,7 @@ const LIVE: &[CommandOption] = &[
     CommandOption::Flag("quiet", help::QUIET),
     CommandOption::Flag("serve", help::SERVE),
     CommandOption::Flag("keep", help::KEEP),
+    CommandOption::BareNumber(IDLE_LIMIT),
     CommandOption::File("pcap", help::LIVE_PCAP),
     CommandOption::File("ladder", help::LIVE_LADDER),
     CommandOption::Address(GSMTAP),

@@ -62,6 +62,9 @@ lapd net --listen=a:1 --clock=real --terminals=127 --pcap line.pcap --gsmtap b:4
 lapd net --listen=a:1 --clock=real --ladder rungs --pcap=line.pcap => net 1 3 512 enquiry 3 3 512 enquiry 1000 1000 2000 10000 with-16 - at a:1 real 1 line.pcap - ladder rungs
 lapd user --ladder=/dev/stdout --connect=a:1 --clock=real --quiet => user 1 3 512 enquiry 3 3 512 enquiry 1000 1000 2000 10000 with-16 - at a:1 real 1 - - quiet ladder /dev/stdout
 lapd net --listen=a:1 --clock=real --serve => net 1 3 512 enquiry 3 3 512 enquiry 1000 1000 2000 10000 with-16 - at a:1 real 1 - - serve
+lapd net --listen=a:1 --clock=real --keep --audit=5000 --no-ties --idle-limit 9 => net 1 3 512 enquiry 3 3 512 enquiry 1000 1000 2000 10000 with-16 - at a:1 real 1 - - keep idle 9 audit 5000 no-ties
+lapd user --connect=a:1 --clock=real --idle-limit 9 => user 1 3 512 enquiry 3 3 512 enquiry 1000 1000 2000 10000 with-16 - at a:1 real 1 - - idle 9
+lapd net --listen=a:1 --clock=real --no-audit => net 1 3 512 enquiry 3 3 512 enquiry 1000 1000 2000 10000 with-16 - at a:1 real 1 - - no-audit
 lapd net --listen=a:1 --clear --clock=real => net 1 3 512 enquiry 3 3 512 enquiry 1000 1000 2000 10000 with-16 - at a:1 real 1 - - clear
 lapd user --keep --connect=a:1 --clock=real => user 1 3 512 enquiry 3 3 512 enquiry 1000 1000 2000 10000 with-16 - at a:1 real 1 - - keep
 lapd net --listen=a:1 --clock=real --terminals=2 --idle-limit 3600000 => net 1 3 512 enquiry 3 3 512 enquiry 1000 1000 2000 10000 with-16 - at a:1 real 2 - - idle 3600000
@@ -148,7 +151,7 @@ lapd net --listen a:1 --listen a:1 => refused
 lapd user => refused
 lapd user --listen 127.0.0.1:7000 => refused
 lapd user --connect a:1 --clock real --terminals 2 => refused
-lapd user --connect a:1 --clock real --idle-limit 1000 => refused
+lapd user --connect a:1 --clock real --audit 1000 => refused
 lapd net --listen a:1 --clock real --serve --serve => refused
 lapd net --listen a:1 --clock real --keep 3 => refused
 lapd answer --serve => refused
@@ -251,8 +254,12 @@ lapd net --listen=a:1 --idle-limit 1000 => error: --idle-limit requires --clock 
 lapd net --listen=a:1 --clear => error: --clear requires --clock real~
 lapd net --listen=a:1 --clock=real --clear --tei 64 => error: --clear cannot be used with --tei~
 lapd net --listen=a:1 --clock=real --pri --clear => error: --clear cannot be used with --pri~
-lapd net --listen=a:1 --clock=real --idle-limit 1000 => error: --idle-limit requires --terminals above 1~
-lapd net --listen=a:1 --clock=real --terminals=1 --idle-limit=1000 => error: --idle-limit requires --terminals above 1~
+lapd net --listen=a:1 --audit 1000 => error: --audit requires --clock real~
+lapd net --listen=a:1 --clock=real --audit 1000 => error: --audit requires --keep or --terminals above 1~
+lapd net --listen=a:1 --clock=real --keep --audit 1000 --no-audit => error: --audit cannot be used with --no-audit~
+lapd net --listen=a:1 --clock=real --keep --audit 1000 --pri => error: --audit cannot be used with --pri~
+lapd net --listen=a:1 --clock=real --keep --audit 0 => error: invalid value '0' for '--audit <MS>': not a number from 1 to 3600000 in decimal digits~
+lapd net --listen=a:1 --no-ties => error: --no-ties requires --clock real~
 lapd net --listen=a:1 --clock=real --terminals=2 --idle-limit=0 => error: invalid value '0' for '--idle-limit <MS>': not a number from 1 to 3600000 in decimal digits~
 lapd net --listen=a:1 --clock=real --terminals=2 --idle-limit=3600001 => error: invalid value '3600001' for '--idle-limit <MS>': not a number from 1 to 3600000 in decimal digits~
 lapd net --listen=a:1 --pcap line.pcap => error: --pcap requires --clock real~
@@ -340,6 +347,16 @@ fn show(text: &mut String, chosen: &Invocation<'_>) {
         if let Some(limit) = options.idle_limit {
             let _ = write!(text, " idle {limit}");
         }
+        match options.audit {
+            Some(60_000) => {}
+            Some(interval) => {
+                let _ = write!(text, " audit {interval}");
+            }
+            None => {
+                let _ = text.push_str(" no-audit");
+            }
+        }
+        let _ = text.push_str(if options.ties { "" } else { " no-ties" });
         if let Some(file) = options.ladder {
             let _ = write!(text, " ladder {file}");
         }

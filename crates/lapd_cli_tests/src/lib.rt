@@ -15,6 +15,8 @@
 #![tactic(auto)]
 
 #[cfg(test)]
+mod audits;
+#[cfg(test)]
 mod captures;
 #[cfg(test)]
 mod command_line;

@@ -24,8 +24,9 @@ pub use lapd_link_definition::{Params, Recovery, Sapi, Side, Tei};
 pub use lapd_timers::Durations;
 pub use link_end::LinkEnd;
 pub use number_option::{
-    CONNECTED_TERMINALS, COUNT, FIXED_TEI, FOLLOWED_K, IDLE_LIMIT, K, KNOWN_TEI, LINK_TEI, LINKS_K,
-    N200, NumberOption, PRINTED_SAPI, PRINTED_TEI, ROOM, SEED, T200, T201, T202, T203, TERMINALS,
+    AUDIT, CONNECTED_TERMINALS, COUNT, FIXED_TEI, FOLLOWED_K, IDLE_LIMIT, K, KNOWN_TEI, LINK_TEI,
+    LINKS_K, N200, NumberOption, PRINTED_SAPI, PRINTED_TEI, ROOM, SEED, T200, T201, T202, T203,
+    TERMINALS,
 };
 pub use numbers::{number_of, params_of};
 pub use out_of_range::{

@@ -76,14 +76,26 @@ of a terminal on the bus, 1 to 127 [default: 1]",
     most: 127,
 };
 
-/// How long a terminal may go without sending a whole frame before its connection is closed. By
-/// default there is no limit.
+/// How long a connection may go without sending a whole frame before it is closed. By default there
+/// is no limit.
 pub const IDLE_LIMIT: NumberOption = NumberOption {
     name: "idle-limit",
     value_name: "MS",
     help: "\
-With --terminals above 1, closes a connection that has sent no whole
-frame for this many milliseconds, 1 to 3600000",
+With --clock real, closes a connection that has sent no whole frame
+for this many milliseconds, 1 to 3600000",
+    default: "",
+    least: 1,
+    most: 3_600_000,
+};
+
+/// The interval between two audits of the TEIs of a bus (Q.921 5.3.3). The default is 60,000.
+pub const AUDIT: NumberOption = NumberOption {
+    name: "audit",
+    value_name: "MS",
+    help: "\
+With --terminals above 1 or --keep, the milliseconds from one audit
+of the terminals' TEIs to the next, 1 to 3600000 [default: 60000]",
     default: "",
     least: 1,
     most: 3_600_000,

@@ -3,9 +3,12 @@
 ghost use Rattle.std.specs.Prelude.{◌≤◌, IfOk};
 
 use crate::live::typed::Reads;
-use lapd_cli_live::{Impairment, Lines, Outside, Sending, Woken};
+use lapd_cli_live::{Impairment, Incident, Lines, Outside, Sending, Woken};
 use lapd_port::{MOST_OCTETS, PortFault};
 use lapd_sides::LinkId;
+use lapd_table::LinkTable;
+use lapd_tei::Assigner;
+use lapd_tei_audit::AuditStep;
 use lapd_timers::earlier;
 use std::alloc::{AllocError, Global};
 use std::collections::VecDeque;
@@ -318,8 +321,14 @@ impl Outside for Made<'_> {
         Ok(Sending::Sent)
     }
 
-    fn discarded(&mut self, id: LinkId) {
-        let _ = self.record_discarded(id);
+    fn note(&mut self, incident: Incident) {
+        if let Incident::Discarded(id) = incident {
+            let _ = self.record_discarded(id);
+        }
+    }
+
+    fn next_audit(&mut self, _assigner: &Assigner, _links: &LinkTable) -> Option<AuditStep> {
+        None
     }
 
     fn impair(&mut self, impairment: Impairment) {

@@ -1,6 +1,6 @@
 use Rattle.std.proofs.Common.{ℕ, false, ap, subst, sym, ◌∙◌}
 use Rattle.lapd_cli_live.specs.Steps.{IsReached, ended_by}
-use Rattle.lapd_cli_live.proofs.Steps.{caught_up, if_ok, then_matched, then_over, then_waits, true_is_not_false}
+use Rattle.lapd_cli_live.proofs.Steps.{caught_up, if_ok, then_audits, then_matched, then_over, then_waits, true_is_not_false}
 use Rattle.lapd_cli_live.proofs.live_side.LiveSide.step.Goals as goal
 
 pub returns-then-is_some-2 : goal.returns-then-is_some-2
