@@ -1,5 +1,6 @@
 -- Octets in transit as lists.
-use Rattle.std.proofs.Common.{◌≡◌, ℕ, zero, suc, List, [], ◌∷◌, map, length, drop, ◌≤◌, ◌<◌, Some, refl, ap, arith}
+use Rattle.std.proofs.Common.{◌≡◌, ℕ, ◌+◌, zero, suc, List, [], ◌∷◌, map, length, drop, ◌≤◌, ◌<◌, Some, refl, sym, ap, ◌∙◌, arith}
+use Rattle.std.proofs.lemmas.List.{drop-drop, drop-map}
 use Rattle.std.specs.List.{remove}
 use Rattle.std.specs.Prelude.{slice_get}
 
@@ -30,3 +31,21 @@ first_of {X} (y ∷ ys) x there = (let e : y ≡ x = cc in ap (λ (z : X). z ∷
 pub some_there : {X : Type 0} (xs : List X) (x : X) → slice_get xs 0 ≡ Some x → 0 < length xs
 some_there [] x there = cc
 some_there (y ∷ ys) x there = omega arith
+
+-- the items from index n on, without the one at index i among them
+pub drop_remove : {X : Type 0} (xs : List X) (n i : ℕ)
+    → drop n (remove xs (n + i)) ≡ remove (drop n xs) i
+drop_remove xs zero i = ap (remove xs) (omega arith)
+drop_remove [] (suc n) i =
+    ap (drop (suc n)) (remove_past [] (suc n + i) (omega arith)) ∙ sym (remove_past [] i (omega arith))
+drop_remove (x ∷ xs) (suc n) i =
+    let next : suc n + i ≡ suc (n + i) = omega arith in rw next (drop_remove xs n i)
+
+-- from one index later on
+pub map_next : {X Y : Type 0} (f : X → Y) (n : ℕ) (xs : List X)
+    → map f (drop (n + 1) xs) ≡ drop 1 (map f (drop n xs))
+map_next f n xs = sym (drop-map f 1 (drop n xs) ∙ ap (map f) (drop-drop 1 n xs))
+
+pub map_drop_remove : {X Y : Type 0} (f : X → Y) (n i : ℕ) (xs : List X)
+    → map f (drop n (remove xs (n + i))) ≡ remove (map f (drop n xs)) i
+map_drop_remove f n i xs = ap (map f) (drop_remove xs n i) ∙ map_remove f (drop n xs) i
