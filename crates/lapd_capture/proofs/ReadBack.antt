@@ -82,7 +82,7 @@ step_with place packets captured original seconds parts body left = Ok (record {
 })
 
 pub record_is_read : (own : Side) (frame : LineFrame) (place packets : ℕ) (moment : Option ℕ)
-    (body left : List ℕ) → length frame.octets ≤ 264
+    (body left : List ℕ) → length frame.octets ≤ 265
     → next_step (line_reading place packets moment body
     (record_octets own frame.from frame.moment frame.octets ++ left)) ≡ Ok (record {
       item = Frame (line_span frame);

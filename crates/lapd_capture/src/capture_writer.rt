@@ -35,7 +35,7 @@ impl<W: Write> CaptureWriter<W> {
         Ok(CaptureWriter { out, own })
     }
 
-    /// Writes a frame of at most 264 octets, which `from` sent, at a moment in milliseconds since
+    /// Writes a frame of at most 265 octets, which `from` sent, at a moment in milliseconds since
     /// 1970.
     ///
     /// # Errors

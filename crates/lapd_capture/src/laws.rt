@@ -13,7 +13,7 @@ pub fn written_is_read()
     ensures head { (left : List ℕ)
         → opened (file_octets ++ left) ≡ Ok (line_reading 24 0 None [] left) }
     ensures next { (own : Side) (frame : LineFrame) (place packets : ℕ) (moment : Option ℕ)
-        (body left : List ℕ) → length frame.octets ≤ 264
+        (body left : List ℕ) → length frame.octets ≤ 265
         → next_step (line_reading place packets moment body
         (record_octets own frame.from frame.moment frame.octets ++ left)) ≡ Ok (record {
           item = Frame (line_span frame);

@@ -14,12 +14,13 @@ pub const FILE_HEADER: [u8; 24] = [
     0xa1, 0xb2, 0xc3, 0xd4, 0, 2, 0, 4, 0, 0, 0, 0, 0, 0, 0, 0, 0, 4, 0, 0, 0, 0, 0, 177,
 ];
 
-/// The greatest length of a frame that is written, in octets: 4 + N201 (Q.921 5.9.3).
-pub const MOST_FRAME: usize = 264;
+/// The greatest length of a frame that is written, in octets: one more than the longest valid frame
+/// has, 4 + N201 (Q.921 5.9.3). Of a longer frame the first octets are written.
+pub const MOST_FRAME: usize = 265;
 
 /// The record of a frame in a pcap file of link type 177: the side `own` captured it and the side
-/// `from` sent it, at a moment in milliseconds. The frame has at most 264 octets.
-pub fn record_of(own: Side, from: Side, moment: u64, frame: &[u8]) -> ArrayVec<u8, 296>
+/// `from` sent it, at a moment in milliseconds. The frame has at most 265 octets.
+pub fn record_of(own: Side, from: Side, moment: u64, frame: &[u8]) -> ArrayVec<u8, 297>
     requires { length frame.now ≤ MOST_FRAME }
     ensures { result.items ≡ record_octets own from moment frame.now }
 {
@@ -32,8 +33,8 @@ pub fn record_of(own: Side, from: Side, moment: u64, frame: &[u8]) -> ArrayVec<u
 }
 
 /// A GSMTAP header and a frame that the side `from` sent, the content of one UDP datagram. The
-/// frame has at most 264 octets.
-pub fn gsmtap_of(from: Side, frame: &[u8]) -> ArrayVec<u8, 280>
+/// frame has at most 265 octets.
+pub fn gsmtap_of(from: Side, frame: &[u8]) -> ArrayVec<u8, 281>
     requires { length frame.now ≤ MOST_FRAME }
     ensures { result.items ≡ gsmtap_octets from frame.now }
 {

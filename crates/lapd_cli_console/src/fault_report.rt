@@ -2,7 +2,7 @@
 
 use crate::judge::reason;
 use lapd_cli_grammar::Script;
-use lapd_cli_script::{KindReason, ScriptFault, port_reason};
+use lapd_cli_script::{KindReason, PortFault, ScriptFault, port_reason};
 use std::io::ErrorKind;
 
 /// The facts known about a script that has ended, and about its streams.
@@ -28,9 +28,7 @@ impl FaultReport<'_> {
         match fault {
             ScriptFault::BadLine(_) => self.print_bad_line(rt),
             ScriptFault::Device => self.print_device(rt),
-            ScriptFault::Port(fault) => {
-                let _ = eprintln!(rt; "{}", port_reason(fault));
-            }
+            ScriptFault::Port(fault) => self.print_port(rt, fault),
             ScriptFault::Memory => {}
         }
     }
@@ -48,6 +46,17 @@ impl FaultReport<'_> {
             ),
             _ => Ok(()),
         };
+    }
+
+    // Reports why the connection failed. With the real clock only a length of 0 is a bad one.
+    fn print_port(&self, rt: &HostRuntime, fault: PortFault) {
+        let reason = match (fault, self.script) {
+            (PortFault::BadLength, Script::LiveNet | Script::LiveUser) => {
+                "received a frame length of 0"
+            }
+            _ => port_reason(fault),
+        };
+        let _ = eprintln!(rt; "{reason}");
     }
 
     // Reports which stream failed, and why.

@@ -64,11 +64,11 @@ rungs_of (frame ∷ frames) s = rung_of frame s ++ rungs_of frames (after_rung f
 
 -- ---- The same frames in a capture.
 
--- frames that a capture holds unchanged: they have at most 264 octets, and their seconds since 1970
+-- frames that a capture holds unchanged: they have at most 265 octets, and their seconds since 1970
 -- 32 bits
 abbrev pub AreCaptured : List LineFrame → Type 0
 AreCaptured [] = ⊤
-AreCaptured (frame ∷ frames) = (length frame.octets ≤ 264)
+AreCaptured (frame ∷ frames) = (length frame.octets ≤ 265)
     × (frame.moment < 2 ^ 32 * 1000) × AreCaptured frames
 
 -- how `decode --ladder` prints a capture, with or without --sender and --keep-going

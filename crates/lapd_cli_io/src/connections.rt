@@ -15,10 +15,10 @@ use crate::next_connections::{INCOMING, Incoming, NextConnections};
 use crate::notes::Notes;
 use crate::peers::{LostPeer, Peers};
 use crate::shared_bus::{BusSetup, ForeignUse, SharedBus};
-use lapd_cli_line::{Impairment, Incident, Lines, Outside, Sending, Woken, is_reached};
+use lapd_cli_line::{Impairment, Incident, Lines, MOST_RECEIVED, Outside, Sending, Woken, is_reached};
 use lapd_cli_script::port_reason;
 use lapd_frame::Side;
-use lapd_port::{MOST_OCTETS, PortFault};
+use lapd_port::PortFault;
 use lapd_table::{LinkId, LinkTable};
 use lapd_tei::{Assigner, TeiKind, TeiMessage};
 use lapd_tei_audit::AuditStep;
@@ -191,8 +191,8 @@ impl<'a> Connections<'a> {
     }
 
     /// The next frame that has arrived.
-    fn next_frame(&mut self, frame: &mut [u8; MOST_OCTETS]) -> Result<Option<usize>, PortFault>
-        ensures { IfOk result (λ count. IfSome count (λ count. count ≤ MOST_OCTETS)) }
+    fn next_frame(&mut self, frame: &mut [u8; MOST_RECEIVED]) -> Result<Option<usize>, PortFault>
+        ensures { IfOk result (λ count. IfSome count (λ count. count ≤ MOST_RECEIVED)) }
     {
         for _lost in 0..=self.peers.most() {
             match self.peers.next_frame(frame, self.clock.latest()) {
@@ -462,7 +462,7 @@ impl Outside for Connections<'_> {
         self.clock.now().map_err(|_| PortFault::Device)
     }
 
-    fn receive(&mut self, frame: &mut [u8; MOST_OCTETS]) -> Result<Option<usize>, PortFault> {
+    fn receive(&mut self, frame: &mut [u8; MOST_RECEIVED]) -> Result<Option<usize>, PortFault> {
         if self.peers.is_alone() {
             // With only one connection, reading it replaces a poll.
             self.peers.wake(0);

@@ -4,7 +4,8 @@ ghost use Rattle.std.specs.Prelude.{◌≡◌, ◌≤◌, length, IfOk, IfSome};
 ghost use Rattle.lapd_port.specs.SocketText.{IsFrameLength};
 
 use crate::lost::Lost;
-use lapd_port::{LEAST_OCTETS, MOST_OCTETS, PortFault};
+use lapd_cli_line::MOST_RECEIVED;
+use lapd_port::{MOST_OCTETS, PortFault};
 use mio::net::TcpStream;
 use mio::{Interest, Poll, Token};
 use std::io::{self, ErrorKind, Read, Write};
@@ -26,6 +27,8 @@ pub struct FrameStream {
     peer: SocketAddr,
     /// The octets that were read and not taken yet, each frame after its length.
     text: Vec<u8>,
+    /// The number of octets of the first frame that were dropped, behind its first 265.
+    dropped: usize,
     /// The octets of the last read. They are reused, because a new buffer would have to be cleared
     /// for each read.
     part: Vec<u8>,
@@ -48,6 +51,7 @@ impl FrameStream {
             stream,
             peer,
             text: Vec::with_capacity(rt.alloc(), PART)?,
+            dropped: 0,
             part: Vec::from_array(rt.alloc(), [0; PART])?,
             is_ready: true,
             is_ended: false,
@@ -82,15 +86,15 @@ impl FrameStream {
         self.is_ready
     }
 
-    /// Takes the first frame that has arrived whole, and returns its number of octets. Returns
-    /// `None` if everything was read and holds no whole frame. It then returns `None` until
-    /// [`FrameStream::wake`] is called.
+    /// Takes the first frame that has arrived whole, and returns its number of octets, or 265 if it
+    /// is longer: the octets behind these are dropped. Returns `None` if everything was read and
+    /// holds no whole frame. It then returns `None` until [`FrameStream::wake`] is called.
     ///
     /// # Errors
     ///
     /// The connection is lost. All frames that arrived whole were taken before.
-    pub fn next_frame(&mut self, frame: &mut [u8; MOST_OCTETS]) -> Result<Option<usize>, Lost>
-        ensures { IfOk result (λ count. IfSome count (λ count. count ≤ MOST_OCTETS)) }
+    pub fn next_frame(&mut self, frame: &mut [u8; MOST_RECEIVED]) -> Result<Option<usize>, Lost>
+        ensures { IfOk result (λ count. IfSome count (λ count. count ≤ MOST_RECEIVED)) }
     {
         for _read in 0..u64::MAX {
             if let Some(count) = self.take_frame(frame)? {
@@ -110,24 +114,58 @@ impl FrameStream {
         Err(Lost::Port(PortFault::TooManyTurns))
     }
 
-    /// Takes the first frame from the octets read, if it is whole.
-    fn take_frame(&mut self, frame: &mut [u8; MOST_OCTETS]) -> Result<Option<usize>, Lost>
-        ensures { IfOk result (λ count. IfSome count (λ count. count ≤ MOST_OCTETS)) }
+    /// Takes the first frame from the octets read, if it is whole. A length of 0 breaks the framing:
+    /// two flags of a line side by side enclose no frame (Q.921 2.2).
+    fn take_frame(&mut self, frame: &mut [u8; MOST_RECEIVED]) -> Result<Option<usize>, Lost>
+        ensures { IfOk result (λ count. IfSome count (λ count. count ≤ MOST_RECEIVED)) }
     {
-        let Some((length, behind)) = self.text.as_slice().split_first_chunk::<LENGTH_OCTETS>()
+        let Some(count) = self.first_length() else {
+            return Ok(None);
+        };
+        if count == 0 {
+            return Err(Lost::Port(PortFault::BadLength));
+        }
+        self.drop_surplus(usize::from(count));
+        if !self.is_whole(count) {
+            return Ok(None);
+        }
+        let kept = usize::from(count).min(MOST_RECEIVED);
+        let Some(octets) = self
+            .text
+            .as_slice()
+            .get(LENGTH_OCTETS..LENGTH_OCTETS + kept)
         else {
             return Ok(None);
         };
-        let count = usize::from(u16::from_be_bytes(*length));
-        if count < LEAST_OCTETS || MOST_OCTETS < count {
-            return Err(Lost::Port(PortFault::BadLength));
+        frame[..kept].copy_from_slice(octets);
+        let _ = self.text.drain(..LENGTH_OCTETS + kept);
+        self.dropped = 0;
+        Ok(Some(kept))
+    }
+
+    /// The length of the first frame, if it has arrived.
+    fn first_length(&self) -> Option<u16> {
+        let (length, _behind) = self.text.as_slice().split_first_chunk::<LENGTH_OCTETS>()?;
+        Some(u16::from_be_bytes(*length))
+    }
+
+    /// Drops the octets that have arrived of the first frame, of this length, behind its first 265.
+    fn drop_surplus(&mut self, count: usize) {
+        let start = LENGTH_OCTETS + MOST_RECEIVED;
+        let missing = count
+            .saturating_sub(MOST_RECEIVED)
+            .saturating_sub(self.dropped);
+        let surplus = self.text.len().saturating_sub(start).min(missing);
+        if 0 < surplus {
+            let _ = self.text.drain(start..start + surplus);
+            self.dropped = self.dropped.saturating_add(surplus);
         }
-        let Some(octets) = behind.get(..count) else {
-            return Ok(None);
-        };
-        frame[..count].copy_from_slice(octets);
-        let _ = self.text.drain(..LENGTH_OCTETS + count);
-        Ok(Some(count))
+    }
+
+    /// Whether the first frame, of this length, has arrived whole.
+    fn is_whole(&self, count: u16) -> bool {
+        let arrived = self.text.len().saturating_add(self.dropped);
+        LENGTH_OCTETS + usize::from(count) <= arrived
     }
 
     /// Why the connection is lost, if it is and no whole frame is left.
@@ -216,11 +254,8 @@ impl FrameStream {
 
     /// Whether a whole frame has arrived and was not taken yet.
     fn has_frame(&self) -> bool {
-        match self.text.as_slice().split_first_chunk::<LENGTH_OCTETS>() {
-            Some((length, behind)) => {
-                let count = usize::from(u16::from_be_bytes(*length));
-                LEAST_OCTETS <= count && count <= MOST_OCTETS && count <= behind.len()
-            }
+        match self.first_length() {
+            Some(count) => 0 < count && self.is_whole(count),
             None => false,
         }
     }

@@ -28,6 +28,7 @@ impl Lost {
 impl fmt::Display for Lost {
     fn fmt<W: fmt::Write>(&self, f: &mut fmt::Formatter<W>) -> fmt::Result {
         match self {
+            Lost::Port(PortFault::BadLength) => f.write_str("received a frame length of 0"),
             Lost::Port(fault) => f.write_str(port_reason(*fault)),
             Lost::NotTaken => f.write_str("the other side did not accept a whole frame at once"),
             Lost::Unanswered => f.write_str("the other side does not answer"),

@@ -5,7 +5,7 @@ ghost use Rattle.lapd_port.specs.SocketText.{IsFrameLength};
 
 use crate::frame_stream::FrameStream;
 use crate::lost::Lost;
-use lapd_port::MOST_OCTETS;
+use lapd_cli_line::MOST_RECEIVED;
 use mio::{Poll, Token};
 use slab::Slab;
 use std::io::{self, ErrorKind};
@@ -148,10 +148,10 @@ impl Peers {
     /// A connection is lost. It keeps its place until it is removed.
     pub fn next_frame(
         &mut self,
-        frame: &mut [u8; MOST_OCTETS],
+        frame: &mut [u8; MOST_RECEIVED],
         now: u64,
     ) -> Result<Option<usize>, LostPeer>
-        ensures { IfOk result (λ count. IfSome count (λ count. count ≤ MOST_OCTETS)) }
+        ensures { IfOk result (λ count. IfSome count (λ count. count ≤ MOST_RECEIVED)) }
     {
         for _place in 0..self.most {
             let place = self.next_place;
@@ -171,10 +171,10 @@ impl Peers {
     fn next_frame_at(
         &mut self,
         place: usize,
-        frame: &mut [u8; MOST_OCTETS],
+        frame: &mut [u8; MOST_RECEIVED],
         now: u64,
     ) -> Result<Option<usize>, Lost>
-        ensures { IfOk result (λ count. IfSome count (λ count. count ≤ MOST_OCTETS)) }
+        ensures { IfOk result (λ count. IfSome count (λ count. count ≤ MOST_RECEIVED)) }
     {
         let Some(peer) = self.streams.get_mut(place) else {
             return Ok(None);

@@ -6,10 +6,9 @@ use crate::notes::Notes;
 use crate::record_file::RecordFile;
 use lapd_capture::{CaptureWriter, gsmtap_of};
 use lapd_cli_decode::FrameDrawer;
-use lapd_cli_line::Tap;
+use lapd_cli_line::{MOST_RECEIVED, Tap};
 use lapd_cli_script::Reason;
 use lapd_frame::Side;
-use lapd_port::MOST_OCTETS;
 use std::io::{self, ErrorKind};
 use std::net::{SocketAddr, ToSocketAddrs, UdpSocket};
 use std::time::{SystemTime, UNIX_EPOCH};
@@ -115,7 +114,7 @@ impl Taps<'_> {
 
     // Writes a frame into the capture, if there is one.
     fn capture_frame(&mut self, from: Side, time: u64, frame: &[u8])
-        requires { length frame.now ≤ MOST_OCTETS }
+        requires { length frame.now ≤ MOST_RECEIVED }
     {
         let Some(capture) = &mut self.capture else {
             return;
@@ -141,7 +140,7 @@ impl Taps<'_> {
 
     // Sends a frame as GSMTAP, if requested.
     fn send_frame(&mut self, from: Side, frame: &[u8])
-        requires { length frame.now ≤ MOST_OCTETS }
+        requires { length frame.now ≤ MOST_RECEIVED }
     {
         let Some(gsmtap) = &self.gsmtap else {
             return;
@@ -169,7 +168,7 @@ impl GsmtapSocket {
 
     // Sends a frame. The socket is not connected, so nobody has to listen.
     fn send(&self, from: Side, frame: &[u8]) -> io::Result<()>
-        requires { length frame.now ≤ MOST_OCTETS }
+        requires { length frame.now ≤ MOST_RECEIVED }
     {
         let datagram = gsmtap_of(from, frame);
         self.socket.send_to(datagram.as_slice(), self.address)?;

@@ -1,3 +1,4 @@
 pub mod IoEvents
 pub mod Passed
 pub mod SentLater
+pub mod LongFrames

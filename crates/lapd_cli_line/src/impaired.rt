@@ -5,8 +5,8 @@ ghost use Rattle.lapd_port.specs.SocketText.{IsFrameLength};
 
 use crate::delays::Delays;
 use crate::impairment::Impairment;
-use crate::outside::{Incident, Lines, Outside, Sending, Woken, is_reached};
-use lapd_port::{MOST_OCTETS, PortFault};
+use crate::outside::{Incident, Lines, MOST_RECEIVED, Outside, Sending, Woken, is_reached};
+use lapd_port::PortFault;
 use lapd_table::LinkTable;
 use lapd_tei::Assigner;
 use lapd_tei_audit::AuditStep;
@@ -129,8 +129,8 @@ impl<O: Outside> Outside for Impaired<O> {
         self.inner.moment()
     }
 
-    fn receive(&mut self, frame: &mut [u8; MOST_OCTETS]) -> Result<Option<usize>, PortFault>
-        ensures room { IfOk result (λ count. IfSome count (λ count. count ≤ MOST_OCTETS)) }
+    fn receive(&mut self, frame: &mut [u8; MOST_RECEIVED]) -> Result<Option<usize>, PortFault>
+        ensures room { IfOk result (λ count. IfSome count (λ count. count ≤ MOST_RECEIVED)) }
         ensures does { IfOk result (λ count. AddsSome (O.io_events self.old.inner)
             (O.io_events self.new.inner)
             (Receives frame.new count self.old.delays self.new.delays)) }

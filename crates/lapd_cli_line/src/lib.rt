@@ -8,10 +8,12 @@
 mod delays;
 mod impaired;
 mod impairment;
+mod laws;
 mod outside;
 mod tapped;
 
 pub use impaired::Impaired;
 pub use impairment::Impairment;
-pub use outside::{Incident, Lines, Outside, Sending, Woken, is_reached};
+pub use laws::long_frames_keep_their_fault;
+pub use outside::{Incident, Lines, MOST_RECEIVED, Outside, Sending, Woken, is_reached};
 pub use tapped::{Tap, Tapped};

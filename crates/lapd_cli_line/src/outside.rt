@@ -11,6 +11,10 @@ use lapd_table::{LinkId, LinkTable};
 use lapd_tei::Assigner;
 use lapd_tei_audit::AuditStep;
 
+/// The most octets that are kept of a received frame: one more than the longest valid frame has. A
+/// longer frame has the fault of its first 265 octets (Q.921 5.8.5, 5.9.3).
+pub const MOST_RECEIVED: usize = MOST_OCTETS + 1;
+
 /// Why a wait ended.
 #[derive(Clone, Copy)]
 pub enum Woken {
@@ -81,13 +85,14 @@ pub trait Outside {
 
     /// Receives the next frame that has arrived, without waiting, into the beginning of `frame`,
     /// and returns its number of octets. `None` if no whole frame had arrived when the call began.
-    /// Part of a frame is kept until the rest arrives.
+    /// Part of a frame is kept until the rest arrives. A frame may have any length; only the first
+    /// 265 octets of a longer one are received.
     ///
     /// # Errors
     ///
     /// S2 to S6.
-    fn receive(&mut self, frame: &mut [u8; MOST_OCTETS]) -> Result<Option<usize>, PortFault>
-        ensures room { IfOk result (λ count. IfSome count (λ count. count ≤ MOST_OCTETS)) }
+    fn receive(&mut self, frame: &mut [u8; MOST_RECEIVED]) -> Result<Option<usize>, PortFault>
+        ensures room { IfOk result (λ count. IfSome count (λ count. count ≤ MOST_RECEIVED)) }
         ensures io_events { IfOk result (λ count. Adds (io_events self.old) (io_events self.new)
             (received frame.new count)) }
         ensures err { OnErr result (io_events self.new ≡ io_events self.old) }

@@ -5,9 +5,9 @@ ghost use Rattle.lapd_cli_line.specs.IoEvents.{Adds, IoEvent};
 ghost use Rattle.lapd_cli_line.specs.Passed.{ArePassed, PassedFrame, passed_more, passed_frame};
 
 use crate::impairment::Impairment;
-use crate::outside::{Incident, Lines, Outside, Sending, Woken};
+use crate::outside::{Incident, Lines, MOST_RECEIVED, Outside, Sending, Woken};
 use lapd_frame::Side;
-use lapd_port::{MOST_OCTETS, PortFault};
+use lapd_port::PortFault;
 use lapd_table::LinkTable;
 use lapd_tei::Assigner;
 use lapd_tei_audit::AuditStep;
@@ -20,10 +20,10 @@ pub trait Tap {
     /// The frames that it was passed so far, if they are recorded.
     ghost passed_frames: { Self → Option (List PassedFrame) } = { λ _. None };
 
-    /// Records a frame of at most 264 octets that the side `from` sent, at a moment in milliseconds
+    /// Records a frame of at most 265 octets that the side `from` sent, at a moment in milliseconds
     /// since the start.
     fn pass(&mut self, from: Side, moment: u64, frame: &[u8])
-        requires { length frame.now ≤ MOST_OCTETS }
+        requires { length frame.now ≤ MOST_RECEIVED }
         ensures passed_frames { passed_frames self.new ≡ passed_more (passed_frames self.old)
             (passed_frame from frame.now ∷ []) };
 }
@@ -76,7 +76,7 @@ impl<O: Outside, T: Tap> Outside for Tapped<O, T> {
         Ok(now)
     }
 
-    fn receive(&mut self, frame: &mut [u8; MOST_OCTETS]) -> Result<Option<usize>, PortFault> {
+    fn receive(&mut self, frame: &mut [u8; MOST_RECEIVED]) -> Result<Option<usize>, PortFault> {
         let received = self.inner.receive(frame)?;
         if let Some(count) = received {
             self.tap

@@ -28,7 +28,7 @@ mod typed_lines;
 pub use fault::LiveFault;
 pub use input::{Console, LiveStop, live_script, live_session};
 pub use lapd_cli_line::{
-    Impaired, Impairment, Incident, Lines, Outside, Sending, Tap, Tapped, Woken,
+    Impaired, Impairment, Incident, Lines, MOST_RECEIVED, Outside, Sending, Tap, Tapped, Woken,
 };
 pub use lapd_cli_side_lines::LineStyle;
 pub use laws::{

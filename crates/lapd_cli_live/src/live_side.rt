@@ -13,10 +13,10 @@ ghost use Rattle.lapd_cli_live.specs.Steps.{end_by_wait as end_of_wait, ended_by
 use crate::fault::LiveFault;
 use crate::printer::Printer;
 use crate::service::{EndReason, Service, Until};
-use lapd_cli_line::{Incident, Lines, Outside, Woken, is_reached};
+use lapd_cli_line::{Incident, Lines, MOST_RECEIVED, Outside, Woken, is_reached};
 use lapd_cli_script::LineFault;
 use lapd_frame::{Frame, FrameFault, Side, read};
-use lapd_port::{MOST_OCTETS, PortFault};
+use lapd_port::PortFault;
 use lapd_sides::{Acts, EitherSide, FrameOctets, Letter, LinkId, Primitive, Request, What};
 use lapd_tei_audit::AuditStep;
 use lapd_timers::earlier;
@@ -149,7 +149,7 @@ impl<O: Outside, W: Write> LiveSide<O, W> {
             Between O.io_events O.impaired_by W.contents self.old self.new (Looks matched)) }
     {
         let now = self.read_clock()?;
-        let mut frame = [0; MOST_OCTETS];
+        let mut frame = [0; MOST_RECEIVED];
         match self.outside.receive(&mut frame)? {
             Some(count) => {
                 self.take(&frame[..count], now)?;

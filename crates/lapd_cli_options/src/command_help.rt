@@ -465,7 +465,9 @@ such as \"established\" or \"tei given\"; `sapi` and `tei`, if it is about a lin
 On the connection each frame follows its length, a number of two octets, the high one first. A fault
 of the connection ends the script: `port` and the fault are printed on standard error, and the exit
 status is 3. The faults are S2 BadLength (a length that is not from 3 to 264), S3 Cut (the end
-inside a frame), S4 Device, S5 TooManyTurns and S6 Failed.
+inside a frame), S4 Device, S5 TooManyTurns and S6 Failed. With the real clock S2 is a length of 0:
+a frame of 1 or 2 octets is discarded, and of more than 264 octets the first 265 are processed,
+printed and recorded.
 
 Example, with `lapd user --connect 127.0.0.1:4000` on the other side, whose lines `lapd user --help`
 has. A line after < is a line of the script, and a line after > is printed.
@@ -623,7 +625,9 @@ such as \"established\" or \"tei given\"; `sapi` and `tei`, if it is about a lin
 On the connection each frame follows its length, a number of two octets, the high one first. A fault
 of the connection ends the script: `port` and the fault are printed on standard error, and the exit
 status is 3. The faults are S2 BadLength (a length that is not from 3 to 264), S3 Cut (the end
-inside a frame), S4 Device, S5 TooManyTurns and S6 Failed.
+inside a frame), S4 Device, S5 TooManyTurns and S6 Failed. With the real clock S2 is a length of 0:
+a frame of 1 or 2 octets is discarded, and of more than 264 octets the first 265 are processed,
+printed and recorded.
 
 Example, with `lapd net --listen 127.0.0.1:4000` on the other side, whose lines `lapd net --help`
 has. A line after < is a line of the script, and a line after > is printed.

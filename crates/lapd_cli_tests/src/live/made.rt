@@ -3,8 +3,8 @@
 ghost use Rattle.std.specs.Prelude.{◌≤◌, IfOk};
 
 use crate::live::typed::Reads;
-use lapd_cli_live::{Impairment, Incident, Lines, Outside, Sending, Woken};
-use lapd_port::{MOST_OCTETS, PortFault};
+use lapd_cli_live::{Impairment, Incident, Lines, MOST_RECEIVED, Outside, Sending, Woken};
+use lapd_port::PortFault;
 use lapd_sides::LinkId;
 use lapd_table::LinkTable;
 use lapd_tei::Assigner;
@@ -262,8 +262,8 @@ fn behind_line(text: &str) -> &str {
 }
 
 /// Writes the octets of these digits to the front of `frame`, and returns their number.
-fn put(digits: &str, frame: &mut [u8; MOST_OCTETS]) -> Result<usize, PortFault>
-    ensures { IfOk result (λ count. count ≤ 264) }
+fn put(digits: &str, frame: &mut [u8; MOST_RECEIVED]) -> Result<usize, PortFault>
+    ensures { IfOk result (λ count. count ≤ 265) }
 {
     let count = digits.len() / 2;
     let Some(front) = frame.get_mut(..count) else {
@@ -277,7 +277,7 @@ fn put(digits: &str, frame: &mut [u8; MOST_OCTETS]) -> Result<usize, PortFault>
 
 /// Whether these digits spell the frame.
 fn is_written(digits: &str, frame: &[u8]) -> bool {
-    let mut room = [0; MOST_OCTETS];
+    let mut room = [0; MOST_RECEIVED];
     match put(digits, &mut room) {
         Ok(count) => room.get(..count) == Some(frame),
         Err(_) => false,
@@ -290,7 +290,7 @@ impl Outside for Made<'_> {
         Ok(self.now)
     }
 
-    fn receive(&mut self, frame: &mut [u8; MOST_OCTETS]) -> Result<Option<usize>, PortFault> {
+    fn receive(&mut self, frame: &mut [u8; MOST_RECEIVED]) -> Result<Option<usize>, PortFault> {
         self.meet()?;
         match self.next_frame() {
             Some(digits) => Ok(Some(put(digits, frame)?)),
