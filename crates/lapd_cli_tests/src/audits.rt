@@ -8,6 +8,7 @@ use std::test::Fail;
 
 /// T201 and the interval, in milliseconds.
 const T201: u32 = 1000;
+
 const INTERVAL: u64 = 60_000;
 
 /// No link is established.
