@@ -2,8 +2,8 @@
 
 use crate::ending::{print_memory, print_violation};
 use crate::job::{follow_of, frames_of};
-use crate::picture::{Output, begin_picture, end_picture};
-use lapd_cli_console::Watched;
+use crate::picture::{Output, begin_picture, close_output, end_picture};
+use lapd_cli_console::{Escaped, Watched};
 use lapd_cli_decode::{
     CaptureReader, CaptureStop, CaptureStyle, Follow, ReadFault, Seen, decode_capture,
     follow_capture,
@@ -22,12 +22,12 @@ pub const UNREADABLE: u8 = 1;
 pub const STANDARD_INPUT: &str = "-";
 
 /// Prints the frames of the capture in this file, or of standard input, and reports how that ended.
-pub fn do_capture<O: Write + Drop>(
+pub fn do_capture(
     rt: &HostRuntime,
     file: &str,
     options: DecodeOptions,
     strict: bool,
-    output: Output<'_, O>,
+    output: Output<'_>,
 ) -> ExitCode {
     if file == STANDARD_INPUT {
         return read_capture(rt, "standard input", rt.stdin(), options, strict, output);
@@ -39,13 +39,13 @@ pub fn do_capture<O: Write + Drop>(
 }
 
 /// Prints the frames of the capture in this reader, which reads this file.
-pub fn read_capture<R: Read + Drop, O: Write + Drop>(
+pub fn read_capture<R: Read + Drop>(
     rt: &HostRuntime,
     file: &str,
     source: R,
     options: DecodeOptions,
     strict: bool,
-    output: Output<'_, O>,
+    output: Output<'_>,
 ) -> ExitCode {
     match CaptureReader::new(rt.alloc(), source) {
         Ok(mut capture) => print_capture(rt, file, &mut capture, options, strict, output),
@@ -58,19 +58,16 @@ pub fn read_capture<R: Read + Drop, O: Write + Drop>(
 }
 
 // Prints the frames of a capture.
-fn print_capture<R: Read, O: Write + Drop>(
+fn print_capture<R: Read>(
     rt: &HostRuntime,
     file: &str,
     capture: &mut CaptureReader<R>,
     options: DecodeOptions,
     strict: bool,
-    output: Output<'_, O>,
+    output: Output<'_>,
 ) -> ExitCode {
-    let Output {
-        writer,
-        name,
-        is_picture,
-    } = output;
+    let Output { writer, name } = output;
+    let is_picture = writer.is_picture();
     let how = CaptureStyle {
         frames: frames_of(rt, options, options.time_in_capture()),
         sender: options.sender,
@@ -79,14 +76,12 @@ fn print_capture<R: Read, O: Write + Drop>(
     let Ok(mut out) = BufWriter::new(rt.alloc(), Watched::new(writer)) else {
         return print_memory(rt);
     };
-    let is_begun = begin_picture(is_picture, &mut out);
-    let ended = print_frames(rt, capture, &mut out, how, follow_of(options));
-    let is_ended = end_picture(is_picture, &mut out);
-    let is_written = out.flush().is_ok() && is_begun && is_ended;
+    let ended = print_framed(rt, capture, is_picture, &mut out, how, follow_of(options));
     // Text that a failed writer did not accept is dropped.
     let (watched, _left) = out.into_parts();
-    match ended {
-        Ok(seen) if is_written => {
+    let is_read = ended.is_ok();
+    let status = match ended {
+        Ok(seen) => {
             print_none(rt, seen, capture.packets(), capture.unserved());
             if strict && seen.is_violated {
                 print_violation(rt)
@@ -94,8 +89,28 @@ fn print_capture<R: Read, O: Write + Drop>(
                 ExitCode::SUCCESS
             }
         }
-        Ok(_) => print_stop(rt, file, CaptureStop::Device, watched.fault(), name),
         Err(stop) => print_stop(rt, file, stop, watched.fault(), name),
+    };
+    close_output(rt, watched.into_inner(), name, is_read, status)
+}
+
+// Prints the frames of a capture, between the beginning and the end of a picture if one is drawn.
+fn print_framed<R: Read, W: Write>(
+    rt: &HostRuntime,
+    capture: &mut CaptureReader<R>,
+    is_picture: bool,
+    out: &mut W,
+    how: CaptureStyle,
+    follow: Option<Follow>,
+) -> Result<Seen, CaptureStop> {
+    if !begin_picture(is_picture, out) {
+        return Err(CaptureStop::Device);
+    }
+    let ended = print_frames(rt, capture, out, how, follow);
+    let is_written = end_picture(is_picture, out) && out.flush().is_ok();
+    match ended {
+        Ok(_) if !is_written => Err(CaptureStop::Device),
+        ended => ended,
     }
 }
 
@@ -129,7 +144,7 @@ fn print_none(rt: &HostRuntime, seen: Seen, packets: u64, unserved: Option<usize
 /// Reports why a file could not be read or created.
 pub fn print_no_file<D: Display>(rt: &HostRuntime, file: &str, reason: &D) -> ExitCode {
     let _ = eprintln!(rt; "{}", ScriptFault::Device);
-    let _ = eprintln!(rt; "{file}: {reason}");
+    let _ = eprintln!(rt; "{}: {reason}", Escaped(file));
     ExitCode::from(ScriptFault::Device.status())
 }
 
@@ -144,13 +159,14 @@ fn print_stop(
     match (stop, output) {
         (CaptureStop::Memory, _) => return print_memory(rt),
         (CaptureStop::Capture(..) | CaptureStop::Packet(..), _) => {
-            let _ = eprintln!(rt; "{file}: {stop}");
+            let _ = eprintln!(rt; "{}: {stop}", Escaped(file));
             return ExitCode::from(UNREADABLE);
         }
         (CaptureStop::Input(kind), _) => return print_no_file(rt, file, &KindReason(kind)),
         (CaptureStop::Device, Some(kind)) => {
             let _ = eprintln!(rt; "{stop}");
-            let _ = eprintln!(rt; "{output_name}: {}", KindReason(kind));
+            let name = Escaped(output_name);
+            let _ = eprintln!(rt; "{name}: {}", KindReason(kind));
         }
         (CaptureStop::Device, None) => {
             let _ = eprintln!(rt; "{stop}");

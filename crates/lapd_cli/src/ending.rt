@@ -4,8 +4,8 @@
 ghost use Rattle.std.specs.Prelude.{◌≡◌, ◌&&◌, IfNone, IfSome, if◌then◌else◌};
 ghost use Rattle.lapd_cli_script.specs.Script.{status_of as status_of_fault};
 
-use lapd_cli_console::{FaultReport, Script};
-use lapd_cli_io::NoTaps;
+use lapd_cli_console::{Escaped, EscapedLines, FaultReport, Script};
+use lapd_cli_io::{NoFile, NoTaps, Protection};
 use lapd_cli_options::{Clock, NoInvocation, WordsFault};
 use lapd_cli_script::{KindReason, Reason, ScriptFault};
 use std::fmt::Display;
@@ -68,10 +68,7 @@ pub fn print_ending(rt: &HostRuntime, ending: &Ending<'_>, ended: &Result<(), St
             print_no_connection(rt, ending, error);
             Some(ScriptFault::Device)
         }
-        Err(Stop::NoTaps(taps)) => {
-            print_no_taps(rt, ending, taps);
-            Some(ScriptFault::Device)
-        }
+        Err(Stop::NoTaps(taps)) => return print_no_taps(rt, ending, taps),
         Err(Stop::Script(fault)) => {
             print_script_fault(rt, ending, *fault);
             Some(*fault)
@@ -90,10 +87,10 @@ fn print_script_fault(rt: &HostRuntime, ending: &Ending<'_>, fault: ScriptFault)
     match (ending.file, fault, ending.report.input) {
         (Some(file), ScriptFault::Device, Some(kind)) => {
             let _ = eprintln!(rt; "{fault}");
-            let _ = eprintln!(rt; "{file}: {}", KindReason(kind));
+            let _ = eprintln!(rt; "{}: {}", Escaped(file), KindReason(kind));
         }
         (Some(file), ScriptFault::BadLine(_), _) => {
-            let _ = eprint!(rt; "{file}: ");
+            let _ = eprint!(rt; "{}: ", Escaped(file));
             print_bad_line(rt, ending, fault);
         }
         _ => print_bad_line(rt, ending, fault),
@@ -163,26 +160,71 @@ fn print_unreachable(rt: &HostRuntime, what: &str, address: &str, error: &io::Er
 // Reports a device fault: what could not be done, with which file or address, and why.
 fn print_impossible<D: Display>(rt: &HostRuntime, what: &str, whom: &str, reason: &D) {
     let _ = eprintln!(rt; "{}", ScriptFault::Device);
-    let _ = eprintln!(rt; "cannot {what} {whom}: {reason}");
+    let _ = eprintln!(rt; "cannot {what} {}: {reason}", Escaped(whom));
 }
 
 // Reports why the capture, the ladder or the GSMTAP socket could not be opened.
-fn print_no_taps(rt: &HostRuntime, ending: &Ending<'_>, taps: &NoTaps) {
-    let Clock::Real(options) = ending.clock else {
-        return;
+fn print_no_taps(rt: &HostRuntime, ending: &Ending<'_>, taps: &NoTaps) -> ExitCode {
+    let (pcap, ladder, gsmtap) = match ending.clock {
+        Clock::Real(options) => (options.pcap, options.ladder, options.gsmtap),
+        Clock::Script => (None, None, None),
     };
     match taps {
-        NoTaps::File(error) => {
-            print_impossible(rt, "write", options.pcap.unwrap_or(""), &Reason(error));
+        NoTaps::Capture(fault) => {
+            return print_no_output(rt, "pcap", pcap.unwrap_or(""), fault);
         }
-        NoTaps::Ladder(error) => {
-            print_impossible(rt, "write", options.ladder.unwrap_or(""), &Reason(error));
+        NoTaps::Ladder(fault) => {
+            return print_no_output(rt, "ladder", ladder.unwrap_or(""), fault);
         }
-        NoTaps::Socket(error) => {
-            print_unreachable(rt, "send to", options.gsmtap.unwrap_or(""), error);
-        }
-        NoTaps::Memory => {}
+        NoTaps::SameFile => return print_same_file(rt, ladder.unwrap_or("")),
+        NoTaps::Socket(error) => print_unreachable(rt, "send to", gsmtap.unwrap_or(""), error),
+        NoTaps::Memory => return print_memory(rt),
     }
+    ExitCode::from(ScriptFault::Device.status())
+}
+
+// Reports why the file of this option is not written.
+fn print_no_output(rt: &HostRuntime, option: &str, file: &str, fault: &NoFile) -> ExitCode {
+    match fault {
+        NoFile::Device(error) => {
+            print_impossible(rt, "write", file, &Reason(error));
+            ExitCode::from(ScriptFault::Device.status())
+        }
+        NoFile::Protected(protection) => print_protected(rt, option, file, *protection),
+    }
+}
+
+// Reports that the capture and the ladder have the same file.
+fn print_same_file(rt: &HostRuntime, file: &str) -> ExitCode {
+    let file = Escaped(file);
+    let _ = eprintln!(rt; "error: --pcap and --ladder name the same file {file}; name two files");
+    ExitCode::from(COMMAND_LINE)
+}
+
+/// Reports that the file of this option must not be overwritten, and what to do.
+pub fn print_protected(
+    rt: &HostRuntime,
+    option: &str,
+    file: &str,
+    protection: Protection,
+) -> ExitCode {
+    let file = Escaped(file);
+    let _ = eprint!(rt; "error: --{option} would overwrite ");
+    let _ = match protection {
+        Protection::Input => eprintln!(rt; "its input {file}; name another file"),
+        Protection::Stream(stream) => {
+            eprintln!(rt; "{stream}, the file {file}; name another file")
+        }
+        Protection::Capture if option == "svg" => eprintln!(rt;
+            "the capture {file}; name the picture first: --svg FILE.svg {file}"
+        ),
+        Protection::Capture => eprintln!(rt; "the capture {file}; name another file"),
+        Protection::NotText => eprintln!(rt; "{file}, which is not text; name another file"),
+        Protection::NotCapture => {
+            eprintln!(rt; "{file}, which is not a capture; name another file")
+        }
+    };
+    ExitCode::from(COMMAND_LINE)
 }
 
 // A printed line as text; empty if it is not UTF-8.
@@ -211,7 +253,10 @@ pub fn print_no_invocation(rt: &HostRuntime, unchosen: &NoInvocation<'_>) -> Exi
         NoInvocation::Shown(text) => show(rt, text.as_str()),
         NoInvocation::Memory => print_memory(rt),
         _ => {
-            let _ = eprint!(rt; "{unchosen}");
+            let Ok(text) = format!(in rt.alloc(); "{unchosen}") else {
+                return print_memory(rt);
+            };
+            let _ = eprint!(rt; "{}", EscapedLines(text.as_str()));
             ExitCode::from(COMMAND_LINE)
         }
     }

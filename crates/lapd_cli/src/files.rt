@@ -5,10 +5,11 @@ use crate::do_script;
 use crate::ending::{COMMAND_LINE, print_memory};
 use crate::picture::{Output, standard_output};
 use lapd_capture::{FileKind, KIND_OCTETS, ReadFault, kind_of_file, take_front};
+use lapd_cli_console::Escaped;
 use lapd_cli_options::{DecodeOptions, Invocation, PrintedTime};
 use lapd_cli_script::{KindReason, Reason};
 use std::fs::File;
-use std::io::{Read, Write};
+use std::io::Read;
 use std::process::ExitCode;
 
 /// The forms of files that can be read.
@@ -18,12 +19,12 @@ decode reads captures (pcap, pcapng), lines such as user 00817f, and with --loos
 /// Prints the frames of these files, one file after the other, and reports how that ended. The
 /// status is that of the first file that failed. One file is printed to this output, several to
 /// standard output.
-pub fn do_files<O: Write + Drop>(
+pub fn do_files(
     rt: &HostRuntime,
     chosen: &Invocation<'_>,
     files: &[&str],
     options: DecodeOptions,
-    output: Output<'_, O>,
+    output: Output<'_>,
 ) -> ExitCode {
     if let [file] = files {
         return do_file(rt, chosen, file, options, output);
@@ -31,7 +32,7 @@ pub fn do_files<O: Write + Drop>(
     let mut status = ExitCode::SUCCESS;
     for file in files {
         if !options.json {
-            let _ = println!(rt; "==> {file} <==");
+            let _ = println!(rt; "==> {} <==", Escaped(file));
         }
         let ended = do_file(rt, chosen, file, options, standard_output(rt));
         if status == ExitCode::SUCCESS {
@@ -42,12 +43,12 @@ pub fn do_files<O: Write + Drop>(
 }
 
 // Prints the frames of a file, or of standard input.
-fn do_file<O: Write + Drop>(
+fn do_file(
     rt: &HostRuntime,
     chosen: &Invocation<'_>,
     file: &str,
     options: DecodeOptions,
-    output: Output<'_, O>,
+    output: Output<'_>,
 ) -> ExitCode {
     if file == STANDARD_INPUT {
         return read_file(rt, chosen, "standard input", rt.stdin(), options, output);
@@ -59,13 +60,13 @@ fn do_file<O: Write + Drop>(
 }
 
 // Prints the frames of this reader, which reads this file, by its content.
-fn read_file<R: Read + Drop, O: Write + Drop>(
+fn read_file<R: Read + Drop>(
     rt: &HostRuntime,
     chosen: &Invocation<'_>,
     file: &str,
     source: R,
     options: DecodeOptions,
-    output: Output<'_, O>,
+    output: Output<'_>,
 ) -> ExitCode {
     let mut source = source;
     let mut front = [0; KIND_OCTETS];
@@ -96,17 +97,18 @@ fn read_file<R: Read + Drop, O: Write + Drop>(
 }
 
 // Prints the frames of the lines of this reader, which reads this file.
-fn read_text<R: Read + Drop, O: Write + Drop>(
+fn read_text<R: Read + Drop>(
     rt: &HostRuntime,
     chosen: &Invocation<'_>,
     file: &str,
     source: R,
     options: DecodeOptions,
-    output: Output<'_, O>,
+    output: Output<'_>,
 ) -> ExitCode {
     match options.time {
         PrintedTime::Hidden => do_script(rt, chosen, Some(file), source, output),
         _ => {
+            let file = Escaped(file);
             let _ = eprintln!(rt; "error: --time requires a capture, and {file} is text");
             ExitCode::from(COMMAND_LINE)
         }
@@ -115,7 +117,7 @@ fn read_text<R: Read + Drop, O: Write + Drop>(
 
 // Reports that a file has no frames that can be read, and which files have.
 fn print_unread(rt: &HostRuntime, file: &str, reason: &str) -> ExitCode {
-    let _ = eprintln!(rt; "{file}: {reason}");
+    let _ = eprintln!(rt; "{}: {reason}", Escaped(file));
     let _ = eprintln!(rt; "{WANTED}");
     ExitCode::from(UNREADABLE)
 }

@@ -76,16 +76,23 @@ fn tapped_line<'a>(
     notes: &'a Notes<'a>,
     side: Side,
     setup: &SideSetup<'_>,
-    options: &LiveOptions<'_>,
+    options: &LiveOptions<'a>,
     seed: u64,
 ) -> Result<Line<'a>, Stop> {
-    let taps = Taps::open(rt, notes, side, &tap_setup(options)).map_err(stop_of_taps)?;
+    let mut taps = Taps::open(rt, notes, side, &tap_setup(options)).map_err(stop_of_taps)?;
     match connect_side(rt, notes, side, &connection_setup(setup, options)) {
         Ok(connections) => {
+            if let Err(fault) = taps.begin() {
+                taps.abandon();
+                return Err(stop_of_taps(fault));
+            }
             let line = Impaired::new(rt.alloc(), connections, seed);
             Ok(Tapped::new(side, line, taps))
         }
-        Err(error) => Err(Stop::NoConnection(error)),
+        Err(error) => {
+            taps.abandon();
+            Err(Stop::NoConnection(error))
+        }
     }
 }
 

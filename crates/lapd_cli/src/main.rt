@@ -21,16 +21,15 @@ mod job;
 mod live;
 mod picture;
 
-use capture::{do_capture, print_no_file};
+use capture::do_capture;
 use ending::{Ending, Stop, print_ending, print_memory, print_no_invocation, print_words_fault};
 use files::do_files;
 use greeting::Greeting;
 use job::{do_job, script_of};
 use lapd_cli_console::{FaultReport, PrintedAnswers, RecentLines, Refusals, Session, Watched};
 use lapd_cli_options::{Clock, DecodeOptions, Invocation, Job, parse_words, words};
-use lapd_cli_script::{Reason, ScriptFault};
-use picture::{Output, begin_picture, end_picture, standard_output};
-use std::fs::File;
+use lapd_cli_script::ScriptFault;
+use picture::{Output, begin_picture, close_output, end_picture, output_of};
 use std::io::{BufWriter, IsTerminal, Read, Write};
 use std::process::ExitCode;
 
@@ -56,29 +55,14 @@ fn for_input<'a>(rt: &HostRuntime, chosen: Invocation<'a>) -> Invocation<'a> {
 
 // Runs the chosen job. Its output is written to standard output, or to the file of its picture.
 fn do_chosen(rt: &HostRuntime, chosen: &Invocation<'_>) -> ExitCode {
-    let Some(name) = chosen.svg else {
-        return do_output(rt, chosen, standard_output(rt));
-    };
-    match File::create(rt, name) {
-        Ok(writer) => do_output(
-            rt,
-            chosen,
-            Output {
-                writer,
-                name,
-                is_picture: true,
-            },
-        ),
-        Err(error) => print_no_file(rt, name, &Reason(&error)),
+    match output_of(rt, chosen) {
+        Ok(output) => do_output(rt, chosen, output),
+        Err(status) => status,
     }
 }
 
 // Runs the chosen job with this output.
-fn do_output<O: Write + Drop>(
-    rt: &HostRuntime,
-    chosen: &Invocation<'_>,
-    output: Output<'_, O>,
-) -> ExitCode {
+fn do_output(rt: &HostRuntime, chosen: &Invocation<'_>, output: Output<'_>) -> ExitCode {
     match &chosen.job {
         Job::Decode(options) => do_decode(rt, chosen, *options, output),
         _ => do_lines(rt, chosen, output),
@@ -86,11 +70,11 @@ fn do_output<O: Write + Drop>(
 }
 
 // Runs `decode` over its files, its capture or standard input.
-fn do_decode<O: Write + Drop>(
+fn do_decode(
     rt: &HostRuntime,
     chosen: &Invocation<'_>,
     options: DecodeOptions,
-    output: Output<'_, O>,
+    output: Output<'_>,
 ) -> ExitCode {
     match (chosen.files.as_slice(), chosen.pcap) {
         ([], Some(file)) => do_capture(rt, file, options, chosen.strict, output),
@@ -101,11 +85,7 @@ fn do_decode<O: Write + Drop>(
 
 // Runs the chosen job over standard input. At a terminal, a bad line is reported and the next one
 // awaited.
-fn do_lines<O: Write + Drop>(
-    rt: &HostRuntime,
-    chosen: &Invocation<'_>,
-    output: Output<'_, O>,
-) -> ExitCode {
+fn do_lines(rt: &HostRuntime, chosen: &Invocation<'_>, output: Output<'_>) -> ExitCode {
     if rt.stdin().is_terminal() && has_forms(chosen) {
         let script = script_of(&chosen.job, &chosen.clock);
         let answers = PrintedAnswers::new(rt.stderr());
@@ -133,18 +113,15 @@ fn has_forms(chosen: &Invocation<'_>) -> bool {
 
 /// Runs the chosen job over a script from this reader, and reports how it ended. The reader is
 /// standard input if `file` is `None`.
-pub fn do_script<R: Read + Drop, O: Write + Drop>(
+pub fn do_script<R: Read + Drop>(
     rt: &HostRuntime,
     chosen: &Invocation<'_>,
     file: Option<&str>,
     reader: R,
-    destination: Output<'_, O>,
+    destination: Output<'_>,
 ) -> ExitCode {
-    let Output {
-        writer,
-        name,
-        is_picture,
-    } = destination;
+    let Output { writer, name } = destination;
+    let is_picture = writer.is_picture();
     let mut recent = RecentLines::new(reader);
     let watched = Watched::new(Refusals::new(writer, chosen.strict));
     let Ok(mut out) = BufWriter::new(rt.alloc(), watched) else {
@@ -170,7 +147,9 @@ pub fn do_script<R: Read + Drop, O: Write + Drop>(
         strict: chosen.strict,
         refusal: refusals.first().unwrap_or(&[]),
     };
-    print_ending(rt, &ending, &ended)
+    let status = print_ending(rt, &ending, &ended);
+    let is_read = matches!(ended, Ok(()) | Err(Stop::Violated));
+    close_output(rt, refusals.into_inner(), name, is_read, status)
 }
 
 // Whether the job reads lines of more forms.

@@ -1,5 +1,6 @@
 //! The report on standard error of a fault that ended a script.
 
+use crate::escaped::Escaped;
 use crate::judge::reason;
 use lapd_cli_grammar::Script;
 use lapd_cli_script::{KindReason, PortFault, ScriptFault, port_reason};
@@ -63,7 +64,10 @@ impl FaultReport<'_> {
     fn print_device(&self, rt: &HostRuntime) {
         let _ = match (self.input, self.output, self.script) {
             (Some(kind), _, _) => eprintln!(rt; "standard input: {}", KindReason(kind)),
-            (None, Some(kind), _) => eprintln!(rt; "{}: {}", self.output_name, KindReason(kind)),
+            (None, Some(kind), _) => {
+                let name = Escaped(self.output_name);
+                eprintln!(rt; "{name}: {}", KindReason(kind))
+            }
             (None, None, Script::Loop) => eprintln!(rt;
                 "a frame did not return over the program's connection to itself, or 1,000,000 reads did not reach the script's end"
             ),

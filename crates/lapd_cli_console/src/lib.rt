@@ -9,10 +9,12 @@
 //! - [`FaultReport`] prints the fault that ended a script, and its reason.
 //! - [`Session`] reads typed lines, and passes on those with a valid form; [`Answers`] are given to
 //!   the others. [`tidied`] removes needless characters from a typed line.
+//! - [`Escaped`] shows a name or a word without its control characters, which a terminal would obey.
 #![tactic(auto)]
 
 mod answers;
 mod complaint;
+mod escaped;
 mod fault_report;
 mod help;
 mod judge;
@@ -26,6 +28,7 @@ mod unreturned;
 mod watched;
 
 pub use answers::{Answers, PrintedAnswers};
+pub use escaped::{Escaped, EscapedLines};
 pub use fault_report::FaultReport;
 pub use help::put_help;
 pub use judge::reason;

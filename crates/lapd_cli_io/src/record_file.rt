@@ -2,7 +2,7 @@
 
 use crate::notes::Notes;
 use crate::watch::Watch;
-use std::fs::{self, File};
+use std::fs::File;
 use std::io::{self, Write};
 use std::os::fd::AsRawFd;
 
@@ -23,27 +23,22 @@ pub struct RecordFile<'rt> {
 }
 
 impl<'rt> RecordFile<'rt> {
-    /// Creates this file, which is overwritten. Waits for the reader of a named pipe.
-    ///
-    /// # Errors
-    ///
-    /// The system's error.
-    pub fn create(
+    /// Records into this file, which is open for writing.
+    pub fn new(
         rt: &HostRuntime,
         notes: &'rt Notes<'rt>,
         name: &'static str,
-        path: &str,
-    ) -> io::Result<RecordFile<'rt>> {
-        let file = fs::create(rt, path)?;
+        file: File,
+    ) -> RecordFile<'rt> {
         let watch = Watch::new(rt, file.as_raw_fd()).ok();
-        Ok(RecordFile {
+        RecordFile {
             notes,
             name,
             file,
             watch,
             dropped: 0,
             is_noted: false,
-        })
+        }
     }
 
     /// Whether a record can be written without blocking.

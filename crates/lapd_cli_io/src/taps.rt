@@ -2,7 +2,9 @@
 
 ghost use Rattle.std.specs.Prelude.{◌≤◌, length};
 
+use crate::growing_file::{GrowingFile, NoFile};
 use crate::notes::Notes;
+use crate::protection::{Content, is_same_file};
 use crate::record_file::RecordFile;
 use lapd_capture::{CaptureWriter, gsmtap_of};
 use lapd_cli_decode::FrameDrawer;
@@ -27,10 +29,12 @@ pub struct TapSetup<'a> {
 /// Why frames can't be recorded.
 #[derive(Drop)]
 pub enum NoTaps {
-    /// The capture's file can't be created.
-    File(io::Error),
-    /// The ladder's file can't be created.
-    Ladder(io::Error),
+    /// The capture's file can't be written.
+    Capture(NoFile),
+    /// The ladder's file can't be written.
+    Ladder(NoFile),
+    /// The capture and the ladder have the same file.
+    SameFile,
     /// The socket for the address of `--gsmtap` can't be created.
     Socket(io::Error),
     /// An allocation failed.
@@ -44,6 +48,10 @@ pub enum NoTaps {
 pub struct Taps<'rt> {
     rt: &'rt HostRuntime,
     notes: &'rt Notes<'rt>,
+    own: Side,
+    /// The regular files of the capture and the ladder until they are begun.
+    kept_capture: Option<GrowingFile<'rt>>,
+    kept_ladder: Option<GrowingFile<'rt>>,
     /// The time of the start, in milliseconds since 1970, known from the first frame on.
     begun: Option<u64>,
     capture: Option<CaptureWriter<RecordFile<'rt>>>,
@@ -59,39 +67,141 @@ struct GsmtapSocket {
 }
 
 impl<'rt> Taps<'rt> {
-    /// Creates the files and the socket of this side. The files are overwritten. The first frame is
-    /// stamped by the system's clock, the later ones by the line's clock.
+    /// Opens the files and the socket of this side. Regular files keep what they have until
+    /// [`Taps::begin`], and are not recorded into before. The first frame is stamped by the
+    /// system's clock, the later ones by the line's clock.
     ///
     /// # Errors
     ///
-    /// `File`, `Ladder` or `Socket`, if one of them can't be created; `Memory` if an allocation
-    /// fails.
+    /// `Capture`, `Ladder` or `Socket`, if one of them can't be opened; `SameFile`; `Memory` if an
+    /// allocation fails. Then no file has changed.
     pub fn open(
         rt: &'rt HostRuntime,
         notes: &'rt Notes<'rt>,
         own: Side,
-        setup: &TapSetup<'_>,
+        setup: &TapSetup<'rt>,
     ) -> Result<Taps<'rt>, NoTaps> {
-        let capture = match setup.pcap {
-            Some(file) => Some(capture_into(rt, notes, own, file).map_err(NoTaps::File)?),
-            None => None,
-        };
-        let ladder = match setup.ladder {
-            Some(file) => Some(ladder_into(rt, notes, file)?),
-            None => None,
-        };
-        let gsmtap = match setup.gsmtap {
-            Some(address) => Some(GsmtapSocket::open(rt, address).map_err(NoTaps::Socket)?),
-            None => None,
-        };
-        Ok(Taps {
+        let mut taps = Taps {
             rt,
             notes,
+            own,
+            kept_capture: None,
+            kept_ladder: None,
             begun: None,
-            capture,
-            ladder,
-            gsmtap,
-        })
+            capture: None,
+            ladder: None,
+            gsmtap: None,
+        };
+        match taps.open_all(setup) {
+            Ok(()) => Ok(taps),
+            Err(fault) => {
+                taps.abandon();
+                Err(fault)
+            }
+        }
+    }
+
+    /// Removes the content of regular files, and begins to record into them.
+    ///
+    /// # Errors
+    ///
+    /// `Capture` or `Ladder` if a file can't be written; `Memory` if an allocation fails.
+    pub fn begin(&mut self) -> Result<(), NoTaps> {
+        if let Some(file) = self.kept_capture.take() {
+            self.begin_capture(file)?;
+        }
+        if let Some(file) = self.kept_ladder.take() {
+            self.begin_ladder(file)?;
+        }
+        Ok(())
+    }
+
+    /// Leaves regular files that are not begun as they were before they were opened.
+    pub fn abandon(self) {
+        let Taps {
+            rt,
+            kept_capture,
+            kept_ladder,
+            ..
+        } = self;
+        if let Some(file) = kept_capture {
+            file.abandon(rt);
+        }
+        if let Some(file) = kept_ladder {
+            file.abandon(rt);
+        }
+    }
+
+    // Opens what is requested.
+    fn open_all(&mut self, setup: &TapSetup<'rt>) -> Result<(), NoTaps> {
+        if self.is_same_file(setup) {
+            return Err(NoTaps::SameFile);
+        }
+        if let Some(path) = setup.pcap {
+            self.open_capture(path)?;
+        }
+        // The capture's file may exist since now.
+        if self.is_same_file(setup) {
+            return Err(NoTaps::SameFile);
+        }
+        if let Some(path) = setup.ladder {
+            self.open_ladder(path)?;
+        }
+        if let Some(address) = setup.gsmtap {
+            let socket = GsmtapSocket::open(self.rt, address).map_err(NoTaps::Socket)?;
+            self.gsmtap = Some(socket);
+        }
+        Ok(())
+    }
+
+    // Whether the capture and the ladder have the same file.
+    fn is_same_file(&self, setup: &TapSetup<'_>) -> bool {
+        match (setup.pcap, setup.ladder) {
+            (Some(capture), Some(ladder)) => is_same_file(self.rt, capture, ladder),
+            _ => false,
+        }
+    }
+
+    fn open_capture(&mut self, path: &'rt str) -> Result<(), NoTaps> {
+        let opened = GrowingFile::open(self.rt, path, Content::Capture);
+        let file = opened.map_err(NoTaps::Capture)?;
+        if file.is_regular() {
+            self.kept_capture = Some(file);
+            return Ok(());
+        }
+        self.begin_capture(file)
+    }
+
+    fn open_ladder(&mut self, path: &'rt str) -> Result<(), NoTaps> {
+        let opened = GrowingFile::open(self.rt, path, Content::Drawing);
+        let file = opened.map_err(NoTaps::Ladder)?;
+        if file.is_regular() {
+            self.kept_ladder = Some(file);
+            return Ok(());
+        }
+        self.begin_ladder(file)
+    }
+
+    // Begins this side's capture in a file.
+    fn begin_capture(&mut self, file: GrowingFile<'rt>) -> Result<(), NoTaps> {
+        let begun = capture_into(self.rt, self.notes, self.own, file);
+        let capture = begun.map_err(|error| NoTaps::Capture(NoFile::Device(error)))?;
+        self.capture = Some(capture);
+        Ok(())
+    }
+
+    // Begins a ladder in a file.
+    fn begin_ladder(&mut self, file: GrowingFile<'rt>) -> Result<(), NoTaps> {
+        let begun = file.begin();
+        let file = begun.map_err(|error| NoTaps::Ladder(NoFile::Device(error)))?;
+        let file = RecordFile::new(self.rt, self.notes, "ladder", file);
+        match FrameDrawer::new(self.rt.alloc(), file) {
+            Ok(ladder) => {
+                self.ladder = Some(ladder);
+                Ok(())
+            }
+            Err(_) => Err(NoTaps::Memory),
+        }
     }
 }
 
@@ -182,24 +292,14 @@ fn gsmtap_address(rt: &HostRuntime, address: &str) -> io::Result<SocketAddr> {
     first.ok_or(io::Error::from(ErrorKind::NotFound))
 }
 
-// Creates this side's capture in a file, which is overwritten.
+// Begins this side's capture in a file.
 fn capture_into<'rt>(
     rt: &HostRuntime,
     notes: &'rt Notes<'rt>,
     own: Side,
-    file: &str,
+    file: GrowingFile<'_>,
 ) -> io::Result<CaptureWriter<RecordFile<'rt>>> {
-    CaptureWriter::new(own, RecordFile::create(rt, notes, "capture", file)?)
-}
-
-// Begins a ladder in a file, which is overwritten.
-fn ladder_into<'rt>(
-    rt: &HostRuntime,
-    notes: &'rt Notes<'rt>,
-    file: &str,
-) -> Result<FrameDrawer<RecordFile<'rt>>, NoTaps> {
-    let file = RecordFile::create(rt, notes, "ladder", file).map_err(NoTaps::Ladder)?;
-    FrameDrawer::new(rt.alloc(), file).map_err(|_| NoTaps::Memory)
+    CaptureWriter::new(own, RecordFile::new(rt, notes, "capture", file.begin()?))
 }
 
 // The time of the start: the known one, or `moment` milliseconds ago.

@@ -227,7 +227,8 @@ Exit status:
   1  `line N: bad command`: line N, counted from 1, is not valid for the command; the lines before
      it were executed. Of `decode`: a capture could not be read to its end, or a file is empty or
      neither a capture nor text
-  2  the command line is not valid
+  2  the command line is not valid, or an output would overwrite an input of the command or a file
+     of another kind: a picture or a ladder replaces a text, a capture replaces a capture
   3  `device fault`: a read or a write failed, or 1,000,000 reads did not reach the script's end; in
      `lapd loop`, `net` and `user` also if no connection could be made; with --pcap, --ladder
      and --gsmtap also if the file or the socket could not be opened.

@@ -1,0 +1,84 @@
+//! A file that other programs read while it grows.
+
+use crate::protection::{Content, Protection, protection_of, stream_into};
+use std::fs::{self, File, OpenOptions};
+use std::io::{self, ErrorKind};
+
+/// A file that is open for writing. A regular file keeps what it had until it is begun.
+#[derive(Drop)]
+pub(crate) struct GrowingFile<'a> {
+    path: &'a str,
+    file: File,
+    /// Whether it is a regular file.
+    is_regular: bool,
+    /// Whether opening it has made it.
+    is_new: bool,
+}
+
+/// Why a file is not opened for writing.
+#[derive(Drop)]
+pub enum NoFile {
+    /// The system's error.
+    Device(io::Error),
+    /// It must not be overwritten.
+    Protected(Protection),
+}
+
+impl<'a> GrowingFile<'a> {
+    /// Opens this file for such a content, and makes it if it does not exist. Waits for the reader
+    /// of a named pipe.
+    pub fn open(
+        rt: &HostRuntime,
+        path: &'a str,
+        content: Content,
+    ) -> Result<GrowingFile<'a>, NoFile> {
+        if let Some(stream) = stream_into(rt, path) {
+            return Err(NoFile::Protected(Protection::Stream(stream)));
+        }
+        match protection_of(rt, path, content, &["-"]) {
+            Ok(None) => opened(rt, path).map_err(NoFile::Device),
+            Ok(Some(protection)) => Err(NoFile::Protected(protection)),
+            Err(error) => Err(NoFile::Device(error)),
+        }
+    }
+
+    /// Whether it has to be begun, since it may have content.
+    pub fn is_regular(&self) -> bool {
+        self.is_regular
+    }
+
+    /// Removes its content, and returns the file.
+    pub fn begin(self) -> io::Result<File> {
+        if self.is_regular {
+            self.file.set_len(0)?;
+        }
+        Ok(self.file)
+    }
+
+    /// Removes the file if opening it has made it. Otherwise it stays as it was.
+    pub fn abandon(self, rt: &HostRuntime) {
+        if !self.is_new {
+            return;
+        }
+        // The path may be a link, which stays.
+        if let Ok(path) = fs::canonicalize(rt, self.path) {
+            let _ = fs::remove_file(rt, path.as_path());
+        }
+    }
+}
+
+/// Opens a file for writing, and makes it if it does not exist.
+fn opened<'a>(rt: &HostRuntime, path: &'a str) -> io::Result<GrowingFile<'a>> {
+    let (file, is_new) = match OpenOptions::new().write(true).open(rt, path) {
+        Ok(file) => (file, false),
+        Err(error) if error.kind() == ErrorKind::NotFound => (fs::create(rt, path)?, true),
+        Err(error) => return Err(error),
+    };
+    let is_regular = file.metadata()?.is_file();
+    Ok(GrowingFile {
+        path,
+        file,
+        is_regular,
+        is_new,
+    })
+}
