@@ -311,7 +311,7 @@ class Side:
     @staticmethod
     def choose(program):
         """All sides run this program, or else the one that `make` built."""
-        Side.program = program or PROGRAM
+        Side.program = os.path.abspath(program or PROGRAM)
         if not os.access(Side.program, os.X_OK):
             raise Failed(f"{Side.program} does not exist; `make` proves and builds the program")
 
