@@ -34,7 +34,7 @@ pub use connecting::{ConnectionSetup, connect_side};
 pub use connections::Connections;
 pub use growing_file::NoFile;
 pub use notes::Notes;
-pub use shared_bus::BusSetup;
 pub use picture_file::PictureFile;
 pub use protection::{Content, Protection, protection_of};
+pub use shared_bus::BusSetup;
 pub use taps::{NoTaps, TapSetup, Taps};
