@@ -105,6 +105,14 @@ abbrev pub line_with_message_if : Option Identity → LineKnown → LineKnown
 line_with_message_if None line = line
 line_with_message_if (Some message) line = line_with_message message line
 
+-- The line after frames that were not seen. Nothing is known of its links and its TEIs: it is a line
+-- whose first frame is still to be seen.
+abbrev pub line_anew : LineKnown → LineKnown
+line_anew line = record {
+  links = record line.links { links = map no_link line.links.links };
+  teis = new_teis;
+}
+
 -- the line after a frame
 abbrev pub line_after : Sighting → LineKnown → LineKnown
 line_after s line = line_with_message_if (identity_of s.sender s.frame)

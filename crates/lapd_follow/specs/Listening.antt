@@ -12,7 +12,7 @@ use Rattle.lapd_follow.specs.declared.remark.Remark.TheVariants.{Begins}
 use Rattle.lapd_follow.specs.declared.remarks.Remarks.{Remarks}
 use Rattle.lapd_follow.specs.declared.link_tally.LinkTally.{LinkTally}
 use Rattle.lapd_follow.specs.Ends.{one_more}
-use Rattle.lapd_follow.specs.Follower.{LineKnown, line_after, new_line, place_of, said_on_line}
+use Rattle.lapd_follow.specs.Follower.{LineKnown, line_after, line_anew, new_line, place_of, said_on_line}
 use Rattle.lapd_follow.specs.Link.{Sighting, sighting}
 use Rattle.lapd_follow.specs.Remarks.{has_violation}
 use Rattle.lapd_follow.specs.Tallies.{no_tally, tallied}
@@ -81,6 +81,11 @@ with_frame s l = record {
   tallies = tallied_on_line s (said_on_line s l.line) l.tallies;
   is_violated = l.is_violated || has_violation (said_on_line s l.line);
 }
+
+-- Frames that were not seen. The line is followed anew; the frames and violations so far stay
+-- counted.
+abbrev pub listening_anew : Listening → Listening
+listening_anew l = record l { line = line_anew l.line }
 
 -- ---- Octets. If they do not form a valid frame, they are not followed.
 

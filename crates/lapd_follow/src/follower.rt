@@ -1,6 +1,6 @@
 ghost use Rattle.std.specs.Prelude.{◌≡◌, IfOk, OnOk, OnErr, option_copied, slice_get};
 ghost use Rattle.lapd_follow.specs.Link.{sighting};
-ghost use Rattle.lapd_follow.specs.Follower.{line_after, line_with_message, managed, new_line, place_of, said_on_line, seen_link};
+ghost use Rattle.lapd_follow.specs.Follower.{line_after, line_anew, line_with_message, managed, new_line, place_of, said_on_line, seen_link};
 
 use crate::identity::identity_of;
 use crate::link_table::LinkTable;
@@ -95,6 +95,15 @@ impl Follower {
         said.conflict = self.teis.conflict(message);
         self.teis.take(message);
         self.links.forget(message.renewed());
+    }
+
+    /// Frames were not seen here. The links and the assignment of TEIs are followed as on a line of
+    /// which nothing was seen, so no remark depends on what the missing frames were.
+    pub fn begin_anew(&mut self)
+        ensures { self.new ≡ line_anew self.old }
+    {
+        self.links.forget_all();
+        self.teis = Teis::new();
     }
 
     /// The link of frames with this address, if one was seen. A link whose TEI was assigned or

@@ -94,11 +94,18 @@ impl LinkTable {
         }
     }
 
+    /// Forgets all links.
+    pub(crate) fn forget_all(&mut self)
+        ensures { self.new ≡ record self.old { links = map no_link self.old.links } }
+    {
+        forget_all(&mut self.links);
+    }
+
     fn forget_tei(&mut self, tei: Tei)
         ensures { self.new ≡ record self.old { links = without_tei tei self.old.links } }
     {
         if tei.value() == 127 {
-            forget_all(&mut self.links);
+            self.forget_all();
         } else {
             forget_three(&mut self.links, usize::from(tei.value()));
         }

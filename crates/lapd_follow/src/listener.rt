@@ -1,7 +1,7 @@
 ghost use Rattle.std.specs.Prelude.{◌≡◌, replicate, None, IfOk, OnOk, OnErr, option_copied, slice_get};
 ghost use Rattle.lapd_follow.specs.Follower.{place_of, said_on_line, seen_link};
 ghost use Rattle.lapd_follow.specs.Link.{sighting};
-ghost use Rattle.lapd_follow.specs.Listening.{listening_after, new_listening, said_of_octets, tallied_on_line, with_frame};
+ghost use Rattle.lapd_follow.specs.Listening.{listening_after, listening_anew, new_listening, said_of_octets, tallied_on_line, with_frame};
 
 use crate::link_table::{LINKS, place_of};
 use crate::{Follower, LinkFollower, LinkTally, Packet, Remarks};
@@ -152,6 +152,14 @@ impl Listener {
         self.tallies.add(packet, sender, frame, said);
         self.is_violated = self.is_violated || said.has_violation();
         Ok(())
+    }
+
+    /// Frames were not seen here: the links are followed anew, as [`Follower::begin_anew`] says. The
+    /// frames and violations so far stay counted.
+    pub fn begin_anew(&mut self)
+        ensures { self.new ≡ listening_anew self.old }
+    {
+        self.follower.begin_anew();
     }
 
     /// Whether one of the remarks so far is a violation.
