@@ -1,5 +1,6 @@
 pub mod Fronts
 pub mod Heads
+pub mod Missing
 pub mod ReadBack
 pub mod Steps
 pub mod Taken

@@ -16,7 +16,7 @@ use Rattle.lapd_capture.specs.Octets.{number_at}
 use Rattle.lapd_capture.specs.Packet.{link_type_of}
 use Rattle.lapd_capture.specs.Reader.{MakesStep, Opens, TakesLast, reading_of, unread}
 use lib.Seq.{take-append-add, drop-append-add, take-append_seam, drop-append_seam}
-use Rattle.lapd_capture.specs.Reading.{Reading, Step, after_section, block_after, block_ended, block_moment, block_of_kind, block_rest, block_step, enhanced_packet, most_body, opened_by_order, opened_from, order_of_pcap, simple_packet, units_of_pcap, item_on, moment_at, or_end, other_step, pcap_opened, record_after, record_found, record_packet, record_step, with_body, with_link, most_packet}
+use Rattle.lapd_capture.specs.Reading.{Reading, Step, after_section, block_after, block_ended, block_missing, block_moment, block_of_kind, block_rest, block_step, enhanced_packet, most_body, opened_by_order, opened_from, order_of_pcap, simple_packet, units_of_pcap, item_on, moment_at, or_end, other_step, pcap_opened, record_after, record_found, record_packet, record_step, with_body, with_link, most_packet}
 
 -- a step that equals another
 pub same_step : {R : Type 0} (remaining : R → Option (List ℕ)) (a b : Result Step CaptureFault)
@@ -128,14 +128,21 @@ pub other_is_passed : {R : Type 0} (remaining : R → Option (List ℕ)) (old ne
 other_is_passed remaining old new n moved left e = rw moved (left, e, refl)
 
 pub enhanced_is_passed : {R : Type 0} (remaining : R → Option (List ℕ)) (old new : CaptureReader R)
-    (kind n : ℕ) (head : List ℕ) (item : CaptureItem) (moment : Option ℕ)
+    (kind n : ℕ) (head : List ℕ) (item : CaptureItem) (moment : Option ℕ) (missing : ℕ)
     → (left : List ℕ) → kind ≡ 6 → item ≡ enhanced_packet n head (reading_of old left)
     → moment ≡ block_moment n head (reading_of old left)
-    → new ≡ record old { place = old.place + n; packets = old.packets + 1; moment = moment }
+    → missing ≡ min (old.missing + block_missing n (reading_of old left)) 18446744073709551615
+    → new
+    ≡ record old {
+      place = old.place + n;
+      packets = old.packets + 1;
+      moment = moment;
+      missing = missing;
+    }
     → unread remaining old ≡ Some left
     → MakesStep remaining (block_of_kind kind n head (reading_of old left)) (Ok item) new
-enhanced_is_passed remaining old new kind n head item moment left k i m moved e =
-    rw (moved, i, m, k) (left, e, refl)
+enhanced_is_passed remaining old new kind n head item moment missing left k i m d moved e =
+    rw (moved, i, m, d, k) (left, e, refl)
 
 pub simple_is_passed : {R : Type 0} (remaining : R → Option (List ℕ)) (old new : CaptureReader R)
     (kind n : ℕ) (head : List ℕ) (item : CaptureItem)

@@ -1,3 +1,4 @@
+pub mod Blocks
 pub mod FileKind
 pub mod Moment
 pub mod Octets

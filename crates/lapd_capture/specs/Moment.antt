@@ -1,4 +1,4 @@
--- When a packet was captured, in microseconds since 1970.
+-- When a packet was captured, in microseconds since 1970, and how many are missing before it.
 use Rattle.std.specs.Prelude.{ℕ, zero, suc, ◌+◌, ◌*◌, ◌/◌, ◌%◌, ◌-◌, ◌^◌, ◌==◌, nat_lt, if◌then◌else◌, List, length, drop, slice_index, Option, Some, None}
 use Rattle.lapd_capture.specs.declared.order.Order.{Order}
 use Rattle.lapd_capture.specs.Octets.{number_at}
@@ -35,3 +35,16 @@ moment_below moment = if nat_lt moment (2 ^ 64) then Some moment else None
 -- the moment after this many units of time, in microseconds; `None` if the units are unknown
 abbrev pub moment_in : ℕ → ℕ → Option ℕ
 moment_in units ticks = if units == 0 then None else moment_below (ticks * 1000000 / units)
+
+-- How many packets are missing before a packet with these options, of which this many are looked
+-- at: the value of epb_dropcount, which has code 4 and 8 octets.
+unfoldable pub missing_among : ℕ → Order → List ℕ → ℕ
+missing_among zero order options = 0
+missing_among (suc n) order options = if nat_lt (length options) 12 then 0 else (
+    if number_at order 2 0 options == 0 then 0 else (
+    if number_at order 2 0 options == 4 then number_at order 8 4 options else
+    missing_among n order (drop (4 + padded (number_at order 2 2 options)) options)))
+
+-- the same if the first 64 are looked at
+abbrev pub missing_in : Order → List ℕ → ℕ
+missing_in order options = missing_among 64 order options

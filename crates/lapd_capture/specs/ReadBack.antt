@@ -36,6 +36,7 @@ line_reading place packets moment body left = record {
   interfaces = line_interface ∷ [];
   packets = packets;
   moment = moment;
+  missing = 0;
   body = body;
 }
 

@@ -23,6 +23,7 @@ reading_of reader left = record {
   interfaces = reader.interfaces.items;
   packets = reader.packets;
   moment = reader.moment;
+  missing = reader.missing;
   body = reader.body.items;
 }
 

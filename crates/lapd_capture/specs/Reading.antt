@@ -15,12 +15,12 @@ use Rattle.lapd_capture.specs.declared.format.Format.{Format}
 use Rattle.lapd_capture.specs.declared.format.Format.TheVariants.{Pcap, Pcapng}
 use Rattle.lapd_capture.specs.Octets.{number_at}
 use Rattle.lapd_capture.specs.Packet.{captured_packet_at, link_type_of}
-use Rattle.lapd_capture.specs.Moment.{units_in, moment_in}
+use Rattle.lapd_capture.specs.Moment.{units_in, missing_in, moment_in, padded}
 
 -- A capture and how far it is read: the octets that are left and how many were before them, the
 -- format, the interfaces (a pcap file has one), how many packets were read, when the last of them
--- was captured, if the file says so, and the octets of the last record or block in which a frame
--- is found.
+-- was captured, if the file says so, how many packets the file says to lack before them, and the
+-- octets of the last record or block in which a frame is found.
 pub record Reading : Type 0 where
   pub left : List ℕ
   pub place : ℕ
@@ -29,6 +29,7 @@ pub record Reading : Type 0 where
   pub interfaces : List Interface
   pub packets : ℕ
   pub moment : Option ℕ
+  pub missing : ℕ
   pub body : List ℕ
 
 -- the item that was found, and the capture after it
@@ -138,6 +139,15 @@ block_moment n head r = if nat_lt n 32 then None else
     moment_on (slice_get r.interfaces (number_at r.order 4 8 head)) (number_at r.order 4 0 r.body)
     (number_at r.order 4 4 r.body)
 
+-- how many packets are missing before an enhanced packet block of this length
+abbrev pub block_missing : ℕ → Reading → ℕ
+block_missing n r = if nat_lt n 32 then 0 else
+    missing_in r.order (drop (16 + padded (number_at r.order 4 8 r.body)) r.body)
+
+-- so many more are missing, up to the greatest number of 64 bits
+abbrev pub with_missing : ℕ → Reading → Reading
+with_missing missing r = record r { missing = min (r.missing + missing) (2 ^ 64 - 1) }
+
 -- the reading after a packet block of this length
 abbrev pub packet_step : CaptureItem → Option ℕ → ℕ → Reading → Result Step CaptureFault
 packet_step item moment n r = Ok (record {
@@ -174,7 +184,8 @@ interface_step n head r = if nat_lt n 20 then Err BadLength else (
 abbrev pub block_of_kind : ℕ → ℕ → List ℕ → Reading → Result Step CaptureFault
 block_of_kind kind n head r = if kind == 0x0A0D0D0A then section_step n r else (
     if kind == 1 then interface_step n head r else (
-    if kind == 6 then packet_step (enhanced_packet n head r) (block_moment n head r) n r else (
+    if kind == 6 then packet_step (enhanced_packet n head r) (block_moment n head r) n
+    (with_missing (block_missing n r) r) else (
     if kind == 3 then packet_step (simple_packet n head r) None n r else other_step n r)))
 
 -- the same if the length at the block's end is the one at its front
@@ -303,6 +314,7 @@ unread_capture octets = record {
   interfaces = [];
   packets = 0;
   moment = None;
+  missing = 0;
   body = [];
 }
 

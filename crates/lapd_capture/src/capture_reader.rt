@@ -2,12 +2,12 @@ ghost use Rattle.std.specs.Prelude.{◌≡◌, ◌≤◌, ◌<◌, ◌-◌, ◌+
 ghost use Rattle.lapd_capture.specs.Octets.{number_at};
 ghost use Rattle.lapd_capture.specs.Packet.{IsWithin};
 ghost use Rattle.lapd_capture.specs.Reader.{Opens, OpensAs, Steps, TakesBody, TakesLast, reading_of, unread};
-ghost use Rattle.lapd_capture.specs.Reading.{after_section, first_unserved, block_after, block_ended, block_moment, block_of_kind, block_of_length, block_order, block_rest, block_step, enhanced_packet, fault_of_magic, interface_step, item_on, moment_at, moment_on, next_step, opened, opened_from, or_end, order_of_magic, order_of_pcap, other_step, pcap_opened, record_after, record_found, record_step, section_step, simple_packet, snapped, units_of_pcap, unread_capture, with_link};
+ghost use Rattle.lapd_capture.specs.Reading.{after_section, first_unserved, block_after, block_ended, block_missing, block_moment, block_of_kind, block_of_length, block_order, block_rest, block_step, enhanced_packet, fault_of_magic, interface_step, item_on, moment_at, moment_on, next_step, opened, opened_from, or_end, order_of_magic, order_of_pcap, other_step, pcap_opened, record_after, record_found, record_step, section_step, simple_packet, snapped, units_of_pcap, unread_capture, with_link};
 ghost use Rattle.lapd_capture.specs.Takes.{IsApart};
 
 use crate::fault::{CaptureFault, ReadFault};
 use crate::format::Format;
-use crate::interface::{Interface, first_unserved, units_in};
+use crate::interface::{Interface, after, first_unserved, missing_in, padded, units_in};
 use crate::item::{CaptureItem, PacketFault, Span};
 use crate::link_type::LinkType;
 use crate::order::Order;
@@ -68,6 +68,7 @@ pub struct CaptureReader<R> {
     interfaces: ArrayVec<Interface, MOST_INTERFACES>,
     packets: u64,
     moment: Option<u64>,
+    missing: u64,
     /// The octets of the last record or block in which a frame is found.
     body: Vec<u8>,
 }
@@ -109,6 +110,7 @@ impl<R: Read> CaptureReader<R> {
             interfaces: ArrayVec::new(),
             packets: 0,
             moment: None,
+            missing: 0,
             body: Vec::new(alloc),
         }
     }
@@ -134,6 +136,14 @@ impl<R: Read> CaptureReader<R> {
         ensures { result ≡ self.now.moment }
     {
         self.moment
+    }
+
+    /// How many packets the capture says that it lacks, before those that were read: the sum of the
+    /// options epb_dropcount of pcapng. At most 2^64 - 1.
+    pub fn missing(&self) -> u64
+        ensures { result ≡ self.now.missing }
+    {
+        self.missing
     }
 
     /// The octets of a frame that was found last.
@@ -519,6 +529,7 @@ impl<R: Read> CaptureReader<R> {
                     self.enhanced_packet(count, head),
                     self.block_moment(count, head),
                 );
+                self.missing = self.missing.saturating_add(self.block_missing(count));
                 self.pass_packet(count, moment)?;
                 Ok(item)
             }
@@ -609,6 +620,19 @@ impl<R: Read> CaptureReader<R> {
         let body = self.body.as_slice();
         let (high, low) = (self.order.u32_at(0, body), self.order.u32_at(4, body));
         self.moment_on(self.order.u32_at(8, head), high as u32, low as u32)
+    }
+
+    /// How many packets are missing before an enhanced packet block of this length.
+    fn block_missing(&self, count: usize) -> u64
+        requires { length self.now.body.items ≡ min (count - 16) MOST_BODY }
+        ensures { (left : List ℕ) → result ≡ block_missing count (reading_of self.now left) }
+    {
+        if count < 32 {
+            return 0;
+        }
+        let body = self.body.as_slice();
+        let captured = self.order.u32_at(8, body);
+        missing_in(self.order, after(16 + padded(captured), body))
     }
 
     /// The moment of a packet on an interface, from two numbers.

@@ -2,16 +2,22 @@
 
 ghost use Rattle.std.specs.Prelude.{◌≡◌, ◌<◌, ◌^◌, ◌*◌, ◌+◌, drop, Some};
 ghost use Rattle.lapd_capture.specs.Reading.{first_unserved, front_unserved, snapped};
-ghost use Rattle.lapd_capture.specs.Moment.{moment_in, padded, units_in, units_of};
+ghost use Rattle.lapd_capture.specs.Moment.{missing_in, moment_in, padded, units_in, units_of};
 
 use crate::link_type::LinkType;
 use crate::order::Order;
 
-/// How many options of an interface are looked at.
+/// How many options of an interface, or of a block, are looked at.
 const MOST_OPTIONS: usize = 64;
 
 /// The code of the option if_tsresol.
 const RESOLUTION: usize = 9;
+
+/// The code of the option epb_dropcount.
+const DROPPED: usize = 4;
+
+/// The length of its value, in octets.
+const DROPPED_OCTETS: usize = 8;
 
 /// An interface of a capture.
 #[derive(Clone, Copy, Default)]
@@ -115,8 +121,29 @@ pub(crate) fn units_in(order: Order, options: &[u8]) -> u64
     1_000_000
 }
 
+/// How many packets are missing before a block with these options.
+pub(crate) fn missing_in(order: Order, options: &[u8]) -> u64
+    ensures { result ≡ missing_in order options.now }
+{
+    let mut rest = options;
+    for _option in 0..MOST_OPTIONS {
+        if rest.len() < 4 + DROPPED_OCTETS {
+            return 0;
+        }
+        let code = order.u16_at(0, rest);
+        if code == 0 {
+            return 0;
+        }
+        if code == DROPPED {
+            return order.u64_at(4, rest);
+        }
+        rest = after(4 + padded(order.u16_at(2, rest)), rest);
+    }
+    0
+}
+
 /// The octets after the first `count`; none if there are no more.
-fn after(count: usize, octets: &[u8]) -> &[u8]
+pub(crate) fn after(count: usize, octets: &[u8]) -> &[u8]
     ensures { result.now ≡ drop count octets.now }
 {
     if count < octets.len() {
@@ -127,8 +154,8 @@ fn after(count: usize, octets: &[u8]) -> &[u8]
 }
 
 /// The length of a value with its padding.
-fn padded(count: usize) -> usize
-    requires { count < 2 ^ 16 }
+pub(crate) fn padded(count: usize) -> usize
+    requires { count < 2 ^ 32 }
     ensures { result ≡ padded count }
 {
     count + (4 - count % 4) % 4

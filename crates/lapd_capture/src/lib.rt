@@ -5,13 +5,15 @@
 //! (203), and GSMTAP over UDP in Ethernet (1), in IPv4 (101 and 228) or behind the headers of
 //! `tcpdump -i any` (113 and 276), which may also have frames as LINUX_LAPD has them. A
 //! [`CaptureWriter`] writes a pcap file of link type 177: a [`FILE_HEADER`], and a [`record_of`]
-//! each frame. [`gsmtap_of`] makes the GSMTAP packet of a frame. [`kind_of_file`] says whether a
+//! each frame. A pcapng file is [`BLOCKS_HEADER`] and a [`block_of`] each frame, which can say how many
+//! frames are missing before it. [`gsmtap_of`] makes the GSMTAP packet of a frame. [`kind_of_file`] says whether a
 //! file is a capture, and [`take_front`] reads the octets that this depends on.
 //!
 //! No length in a capture is trusted: of one record or block at most 262,160 octets are kept. The
 //! content of frames is not checked here.
 #![tactic(auto)]
 
+mod blocks;
 mod capture_reader;
 mod capture_writer;
 mod cooked;
@@ -29,6 +31,7 @@ mod packet;
 mod taking;
 mod written;
 
+pub use blocks::{BLOCKS_HEADER, MOST_BLOCK, block_of};
 pub use capture_reader::CaptureReader;
 pub use capture_writer::CaptureWriter;
 pub use fault::{CaptureFault, ReadFault};

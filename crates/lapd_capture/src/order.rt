@@ -36,4 +36,15 @@ impl Order {
             Order::Little => LittleEndian::read_u32(&octets[place..]) as usize,
         }
     }
+
+    /// The number of eight octets at a place.
+    pub(crate) fn u64_at(self, place: usize, octets: &[u8]) -> u64
+        requires { place + 8 ≤ length octets.now }
+        ensures { result ≡ number_at self 8 place octets.now }
+    {
+        match self {
+            Order::Big => BigEndian::read_u64(&octets[place..]),
+            Order::Little => LittleEndian::read_u64(&octets[place..]),
+        }
+    }
 }

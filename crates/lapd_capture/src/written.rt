@@ -63,7 +63,7 @@ pub fn gsmtap_of(from: Side, frame: &[u8]) -> ArrayVec<u8, 281>
 }
 
 /// Appends octets to `out`.
-fn put<const N: usize>(out: &mut ArrayVec<u8, N>, octets: &[u8])
+pub(crate) fn put<const N: usize>(out: &mut ArrayVec<u8, N>, octets: &[u8])
     requires { array_vec_len out.old + length octets.now ≤ N }
     ensures items { out.new.items ≡ out.old.items ++ octets.now }
     ensures len { array_vec_len out.new ≡ array_vec_len out.old + length octets.now }
@@ -87,7 +87,7 @@ fn record_header(moment: u64, count: u32) -> [u8; 16]
 }
 
 /// The header of link type 177.
-fn linux_header(own: Side, from: Side) -> [u8; 16]
+pub(crate) fn linux_header(own: Side, from: Side) -> [u8; 16]
     ensures { result ≡ linux_header own from }
 {
     let (kind, side) = (packet_type(own, from), side_octet(own));
