@@ -33,6 +33,7 @@ drawing frames has_user printed first last listening = record {
   printed = printed;
   first = first;
   last = last;
+  missing = 0;
   listening = Some listening;
 }
 

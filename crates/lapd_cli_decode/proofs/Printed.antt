@@ -10,13 +10,13 @@ use Rattle.lapd_capture.specs.declared.PacketFault.{PacketFault}
 use Rattle.lapd_capture.specs.declared.ReadFault.TheVariants.{Capture as ReadCapture}
 use Rattle.lapd_capture.specs.declared.Span.{Span}
 use Rattle.lapd_capture.specs.Reader.{MakesStep, reading_of}
-use Rattle.lapd_capture.specs.Reading.{next_step}
+use Rattle.lapd_capture.specs.Reading.{Reading, next_step}
 use Rattle.lapd_capture.specs.declared.CaptureReader.{CaptureReader}
 use Rattle.lapd_cli_decode.specs.declared.capture_lines.CaptureStyle.{CaptureStyle}
 use Rattle.lapd_cli_decode.specs.declared.capture_lines.CaptureStop.{CaptureStop}
 use Rattle.lapd_cli_decode.specs.declared.capture_lines.CaptureStop.TheVariants.{Capture, Packet, Input, Device, Memory}
-use Rattle.lapd_cli_decode.specs.Captured.{ItemsEnd, Place, PrintsTo, StepsFrom, TakesStep, after_item, item_text, packet_fault, place_of}
-use Rattle.lapd_cli_decode.specs.Frames.{Printing, is_complete}
+use Rattle.lapd_cli_decode.specs.Captured.{ItemsEnd, Place, PrintsTo, StepsFrom, TakesStep, after_found, after_item, found_text, item_text, packet_fault, place_of}
+use Rattle.lapd_cli_decode.specs.Frames.{Printing, after_missing, is_complete, missing_text}
 
 -- bytes that are kept and then grow
 pub Appends-after : (a b c : Option (List ℕ)) (bs : List ℕ) → Keeps a b → Appends b c bs
@@ -124,6 +124,31 @@ pub ItemsEnd-passed : (how : CaptureStyle) (start : Place) (result : Result ⊤ 
 ItemsEnd-passed how start (Ok done) stop printing a d is h = absurd is
 ItemsEnd-passed how start (Err e) stop printing a d is h =
     subst (λ s. ItemsEnd how start (Err s) printing a d) (sym is) h
+
+-- ---- a frame behind missing ones
+
+pub text_behind_missing : (how : CaptureStyle) (behind : Reading) (span : Span) (total : ℕ)
+    (old mid : Printing) (a b c : Option (List ℕ))
+    → total ≡ behind.missing → mid ≡ after_missing total old
+    → Appends a b (missing_text total old) → Appends b c (found_text how behind span mid)
+    → Appends a c (item_text how behind (Frame span) old)
+text_behind_missing how behind span total old mid a b c is_total is_mid told found =
+    let before : Appends a b (missing_text behind.missing old) =
+    subst (λ n. Appends a b (missing_text n old)) is_total told in
+    let is_state : mid ≡ after_missing behind.missing old =
+    is_mid ∙ ap (λ n. after_missing n old) is_total in
+    let after : Appends b c (found_text how behind span (after_missing behind.missing old)) =
+    subst (λ s. Appends b c (found_text how behind span s)) is_state found in
+    Appends-trans a b c (missing_text behind.missing old)
+    (found_text how behind span (after_missing behind.missing old)) before after
+
+pub state_behind_missing : (how : CaptureStyle) (behind : Reading) (span : Span) (total : ℕ)
+    (old mid new : Printing)
+    → total ≡ behind.missing → mid ≡ after_missing total old
+    → new ≡ after_found how behind span mid → new ≡ after_item how behind (Frame span) old
+state_behind_missing how behind span total old mid new is_total is_mid is_new =
+    is_new ∙ ap (λ s. after_found how behind span s) is_mid
+    ∙ ap (λ n. after_found how behind span (after_missing n old)) is_total
 
 -- ---- one item of a reader
 

@@ -17,7 +17,7 @@ use Rattle.lapd_cli_decode.specs.declared.capture_lines.Seen.{Seen}
 use Rattle.lapd_cli_decode.specs.declared.frame_printer.Follow.{Follow}
 use Rattle.lapd_cli_decode.specs.declared.frame_printer.Origin.TheVariants.{Capture as FromCapture}
 use Rattle.lapd_cli_render.specs.declared.Packet.{Packet as JsonPacket}
-use Rattle.lapd_cli_decode.specs.Frames.{Printing, after_frame, closing_text, frame_text, is_complete, is_violated_by, new_printing}
+use Rattle.lapd_cli_decode.specs.Frames.{Printing, after_frame, after_missing, closing_text, frame_text, is_complete, is_violated_by, missing_text, new_printing}
 use Rattle.lapd_cli_decode.specs.Senders.{named_or_by_kind}
 
 -- ---- A frame that was found; `behind` is the capture after it.
@@ -59,20 +59,30 @@ octets_of behind span = take (span.end - span.start) (drop span.start behind.bod
 
 -- ---- Each item.
 
--- the text printed for it
-abbrev pub item_text : CaptureStyle → Reading → CaptureItem → Printing → List ℕ
-item_text how behind (Frame span) s = frame_text (last_packet behind span)
+-- the text printed for a frame that was found
+abbrev pub found_text : CaptureStyle → Reading → Span → Printing → List ℕ
+found_text how behind span s = frame_text (last_packet behind span)
     (sender_of how (with_sender span s).has_user span (octets_of behind span))
     (octets_of behind span) (with_sender span s)
+
+-- the text printed for an item: before a frame, how many are missing there
+abbrev pub item_text : CaptureStyle → Reading → CaptureItem → Printing → List ℕ
+item_text how behind (Frame span) s = missing_text behind.missing s
+    ++ found_text how behind span (after_missing behind.missing s)
 item_text how behind (Unreadable fault) s = []
 item_text how behind Other s = []
 item_text how behind End s = []
 
--- what is known of the frames after it
-abbrev pub after_item : CaptureStyle → Reading → CaptureItem → Printing → Printing
-after_item how behind (Frame span) s = after_frame (last_packet behind span)
+-- what is known of the frames after one that was found
+abbrev pub after_found : CaptureStyle → Reading → Span → Printing → Printing
+after_found how behind span s = after_frame (last_packet behind span)
     (sender_of how (with_sender span s).has_user span (octets_of behind span))
     (octets_of behind span) (with_sender span s)
+
+-- what is known of the frames after an item
+abbrev pub after_item : CaptureStyle → Reading → CaptureItem → Printing → Printing
+after_item how behind (Frame span) s =
+    after_found how behind span (after_missing behind.missing s)
 after_item how behind (Unreadable fault) s = s
 after_item how behind Other s = s
 after_item how behind End s = s

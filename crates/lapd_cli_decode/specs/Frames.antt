@@ -1,5 +1,5 @@
 -- The text that is printed for frames, and the state after them.
-use Rattle.std.specs.Prelude.{◌≡◌, ℕ, Bool, true, false, if◌then◌else◌, List, [], ◌++◌, Option, Some, None, unwrap_or, Result, Ok, Err, ⊤}
+use Rattle.std.specs.Prelude.{◌≡◌, ℕ, Bool, true, false, nat_lt, if◌then◌else◌, List, [], ◌++◌, Option, Some, None, unwrap_or, Result, Ok, Err, ⊤}
 use Rattle.std.specs.Io.KnownBytes.{Appends, Keeps}
 use Rattle.lapd_frame.specs.declared.Side.{Side}
 use Rattle.lapd_frame.specs.declared.Side.TheVariants.{Network}
@@ -8,7 +8,7 @@ use Rattle.lapd_cli_render.specs.declared.Packet.{Packet}
 use Rattle.lapd_follow.specs.declared.packet.Packet.{Packet as FollowedPacket}
 use Rattle.lapd_follow.specs.declared.remarks.Remarks.{Remarks}
 use Rattle.lapd_follow.specs.Ends.{one_more}
-use Rattle.lapd_follow.specs.Listening.{Listening, listening_after, new_listening, no_remarks, said_of_octets}
+use Rattle.lapd_follow.specs.Listening.{Listening, listening_after, listening_anew, new_listening, no_remarks, said_of_octets}
 use Rattle.lapd_cli_script.specs.Line.{text_line}
 use Rattle.lapd_cli_script.specs.declared.script.LineFault.{LineFault}
 use Rattle.lapd_cli_script.specs.declared.script.LineFault.TheVariants.{Bad, Device as LineDevice, Memory as LineMemory}
@@ -25,6 +25,7 @@ use Rattle.lapd_cli_decode.specs.AnySapi.{has_other_sapi, with_sapi_0}
 use Rattle.lapd_cli_decode.specs.Color.{color_of, colored}
 use Rattle.lapd_cli_decode.specs.Drawn.{drawn_frame}
 use Rattle.lapd_cli_decode.specs.Filter.{reaches, takes_by}
+use Rattle.lapd_cli_decode.specs.Missing.{missing_before}
 use Rattle.lapd_cli_decode.specs.Remarked.{remarked}
 use Rattle.lapd_cli_decode.specs.ShownText.{shown_text}
 use Rattle.lapd_cli_decode.specs.Style.{styled_packet, styled_text}
@@ -33,7 +34,8 @@ use Rattle.lapd_cli_decode.specs.Time.{either, front_text, time_of}
 
 -- how frames are printed, how many there were, whether one of them is certainly the user side's,
 -- how many of them were printed, when the first and the last of these were captured, as far as
--- known, and what a listener knows of the links, if they are followed
+-- known, how many the capture says to lack, and what a listener knows of the links, if they are
+-- followed
 pub record Printing : Type 0 where
   pub origin : Origin
   pub how : FrameStyle
@@ -42,6 +44,7 @@ pub record Printing : Type 0 where
   pub printed : ℕ
   pub first : Option ℕ
   pub last : Option ℕ
+  pub missing : ℕ
   pub listening : Option Listening
 
 -- before the first frame
@@ -58,6 +61,7 @@ new_printing origin how follow = record {
   printed = 0;
   first = None;
   last = None;
+  missing = 0;
   listening = listening_by follow;
 }
 
@@ -90,6 +94,24 @@ abbrev pub heard_by : FollowedPacket → Option Side → List ℕ → Option Lis
 heard_by packet from octets None = None
 heard_by packet None octets (Some l) = Some l
 heard_by packet (Some from) octets (Some l) = Some (listening_after packet from octets l)
+
+-- ---- Frames that the capture says to lack, this many in all.
+
+-- the line about those that no line was about yet
+abbrev pub missing_text : ℕ → Printing → List ℕ
+missing_text total s = missing_before s.how.layout s.how.style s.missing total
+
+-- what a listener knows behind them
+abbrev pub anew : Option Listening → Option Listening
+anew None = None
+anew (Some l) = Some (listening_anew l)
+
+-- what is known behind them: the links are followed anew
+abbrev pub after_missing : ℕ → Printing → Printing
+after_missing total s = if nat_lt s.missing total
+    then record s { missing = total; listening = anew s.listening } else s
+
+-- ---- The text of a frame.
 
 -- the text of a frame without remarks, if its sender is known and its SAPI served
 abbrev pub sent_text : Origin → Style → Packet → Side → List ℕ → List ℕ

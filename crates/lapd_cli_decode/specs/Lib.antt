@@ -10,6 +10,7 @@ pub mod LinesPrinter
 pub mod LiveLadder
 pub mod LogSenders
 pub mod Loose
+pub mod Missing
 pub mod PrintedLines
 pub mod Remarked
 pub mod Senders

@@ -16,6 +16,8 @@ use Rattle.lapd_cli_decode.specs.declared.capture_lines.CaptureStop.{CaptureStop
 use Rattle.lapd_cli_decode.specs.declared.capture_lines.CaptureStop.TheVariants.{Capture as AtFault, Packet as AtPacket, Input, Device, Memory}
 use Rattle.lapd_cli_decode.specs.declared.capture_lines.CaptureStyle.{CaptureStyle}
 use Rattle.lapd_cli_decode.specs.declared.capture_lines.Seen.{Seen}
+use Rattle.lapd_cli_ladder.specs.Ladder.{head_line}
+use Rattle.lapd_cli_decode.specs.Drawn.{ladder_of}
 use Rattle.lapd_cli_decode.specs.Captured.{CaptureEnds, begins_at}
 use Rattle.lapd_cli_decode.specs.Frames.{Printing, after_frame, frame_text, new_printing}
 
@@ -34,6 +36,10 @@ ladder_style = record {
 -- before the first frame: links are followed, and the window is not known
 abbrev pub new_ladder : Printing
 new_ladder = new_printing Capture ladder_style (Some (record { k = None }))
+
+-- the line above the first frame
+abbrev pub ladder_head : List ℕ
+ladder_head = head_line (ladder_of ladder_style).time_width
 
 -- milliseconds in microseconds, up to the greatest number of 64 bits
 abbrev pub microseconds : ℕ → ℕ

@@ -4,7 +4,8 @@ ghost use Rattle.std.specs.Prelude.{◌≡◌, length, List, ℕ, None, Some, On
 ghost use Rattle.std.specs.Io.KnownBytes.{Appends, Keeps};
 ghost use Rattle.lapd_capture.specs.Packet.{IsWithin};
 ghost use Rattle.lapd_capture.specs.Reader.{reading_of, unread};
-ghost use Rattle.lapd_cli_decode.specs.Captured.{CaptureCloses, CaptureEnds, IsOtherStop, ItemsEnd, StepsFrom, after_item, begins_at, is_user, item_text, named_sender, place_of, sender_in, with_sender};
+ghost use Rattle.lapd_cli_decode.specs.Captured.{CaptureCloses, CaptureEnds, IsOtherStop, ItemsEnd, StepsFrom, after_found, after_item, begins_at, found_text, is_user, item_text, named_sender, place_of, sender_in, with_sender};
+ghost use Rattle.lapd_cli_decode.specs.Frames.{after_missing, missing_text};
 
 use crate::frame_printer::{Follow, FramePrinter, Origin};
 use crate::frame_style::FrameStyle;
@@ -252,7 +253,7 @@ fn print_item<R: Read, W: Write, E: Write>(
     }
 }
 
-/// Prints a frame that was found.
+/// Prints a frame that was found, and before it how many are missing there.
 fn print_frame<R: Read, W: Write, E: Write>(
     capture: &CaptureReader<R>,
     printer: &mut FramePrinter,
@@ -269,6 +270,47 @@ fn print_frame<R: Read, W: Write, E: Write>(
         (reading_of capture.now left) (CaptureItem.Frame frame) printer.old) }
     ensures fault { IsOtherStop result }
 {
+    let total = capture.missing();
+    note_hidden(printer, capture.packets(), total, errors);
+    print_missing(printer, total, out)?;
+    print_found(capture, printer, frame, out, errors, how)?;
+    Ok(())
+}
+
+/// Prints how many frames are missing here, if the capture lacks `total` of them.
+fn print_missing<W: Write>(
+    printer: &mut FramePrinter,
+    total: u64,
+    out: &mut W,
+) -> Result<(), CaptureStop>
+    ensures line { OnOk result (Appends (W.contents out.old) (W.contents out.new)
+        (missing_text total printer.old)) }
+    ensures after { OnOk result (printer.new ≡ after_missing total printer.old) }
+    ensures fault { IsOtherStop result }
+{
+    match printer.miss(total, out) {
+        Ok(()) => Ok(()),
+        Err(LineFault::Memory) => Err(CaptureStop::Memory),
+        Err(_) => Err(CaptureStop::Device),
+    }
+}
+
+/// Prints a frame that was found.
+fn print_found<R: Read, W: Write, E: Write>(
+    capture: &CaptureReader<R>,
+    printer: &mut FramePrinter,
+    frame: Span,
+    out: &mut W,
+    errors: &mut E,
+    how: CaptureStyle,
+) -> Result<(), CaptureStop>
+    requires { IsWithin (length capture.now.body.items) (CaptureItem.Frame frame) }
+    ensures line { OnOk result ((left : List ℕ) → Appends (W.contents out.old)
+        (W.contents out.new) (found_text how (reading_of capture.now left) frame printer.old)) }
+    ensures after { OnOk result ((left : List ℕ) → printer.new ≡ after_found how
+        (reading_of capture.now left) frame printer.old) }
+    ensures fault { IsOtherStop result }
+{
     let octets = capture.octets_of(frame);
     see_sender(printer, frame);
     let named = named_sender(sender_in(printer.has_user(), frame), how.sender);
@@ -283,6 +325,15 @@ fn print_frame<R: Read, W: Write, E: Write>(
         Ok(()) => Ok(()),
         Err(LineFault::Memory) => Err(CaptureStop::Memory),
         Err(_) => Err(CaptureStop::Device),
+    }
+}
+
+/// Reports how many frames are missing before this packet, if the layout has no place for it. A
+/// failure of the error writer is ignored.
+fn note_hidden<E: Write>(printer: &FramePrinter, packet: u64, total: u64, errors: &mut E) {
+    if printer.hides_missing(total) {
+        let missing = printer.missing_of(total);
+        let _ = writeln!(errors, "packet {packet}: {missing}");
     }
 }
 

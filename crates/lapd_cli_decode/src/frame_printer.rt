@@ -2,13 +2,14 @@
 
 ghost use Rattle.std.specs.Prelude.{◌≡◌, nat_lt, true, IfOk, OnOk};
 ghost use Rattle.std.specs.String.{string_bytes};
-ghost use Rattle.lapd_cli_decode.specs.Frames.{ClosingEnds, PrintEnds, after_frame, after_shown, bare_text, closing_text, followed_packet, frame_text, heard_by, is_complete, is_violated_by, line_packet, line_with, listening_by, new_printing, said_by, said_if, sent_text, shown_packet, tables_of, text_by, text_with};
+ghost use Rattle.lapd_cli_decode.specs.Frames.{ClosingEnds, PrintEnds, after_frame, after_missing, after_shown, anew, bare_text, closing_text, followed_packet, frame_text, heard_by, is_complete, is_violated_by, line_packet, line_with, listening_by, missing_text, new_printing, said_by, said_if, sent_text, shown_packet, tables_of, text_by, text_with};
 
 use crate::any_sapi::has_other_sapi;
 use crate::color::put_colored;
 use crate::drawn::{drawn_frame, put_text};
 use crate::frame_style::{Drawing, FrameStyle, Layout};
 use crate::frame_time::either;
+use crate::missing::{Missing, put_missing};
 use crate::shown_text::{write_other, write_unsent};
 use crate::style::Style;
 use crate::tables::put_tables;
@@ -50,6 +51,8 @@ pub(crate) struct FramePrinter {
     printed: u64,
     first: Option<u64>,
     last: Option<u64>,
+    /// How many packets the capture said to lack, up to the frame before.
+    missing: u64,
     listener: Option<Listener>,
     text: String,
 }
@@ -67,6 +70,7 @@ impl Model for FramePrinter {
       printed = p.printed;
       first = p.first;
       last = p.last;
+      missing = p.missing;
       listening = p.listener;
     } };
 }
@@ -96,6 +100,7 @@ impl FramePrinter {
             printed: 0,
             first: None,
             last: None,
+            missing: 0,
             listener,
             text: String::new(alloc),
         })
@@ -147,6 +152,38 @@ impl FramePrinter {
         let is_first = !self.is_noted;
         self.is_noted = true;
         is_first
+    }
+
+    /// Whether the layout has no place for the number of missing frames, if there are `total` of
+    /// them and some are missing here.
+    pub(crate) fn hides_missing(&self, total: u64) -> bool {
+        self.missing < total && self.how.layout == Layout::Drawn(Drawing::Picture)
+    }
+
+    /// How many frames are missing here, if there are `total` of them.
+    pub(crate) fn missing_of(&self, total: u64) -> Missing {
+        Missing {
+            count: total.saturating_sub(self.missing),
+        }
+    }
+
+    /// Prints how many frames are missing here, if the capture lacks `total` of them and that is
+    /// more than before. Then the links are followed anew.
+    ///
+    /// # Errors
+    ///
+    /// `Memory` if an allocation fails, before anything is printed; `Device` if the writer fails.
+    pub(crate) fn miss<W: Write>(&mut self, total: u64, out: &mut W) -> Result<(), LineFault>
+        ensures { PrintEnds (missing_text total self.old) (after_missing total self.old) result
+            self.new (W.contents out.old) (W.contents out.new) }
+    {
+        if total <= self.missing {
+            return Ok(());
+        }
+        let count = total - self.missing;
+        begin_anew(&mut self.listener);
+        self.missing = total;
+        put_missing(self.alloc, self.how.layout, self.how.style, count, out)
     }
 
     /// Follows the next octets, if links are followed and their sender is known, and prints them
@@ -327,6 +364,16 @@ fn listener_by(alloc: Global, follow: Option<Follow>) -> Result<Option<Listener>
             let listener = Listener::new(alloc, follow.k)?;
             Ok(Some(listener))
         }
+    }
+}
+
+/// Lets the listener follow the links anew, if there is one.
+fn begin_anew(listener: &mut Option<Listener>)
+    ensures { listener.new ≡ anew listener.old }
+{
+    match listener {
+        None => {}
+        Some(listener) => listener.begin_anew(),
     }
 }
 

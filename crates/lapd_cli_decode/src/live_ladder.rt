@@ -2,11 +2,12 @@
 
 ghost use Rattle.std.specs.Prelude.{◌≡◌, IfOk, OnOk};
 ghost use Rattle.std.specs.Io.KnownBytes.{Appends};
-ghost use Rattle.lapd_cli_decode.specs.LiveLadder.{after_rung, new_ladder, rung_of};
+ghost use Rattle.lapd_cli_decode.specs.LiveLadder.{after_rung, ladder_head, new_ladder, rung_of};
 
 use crate::frame_printer::{Follow, FramePrinter, Origin};
 use crate::frame_style::{Drawing, FrameStyle, Layout};
 use crate::frame_time::FrameTime;
+use lapd_cli_ladder::push_head;
 use lapd_cli_render::Packet;
 use lapd_frame::Side;
 use std::alloc::{AllocError, Global};
@@ -30,6 +31,19 @@ pub struct FrameDrawer<W> {
     out: W,
 }
 
+/// The line above the first frame of such a ladder, for a reader who opens a pipe later.
+///
+/// # Errors
+///
+/// `AllocError` if an allocation fails.
+pub fn ladder_head(alloc: Global) -> Result<Vec<u8>, AllocError>
+    ensures { IfOk result (λ head. head.items ≡ ladder_head) }
+{
+    let mut head = Vec::new(alloc);
+    push_head(&mut head, LADDER.ladder())?;
+    Ok(head)
+}
+
 impl<W: Write> FrameDrawer<W> {
     /// Begins a ladder. Nothing is written before the first frame.
     ///
@@ -49,6 +63,11 @@ impl<W: Write> FrameDrawer<W> {
             printer,
             out,
         })
+    }
+
+    /// The writer, for what is written between the lines of frames.
+    pub fn writer(&mut self) -> &mut W {
+        &mut self.out
     }
 
     /// Draws a frame that `from` sent, at a moment in milliseconds since 1970. The first frame has

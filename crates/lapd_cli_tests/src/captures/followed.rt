@@ -38,6 +38,20 @@ d4c3b2a102000400000000000000000000000400b1000000\
 05000000000000001400000014000000000420fd00010000000000000000003000810101\
 05000000c0d401001400000014000000000020fd00010000000000000000003000810101";
 
+// A SABME and its UA, an I frame, an RR before which six frames are missing, and an I frame before
+// which one is; as editcap of Wireshark 4.0 writes such a pcapng file.
+const HOLES: &str = "\
+0a0d0d0a6c0000004d3c2b1a01000000ffffffffffffffff0400450045646974636170202857697265736861\
+726b2920342e302e313720284769742076342e302e3137207061636b6167656420617320342e302e31372d30\
+2b6465623132753329000000000000006c0000000100000014000000b1000000000000001400000006000000\
+340000000000000000000000104a0f0013000000130000000000000000000100000000000000003000817f00\
+3400000006000000340000000000000000000000e8a30f001300000013000000000400000000010000000000\
+0000003000817300340000000600000038000000000000000000000080841e00160000001600000000000000\
+00000100000000000000003000810000080100003800000006000000440000000000000000000000c0c62d00\
+1400000014000000000400000000010000000000000000300081010804000800060000000000000000000000\
+4400000006000000480000000000000000000000e06735001600000016000000000000000000010000000000\
+0000003000810800080100000400080001000000000000000000000048000000";
+
 const LINES: &str = "\
 U>N SAPI 0 TEI 64 C SABME P=1/N>U SAPI 0 TEI 64 R UA F=1; begins establishment 1; answers packet 1 in 0.023000 s\
 /N>U SAPI 0 TEI 64 R RNR N(R)=0 F=0/N>U SAPI 0 TEI 64 R RR N(R)=0 F=0\
@@ -66,6 +80,29 @@ U>N SAPI 0 TEI 64 C SABME P=1/N>U SAPI 0 TEI 64 R UA F=1; begins establishment 1
 /  U>N messages 0, octets 0, repeated 0, polls 5\
 /  N>U I 0, RR 4, RNR 0, REJ 0, SABME 0, DISC 0, UA 1, DM 0, UI 0, FRMR 0, XID 0\
 /  N>U messages 0, octets 0, repeated 0, polls 0, answers 5 after 0.005000 to 0.120000 s, middle 0.010000 to 0.020000 s, mean 0.034900 s";
+
+const HOLES_LINES: &str = "\
+U>N SAPI 0 TEI 64 C SABME P=1/N>U SAPI 0 TEI 64 R UA F=1; begins establishment 1; answers packet 1 in 0.023000 s\
+/U>N SAPI 0 TEI 64 C I N(S)=0 N(R)=0 P=0 info=0801/6 frames are missing here\
+/N>U SAPI 0 TEI 64 R RR N(R)=4 F=0/1 frame is missing here\
+/U>N SAPI 0 TEI 64 C I N(S)=4 N(R)=0 P=0 info=0801\
+/SAPI 0 TEI 64: establishments 1\
+/  U>N I 2, RR 0, RNR 0, REJ 0, SABME 1, DISC 0, UA 0, DM 0, UI 0, FRMR 0, XID 0\
+/  U>N messages 2, octets 4, repeated 0, polls 1\
+/  N>U I 0, RR 1, RNR 0, REJ 0, SABME 0, DISC 0, UA 1, DM 0, UI 0, FRMR 0, XID 0\
+/  N>U messages 0, octets 0, repeated 0, polls 0, answers 1 after 0.023000 to 0.023000 s, middle 0.023000 to 0.023000 s, mean 0.023000 s";
+
+const HOLES_LADDER: &str = "\
+packet         time       user |                                    | network\
+/     1     0.000000 SABME sent |-- 0 64 SABME P=1 ----------------->| -\
+/     2     0.023000      S0 R0 |<-- 0 64 UA F=1 --------------------| S0 R0\
+/                               |  begins establishment 1            |\
+/                               |  answers packet 1 in 0.023000 s    |\
+/     3     0.998000      S1 R0 |-- 0 64 I N(S)=0 N(R)=0 P=0 inf.. ->| S0 R0\
+/6 frames are missing here\
+/     4     1.998000          - |<-- 0 64 RR N(R)=4 F=0 -------------| -\
+/1 frame is missing here\
+/     5     2.498000          - |-- 0 64 I N(S)=4 N(R)=0 P=0 inf.. ->| -";
 
 const LADDER: &str = "\
 packet         time       user |                                    | network\
@@ -106,17 +143,27 @@ fn captures_are_followed(rt: HostRuntime) -> Result<(), Fail> {
             "its end, or its lines",
         ),
         (
+            prints(alloc, HOLES, Style::Plain, HOLES_LINES),
+            HOLES_LINES,
+            "its end, or its lines",
+        ),
+        (
+            draws(alloc, HOLES, FrameTime::Relative, HOLES_LADDER),
+            HOLES_LADDER,
+            "its end, or its lines",
+        ),
+        (
             prints(alloc, CAPTURE, Style::Json, OBJECTS),
             OBJECTS,
             "its end, or its lines",
         ),
         (
-            draws(alloc, FrameTime::Relative, LADDER),
+            draws(alloc, CUT_CAPTURE, FrameTime::Relative, LADDER),
             LADDER,
             "its end, or its lines",
         ),
         (
-            draws(alloc, FrameTime::Absolute, WIDE_LADDER),
+            draws(alloc, CUT_CAPTURE, FrameTime::Absolute, WIDE_LADDER),
             WIDE_LADDER,
             "its end, or its lines",
         ),
@@ -132,14 +179,14 @@ fn prints(alloc: Global, capture: &str, style: Style, lines: &str) -> bool {
     prints_so(alloc, capture, frames, lines)
 }
 
-// Whether the cut capture is drawn so, with these times.
-fn draws(alloc: Global, time: FrameTime, lines: &str) -> bool {
+// Whether a capture is drawn so, with these times.
+fn draws(alloc: Global, capture: &str, time: FrameTime, lines: &str) -> bool {
     let frames = FrameStyle {
         layout: Layout::Drawn(Drawing::Ladder),
         time,
         ..FrameStyle::PLAIN
     };
-    prints_so(alloc, CUT_CAPTURE, frames, lines)
+    prints_so(alloc, capture, frames, lines)
 }
 
 // Whether a capture is printed so.
