@@ -161,7 +161,8 @@ fn lines_of(side: Side) -> Script {
 fn close<W: Write>(live: LiveSide<Line<'_>, &mut W>) {
     let (line, out, _flushed) = live.into_parts();
     let _ = out.flush();
-    let (line, _taps) = line.into_parts();
+    let (line, taps) = line.into_parts();
+    taps.close();
     let connections = line.into_inner();
     connections.print_closed();
     connections.close();

@@ -47,6 +47,11 @@ impl<'a> GrowingFile<'a> {
         self.is_regular
     }
 
+    /// Its path.
+    pub fn path(&self) -> &'a str {
+        self.path
+    }
+
     /// Removes its content, and returns the file.
     pub fn begin(self) -> io::Result<File> {
         if self.is_regular {

@@ -8,6 +8,7 @@
 
 mod acceptor;
 mod auditor;
+mod capture_file;
 mod clock;
 mod connecting;
 pub mod connection;
@@ -17,6 +18,8 @@ mod discards;
 mod frame_stream;
 mod growing_file;
 mod input;
+mod ladder_file;
+mod losses;
 mod lost;
 mod next_connections;
 mod notes;

@@ -2,12 +2,12 @@
 
 ghost use Rattle.std.specs.Prelude.{◌≤◌, length};
 
+use crate::capture_file::CaptureFile;
 use crate::growing_file::{GrowingFile, NoFile};
+use crate::ladder_file::LadderFile;
 use crate::notes::Notes;
 use crate::protection::{Content, is_same_file};
-use crate::record_file::RecordFile;
-use lapd_capture::{CaptureWriter, gsmtap_of};
-use lapd_cli_decode::FrameDrawer;
+use lapd_capture::gsmtap_of;
 use lapd_cli_line::{MOST_RECEIVED, Tap};
 use lapd_cli_script::Reason;
 use lapd_frame::Side;
@@ -54,8 +54,8 @@ pub struct Taps<'rt> {
     kept_ladder: Option<GrowingFile<'rt>>,
     /// The time of the start, in milliseconds since 1970, known from the first frame on.
     begun: Option<u64>,
-    capture: Option<CaptureWriter<RecordFile<'rt>>>,
-    ladder: Option<FrameDrawer<RecordFile<'rt>>>,
+    capture: Option<CaptureFile<'rt>>,
+    ladder: Option<LadderFile<'rt>>,
     gsmtap: Option<GsmtapSocket>,
 }
 
@@ -192,15 +192,25 @@ impl<'rt> Taps<'rt> {
 
     // Begins a ladder in a file.
     fn begin_ladder(&mut self, file: GrowingFile<'rt>) -> Result<(), NoTaps> {
+        let path = file.path();
         let begun = file.begin();
         let file = begun.map_err(|error| NoTaps::Ladder(NoFile::Device(error)))?;
-        let file = RecordFile::new(self.rt, self.notes, "ladder", file);
-        match FrameDrawer::new(self.rt.alloc(), file) {
+        match LadderFile::begin(self.rt, self.notes, path, file) {
             Ok(ladder) => {
                 self.ladder = Some(ladder);
                 Ok(())
             }
             Err(_) => Err(NoTaps::Memory),
+        }
+    }
+
+    /// Notes how many dropped frames no note was about yet. Call it after the last frame.
+    pub fn close(mut self) {
+        if let Some(capture) = &mut self.capture {
+            capture.close();
+        }
+        if let Some(ladder) = &mut self.ladder {
+            ladder.close();
         }
     }
 }
@@ -229,7 +239,7 @@ impl Taps<'_> {
         let Some(capture) = &mut self.capture else {
             return;
         };
-        if let Err(error) = capture.write(from, time, frame) {
+        if let Err(error) = capture.record(from, time, frame) {
             self.notes
                 .print(format_args!("capture stopped: {}", Reason(&error)));
             self.capture = None;
@@ -241,7 +251,7 @@ impl Taps<'_> {
         let Some(ladder) = &mut self.ladder else {
             return;
         };
-        if let Err(error) = ladder.draw(from, time, frame) {
+        if let Err(error) = ladder.record(from, time, frame) {
             self.notes
                 .print(format_args!("ladder stopped: {}", Reason(&error)));
             self.ladder = None;
@@ -294,12 +304,13 @@ fn gsmtap_address(rt: &HostRuntime, address: &str) -> io::Result<SocketAddr> {
 
 // Begins this side's capture in a file.
 fn capture_into<'rt>(
-    rt: &HostRuntime,
+    rt: &'rt HostRuntime,
     notes: &'rt Notes<'rt>,
     own: Side,
-    file: GrowingFile<'_>,
-) -> io::Result<CaptureWriter<RecordFile<'rt>>> {
-    CaptureWriter::new(own, RecordFile::new(rt, notes, "capture", file.begin()?))
+    file: GrowingFile<'rt>,
+) -> io::Result<CaptureFile<'rt>> {
+    let path = file.path();
+    CaptureFile::begin(rt, notes, own, path, file.begin()?)
 }
 
 // The time of the start: the known one, or `moment` milliseconds ago.

@@ -1,0 +1,85 @@
+//! The file of a capture: pcap in a regular file, and pcapng in a named pipe, since its reader may
+//! pause, and pcapng can say how many frames are missing.
+
+ghost use Rattle.std.specs.Prelude.{◌≤◌, length};
+
+use crate::notes::Notes;
+use crate::record_file::RecordFile;
+use lapd_capture::{BLOCKS_HEADER, CaptureWriter, MOST_FRAME, block_of};
+use lapd_frame::Side;
+use std::fs::File;
+use std::io::{self, Write};
+
+/// The file of a capture.
+#[derive(Drop)]
+pub(crate) enum CaptureFile<'rt> {
+    /// pcap: no frame is ever missing in a regular file.
+    Pcap(CaptureWriter<RecordFile<'rt>>),
+    /// pcapng, of which a reader may pause. The side is the one that captures.
+    Pcapng(Side, RecordFile<'rt>),
+}
+
+impl<'rt> CaptureFile<'rt> {
+    /// Begins the capture of this side in this file, which is open for writing and has this path.
+    ///
+    /// # Errors
+    ///
+    /// The system's error.
+    pub(crate) fn begin(
+        rt: &'rt HostRuntime,
+        notes: &'rt Notes<'rt>,
+        own: Side,
+        path: &'rt str,
+        file: File,
+    ) -> io::Result<CaptureFile<'rt>> {
+        let mut file = RecordFile::new(rt, notes, "capture", path, file);
+        if file.has_reader() {
+            file.begin(&BLOCKS_HEADER)?;
+            return Ok(CaptureFile::Pcapng(own, file));
+        }
+        let writer = CaptureWriter::new(own, file)?;
+        Ok(CaptureFile::Pcap(writer))
+    }
+
+    /// Records a frame that `from` sent at a moment in milliseconds since 1970, or drops it.
+    ///
+    /// # Errors
+    ///
+    /// The system's error.
+    pub(crate) fn record(&mut self, from: Side, moment: u64, frame: &[u8]) -> io::Result<()>
+        requires { length frame.now ≤ MOST_FRAME }
+    {
+        match self {
+            CaptureFile::Pcap(writer) => writer.write(from, moment, frame),
+            CaptureFile::Pcapng(own, file) => record_block(*own, file, from, moment, frame),
+        }
+    }
+
+    /// Notes how many dropped frames no note was about yet.
+    pub(crate) fn close(&mut self) {
+        match self {
+            CaptureFile::Pcap(_) => {}
+            CaptureFile::Pcapng(_, file) => file.close(),
+        }
+    }
+}
+
+/// Records a frame as a block of pcapng, with the number of frames that are missing before it.
+fn record_block(
+    own: Side,
+    file: &mut RecordFile<'_>,
+    from: Side,
+    moment: u64,
+    frame: &[u8],
+) -> io::Result<()>
+    requires { length frame.now ≤ MOST_FRAME }
+{
+    let Some(place) = file.next(moment) else {
+        return Ok(());
+    };
+    if place.is_new {
+        file.begin_with(&BLOCKS_HEADER)?;
+    }
+    let block = block_of(own, from, moment, place.missing, frame);
+    file.write_all(block.as_slice())
+}
