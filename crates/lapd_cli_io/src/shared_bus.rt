@@ -3,7 +3,7 @@
 
 use crate::auditor::Auditor;
 use crate::repeated::Repeated;
-use crate::ties::Ties;
+use crate::ties::{Ties, is_denial};
 use lapd_table::{LinkId, LinkTable, Sapi, Tei};
 use lapd_tei::Assigner;
 use lapd_tei_audit::{AuditStep, UsedTei, used_tei};
@@ -85,10 +85,10 @@ impl SharedBus {
 
     /// Records a frame that the side sends. Returns whether it denies a request for a TEI.
     pub fn send(&mut self, octets: &[u8]) -> bool {
-        match &mut self.ties {
-            Some(ties) => ties.send(octets),
-            None => false,
+        if let Some(ties) = &mut self.ties {
+            ties.send(octets);
         }
+        is_denial(octets)
     }
 
     /// The side discarded a frame: it has no such link.

@@ -63,11 +63,10 @@ impl Ties {
     }
 
     /// Records a frame of the network side: a TEI that it assigns is tied to the connection that
-    /// requested it, and one that it removes is not tied any more. Returns whether it denies a
-    /// request.
-    pub fn send(&mut self, octets: &[u8]) -> bool {
+    /// requested it, and one that it removes is not tied any more.
+    pub fn send(&mut self, octets: &[u8]) {
         let Some(message) = message_in(octets, Side::Network) else {
-            return false;
+            return;
         };
         match message.kind {
             TeiKind::Assigned => self.tie(message.ai, self.place_with(message.ri)),
@@ -75,7 +74,6 @@ impl Ties {
             TeiKind::Remove => self.tie(message.ai, None),
             _ => {}
         }
-        matches!(message.kind, TeiKind::Denied)
     }
 
     /// Unties all TEIs of the connection at this place, which is lost.
@@ -101,6 +99,14 @@ impl Ties {
         self.requested
             .iter()
             .position(|requested| *requested == Some(ri))
+    }
+}
+
+/// Whether the network side denies a request for a TEI by these octets.
+pub fn is_denial(octets: &[u8]) -> bool {
+    match message_in(octets, Side::Network) {
+        Some(message) => matches!(message.kind, TeiKind::Denied),
+        None => false,
     }
 }
 

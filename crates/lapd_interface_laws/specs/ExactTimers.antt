@@ -32,9 +32,9 @@ BothHaveExactTimers i = HaveExactTimers i.user.served.links
 
 -- ---- Consequences: timers by state, and deadlines in time.
 
--- The state determines the timers that run. In states 5, 6 and 8 T200 has a deadline and T203 has
--- none. In state 7 one of the two has, and T203 only if all is acknowledged. In state 4 neither
--- has.
+-- Which timers run in each state. In states 5, 6 and 8 T200 has a deadline and T203 has none. In
+-- state 7 exactly one of the two has, and T203 only if all is acknowledged; if all is, either may.
+-- In state 4 neither has.
 abbrev pub RunByState : Linked → Type 0
 RunByState l = AreTimersOf l.end.state (is_some (deadline_of T200 l.timers))
     (is_some (deadline_of T203 l.timers)) (l.end.window.vs ≡ l.end.window.va)

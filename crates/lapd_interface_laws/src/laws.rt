@@ -186,10 +186,10 @@ pub fn each_premise_is_needed()
 
 /// On every link that a side ever has, each timer runs exactly when the link's end requires it.
 ///
-/// T200 and T203 have a deadline exactly when the state requires it; T201 and T202 of a link never
-/// have one. This holds for all links at once and needs no premise: a TEI may be removed and
-/// assigned again, and any octets may arrive or be overheard, numbers below 256 (Q.921 5.9.1,
-/// 5.9.8, 5.10.3).
+/// T200 and T203 have a deadline exactly when they run at the link's end; T201 and T202 of a link
+/// never have one. This holds for all links at once, whatever the events are: a TEI may be removed
+/// and assigned again, and any octets may arrive or be overheard, numbers below 256 (Q.921 5.9.1,
+/// 5.9.8, 5.10.3). Setting the durations of a side's timers is no event.
 ///
 /// - `new_network`, `new_user`: newly created sides have this property.
 /// - `network_event`, `user_event`: each event keeps it, from any side whose links have it, if only
@@ -197,7 +197,8 @@ pub fn each_premise_is_needed()
 /// - `network_steps`, `user_steps`: so a side has it, whatever octets arrive before each event and
 ///   whatever the events are.
 /// - `interface`: so both sides have it after every list of moves.
-/// - `by_state`: the state determines which of T200 and T203 have a deadline.
+/// - `by_state`: in states 4, 5, 6 and 8 the state determines which of T200 and T203 have a
+///   deadline. In state 7 exactly one has, and that is T200 if an I frame is outstanding.
 /// - `woken`: while a link is in any state but 4, its side has a next deadline, no later than the
 ///   link's own. So a caller that sleeps until the next deadline does not sleep forever.
 pub fn timers_run_as_ends_require()

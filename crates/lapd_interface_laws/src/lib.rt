@@ -23,7 +23,7 @@
 //!   a world of two ends that some moves lead to (`ProjectsTo`). That world is safe, and the link's
 //!   primitives are right (`IsRight`, `IsSafeAt`).
 //! - `Owed`: what each event of a side may do to one of its links (`ServesLink`).
-//! - `ExactTimers`, for all links and without premises: each timer of a link runs exactly when the
+//! - `ExactTimers`, for all links, whatever happens: each timer of a link runs exactly when the
 //!   link's end requires it. In a `SideStep` octets arrive at one side from anyone, and then an
 //!   event of that side follows. `ManagementTimers`: T201 and T202 run exactly while TEI management
 //!   waits.

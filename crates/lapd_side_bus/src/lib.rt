@@ -5,8 +5,9 @@
 //! [`BusMove`]: a side takes or loses octets, a timer of it expires, or it executes a request. So a
 //! program chooses which receiver loses which octets, and in which order lines deliver.
 //!
-//! Each move is one event of the bus of `lapd_interface` (specs/Moves.antt). So the laws on the TEIs
-//! and the links of a bus (`lapd_bus_laws`) hold for a `SideBus`, under their premises.
+//! Each move is one event of the bus of `lapd_interface`, or none (specs/Moves.antt). So the laws on
+//! the TEIs and the links of a bus (`lapd_bus_laws`) hold for a `SideBus`, under their premises, from
+//! the moment at which all terminals are connected: [`SideBus::connect`] is no event.
 #![tactic(auto)]
 
 mod bus_move;
