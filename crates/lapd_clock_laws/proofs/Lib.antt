@@ -1,0 +1,9 @@
+pub mod PolledRows
+pub mod LinkDeadlines
+pub mod EachSide
+pub mod SideClocks
+pub mod EveryRun
+pub mod Along
+pub mod Safe
+pub mod Tests
+pub mod RunsComputed

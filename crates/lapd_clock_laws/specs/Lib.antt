@@ -1,0 +1,4 @@
+pub mod Clock
+pub mod InTime
+pub mod Buses
+pub mod Runs
