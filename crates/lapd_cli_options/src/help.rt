@@ -169,7 +169,7 @@ bus does";
 
 pub const LIVE_PCAP: &str = "\
 With --clock real, writes each frame to this file, as pcap of link
-type 177 (LINUX_LAPD)";
+type 177 (LINUX_LAPD), or to a named pipe as pcapng";
 
 pub const LIVE_LADDER: &str = "\
 With --clock real, draws each frame into this file, as an arrow
