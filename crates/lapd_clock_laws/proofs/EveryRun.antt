@@ -34,17 +34,17 @@ use Rattle.lapd_clock_laws.proofs.SideClocks.{IsAwaited, all_still, event_of_oth
 -- ---- What holds of a link between the events of a run.
 
 -- the clock shows the octets in transit of a side's view
-record ShowsLines {S : Type 0} (k : SideClock) (v : SideView S) : Type 0 where
+pub record ShowsLines {S : Type 0} (k : SideClock) (v : SideView S) : Type 0 where
   pub incoming : octets_of k.incoming ≡ v.incoming
   pub outgoing : octets_of k.outgoing ≡ v.outgoing
 
 -- octets of the link in transit were sent by now
-record ArePast (side other : Side) (id : LinkId) (k : SideClock) : Type 0 where
+pub record ArePast (side other : Side) (id : LinkId) (k : SideClock) : Type 0 where
   pub incoming : AreSent other id (λ at. at ≤ k.now) k.incoming
   pub outgoing : AreSent side id (λ at. at ≤ k.now) k.outgoing
 
 -- seen from one side: its own link, the link of the other side, and the octets in transit
-record Holds {S : Type 0} (longest : ℕ) (side other : Side) (id : LinkId)
+pub record Holds {S : Type 0} (longest : ℕ) (side other : Side) (id : LinkId)
     (own link : Option Linked) (v : SideView S) (k : SideClock) : Type 0 where
   pub lines : ShowsLines k v
   pub past : ArePast side other id k
@@ -179,7 +179,7 @@ module _ {M : Type 0} (rules : Rules M) (longest : ℕ) (positive : 0 < longest)
 module _ (c : Configs) (id : LinkId) (low : id.tei < 127) (longest : ℕ) (positive : 0 < longest)
     (user_long : IsLongEnough longest c.user.durations)
     (network_long : IsLongEnough longest c.network.durations) where
-  abbrev HoldsOfUser : Interface → Clock → Type 0
+  abbrev pub HoldsOfUser : Interface → Clock → Type 0
   HoldsOfUser i k = Holds longest side.User side.Network id (i.user.served.links id)
       (i.network.served.links id) (by_user i) (user_clock k)
 
@@ -217,7 +217,7 @@ module _ (c : Configs) (id : LinkId) (low : id.tei < 127) (longest : ℕ) (posit
   network_law polled now =
       network_goes_on (2 * longest) id low polled c.network network_long now
 
-  move_keeps : (who : Side) (event : SideEvent) (i : Interface) (k : Clock)
+  pub move_keeps : (who : Side) (event : SideEvent) (i : Interface) (k : Clock)
       → OverhearsOthers id who event → OfMove (IsInTime longest id) who event i k
       → HoldsOfUser i k → HoldsOfUser (side_does c who event i) (clock_after c who event i k)
   move_keeps side.User event i k others in_time h =
@@ -229,7 +229,7 @@ module _ (c : Configs) (id : LinkId) (low : id.tei < 127) (longest : ℕ) (posit
       (by_network i) (network_clock k) (i.user.served.links id) others in_time
       (as_network i k h))
 
-  move_timely : (who : Side) (event : SideEvent) (i : Interface) (k : Clock)
+  pub move_timely : (who : Side) (event : SideEvent) (i : Interface) (k : Clock)
       → OverhearsOthers id who event → OfMove (IsInTime longest id) who event i k
       → HoldsOfUser i k → IsTimelyMove id who event i
   move_timely side.User event i k others in_time h =
@@ -266,7 +266,7 @@ module _ (c : Configs) (id : LinkId) (low : id.tei < 127) (longest : ℕ) (posit
       (λ (sent : Sent). is_for from id sent.octets ≡ true → sent.at ≤ now)
       (λ sent never its. absurd (never its)) line none
 
-  starts : (i : Interface) (k : Clock) → Shows k i → IsClear id i
+  pub starts : (i : Interface) (k : Clock) → Shows k i → IsClear id i
       → HasLongT200 longest (i.user.served.links id)
       → HasLongT200 longest (i.network.served.links id) → HoldsOfUser i k
   starts i k shows clear long_user long_network =

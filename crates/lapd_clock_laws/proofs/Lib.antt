@@ -7,3 +7,5 @@ pub mod Along
 pub mod Safe
 pub mod Tests
 pub mod RunsComputed
+pub mod AcrossRestarts
+pub mod AcrossComputed

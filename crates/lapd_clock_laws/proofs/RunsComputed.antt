@@ -39,7 +39,7 @@ use Rattle.lapd_clock_laws.specs.Runs.{AllButInOrder, AllButInRange, AllButPromp
 use Rattle.lapd_clock_laws.proofs.Tests.{IsSound, Test, both_sound, in_order, in_order_so, in_range, in_range_so, in_time, in_time_so, passes, prompt, prompt_so, takes_first, takes_first_so, throughout_so, when_due, when_due_so}
 
 -- what a run computes with
-unfoldable whole_table : Unit {0}
+unfoldable pub whole_table : Unit {0}
 unfolding link_acts link_expires in_links with_tei without_tei primitive_of_tei manages assigner_acts link_of takes expires network_requested begin put state_to rc_to increment_rc layer3_initiated_to release_pending_to start stop expired clear_exception_conditions zero_state_variables set_peer_busy set_own_busy enquiry_response transmit_enquiry queue_up discard_i_queue acknowledge invoke_retransmission i_frame_ns discard_unacknowledged transmit_i_frame ensure_t200 transmit_rr establish_data_link reestablish_data_link end_establishment tei_assigned confirm_or_indicate ua_final awaiting_establishment_t200 awaiting_establishment confirm_release awaiting_release_t200 awaiting_release acknowledge_with_timers nr_error_recovery i_frame_nr i_frame_nr_in_recovery poll_or_final poll rr_nr rej_nr rnr_nr rr_nr_in_recovery rnr_nr_in_recovery timer_recovery_t200 busy_on busy_off in_7_and_8 established_t200 multiple_frame_established timer_recovery by_state report_fault row send_all acknowledge_pending end_step step initial_variables without_exceptions with_zero_counters status_frame acknowledgement without_ack_pending poll_response is_accepted is_rejected after_i_frame i_frame_response is_valid_nr with_va acknowledged_count acknowledges_all with_vs may_send next_i_frame after_sending with_own_busy with_peer_busy after steps lies_within terminal_acts user_requested links_below does
 whole_table = tt
 

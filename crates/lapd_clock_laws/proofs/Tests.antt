@@ -25,7 +25,7 @@ Test = Side → SideEvent → Served → SideClock → Bool
 
 -- ---- A run.
 
-abbrev of_move : Test → Side → SideEvent → Interface → Clock → Bool
+abbrev pub of_move : Test → Side → SideEvent → Interface → Clock → Bool
 of_move test side.User event i k = test side.User event i.user.served (user_clock k)
 of_move test side.Network event i k = test side.Network event i.network.served (network_clock k)
 
@@ -38,7 +38,7 @@ abbrev pub IsSound : Premise → Test → Type 0
 IsSound P test = (side : Side) (event : SideEvent) (s : Served) (k : SideClock)
     → test side event s k ≡ true → P side event s k
 
-move_so : (P : Premise) (test : Test) → IsSound P test → (who : Side) (event : SideEvent)
+pub move_so : (P : Premise) (test : Test) → IsSound P test → (who : Side) (event : SideEvent)
     (i : Interface) (k : Clock) → of_move test who event i k ≡ true → OfMove P who event i k
 move_so P test sound side.User event i k h =
     sound side.User event i.user.served (user_clock k) h

@@ -1,4 +1,5 @@
 pub mod Clock
 pub mod InTime
 pub mod Buses
+pub mod Across
 pub mod Runs

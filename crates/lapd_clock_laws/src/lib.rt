@@ -13,24 +13,29 @@
 //!   that have arrived before it expires a timer, and timers expire only when they are due. T200 is
 //!   at least twice `longest` (`IsLongEnough`).
 //! - `Buses`: the premises of a bus that are not about the clock.
-//! - `Runs`: worked runs.
+//! - `Across`: the premises if sides restart. `Runs`: worked runs.
 //!
 //! The laws:
 //!
 //! - [`every_run_in_time_is_timely`]: the premise on T200 follows, with losses or without.
 //! - [`each_link_in_time_is_safe`]: so each link of two sides is safe.
 //! - [`each_link_of_a_bus_in_time_is_safe`]: and each link of a bus.
+//! - [`each_link_in_time_is_safe_across_restarts`]: and each link of two sides that restart.
 //! - [`ticks_are_when_due`]: the code expires a timer only when it is due.
 //! - [`half_of_t200_is_reached`], [`bus_premises_in_time_can_be_met`],
-//!   [`each_clock_premise_is_needed`]: worked runs.
+//!   [`restart_premises_in_time_can_be_met`], [`each_clock_premise_is_needed`]: worked runs.
 #![tactic(auto)]
 
 mod buses;
 mod laws;
+mod restarts;
 mod runs;
 
 pub use buses::each_link_of_a_bus_in_time_is_safe;
 pub use laws::{each_link_in_time_is_safe, every_run_in_time_is_timely, ticks_are_when_due};
+pub use restarts::{
+    each_link_in_time_is_safe_across_restarts, restart_premises_in_time_can_be_met,
+};
 pub use runs::{
     bus_premises_in_time_can_be_met, each_clock_premise_is_needed, half_of_t200_is_reached,
 };
