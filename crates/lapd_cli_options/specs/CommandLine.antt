@@ -1,5 +1,5 @@
 -- The meaning of the command line's words.
-use Rattle.std.specs.Prelude.{◌≡◌, Bool, true, false, None, []}
+use Rattle.std.specs.Prelude.{◌≡◌, Bool, true, false, None, Some, []}
 use Rattle.lapd_frame.specs.declared.Side.TheVariants.{Network}
 use Rattle.lapd_frame.specs.declared.Sapi.TheVariants.{Call}
 use Rattle.lapd_link_definition.specs.declared.recovery.Recovery.TheVariants.{Enquiry}
