@@ -11,7 +11,7 @@ use Rattle.lapd_cli_line.specs.declared.outside.Woken.{Woken}
 use Rattle.lapd_cli_line.specs.declared.outside.Woken.TheVariants as woken
 use Rattle.lapd_cli_line.specs.IoEvents.{Adds, Arrives, IoEvent, FindsNone, Reads, Sends, Waits, is_reached}
 use Rattle.lapd_cli_live.specs.Log.{LiveState, io_events_in, is_matched, moment_of}
-use Rattle.lapd_cli_live.specs.Steps.{AuditsOnce, CatchesUp, IsMatched, IsOver, IsServed, LooksInVain, Receives, Step, TakesMost, WaitsOnce, end_by_wait, ended_by}
+use Rattle.lapd_cli_live.specs.Steps.{CatchesUp, IsMatched, IsOver, IsServed, LooksInVain, Proceeds, ProceedsOnce, Receives, Step, TakesMost, end_by_wait, ended_by}
 use Rattle.lapd_cli_live.specs.PromptLine.{Arrival, EndsInTime, ExpiresInTime, HasAllThatArrived, IsPrompt, IsPromptAfter, StartsWithEarlier, frames_received, one_left, three_at_once, three_received}
 
 received_before : (io_events : List IoEvent) (now : ℕ)
@@ -127,6 +127,13 @@ no_wait_ends lines woken.Closed e = cc
 no_wait_ends lines.Awaited woken.Line e = cc
 no_wait_ends lines.Ignored woken.Line e = cc
 
+no_proceeding_ends : (service : Service) (a b : LiveState)
+    → Proceeds service (Some end_reason.End) a b → ⊥
+no_proceeding_ends service a b (inl audits) =
+    let never : Some end_reason.End ≡ None = audits.is in cc
+no_proceeding_ends service a b (inr waits) =
+    no_wait_ends service.lines waits.woken (sym waits.is)
+
 ends_by_step : (arrivals : List Arrival) (service : Service) (a b : LiveState)
     (io_events : List IoEvent) → Step service a b (Some end_reason.End)
     → b.io_events ≡ Some io_events
@@ -137,8 +144,7 @@ ends_by_step arrivals service a b io_events (inr whole) known prompt = by_then w
   where
     by_then : IsMatched service whole.ready b (Some end_reason.End)
         ⊎ (IsOver service whole.ready b (Some end_reason.End)
-        ⊎ (AuditsOnce service whole.ready b (Some end_reason.End)
-        ⊎ WaitsOnce service whole.ready b (Some end_reason.End)))
+        ⊎ ProceedsOnce service whole.ready b (Some end_reason.End))
         → EndsInTime arrivals service b
     by_then (inl matched) =
         absurd (no_frame_ends service.until false (is_matched whole.ready)
@@ -152,9 +158,8 @@ ends_by_step arrivals service a b io_events (inr whole) known prompt = by_then w
       reached =
           ap (λ (x : LiveState). is_reached service.end (moment_of x)) over.same ∙ over.reached;
     }
-    by_then (inr (inr (inl audits))) = let never : Some end_reason.End ≡ None = audits.is in cc
-    by_then (inr (inr (inr waits))) =
-        absurd (no_wait_ends service.lines waits.waits.woken (sym waits.waits.is))
+    by_then (inr (inr once)) =
+        absurd (no_proceeding_ends service whole.ready b once.proceeds)
 
 pub ends_in_time : (arrivals : List Arrival) (service : Service) (a b : LiveState)
     (io_events : List IoEvent) → IsServed service end_reason.End a b → b.io_events ≡ Some io_events

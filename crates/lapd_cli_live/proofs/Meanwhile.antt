@@ -6,7 +6,7 @@ use Rattle.lapd_cli_live.specs.declared.service.Service.{Service}
 use Rattle.lapd_cli_live.specs.declared.service.Until.{Until}
 use Rattle.lapd_cli_live.specs.declared.service.EndReason.{EndReason}
 use Rattle.lapd_cli_live.specs.Log.{Chain, Happen, LiveEvent, LiveState}
-use Rattle.lapd_cli_live.specs.Steps.{AuditsOnce, CatchesUp, Continues, IsMatched, IsOver, IsServed, Receives, Step, TakesAndContinues, WaitsOnce}
+use Rattle.lapd_cli_live.specs.Steps.{CatchesUp, Continues, IsMatched, IsOver, IsServed, Receives, Step, TakesAndContinues, Proceeds, ProceedsOnce}
 use Rattle.lapd_cli_live.specs.WaitingLines.{Expects, PrintsMeanwhile, awaiting}
 use Rattle.lapd_cli_live.proofs.Log.{happen_both, happen_none}
 
@@ -41,15 +41,20 @@ caught_happens until a b caught =
     some_both a caught.received b (received_happens until a caught.received caught.receives)
     (caught.due.events, caught.due.happen)
 
+proceeding_happens : (service : Service) (a b : LiveState) (outcome : Option EndReason)
+    → Proceeds service outcome a b → SomeHappen a b
+proceeding_happens service a b outcome (inl audits) = (_, audits.executes.happen)
+proceeding_happens service a b outcome (inr waits) =
+    some_both a waits.waited b (_, waits.waits.happen) (_, waits.reads.happen)
+
 ended_happens : (service : Service) (a b : LiveState) (outcome : Option EndReason)
     → IsMatched service a b outcome ⊎ IsOver service a b outcome
-    ⊎ AuditsOnce service a b outcome ⊎ WaitsOnce service a b outcome
+    ⊎ ProceedsOnce service a b outcome
     → SomeHappen a b
 ended_happens service a b outcome (inl matched) = none_happen a b matched.same
 ended_happens service a b outcome (inr (inl over)) = none_happen a b over.same
-ended_happens service a b outcome (inr (inr (inl audits))) = (_, audits.executes.happen)
-ended_happens service a b outcome (inr (inr (inr once))) =
-    some_both a once.waits.waited b (_, once.waits.waits.happen) (_, once.waits.reads.happen)
+ended_happens service a b outcome (inr (inr once)) =
+    proceeding_happens service a b outcome once.proceeds
 
 step_happens : (service : Service) (a b : LiveState) (outcome : Option EndReason)
     → Step service a b outcome → SomeHappen a b

@@ -22,7 +22,7 @@ use Rattle.lapd_cli_line.specs.declared.impairment.Impairment.{Impairment}
 use Rattle.lapd_cli_live.specs.Entries.{Entry, Prints, Received, moment_after}
 use Rattle.lapd_cli_live.specs.Printers.{PrintsOn, shown}
 use Rattle.lapd_cli_live.specs.Log.{Around, CarriesOut, CarriesOutAll, Chain, Happen, HappenBeside, IsCarriedOut, LiveEvent, LiveState, ReadsClock, Shows, is_matched, moment_of, read_at}
-use Rattle.lapd_cli_live.specs.Steps.{CatchesUp, DoesDue, EndsByFrame, Continues, IsForAudit, IsReached, HasReceived, IsExecuted, IsServed, Looks, LooksInVain, Receives, Step, TakesAndContinues, TakesAt, TakesFrame, WaitsFor, ended_by, refusal_events}
+use Rattle.lapd_cli_live.specs.Steps.{CatchesUp, DoesDue, EndsByFrame, Continues, IsReached, HasReceived, IsExecuted, IsServed, Looks, LooksInVain, Receives, Step, TakesAndContinues, TakesAt, TakesFrame, Proceeds, ended_by, refusal_events}
 use Rattle.lapd_cli_line.proofs.IoEvents.{adds_none, adds_same}
 use Rattle.lapd_cli_live.proofs.Log.{chain_more, happen_both, happen_none, live, prints_none}
 
@@ -373,43 +373,22 @@ then_over service a b outcome caught is none reached =
           }));
     })
 
-pub then_waits : (service : Service) (a b c : LiveState) (outcome end_reason : Option EndReason)
+pub then_proceeds : (service : Service) (a b c : LiveState) (outcome end_reason : Option EndReason)
     → CatchesUp service.until a b
     → outcome ≡ ended_by service.until false (is_matched b) → is_some outcome ≡ false
-    → ¬ IsReached service.end (moment_of b) → WaitsFor service end_reason b c
+    → ¬ IsReached service.end (moment_of b) → Proceeds service end_reason b c
     → Step service a c end_reason
-then_waits service a b c outcome end_reason caught is none not waits =
+then_proceeds service a b c outcome end_reason caught is none not proceeds =
     inr (record {
       ready = b;
       catches_up = caught;
       then =
-          inr (inr (inr (record {
+          inr (inr (record {
             continuing =
                 none_matched outcome (ended_by service.until false (is_matched b)) is none;
             not_over = not;
-            waits = waits;
-          })));
-    })
-
-pub then_audits : (service : Service) (a b c : LiveState) (outcome : Option EndReason)
-    (request : Request) → CatchesUp service.until a b
-    → outcome ≡ ended_by service.until false (is_matched b) → is_some outcome ≡ false
-    → ¬ IsReached service.end (moment_of b) → IsForAudit b.side request
-    → IsExecuted request b c → Step service a c None
-then_audits service a b c outcome request caught is none not audits executes =
-    inr (record {
-      ready = b;
-      catches_up = caught;
-      then =
-          inr (inr (inl (record {
-            continuing =
-                none_matched outcome (ended_by service.until false (is_matched b)) is none;
-            not_over = not;
-            request = request;
-            audits = audits;
-            executes = executes;
-            is = refl;
-          })));
+            proceeds = proceeds;
+          }));
     })
 
 pub if_ok : {A E : Type 0} (r : Result A E) (P Q : A → Type 0) → ((x : A) → P x → Q x) → IfOk r P

@@ -200,22 +200,23 @@ pub record WaitsFor (service : Service) (outcome : Option EndReason)
   pub reads : ReadsClock now waited b
   pub is : outcome ≡ end_by_wait service.lines woken
 
--- or neither, and a step of an audit is done
-pub record AuditsOnce (service : Service) (a b : LiveState)
-    (outcome : Option EndReason) : Type 0 where
-  pub continuing : ended_by service.until false (is_matched a) ≡ None
-  pub not_over : ¬ IsReached service.end (moment_of a)
+-- a step of an audit is done, and the service continues
+pub record Audits (outcome : Option EndReason) (a b : LiveState) : Type 0 where
   pub request : Request
   pub audits : IsForAudit a.side request
   pub executes : IsExecuted request a b
   pub is : outcome ≡ None
 
--- or there is none to do, and there is one wait
-pub record WaitsOnce (service : Service) (a b : LiveState)
+-- a step of an audit is done, or there is one wait
+abbrev pub Proceeds : Service → Option EndReason → LiveState → LiveState → Type 0
+Proceeds service outcome a b = Audits outcome a b ⊎ WaitsFor service outcome a b
+
+-- or neither, and the side proceeds
+pub record ProceedsOnce (service : Service) (a b : LiveState)
     (outcome : Option EndReason) : Type 0 where
   pub continuing : ended_by service.until false (is_matched a) ≡ None
   pub not_over : ¬ IsReached service.end (moment_of a)
-  pub waits : WaitsFor service outcome a b
+  pub proceeds : Proceeds service outcome a b
 
 -- a step that no frame ends
 pub record WholeStep (service : Service) (a b : LiveState)
@@ -223,7 +224,7 @@ pub record WholeStep (service : Service) (a b : LiveState)
   pub ready : LiveState
   pub catches_up : CatchesUp service.until a ready
   pub then : IsMatched service ready b outcome ⊎ IsOver service ready b outcome
-      ⊎ AuditsOnce service ready b outcome ⊎ WaitsOnce service ready b outcome
+      ⊎ ProceedsOnce service ready b outcome
 
 -- A step of a service. The service continues if the outcome is `None`.
 pub record CutStep (service : Service) (a b : LiveState) (outcome : Option EndReason) : Type 0 where

@@ -51,7 +51,7 @@ pub struct LiveSide<O, W> {
 
 impl<O: Outside, W: Write> LiveSide<O, W> {
     ghost use Rattle.lapd_cli_live.specs.Log.{Between, IsCarriedOut, ReadsClock};
-    ghost use Rattle.lapd_cli_live.specs.Steps.{CatchesUp, DoesDue, EndsAfter, HasReceived, IsAsked, IsAskedFirst, IsExecuted, IsForAudit, IsServed, Looks, Step, TakesAt, WaitsFor};
+    ghost use Rattle.lapd_cli_live.specs.Steps.{CatchesUp, DoesDue, EndsAfter, HasReceived, IsAsked, IsAskedFirst, IsExecuted, IsForAudit, IsServed, Looks, Proceeds, Step, TakesAt, WaitsFor};
 
     /// A side with these surroundings. `acts` is the buffer for the output of its calls. A step
     /// receives at most `most` frames, as [`frames_of_step`] returns it for its connections.
@@ -116,11 +116,43 @@ impl<O: Outside, W: Write> LiveSide<O, W> {
         ensures err { OnErr result (SendsFront self.old.acts.frames (O.io_events self.old.outside)
             (O.io_events self.new.outside)) }
     {
+        self.put_acts()?;
+        self.note_unanswered();
+        Ok(())
+    }
+
+    /// Sends and prints the output of the last call, and notes nothing.
+    fn put_acts(&mut self) -> Result<(), LiveFault>
+        ensures carried { OnOk result
+            (Between O.io_events O.impaired_by W.contents self.old self.new
+            (IsCarriedOut self.old.acts)) }
+        ensures err { OnErr result (SendsFront self.old.acts.frames (O.io_events self.old.outside)
+            (O.io_events self.new.outside)) }
+    {
         let own = self.side.side();
         let (frames, primitives) = (self.acts.frames(), self.acts.primitives());
         send_all(own, frames, &mut self.outside, &mut self.printer)?;
-        report_unanswered(primitives, &mut self.outside);
         put_primitives(primitives, &mut self.printer)
+    }
+
+    /// Notes a link whose SABME or DISC the other side did not answer, by the output of the last
+    /// call.
+    fn note_unanswered(&mut self)
+        ensures { Between O.io_events O.impaired_by W.contents self.old self.new (λ a b. b ≡ a) }
+    {
+        if let Some(id) = unanswered(self.acts.primitives()) {
+            self.outside.note(Incident::Unanswered(id));
+        }
+    }
+
+    /// Notes a request to all terminals that has sent nothing.
+    fn note_without_effect(&mut self, incident: Option<Incident>)
+        ensures { Between O.io_events O.impaired_by W.contents self.old self.new (λ a b. b ≡ a) }
+    {
+        match incident {
+            Some(incident) if self.acts.frames().is_empty() => self.outside.note(incident),
+            _ => {}
+        }
     }
 
     /// Processes a frame at the moment `now`, and sends and prints the output. `now` was read just
@@ -216,8 +248,11 @@ impl<O: Outside, W: Write> LiveSide<O, W> {
         ensures { OnOk result
             (Between O.io_events O.impaired_by W.contents self.old self.new (IsAsked request)) }
     {
+        let without_effect = incident_without_effect(&request);
         self.catch_up()?;
-        self.execute(request)
+        self.execute(request)?;
+        self.note_without_effect(without_effect);
+        Ok(())
     }
 
     /// Reads the clock, and submits a request to the side before anything is received. If it is
@@ -241,9 +276,7 @@ impl<O: Outside, W: Write> LiveSide<O, W> {
             (IsExecuted request)) }
     {
         let now = self.printer.moment();
-        let without_effect = incident_without_effect(&request);
         let answered = self.side.request(request, now, &mut self.acts);
-        report_without_effect(without_effect, self.acts.frames(), &mut self.outside);
         self.carry_out()?;
         match answered {
             Ok(()) => Ok(()),
@@ -292,6 +325,22 @@ impl<O: Outside, W: Write> LiveSide<O, W> {
         }
     }
 
+    /// Does the next step of an audit of TEIs, or waits if there is none. Returns why the service
+    /// ends, if it does.
+    fn proceed(&mut self, service: Service) -> Result<Option<EndReason>, LiveFault>
+        ensures { IfOk result (λ end_reason.
+            Between O.io_events O.impaired_by W.contents self.old self.new
+            (Proceeds service end_reason)) }
+    {
+        match self.next_audit() {
+            Some(request) => {
+                self.execute(request)?;
+                Ok(None)
+            }
+            None => self.wait(service),
+        }
+    }
+
     /// One step: processes the frames that have arrived, expires the timers that are due, and then
     /// does the next step of an audit of TEIs, or waits. Returns why the service ends, if it does.
     fn step(&mut self, service: Service) -> Result<Option<EndReason>, LiveFault>
@@ -311,11 +360,7 @@ impl<O: Outside, W: Write> LiveSide<O, W> {
         if is_reached(service.end, self.printer.moment()) {
             return Ok(Some(EndReason::End));
         }
-        if let Some(request) = self.next_audit() {
-            self.execute(request)?;
-            return Ok(None);
-        }
-        self.wait(service)
+        self.proceed(service)
     }
 
     /// Serves the side, step by step, until the service ends. Returns why it ended.
@@ -358,16 +403,14 @@ fn report_discarded<O: Outside>(
     }
 }
 
-/// Reports each link whose SABME or DISC the other side did not answer.
-fn report_unanswered<O: Outside>(primitives: &[Primitive], outside: &mut O)
-    ensures io_events { O.io_events outside.new ≡ O.io_events outside.old }
-    ensures impaired_by { O.impaired_by outside.new ≡ O.impaired_by outside.old }
-{
+/// The first link whose SABME or DISC the other side did not answer.
+fn unanswered(primitives: &[Primitive]) -> Option<LinkId> {
     for primitive in primitives {
         if let Primitive::Of(id, What::Report(Letter::G | Letter::H)) = primitive {
-            outside.note(Incident::Unanswered(*id));
+            return Some(*id);
         }
     }
+    None
 }
 
 /// The incident of a request to all terminals that sends nothing.
@@ -376,21 +419,6 @@ fn incident_without_effect(request: &Request) -> Option<Incident> {
         Request::CheckAll => Some(Incident::NotChecked),
         Request::RemoveAll => Some(Incident::NotRemoved),
         _ => None,
-    }
-}
-
-/// Reports a request to all terminals that sent nothing.
-fn report_without_effect<O: Outside>(
-    incident: Option<Incident>,
-    frames: &[FrameOctets],
-    outside: &mut O,
-)
-    ensures io_events { O.io_events outside.new ≡ O.io_events outside.old }
-    ensures impaired_by { O.impaired_by outside.new ≡ O.impaired_by outside.old }
-{
-    match incident {
-        Some(incident) if frames.is_empty() => outside.note(incident),
-        _ => {}
     }
 }
 

@@ -1,6 +1,6 @@
 use Rattle.lapd_cli_live.proofs.Log.{carried, front_is_all}
 use Rattle.lapd_cli_live.proofs.Steps.{on_err, on_ok}
-use Rattle.lapd_cli_live.proofs.live_side.LiveSide.carry_out.Goals as goal
+use Rattle.lapd_cli_live.proofs.live_side.LiveSide.put_acts.Goals as goal
 
 pub returns-clause-carried : goal.returns-clause-carried
 returns-clause-carried g c =
