@@ -46,7 +46,7 @@ static bool dl_call_back(struct dl *dl)
 }
 
 /* Calls back with all that waits, unless a callback is running. Returns the call's code. */
-static uint32_t dl_done(struct dl *dl, uint32_t code)
+static lapd_result dl_done(struct dl *dl, lapd_result code)
 {
 	if (dl->calls_back)
 		return code;
@@ -57,17 +57,17 @@ static uint32_t dl_done(struct dl *dl, uint32_t code)
 	return code;
 }
 
-static uint32_t dl_receive(struct dl *dl, const uint8_t *frame, size_t length, uint64_t now)
+static lapd_result dl_receive(struct dl *dl, const uint8_t *frame, size_t length, uint64_t now)
 {
 	return dl_done(dl, lapd_side_take(&dl->side, frame, length, now));
 }
 
-static uint32_t dl_establish(struct dl *dl, uint8_t sapi, uint8_t tei, uint64_t now)
+static lapd_result dl_establish(struct dl *dl, uint8_t sapi, uint8_t tei, uint64_t now)
 {
 	return dl_done(dl, lapd_side_establish(&dl->side, sapi, tei, now));
 }
 
-static uint32_t dl_send(struct dl *dl, uint8_t sapi, uint8_t tei, const uint8_t *message, size_t length, uint64_t now)
+static lapd_result dl_send(struct dl *dl, uint8_t sapi, uint8_t tei, const uint8_t *message, size_t length, uint64_t now)
 {
 	return dl_done(dl, lapd_side_give(&dl->side, sapi, tei, message, length, now));
 }

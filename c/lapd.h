@@ -55,6 +55,22 @@ extern "C" {
 #define LAPD_VERSION_STRING "0.1.0"
 #define LAPD_VERSION 100
 
+/* LAPD_MUST_USE marks a call whose result must not be ignored: if it is not LAPD_DONE, a frame or a
+ * message is lost, and no other call reports that. LAPD_DEPRECATED marks a call that a later
+ * version may remove, and says what replaces it; this version marks none. A compiler without such
+ * attributes ignores both. */
+#if (defined(__cplusplus) && __cplusplus >= 201703L) \
+	|| (defined(__STDC_VERSION__) && __STDC_VERSION__ >= 202311L)
+#define LAPD_MUST_USE [[nodiscard]]
+#define LAPD_DEPRECATED(instead) [[deprecated(instead)]]
+#elif defined(__GNUC__)
+#define LAPD_MUST_USE __attribute__((warn_unused_result))
+#define LAPD_DEPRECATED(instead) __attribute__((deprecated(instead)))
+#else
+#define LAPD_MUST_USE
+#define LAPD_DEPRECATED(instead)
+#endif
+
 /* A handle: one word, which owns a side or nothing. It may be a member of a struct of yours. */
 typedef struct lapd_side {
 	void *lapd_private;
@@ -91,6 +107,16 @@ enum lapd_code {
 	LAPD_RELEASING = 24,           /* L4: the link is being released */
 	LAPD_LAYER_3_ESTABLISHING = 25 /* L5: a message while layer 3 establishes the link */
 };
+
+/* The type of a result, with the representation of uint32_t. In C it is the enum, so that debuggers
+ * print names, and -Wswitch reports codes that a switch without a default leaves out. A later
+ * version may return other codes, which need not be values of a C++ enum, so in C++ the type is the
+ * number. */
+#ifdef __cplusplus
+typedef uint32_t lapd_result;
+#else
+typedef enum lapd_code lapd_result;
+#endif
 
 /* The primitives for layer 3 and management, and a frame to send. Each comment begins with the
  * fields that the primitive uses besides kind, sapi and tei, if any.
@@ -210,13 +236,13 @@ uint32_t lapd_version(void);
 /* Creates a network side that holds `count` TEIs, each 0 to 126, whose links exist from the start;
  * other TEIs are assigned on request. Frees the side that the handle owned.
  * LAPD_OUT_OF_RANGE, LAPD_NO_MEMORY: the handle is unchanged. */
-uint32_t lapd_side_network(lapd_side *side, const lapd_settings *settings, const uint8_t *teis,
+lapd_result lapd_side_network(lapd_side *side, const lapd_settings *settings, const uint8_t *teis,
 	size_t count);
 
 /* Creates a user side with a fixed TEI, 0 to 126, or with LAPD_NO_TEI. Without a TEI it requests
  * one from the network when layer 3 requests to establish a link, and by lapd_side_ask_tei.
  * Otherwise like lapd_side_network. */
-uint32_t lapd_side_user(lapd_side *side, const lapd_settings *settings, uint8_t tei);
+lapd_result lapd_side_user(lapd_side *side, const lapd_settings *settings, uint8_t tei);
 
 /* Frees the side. The handle then owns none, and freeing it again does nothing. */
 void lapd_side_free(lapd_side *side);
@@ -225,45 +251,46 @@ void lapd_side_free(lapd_side *side);
  * no link of this side, are discarded and counted; the result is LAPD_DONE too.
  * LAPD_NO_MEMORY: the frame assigns a TEI, and its links could not be allocated; the frame may be
  * passed in again. */
-uint32_t lapd_side_take(lapd_side *side, const uint8_t *frame, size_t length, uint64_t now);
+LAPD_MUST_USE lapd_result lapd_side_take(lapd_side *side, const uint8_t *frame, size_t length,
+	uint64_t now);
 
 /* Requests of layer 3, for the link with a SAPI, 0, 16 or 63, and a TEI, 0 to 127. A user side uses
  * only the SAPI: the TEI is its own, and any number from 0 to 127 is accepted; other numbers return
  * LAPD_OUT_OF_RANGE. */
 
 /* Establishes the link (DL-ESTABLISH request). LAPD_NO_LINK, LAPD_RELEASING. */
-uint32_t lapd_side_establish(lapd_side *side, uint8_t sapi, uint8_t tei, uint64_t now);
+lapd_result lapd_side_establish(lapd_side *side, uint8_t sapi, uint8_t tei, uint64_t now);
 
 /* Releases the link (DL-RELEASE request). LAPD_NO_LINK. */
-uint32_t lapd_side_release(lapd_side *side, uint8_t sapi, uint8_t tei, uint64_t now);
+lapd_result lapd_side_release(lapd_side *side, uint8_t sapi, uint8_t tei, uint64_t now);
 
 /* Sends a message (DL-DATA request), which the side copies. Any code can be returned. */
-uint32_t lapd_side_give(lapd_side *side, uint8_t sapi, uint8_t tei, const uint8_t *message,
-	size_t length, uint64_t now);
+LAPD_MUST_USE lapd_result lapd_side_give(lapd_side *side, uint8_t sapi, uint8_t tei,
+	const uint8_t *message, size_t length, uint64_t now);
 
 /* Sends unit data (DL-UNIT DATA request), without acknowledgement; from a network side to all
  * terminals if tei is LAPD_GROUP_TEI. LAPD_NO_LINK, LAPD_NO_MEMORY, LAPD_TOO_LONG. */
-uint32_t lapd_side_unit(lapd_side *side, uint8_t sapi, uint8_t tei, const uint8_t *octets,
-	size_t length, uint64_t now);
+LAPD_MUST_USE lapd_result lapd_side_unit(lapd_side *side, uint8_t sapi, uint8_t tei,
+	const uint8_t *octets, size_t length, uint64_t now);
 
 /* Enters own receiver busy on the link if `on` is not 0, so that this end accepts no messages for
  * now, or leaves it (Q.921 5.6.6). LAPD_NO_LINK. */
-uint32_t lapd_side_busy(lapd_side *side, uint8_t sapi, uint8_t tei, uint8_t on, uint64_t now);
+lapd_result lapd_side_busy(lapd_side *side, uint8_t sapi, uint8_t tei, uint8_t on, uint64_t now);
 
 /* Requests a TEI if the user side has none. A network side ignores it. */
-uint32_t lapd_side_ask_tei(lapd_side *side, uint64_t now);
+lapd_result lapd_side_ask_tei(lapd_side *side, uint64_t now);
 
 /* Checks whether terminals have this TEI, 0 to 126. Check only TEIs that are held: a check of a TEI
  * that no terminal has may end after the TEI was assigned, and then frees it under its terminal. A
  * user side ignores it. LAPD_OUT_OF_RANGE: tei is above 126. LAPD_CHECK_RUNS: another check is in
  * progress; check again after its outcome, LAPD_TEI_FREE, LAPD_TEI_IN_USE or LAPD_TEI_DOUBLED. */
-uint32_t lapd_side_check_tei(lapd_side *side, uint8_t tei, uint64_t now);
+lapd_result lapd_side_check_tei(lapd_side *side, uint8_t tei, uint64_t now);
 
 /* Checks all TEIs: sends one check request to all terminals (Q.921 5.3.3), and each that has a TEI
  * answers with it. No check begins, and nothing is reported: the answers are frames that you pass
  * in. A TEI that is checked before they have arrived is counted too often, so wait for T201 before
  * lapd_side_check_tei. A user side ignores it. LAPD_CHECK_RUNS: a check is in progress. */
-uint32_t lapd_side_check_all(lapd_side *side, uint64_t now);
+lapd_result lapd_side_check_all(lapd_side *side, uint64_t now);
 
 /* Removes this TEI, 0 to 126 (MDL-REMOVE request, Q.921 5.3.4), and its links. A network side sends
  * Identity remove twice and reports LAPD_TEI_FREE, whether it has assigned the TEI or not; a check
@@ -272,55 +299,56 @@ uint32_t lapd_side_check_all(lapd_side *side, uint64_t now);
  * TEI below 64 is not assigned again. A user side gives up its TEI and reports LAPD_TEI_GONE; it
  * sends nothing. LAPD_NO_LINK: the TEI is not that of this user side. LAPD_OUT_OF_RANGE: tei is
  * above 126. */
-uint32_t lapd_side_remove_tei(lapd_side *side, uint8_t tei, uint64_t now);
+lapd_result lapd_side_remove_tei(lapd_side *side, uint8_t tei, uint64_t now);
 
 /* Removes all TEIs from the terminals of a network side that holds none, as after a restart without
  * its list: sends Identity remove to all terminals twice (Q.921 5.3.4), and reports nothing. A
  * network side that holds a TEI ignores it: first remove each TEI that it holds. A user side
  * ignores it. */
-uint32_t lapd_side_remove_all(lapd_side *side, uint64_t now);
+lapd_result lapd_side_remove_all(lapd_side *side, uint64_t now);
 
 /* Sets T200 to T203 in milliseconds, each 1 to 3600000, for timers that are started from then on,
  * also those of links that are added later. A running timer keeps its deadline. Never returns
  * LAPD_PENDING. LAPD_OUT_OF_RANGE: nothing is changed. */
-uint32_t lapd_side_set_timers(lapd_side *side, uint32_t t200, uint32_t t201, uint32_t t202,
+lapd_result lapd_side_set_timers(lapd_side *side, uint32_t t200, uint32_t t201, uint32_t t202,
 	uint32_t t203);
 
 /* Expires the first timer that is due at `now`. *expired is 1 if one was due, else 0; call it until
  * it is 0. Before you expire timers for a moment, pass in every frame that had arrived by then.
  * Otherwise T200 may expire although its response has arrived, and the peer receives a second
  * SABME, or a message again. */
-uint32_t lapd_side_tick(lapd_side *side, uint64_t now, uint8_t *expired);
+lapd_result lapd_side_tick(lapd_side *side, uint64_t now, uint8_t *expired);
 
 /* The next moment at which lapd_side_tick has something to do. LAPD_NEVER if no timer runs or the
  * handle owns no side. Only calls that pass something in change it. Wait until then, or until a
  * frame arrives; then take every frame that has arrived, and only then call lapd_side_tick. */
-uint32_t lapd_side_deadline(const lapd_side *side, uint64_t *moment);
+lapd_result lapd_side_deadline(const lapd_side *side, uint64_t *moment);
 
 /* The number of frames that lapd_side_take has discarded since the side was created. It stops at
  * UINT64_MAX, and is 0 if the handle owns no side. */
-uint32_t lapd_side_discarded(const lapd_side *side, uint64_t *count);
+lapd_result lapd_side_discarded(const lapd_side *side, uint64_t *count);
 
 /* The state of the link with a SAPI, 0, 16 or 63, and a TEI, 0 to 127. A user side uses only the
  * SAPI, as for requests. LAPD_OUT_OF_RANGE, LAPD_NO_SIDE, LAPD_NO_LINK: all of *state is 0. */
-uint32_t lapd_side_state(const lapd_side *side, uint8_t sapi, uint8_t tei, lapd_link_state *state);
+lapd_result lapd_side_state(const lapd_side *side, uint8_t sapi, uint8_t tei,
+	lapd_link_state *state);
 
 /* Begins to count the I frames, REJ, RNR and reports of each link, from 0; if the side counts
  * already, it counts from 0 again. It allocates about 28000 octets, until the side is freed. A new
  * side does not count. LAPD_NO_MEMORY: nothing is changed. */
-uint32_t lapd_side_count(lapd_side *side);
+lapd_result lapd_side_count(lapd_side *side);
 
 /* The counters of the link with a SAPI, 0, 16 or 63, and a TEI, 0 to 127. A user side uses the TEI
  * too: after it lost its TEI, the counters can still be read. A call counts its frames and reports
  * when it is made, even if they are not fetched yet. LAPD_OUT_OF_RANGE, LAPD_NO_SIDE,
  * LAPD_NOT_COUNTING: all of *counters is 0. */
-uint32_t lapd_side_counters(const lapd_side *side, uint8_t sapi, uint8_t tei,
+lapd_result lapd_side_counters(const lapd_side *side, uint8_t sapi, uint8_t tei,
 	lapd_link_counters *counters);
 
 /* The state of a user side's terminal (Q.921 Annex B): 1 TEI unassigned, 2 assign awaiting TEI,
  * 3 establish awaiting TEI, 4 TEI assigned; and its TEI in state 4, else LAPD_NO_TEI. For a network
  * side, and if the handle owns no side, they are 0 and LAPD_NO_TEI. */
-uint32_t lapd_side_tei(const lapd_side *side, uint8_t *state, uint8_t *tei);
+lapd_result lapd_side_tei(const lapd_side *side, uint8_t *state, uint8_t *tei);
 
 /* Fetches the next frame to send or, if none is left, the next primitive, and its octets into the
  * beginning of the buffer. The kind of a frame is LAPD_FRAME, and LAPD_NOTHING if neither is left.
@@ -328,18 +356,18 @@ uint32_t lapd_side_tei(const lapd_side *side, uint8_t *state, uint8_t *tei);
  * not call again to find none. A buffer of LAPD_MOST_FRAME octets has room for each.
  * LAPD_OUT_OF_RANGE: there are more than `size` octets, and *item contains their number; nothing is
  * written to the buffer, and the frame or primitive still waits. */
-uint32_t lapd_side_next(lapd_side *side, lapd_primitive *item, uint8_t *buffer, size_t size,
+lapd_result lapd_side_next(lapd_side *side, lapd_primitive *item, uint8_t *buffer, size_t size,
 	size_t *left);
 
 /* Fetches the next frame to send, into the beginning of the buffer. *length is its number of
  * octets, or 0 if none is left. LAPD_OUT_OF_RANGE: the frame has more than `size` octets; nothing
  * is written to the buffer, and the frame still waits. */
-uint32_t lapd_side_frame(lapd_side *side, uint8_t *buffer, size_t size, size_t *length);
+lapd_result lapd_side_frame(lapd_side *side, uint8_t *buffer, size_t size, size_t *length);
 
 /* Fetches the next primitive, and its octets into the beginning of the buffer. Its kind is
  * LAPD_NOTHING if none is left. LAPD_OUT_OF_RANGE: it has more than `size` octets, and *primitive
  * contains their number; nothing is written to the buffer, and the primitive still waits. */
-uint32_t lapd_side_primitive(lapd_side *side, lapd_primitive *primitive, uint8_t *buffer,
+lapd_result lapd_side_primitive(lapd_side *side, lapd_primitive *primitive, uint8_t *buffer,
 	size_t size);
 
 /* Writes a line of text for the octets of a frame, as in `N>U SAPI 0 TEI 64 C RR N(R)=0 P=1`, or
@@ -348,14 +376,14 @@ uint32_t lapd_side_primitive(lapd_side *side, lapd_primitive *primitive, uint8_t
  * there is room. *text is its number of characters without the 0, at most 43 plus two for each
  * octet. LAPD_OUT_OF_RANGE: that is more than `size`, and nothing is written to the buffer.
  * LAPD_NO_MEMORY: *text is 0. The call needs no side. */
-uint32_t lapd_frame_text(const uint8_t *frame, size_t length, uint8_t network, uint8_t *buffer,
+lapd_result lapd_frame_text(const uint8_t *frame, size_t length, uint8_t network, uint8_t *buffer,
 	size_t size, size_t *text);
 
 /* Writes the name of a code or a kind, as in `LAPD_NO_LINK`, as lapd_frame_text does. *text is
  * its number of characters, 0 if the number has no name. A buffer of LAPD_MOST_NAME octets has room
  * for each name and its final 0. */
-uint32_t lapd_code_name(uint32_t code, uint8_t *buffer, size_t size, size_t *text);
-uint32_t lapd_kind_name(uint8_t kind, uint8_t *buffer, size_t size, size_t *text);
+lapd_result lapd_code_name(uint32_t code, uint8_t *buffer, size_t size, size_t *text);
+lapd_result lapd_kind_name(uint8_t kind, uint8_t *buffer, size_t size, size_t *text);
 
 /* The same names as strings, "" if the number has no name, without a call of the library. C89 has
  * no inline functions, so they are for C99 and later, and for C++. */

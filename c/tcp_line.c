@@ -25,11 +25,11 @@ void fail(const char *what)
 	exit(1);
 }
 
-void check(uint32_t code, const char *what)
+void check(lapd_result code, const char *what)
 {
 	if (code == LAPD_DONE)
 		return;
-	fprintf(stderr, "%s: code %u\n", what, (unsigned)code);
+	fprintf(stderr, "%s: %s\n", what, lapd_code_string(code));
 	exit(1);
 }
 

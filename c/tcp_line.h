@@ -22,7 +22,7 @@ uint64_t clock_now(void);
 
 /* Ends the program, because a call of the system or of the library has failed. */
 void fail(const char *what);
-void check(uint32_t code, const char *what);
+void check(lapd_result code, const char *what);
 
 /* Waits for a connection on this machine at this port, 1 to 65535, or makes one to it. Returns its
  * socket. */

@@ -5,10 +5,10 @@
 #include <stdio.h>
 #include <stdlib.h>
 
-static void done(uint32_t code, const char *what)
+static void done(lapd_result code, const char *what)
 {
 	if (code != LAPD_DONE) {
-		fprintf(stderr, "%s: code %u\n", what, (unsigned)code);
+		fprintf(stderr, "%s: %s\n", what, lapd_code_string(code));
 		exit(1);
 	}
 }

@@ -2,10 +2,11 @@
 """check_header.py CRATE LAPD.h ARCHIVE: checks that the header agrees with the crate's exports.
 
 The header declares each export with the C types and names that correspond to its Rattle parameters,
-in order. A handle is const exactly if the contract says that the side is unchanged. Each struct has
-the fields of its Rattle struct, in order, and each code and kind has its number and its name in the
-crate's definitions. The version is one. The archive exports only these functions, and requires only
-memcpy, similar functions and the heap. Exit status 0 or 1."""
+in order. Its result is a lapd_result, and that of lapd_version a number. A handle is const exactly
+if the contract says that the side is unchanged. Each struct has the fields of its Rattle struct, in
+order, and each code and kind has its number and its name in the crate's definitions. The version is
+one. The archive exports only these functions, and requires only memcpy, similar functions and the
+heap, which lapd_heap.h declares. Exit status 0 or 1."""
 
 import re
 import subprocess
@@ -29,6 +30,8 @@ QUERIES = r"Returns(?:Deadline|Discarded|Terminal|StateOf|CountersThrough)\b"
 # The symbols that the archive may require of the program that it is linked into.
 ASKED = {"memcpy", "memmove", "memset", "memcmp", "bcmp", "malloc", "realloc", "free"}
 HEAP = {"rattle_alloc", "rattle_realloc", "rattle_dealloc"}
+# The call whose result is a number and not a code.
+NUMBER = "lapd_version"
 
 
 def c_type(rattle):
@@ -58,13 +61,14 @@ def exports_of(source):
     ):
         is_query = re.search(QUERIES, clauses) is not None
         found = re.findall(r"(\w+):\s*(&(?:mut )?\[\w+\]|&?(?:mut )?\w+)", parameters)
-        exports[name] = (c_type(result) if result else "void", [p for n, t in found for p in crossed(n, t, is_query)])
+        returned = "void" if not result else c_type(result) if name == NUMBER or result != "u32" else "lapd_result"
+        exports[name] = (returned, [p for n, t in found for p in crossed(n, t, is_query)])
     return exports
 
 
 def prototypes_of(header):
     prototypes = {}
-    for result, name, parameters in re.findall(r"^(\w+) (lapd_\w+)\(([^)]*)\);", header, re.M):
+    for result, name, parameters in re.findall(r"^(?:LAPD_MUST_USE )?(\w+) (lapd_\w+)\(([^)]*)\);", header, re.M):
         found = []
         for parameter in parameters.split(","):
             match = re.fullmatch(r"((?:const )?\w+ \*?)(\w+)", parameter.strip())

@@ -22,7 +22,7 @@ void fail(const char *what)
 	exit(1);
 }
 
-void check(uint32_t code, const char *what)
+void check(lapd_result code, const char *what)
 {
 	if (code != LAPD_DONE)
 		fail(what);

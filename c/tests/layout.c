@@ -53,4 +53,5 @@ AT(lapd_link_counters, rnr_sent, 40, 8);
 AT(lapd_link_counters, rnr_received, 48, 8);
 AT(lapd_link_counters, reports, 56, 8);
 
+SIZE(lapd_result, 4);
 SIZE(size_t, 8);

@@ -22,7 +22,7 @@
 	do {                                                                                             \
 		uint32_t code_ = (call);                                                                     \
 		if (code_ != (uint32_t)(code)) {                                                             \
-			fprintf(stderr, "%s:%d: code %u: %s\n", __FILE__, __LINE__, (unsigned)code_, #call);     \
+			fprintf(stderr, "%s:%d: %s: %s\n", __FILE__, __LINE__, lapd_code_string(code_), #call);  \
 			exit(1);                                                                                 \
 		}                                                                                            \
 	} while (0)
