@@ -1,17 +1,8 @@
-/* The heap of liblapd: malloc, realloc and free. A program can define these three functions itself,
- * to use its own heap: this member of the archive is not linked then. Blocks must be aligned like
- * those of malloc. */
-#include <stdbool.h>
+/* The heap of liblapd: malloc, realloc and free. This member of the archive is not linked into a
+ * program that defines the three functions itself. */
+#include "lapd_heap.h"
+
 #include <stdlib.h>
-
-struct lapd_block {
-	bool found;
-	void *at;
-};
-
-struct lapd_block rattle_alloc(size_t size, size_t align);
-struct lapd_block rattle_realloc(void *at, size_t kept, size_t size, size_t align);
-void rattle_dealloc(void *at);
 
 struct lapd_block rattle_alloc(size_t size, size_t align)
 {
@@ -22,8 +13,7 @@ struct lapd_block rattle_alloc(size_t size, size_t align)
 	return block;
 }
 
-/* Must keep the first `kept` octets; realloc keeps all that fit. If it fails, the old block remains
- * valid. */
+/* realloc keeps all octets that fit, so `kept` need not be known. */
 struct lapd_block rattle_realloc(void *at, size_t kept, size_t size, size_t align)
 {
 	struct lapd_block block;

@@ -2,18 +2,10 @@
  * makes fewer allocations than that. Each run is the whole dialogue. The failed call must return
  * LAPD_NO_MEMORY, the same call must succeed when it is repeated, every message must arrive, and no
  * memory may be left when the sides are freed. */
+#include "lapd_heap.h"
 #include "test.h"
 
 #define MESSAGES 20
-
-struct lapd_block {
-	bool found;
-	void *at;
-};
-
-struct lapd_block rattle_alloc(size_t size, size_t align);
-struct lapd_block rattle_realloc(void *at, size_t kept, size_t size, size_t align);
-void rattle_dealloc(void *at);
 
 static long asked, refused_at, refused, live;
 
